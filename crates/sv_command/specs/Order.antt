@@ -54,14 +54,14 @@ set_order name.Count kind text = then_value (λ scans. order.Set (setting.Count 
 
 -- what a command asks for, with its parameter if it has one. A setting needs one (-109); a measurement may have a channel list.
 abbrev pub order_of : CommandId → Option Parameter → Result Order Code
-order_of (id.Do action) given = Ok (order.Do action)
-order_of (id.Ask question) given = Ok (order.Ask question)
+order_of (id.Do action) parameter_of = Ok (order.Do action)
+order_of (id.Ask question) parameter_of = Ok (order.Ask question)
 order_of (id.Set name) None = Err MissingParameter
 order_of (id.Set name) (Some parameter) = set_order name parameter.kind parameter.text
-order_of id.Configure given = then_value order.Configure (channels_in given)
-order_of id.Measure given = then_value order.Measure (channels_in given)
+order_of id.Configure parameter_of = then_value order.Configure (channels_in parameter_of)
+order_of id.Measure parameter_of = then_value order.Measure (channels_in parameter_of)
 
 -- a token as a parameter
-abbrev pub given : Option Token → Option Parameter
-given None = None
-given (Some token) = Some (record { kind = token.kind; text = token.text.now })
+abbrev pub parameter_of : Option Token → Option Parameter
+parameter_of None = None
+parameter_of (Some token) = Some (record { kind = token.kind; text = token.text.now })

@@ -7,7 +7,7 @@ use Rattle.sv_lexer.specs.Unit.{unit_fault, header}
 use Rattle.sv_lexer.specs.Parameters.{parameters_fault, parameter, count}
 use Rattle.sv_header.specs.declared.command.CommandId.{CommandId}
 use Rattle.sv_header.specs.Arity.{most_parameters}
-use Rattle.sv_header.specs.Resolve.{Resolves, kept}
+use Rattle.sv_header.specs.Resolve.{Resolves, next_path}
 use Rattle.sv_command.specs.declared.order.Order.{Order}
 use Rattle.sv_command.specs.Order.{Parameter, order_of}
 
@@ -29,7 +29,7 @@ order_of_unit command unit =
 -- The header names a command, or none does (-113). The path follows a header that does.
 abbrev pub IsNamed : List (List ℕ) → List ℕ → Result Order Code → List (List ℕ) → Type 0
 IsNamed path unit outcome behind =
-    ((command : CommandId) × Resolves path (header unit) command × (outcome ≡ order_of_unit command unit) × (behind ≡ kept path
+    ((command : CommandId) × Resolves path (header unit) command × (outcome ≡ order_of_unit command unit) × (behind ≡ next_path path
     (header unit)))
     ⊎ (((command : CommandId) → Resolves path (header unit) command → ⊥) × (outcome ≡ Err UndefinedHeader) × (behind ≡ path))
 

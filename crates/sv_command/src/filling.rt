@@ -1,7 +1,7 @@
 //! What a command asks for, with the value of its parameter.
 
 ghost use Rattle.std.specs.Prelude.{◌≡◌};
-ghost use Rattle.sv_command.specs.Order.{given as given_by, order_of, set_order};
+ghost use Rattle.sv_command.specs.Order.{parameter_of as given_by, order_of, set_order};
 
 use crate::order::Order;
 use crate::values::{count, list, list_if_given, mask, monitor};

@@ -3,7 +3,7 @@
 ghost use Rattle.std.specs.Prelude.{◌≡◌, Ok};
 ghost use Rattle.sv_errors.specs.Limits.{most_scans};
 ghost use Rattle.sv_value.specs.Value.{read_whole, read_channels};
-ghost use Rattle.sv_command.specs.Order.{given as given_by, only_channel, channels_in};
+ghost use Rattle.sv_command.specs.Order.{parameter_of as given_by, only_channel, channels_in};
 
 use sv_errors::{Code, MOST_SCANS};
 use sv_lexer::Token;

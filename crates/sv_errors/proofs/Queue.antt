@@ -8,7 +8,7 @@ use Rattle.sv_errors.specs.declared.code.Code.{Code}
 use Rattle.sv_errors.specs.declared.code.Code.TheVariants.{NoError, QueueOverflow}
 use Rattle.sv_errors.specs.declared.error_queue.QueueAct.{QueueAct}
 use Rattle.sv_errors.specs.declared.error_queue.QueueAct.TheVariants.{Report, Take, Clear}
-use Rattle.sv_errors.specs.ErrorQueue.{Counted, left, admit, take_one, counted, entries, is_full, up_to, reported as newest_report, is_overtaken, shown, queued, StandsFor, most}
+use Rattle.sv_errors.specs.ErrorQueue.{Counted, left, admit, take_one, count_acts, entries, is_full, up_to, report_of as newest_report, is_overtaken, entry_code, queue_codes, StandsFor, most}
 
 -- whether the newest act is a report, and its code
 abbrev is_report : List QueueAct → Bool
@@ -88,30 +88,31 @@ overtaken-next act acts =
 abbrev shows : List QueueAct → Bool → Code
 shows acts overtaken = cond (is_full acts && overtaken) QueueOverflow (reported acts)
 
-shown-older : (place : ℕ) (act : QueueAct) (acts : List QueueAct) → place < length acts → shown (act ∷ acts) place ≡ shown acts place
+shown-older : (place : ℕ) (act : QueueAct) (acts : List QueueAct) → place < length acts
+    → entry_code (act ∷ acts) place ≡ entry_code acts place
 shown-older place act acts lt =
     ap (λ (rest : List QueueAct). shows rest (is_overtaken place (act ∷ acts))) (up_to-more place act acts (omega arith))
     ∙ ap (shows (up_to place acts)) (overtaken-more place act acts lt)
 
-shown-next : (act : QueueAct) (acts : List QueueAct) → shown (act ∷ acts) (length acts) ≡ shows acts (is_report (act ∷ acts))
+shown-next : (act : QueueAct) (acts : List QueueAct) → entry_code (act ∷ acts) (length acts) ≡ shows acts (is_report (act ∷ acts))
 shown-next act acts =
     ap (λ (rest : List QueueAct). shows rest (is_overtaken (length acts) (act ∷ acts)))
     (up_to-more (length acts) act acts (omega arith) ∙ up_to-all acts) ∙ ap (shows acts) (overtaken-next act acts)
 
 -- the newest entry shows its report's code
-shown-newest : (acts : List QueueAct) → shown acts (length acts) ≡ reported acts
+shown-newest : (acts : List QueueAct) → entry_code acts (length acts) ≡ reported acts
 shown-newest acts =
     ap (λ (rest : List QueueAct). shows rest (is_overtaken (length acts) acts)) (up_to-all acts) ∙ ap (shows acts) (overtaken-newest acts)
     ∙ ap (λ (b : Bool). cond b QueueOverflow (reported acts)) (and_right (is_full acts) false refl)
 
 -- an act that is no report to a full queue changes nothing of what is shown
 shown-same : (place : ℕ) (act : QueueAct) (acts : List QueueAct) → (is_full acts && is_report (act ∷ acts)) ≡ false → place ≤ length acts
-    → shown (act ∷ acts) place ≡ shown acts place
+    → entry_code (act ∷ acts) place ≡ entry_code acts place
 shown-same place act acts quiet le = elim (cases_lt place (length acts)) [
   | inl lt ↦ shown-older place act acts lt
   | inr ge ↦ let e : place ≡ length acts = omega arith in
-      ap (shown (act ∷ acts)) e ∙ shown-next act acts ∙ ap (λ (b : Bool). cond b QueueOverflow (reported acts)) quiet
-      ∙ sym (shown-newest acts) ∙ sym (ap (shown acts) e)
+      ap (entry_code (act ∷ acts)) e ∙ shown-next act acts ∙ ap (λ (b : Bool). cond b QueueOverflow (reported acts)) quiet
+      ∙ sym (shown-newest acts) ∙ sym (ap (entry_code acts) e)
 ]
 
 -- ---- lists whose elements all have a property
@@ -141,11 +142,11 @@ record IsFull (acts : List QueueAct) : Type 0 where
   split : entries acts ≡ front ++ last ∷ []
   size : length front ≡ (most - 1)
   older : AllByRecursion (λ place. place < length acts) front
-  newest : (last ≡ length acts) ⊎ (last < length acts) × (shown acts last ≡ QueueOverflow)
+  newest : (last ≡ length acts) ⊎ (last < length acts) × (entry_code acts last ≡ QueueOverflow)
 
 -- There are at most so many entries, each at a place of the acts.
 record IsValid (acts : List QueueAct) : Type 0 where
-  taken : (counted acts).taken ≤ length (counted acts).admitted
+  taken : (count_acts acts).taken ≤ length (count_acts acts).admitted
   few : length (entries acts) ≤ most
   within : AllByRecursion (λ place. place ≤ length acts) (entries acts)
   full : length (entries acts) ≡ most → IsFull acts
@@ -154,7 +155,7 @@ record IsValid (acts : List QueueAct) : Type 0 where
 
 entries-reported : (code : Code) (acts : List QueueAct) → IsValid acts → length (entries acts) < most
     → entries (Report code ∷ acts) ≡ entries acts ++ (length acts + 1) ∷ []
-entries-reported code acts is room = left-admitted (counted acts) (length acts + 1) is.taken room
+entries-reported code acts is room = left-admitted (count_acts acts) (length acts + 1) is.taken room
 
 reported-full : (code : Code) (acts : List QueueAct) → IsValid acts → length (entries acts) < most
     → length (entries (Report code ∷ acts)) ≡ most
@@ -177,7 +178,7 @@ valid-reported code acts is room =
     let wider = all-weaker (λ place. place ≤ length acts) (λ place. place ≤ length (Report code ∷ acts)) (entries acts)
     (λ place le. omega arith) is.within in
     record {
-      taken = taken-admitted (counted acts) (length acts + 1) is.taken;
+      taken = taken-admitted (count_acts acts) (length acts + 1) is.taken;
       few = omega (arith, ap length split, length-append (entries acts) ((length acts + 1) ∷ []));
       within = subst (AllByRecursion (λ place. place ≤ length (Report code ∷ acts))) (sym split)
           (all-push (λ place. place ≤ length (Report code ∷ acts)) (entries acts) (length acts + 1) wider (omega arith));
@@ -187,18 +188,18 @@ valid-reported code acts is room =
 -- ---- a report that finds none
 
 entries-overflowed : (code : Code) (acts : List QueueAct) → most ≤ length (entries acts) → entries (Report code ∷ acts) ≡ entries acts
-entries-overflowed code acts full = ap left (admit-full (counted acts) (length acts + 1) full)
+entries-overflowed code acts full = ap left (admit-full (count_acts acts) (length acts + 1) full)
 
 -- the newest entry shows the overflow
 shown-overflowed : (code : Code) (acts : List QueueAct) (last : ℕ) → length (entries acts) ≡ most
-    → (last ≡ length acts) ⊎ (last < length acts) × (shown acts last ≡ QueueOverflow)
-    → shown (Report code ∷ acts) last ≡ QueueOverflow
+    → (last ≡ length acts) ⊎ (last < length acts) × (entry_code acts last ≡ QueueOverflow)
+    → entry_code (Report code ∷ acts) last ≡ QueueOverflow
 shown-overflowed code acts last many (inl e) =
-    ap (shown (Report code ∷ acts)) e ∙ shown-next (Report code) acts
+    ap (entry_code (Report code ∷ acts)) e ∙ shown-next (Report code) acts
     ∙ ap (λ (b : Bool). cond (b && true) QueueOverflow (reported acts)) (eq-eqb (length (entries acts)) most many)
 shown-overflowed code acts last many (inr older) = shown-older last (Report code) acts older.0 ∙ older.1
 
-newest-within : (acts : List QueueAct) (last : ℕ) → (last ≡ length acts) ⊎ (last < length acts) × (shown acts last ≡ QueueOverflow)
+newest-within : (acts : List QueueAct) (last : ℕ) → (last ≡ length acts) ⊎ (last < length acts) × (entry_code acts last ≡ QueueOverflow)
     → last < suc (length acts)
 newest-within acts last (inl e) = omega arith
 newest-within acts last (inr older) = omega (arith, older.0)
@@ -220,7 +221,7 @@ valid-overflowed code acts is full =
     let few = is.few in
     let many : length (entries acts) ≡ most = omega arith in
     record {
-      taken = taken-admitted (counted acts) (length acts + 1) is.taken;
+      taken = taken-admitted (count_acts acts) (length acts + 1) is.taken;
       few = omega (arith, ap length same);
       within = subst (AllByRecursion (λ place. place ≤ length (Report code ∷ acts))) (sym same)
           (all-weaker (λ place. place ≤ length acts) (λ place. place ≤ length (Report code ∷ acts)) (entries acts)
@@ -231,7 +232,7 @@ valid-overflowed code acts is full =
 -- ---- a taking
 
 entries-taken : (acts : List QueueAct) → entries (Take ∷ acts) ≡ drop 1 (entries acts)
-entries-taken acts = left-taken (counted acts)
+entries-taken acts = left-taken (count_acts acts)
 
 valid-taken : (acts : List QueueAct) → IsValid acts → IsValid (Take ∷ acts)
 valid-taken acts is =
@@ -239,7 +240,7 @@ valid-taken acts is =
     let few = is.few in
     let size : length (entries (Take ∷ acts)) ≡ length (entries acts) - 1 = ap length rest ∙ length-drop 1 (entries acts) in
     record {
-      taken = taken-taken (counted acts) is.taken;
+      taken = taken-taken (count_acts acts) is.taken;
       few = omega arith;
       within = subst (AllByRecursion (λ place. place ≤ length (Take ∷ acts))) (sym rest)
           (all-rest (λ place. place ≤ length (Take ∷ acts)) (entries acts)
@@ -263,51 +264,51 @@ valid (Clear ∷ acts) = record { taken = omega arith; few = omega arith; within
 
 -- what the entries show stays, but where a report overflows
 shown-entries : (act : QueueAct) (acts : List QueueAct) → (is_full acts && is_report (act ∷ acts)) ≡ false
-    → map (shown (act ∷ acts)) (entries acts) ≡ queued acts
-shown-entries act acts quiet = map-same (λ place. place ≤ length acts) (shown (act ∷ acts)) (shown acts) (entries acts)
+    → map (entry_code (act ∷ acts)) (entries acts) ≡ queue_codes acts
+shown-entries act acts quiet = map-same (λ place. place ≤ length acts) (entry_code (act ∷ acts)) (entry_code acts) (entries acts)
     (λ place le. shown-same place act acts quiet le) (valid acts).within
 
 -- each entry shows one code
-pub length-queued : (acts : List QueueAct) → length (queued acts) ≡ length (entries acts)
-length-queued acts = length-map (entries acts) (shown acts)
+pub length-queued : (acts : List QueueAct) → length (queue_codes acts) ≡ length (entries acts)
+length-queued acts = length-map (entries acts) (entry_code acts)
 
 -- a report that finds room becomes the newest
-pub queued-reported : (code : Code) (acts : List QueueAct) → length (queued acts) < most
-    → queued (Report code ∷ acts) ≡ queued acts ++ code ∷ []
+pub queued-reported : (code : Code) (acts : List QueueAct) → length (queue_codes acts) < most
+    → queue_codes (Report code ∷ acts) ≡ queue_codes acts ++ code ∷ []
 queued-reported code acts few =
     let room : length (entries acts) < most = omega (arith, few, length-queued acts) in
     let quiet : (is_full acts && true) ≡ false = ap (λ (b : Bool). b && true) (ne_eqb (length (entries acts)) most (λ e. omega arith)) in
-    ap (map (shown (Report code ∷ acts))) (entries-reported code acts (valid acts) room)
-    ∙ map_push (shown (Report code ∷ acts)) (entries acts) (length acts + 1)
-    ∙ ap (λ (cs : List Code). cs ++ shown (Report code ∷ acts) (length acts + 1) ∷ []) (shown-entries (Report code) acts quiet)
-    ∙ ap (λ (n : ℕ). queued acts ++ shown (Report code ∷ acts) n ∷ []) (add-one (length acts))
-    ∙ ap (λ (c : Code). queued acts ++ c ∷ []) (shown-newest (Report code ∷ acts))
+    ap (map (entry_code (Report code ∷ acts))) (entries-reported code acts (valid acts) room)
+    ∙ map_push (entry_code (Report code ∷ acts)) (entries acts) (length acts + 1)
+    ∙ ap (λ (cs : List Code). cs ++ entry_code (Report code ∷ acts) (length acts + 1) ∷ []) (shown-entries (Report code) acts quiet)
+    ∙ ap (λ (n : ℕ). queue_codes acts ++ entry_code (Report code ∷ acts) n ∷ []) (add-one (length acts))
+    ∙ ap (λ (c : Code). queue_codes acts ++ c ∷ []) (shown-newest (Report code ∷ acts))
 
 -- the entries of a full queue
 full-shown : (acts : List QueueAct) (now : List QueueAct) (is : IsFull acts)
-    → map (shown now) (entries acts) ≡ map (shown now) is.front ++ shown now is.last ∷ []
-full-shown acts now is = ap (map (shown now)) is.split ∙ map_push (shown now) is.front is.last
+    → map (entry_code now) (entries acts) ≡ map (entry_code now) is.front ++ entry_code now is.last ∷ []
+full-shown acts now is = ap (map (entry_code now)) is.split ∙ map_push (entry_code now) is.front is.last
 
 -- a report that finds none shows the overflow in the place of the newest
-pub queued-overflowed : (code : Code) (acts : List QueueAct) → length (queued acts) ≡ most
-    → queued (Report code ∷ acts) ≡ take (most - 1) (queued acts) ++ QueueOverflow ∷ []
+pub queued-overflowed : (code : Code) (acts : List QueueAct) → length (queue_codes acts) ≡ most
+    → queue_codes (Report code ∷ acts) ≡ take (most - 1) (queue_codes acts) ++ QueueOverflow ∷ []
 queued-overflowed code acts full =
     let many = sym (length-queued acts) ∙ full in
     let is = (valid acts).full many in
-    let front : take (most - 1) (queued acts) ≡ map (shown acts) is.front =
-    ap (take (most - 1)) (full-shown acts acts is) ∙ take_at (map (shown acts) is.front) (shown acts is.last ∷ []) (most - 1)
-    (length-map is.front (shown acts) ∙ is.size) in
-    ap (map (shown (Report code ∷ acts))) (entries-overflowed code acts (omega arith))
+    let front : take (most - 1) (queue_codes acts) ≡ map (entry_code acts) is.front =
+    ap (take (most - 1)) (full-shown acts acts is) ∙ take_at (map (entry_code acts) is.front) (entry_code acts is.last ∷ []) (most - 1)
+    (length-map is.front (entry_code acts) ∙ is.size) in
+    ap (map (entry_code (Report code ∷ acts))) (entries-overflowed code acts (omega arith))
     ∙ full-shown acts (Report code ∷ acts) is
-    ∙ ap (λ (c : Code). map (shown (Report code ∷ acts)) is.front ++ c ∷ []) (shown-overflowed code acts is.last many is.newest)
+    ∙ ap (λ (c : Code). map (entry_code (Report code ∷ acts)) is.front ++ c ∷ []) (shown-overflowed code acts is.last many is.newest)
     ∙ ap (λ (cs : List Code). cs ++ QueueOverflow ∷ [])
-    (map-same (λ place. place < length acts) (shown (Report code ∷ acts)) (shown acts) is.front
+    (map-same (λ place. place < length acts) (entry_code (Report code ∷ acts)) (entry_code acts) is.front
     (λ place lt. shown-older place (Report code) acts lt) is.older ∙ sym front)
 
 -- a taking leaves out the oldest
-pub queued-taken : (acts : List QueueAct) → queued (Take ∷ acts) ≡ drop 1 (queued acts)
+pub queued-taken : (acts : List QueueAct) → queue_codes (Take ∷ acts) ≡ drop 1 (queue_codes acts)
 queued-taken acts =
-    ap (map (shown (Take ∷ acts))) (entries-taken acts) ∙ sym (drop-map (shown (Take ∷ acts)) 1 (entries acts))
+    ap (map (entry_code (Take ∷ acts))) (entries-taken acts) ∙ sym (drop-map (entry_code (Take ∷ acts)) 1 (entries acts))
     ∙ ap (drop 1) (shown-entries Take acts (and_right (is_full acts) false refl))
 
 -- ---- the codes that stand for the acts

@@ -17,7 +17,7 @@ pub record Counted : Type 0 where
 
 -- those that weren't taken
 abbrev pub left : Counted → List ℕ
-left counted = drop counted.taken counted.admitted
+left count_acts = drop count_acts.taken count_acts.admitted
 
 -- a report finds room if fewer than 64 entries are left
 abbrev pub admit : Counted → ℕ → Counted
@@ -28,15 +28,15 @@ abbrev pub take_one : Counted → Counted
 take_one before = if is_some (slice_get (left before) 0) then record before { taken = before.taken + 1 } else before
 
 -- what is counted of all acts
-abbrev pub counted : List QueueAct → Counted
-counted [] = record { admitted = []; taken = 0 }
-counted (Report code ∷ acts) = admit (counted acts) (length acts + 1)
-counted (Take ∷ acts) = take_one (counted acts)
-counted (Clear ∷ acts) = record { admitted = []; taken = 0 }
+abbrev pub count_acts : List QueueAct → Counted
+count_acts [] = record { admitted = []; taken = 0 }
+count_acts (Report code ∷ acts) = admit (count_acts acts) (length acts + 1)
+count_acts (Take ∷ acts) = take_one (count_acts acts)
+count_acts (Clear ∷ acts) = record { admitted = []; taken = 0 }
 
 -- the entries, oldest first, each as the place of its report
 abbrev pub entries : List QueueAct → List ℕ
-entries acts = left (counted acts)
+entries acts = left (count_acts acts)
 
 -- whether the queue is full, so that a report overflows
 abbrev pub is_full : List QueueAct → Bool
@@ -47,27 +47,27 @@ abbrev pub up_to : ℕ → List QueueAct → List QueueAct
 up_to place acts = drop (length acts - place) acts
 
 -- the error that the newest act reports; `None` if it reports none
-abbrev pub reported : List QueueAct → Option Code
-reported = elim [ Report code ∷ acts ↦ Some code | _ ↦ None ]
+abbrev pub report_of : List QueueAct → Option Code
+report_of = elim [ Report code ∷ acts ↦ Some code | _ ↦ None ]
 
 -- whether the act behind this place is another report
 abbrev pub is_overtaken : ℕ → List QueueAct → Bool
-is_overtaken place acts = nat_lt place (length acts) && is_some (reported (up_to (place + 1) acts))
+is_overtaken place acts = nat_lt place (length acts) && is_some (report_of (up_to (place + 1) acts))
 
 -- What an entry reads: the error of its report; but of the entry that made the queue full -350, if another report came before the next
 -- taking.
-abbrev pub shown : List QueueAct → ℕ → Code
-shown acts place =
-    if is_full (up_to place acts) && is_overtaken place acts then QueueOverflow else unwrap_or (reported (up_to place acts)) NoError
+abbrev pub entry_code : List QueueAct → ℕ → Code
+entry_code acts place =
+    if is_full (up_to place acts) && is_overtaken place acts then QueueOverflow else unwrap_or (report_of (up_to place acts)) NoError
 
 -- the errors in the queue, oldest first
-abbrev pub queued : List QueueAct → List Code
-queued acts = map (shown acts) (entries acts)
+abbrev pub queue_codes : List QueueAct → List Code
+queue_codes acts = map (entry_code acts) (entries acts)
 
 -- the oldest of them; `None` if there is none
 abbrev pub oldest : List QueueAct → Option Code
-oldest acts = slice_get (queued acts) 0
+oldest acts = slice_get (queue_codes acts) 0
 
 -- These errors are those that the acts leave queued.
 abbrev pub StandsFor : List Code → List QueueAct → Type 0
-StandsFor codes acts = codes ≡ queued acts
+StandsFor codes acts = codes ≡ queue_codes acts

@@ -2,8 +2,8 @@
 use Rattle.std.proofs.Common.{◌≡◌, ℕ, zero, suc, ◌+◌, ◌-◌, ◌==◌, Bool, true, false, not, ◌&&◌, cond, List, [], ◌∷◌, ◌++◌, length, drop, Option, Some, None, refl, sym, ap, ◌∙◌, nat_lt, slice_get, slice_index_or, get_or, arith}
 use Rattle.std.proofs.lemmas.Bool.{lt-ltb, le-ltb}
 use Rattle.std.proofs.lemmas.List.{length-drop, get_or-drop}
-use Rattle.sv_exchange.specs.Exchange.{ExchangeAct, text, messages, message, finished, current, units, units_done, has_ended, is_long, has_overrun, has_dropped, next_unit, answers, response, is_something, Due, OverrunDue, InterruptDue, UnitDue, FinishDue, due, due_unit}
-use Rattle.sv_exchange.specs.Contents.{Contents, StandsFor, IsShown, IsUnitDue, symbols, following, shown, shown_by, next_of, unit_of}
+use Rattle.sv_exchange.specs.Exchange.{ExchangeAct, text, messages, message, messages_finished, current, units, units_done, has_ended, is_long, has_overrun, has_dropped, next_unit, answers, response, is_something, Due, OverrunDue, InterruptDue, UnitDue, FinishDue, due, due_unit}
+use Rattle.sv_exchange.specs.Contents.{Contents, StandsFor, IsShown, IsUnitDue, symbols, following, readable_of, shown_by, next_of, unit_of}
 use Rattle.sv_exchange.proofs.Cuts.{messages_some}
 use Rattle.sv_exchange.specs.Limits.{max_message}
 
@@ -22,7 +22,7 @@ ended_by parts k message false later mark e =
 -- whether the current message has ended
 pub ended_is : (contents : Contents) (acts : List ExchangeAct) → StandsFor contents acts → has_ended acts ≡ contents.ended
 ended_is contents acts s =
-    ended_by (messages (text acts)) (finished acts) s.message contents.ended contents.later contents.end_pending s.text_left
+    ended_by (messages (text acts)) (messages_finished acts) s.message contents.ended contents.later contents.end_pending s.text_left
 
 -- the part at a place
 part_at : (parts : List (List ℕ)) (k : ℕ) (message : List ℕ) (others : List (List ℕ)) → drop k parts ≡ message ∷ others
@@ -33,7 +33,7 @@ part_at parts k message others e =
 
 -- the current message
 pub message_is : (contents : Contents) (acts : List ExchangeAct) (s : StandsFor contents acts) → message acts ≡ s.message
-message_is contents acts s = part_at (messages (text acts)) (finished acts) s.message _ s.text_left
+message_is contents acts s = part_at (messages (text acts)) (messages_finished acts) s.message _ s.text_left
 
 -- whether it is too long
 pub long_is : (contents : Contents) (acts : List ExchangeAct) → StandsFor contents acts → is_long acts ≡ contents.overlong
@@ -41,7 +41,7 @@ long_is contents acts s = ap (λ (m : List ℕ). nat_lt max_message (length m)) 
 
 -- what can be read, by what is kept
 pub shown_is : (answering : Bool) (out : List ℕ) (given : List (List ℕ)) (readable : List ℕ) → IsShown answering out given readable
-    → readable ≡ shown answering out
+    → readable ≡ readable_of answering out
 shown_is true out given readable said = said.2
 shown_is false out given readable said = said.1
 
@@ -159,7 +159,7 @@ at_interrupt contents due =
   where
     at : (long told answering : Bool) (found : Option (List ℕ)) (something ended : Bool)
         → due_by long told found something ended ≡ InterruptDue
-        → IsUnitDue (due_by long told found (is_something (shown answering [])) ended)
+        → IsUnitDue (due_by long told found (is_something (readable_of answering [])) ended)
     at true false answering found something ended is = absurd cc
     at true true answering None something true is = absurd cc
     at true true answering None something false is = absurd cc

@@ -2,12 +2,12 @@
 use Rattle.std.proofs.Common.{◌≡◌, ℕ, cond, List, [], ◌∷◌, ◌++◌, drop, refl, sym, ap}
 use Rattle.std.proofs.lemmas.List.{drop-drop}
 use Rattle.sv_logs.specs.Since.{newest, since}
-use Rattle.sv_exchange.specs.Exchange.{ExchangeAct, Finished, ResponseRead, is_something, renews, renewed, bytes_read, answers, joined, response}
+use Rattle.sv_exchange.specs.Exchange.{ExchangeAct, Finished, ResponseRead, is_something, renews, new_response, bytes_read, answers, joined_answers, response}
 
 -- what finishing a message makes of the response before it
 abbrev pub response_after : List (List ℕ) → List ℕ → List ℕ
 response_after [] before = before
-response_after (answer ∷ others) before = joined (answer ∷ others) ++ 10 ∷ []
+response_after (answer ∷ others) before = joined_answers (answer ∷ others) ++ 10 ∷ []
 
 -- a message was finished
 pub response-finished : (acts : List ExchangeAct) → response (Finished ∷ acts) ≡ response_after (answers acts) (response acts)
@@ -15,11 +15,11 @@ response-finished acts = at (answers acts) refl
   where
     at : (given : List (List ℕ)) → answers acts ≡ given
         → drop (bytes_read (cond (is_something given) [] (Finished ∷ since renews acts)))
-        (renewed (cond (is_something given) (Finished ∷ acts) (newest renews acts)))
+        (new_response (cond (is_something given) (Finished ∷ acts) (newest renews acts)))
         ≡ response_after given (response acts)
     at [] e = refl
-    at (answer ∷ others) e = ap (λ (g : List (List ℕ)). joined g ++ 10 ∷ []) e
+    at (answer ∷ others) e = ap (λ (g : List (List ℕ)). joined_answers g ++ 10 ∷ []) e
 
 -- bytes were read
 pub response-read : (acts : List ExchangeAct) (count : ℕ) → response (ResponseRead count ∷ acts) ≡ drop count (response acts)
-response-read acts count = sym (drop-drop count (bytes_read (since renews acts)) (renewed (newest renews acts)))
+response-read acts count = sym (drop-drop count (bytes_read (since renews acts)) (new_response (newest renews acts)))

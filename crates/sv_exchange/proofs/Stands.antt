@@ -2,8 +2,8 @@
 use Rattle.std.proofs.Common.{◌≡◌, ◌≢◌, ℕ, zero, suc, ◌+◌, ◌≤◌, ◌<◌, ◌==◌, Bool, true, false, not, ◌&&◌, ◌||◌, cond, List, [], ◌∷◌, ◌++◌, length, take, drop, refl, sym, ap, ◌∙◌, nat_lt, append_assoc, IsTrue, arith}
 use Rattle.std.proofs.lemmas.Bool.{lt-ltb, le-ltb, ltb-true}
 use Rattle.std.proofs.lemmas.List.{length-append, drop-drop, drop_all, length-take-le}
-use Rattle.sv_exchange.specs.Exchange.{ExchangeAct, Accepted, UnitDone, Answered, AnswersDropped, Finished, ResponseRead, TextDropped, text, messages, message, finished, current, units, has_dropped, answers, response, fits_response, is_something, joined}
-use Rattle.sv_exchange.specs.Contents.{Contents, StandsFor, IsShown, empty, IsUnitDue, symbols, following, shown, shown_by, next_of, is_open, may_respond}
+use Rattle.sv_exchange.specs.Exchange.{ExchangeAct, Accepted, UnitDone, Answered, AnswersDropped, Finished, ResponseRead, TextDropped, text, messages, message, messages_finished, current, units, has_dropped, answers, response, fits_response, is_something, joined_answers}
+use Rattle.sv_exchange.specs.Contents.{Contents, StandsFor, IsShown, empty, IsUnitDue, symbols, following, readable_of, shown_by, next_of, is_open, may_respond}
 use Rattle.sv_exchange.specs.Fields.{first_size, has_line, second_at, after_accept, after_finish, with_answer}
 use Rattle.sv_exchange.specs.FirstUnit.{IsFirst}
 use Rattle.sv_text.proofs.Places.{place_within}
@@ -66,16 +66,17 @@ pub finish_stands : (contents new : Contents) (acts : List ExchangeAct) → cont
 finish_stands contents new acts ended few is s =
     let size = place_within (λ b. b == 10) contents.later in
     let first : List ℕ = take (first_size contents.later) contents.later in
-    let behind : drop 1 (drop (finished acts) (messages (text acts))) ≡ first
+    let behind : drop 1 (drop (messages_finished acts) (messages (text acts))) ≡ first
     ∷ following (has_line contents.later || contents.end_pending) (drop (second_at contents.later) contents.later)
     (has_line contents.later && contents.end_pending) =
     ap (drop 1) s.text_left ∙ following_ended contents.ended contents.later contents.end_pending ended
     ∙ first_cut contents.later contents.end_pending in
-    let next : suc (finished acts) ≡ finished acts + 1 = omega arith in
+    let next : suc (messages_finished acts) ≡ messages_finished acts + 1 = omega arith in
     rw is (record {
       message = first;
       executed = [];
-      text_left = ap (λ (n : ℕ). drop n (messages (text acts))) next ∙ sym (drop-drop 1 (finished acts) (messages (text acts))) ∙ behind;
+      text_left = ap (λ (n : ℕ). drop n (messages (text acts))) next ∙ sym (drop-drop 1 (messages_finished acts) (messages (text acts)))
+          ∙ behind;
       size = sym (le-ltb max_message (length first) (omega (arith, length-take-le (first_size contents.later) contents.later size)));
       units_left = λ short. refl;
       count = refl;
@@ -97,12 +98,13 @@ may_parts true false true h = absurd cc
 may_parts false lost something h = absurd cc
 
 -- one more answer
-joined-push : (given : List (List ℕ)) (answer : List ℕ) → given ≢ [] → joined (given ++ answer ∷ []) ≡ joined given ++ 59 ∷ answer
+joined-push : (given : List (List ℕ)) (answer : List ℕ) → given ≢ []
+    → joined_answers (given ++ answer ∷ []) ≡ joined_answers given ++ 59 ∷ answer
 joined-push [] answer some = absurd (some refl)
 joined-push (first ∷ []) answer some = refl
 joined-push (first ∷ second ∷ given) answer some =
     ap (λ (l : List ℕ). first ++ 59 ∷ l) (joined-push (second ∷ given) answer (λ e. cc))
-    ∙ sym (append_assoc first (59 ∷ joined (second ∷ given)) (59 ∷ answer))
+    ∙ sym (append_assoc first (59 ∷ joined_answers (second ∷ given)) (59 ∷ answer))
 
 -- with one more answer there are some
 push_some : (given : List (List ℕ)) (answer : List ℕ) → given ++ answer ∷ [] ≢ []
@@ -111,9 +113,9 @@ push_some (first ∷ given) answer e = cc
 
 -- what is kept with an answer
 joined_with : (answering : Bool) (out : List ℕ) (given : List (List ℕ)) (readable answer : List ℕ) → IsShown answering out given readable
-    → joined (given ++ answer ∷ []) ≡ with_answer answering out answer
+    → joined_answers (given ++ answer ∷ []) ≡ with_answer answering out answer
 joined_with true out given readable answer said = joined-push given answer said.0 ∙ ap (λ (l : List ℕ). l ++ 59 ∷ answer) (sym said.1)
-joined_with false out given readable answer said = ap (λ (g : List (List ℕ)). joined (g ++ answer ∷ [])) said.0
+joined_with false out given readable answer said = ap (λ (g : List (List ℕ)). joined_answers (g ++ answer ∷ [])) said.0
 
 -- whether an answer fits
 pub fits_is : (contents : Contents) (acts : List ExchangeAct) (answer : List ℕ) (size : ℕ)
@@ -147,7 +149,7 @@ answered_stands contents new acts answer may is s =
       answers_dropped = s.answers_dropped;
       shows = (
         λ none. push_some (answers acts) answer (sym now ∙ none),
-        sym (joined_with contents.answering contents.output (answers acts) (response acts) answer s.shows) ∙ ap joined (sym now),
+        sym (joined_with contents.answering contents.output (answers acts) (response acts) answer s.shows) ∙ ap joined_answers (sym now),
         readable_is contents acts s ∙ nothing_there (shown_by contents) parts.2,
       );
     })
@@ -206,7 +208,7 @@ accept_stands contents new acts bytes ended open_now is s =
     let unended : contents.ended ≡ false = not_true contents.ended open_now in
     let first : List ℕ = take (first_size bytes) bytes in
     let size : length first ≡ first_size bytes = length-take-le (first_size bytes) bytes (place_within (λ b. b == 10) bytes) in
-    let alone : drop (finished acts) (messages (text acts)) ≡ s.message ∷ [] =
+    let alone : drop (messages_finished acts) (messages (text acts)) ≡ s.message ∷ [] =
     s.text_left ∙ ap (λ (ms : List (List ℕ)). s.message ∷ ms) (following_open contents.ended contents.later contents.end_pending unended) in
     let more : Bool = nat_lt max_message (length contents.rest + first_size bytes) in
     let rest : (contents.overlong || more) ≡ false → s.message ++ first ≡ cond (contents.overlong || more) [] (contents.rest ++ first) =
@@ -214,7 +216,8 @@ accept_stands contents new acts bytes ended open_now is s =
     rw is (record {
       message = s.message ++ first;
       executed = [];
-      text_left = messages-append (text acts) (symbols bytes ended) (finished acts) s.message first _ alone (first_cut bytes ended);
+      text_left = messages-append (text acts) (symbols bytes ended) (messages_finished acts) s.message first _ alone
+          (first_cut bytes ended);
       size = long_on contents.overlong s.message first contents.rest (first_size bytes) s.size size (s.whole unended);
       units_left = λ short. ap units (rest short);
       count = sym (ap length (s.unbegun unended)) ∙ s.count;
@@ -228,7 +231,8 @@ accept_stands contents new acts bytes ended open_now is s =
     })
 
 -- what was read is taken from what is kept
-read_said : (answering : Bool) (out : List ℕ) (given : List (List ℕ)) (readable : List ℕ) (count : ℕ) → count ≤ length (shown answering out)
+read_said : (answering : Bool) (out : List ℕ) (given : List (List ℕ)) (readable : List ℕ) (count : ℕ)
+    → count ≤ length (readable_of answering out)
     → IsShown answering out given readable → IsShown answering (drop count out) given (drop count readable)
 read_said true out given readable zero few said = said
 read_said true out given readable (suc count) few said = absurd (omega arith)

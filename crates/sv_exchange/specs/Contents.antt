@@ -2,7 +2,7 @@
 use Rattle.std.specs.Prelude.{◌≡◌, ◌≢◌, ℕ, ◌+◌, ◌*◌, ◌==◌, Bool, true, false, not, ◌&&◌, List, [], ◌∷◌, ◌++◌, length, drop, map, Option, None, nat_lt, slice_get, if◌then◌else◌}
 use Rattle.sv_exchange.specs.declared.exchange.Next.{Next}
 use Rattle.sv_exchange.specs.declared.exchange.Next.TheVariants as next
-use Rattle.sv_exchange.specs.Exchange.{ExchangeAct, Symbol, Byte, end_mark, text, messages, finished, current, units_done, has_overrun, has_dropped, answers, units, is_something, joined, response, Due, NothingDue, OverrunDue, InterruptDue, UnitDue, FinishDue, due_unit}
+use Rattle.sv_exchange.specs.Exchange.{ExchangeAct, Symbol, Byte, end_mark, text, messages, messages_finished, current, units_done, has_overrun, has_dropped, answers, units, is_something, joined_answers, response, Due, NothingDue, OverrunDue, InterruptDue, UnitDue, FinishDue, due_unit}
 use Rattle.sv_exchange.specs.Limits.{max_message}
 
 -- what is kept: the rest of the current message, and whether it has ended; the text behind it, and whether END follows that; what happened
@@ -44,14 +44,15 @@ following false later end_pending = []
 
 -- What is kept is the answers of the current message, joined; or the response.
 abbrev pub IsShown : Bool → List ℕ → List (List ℕ) → List ℕ → Type 0
-IsShown true output given readable = (given ≢ []) × (output ≡ joined given) × (readable ≡ [])
+IsShown true output given readable = (given ≢ []) × (output ≡ joined_answers given) × (readable ≡ [])
 IsShown false output given readable = (given ≡ []) × (readable ≡ output)
 
 -- What is kept stands for the acts: there is a current message, some of whose units were executed.
 pub record StandsFor (contents : Contents) (acts : List ExchangeAct) : Type 0 where
   pub message : List ℕ
   pub executed : List (List ℕ)
-  pub text_left : drop (finished acts) (messages (text acts)) ≡ message ∷ following contents.ended contents.later contents.end_pending
+  pub text_left : drop (messages_finished acts) (messages (text acts)) ≡ message
+      ∷ following contents.ended contents.later contents.end_pending
   pub size : contents.overlong ≡ nat_lt max_message (length message)
   pub units_left : contents.overlong ≡ false → units message ≡ executed ++ units contents.rest
   pub count : length executed ≡ units_done (current acts)
@@ -68,13 +69,13 @@ abbrev pub is_open : Contents → Bool
 is_open contents = not contents.ended
 
 -- what can be read: nothing while answers are collected
-abbrev pub shown : Bool → List ℕ → List ℕ
-shown true output = []
-shown false output = output
+abbrev pub readable_of : Bool → List ℕ → List ℕ
+readable_of true output = []
+readable_of false output = output
 
 -- what can be read of what is kept
 abbrev pub shown_by : Contents → List ℕ
-shown_by contents = shown contents.answering contents.output
+shown_by contents = readable_of contents.answering contents.output
 
 -- the next unit, of a message that has ended, isn't too long, and lost no answers
 abbrev pub unit_of : Contents → Option (List ℕ)

@@ -34,14 +34,14 @@ abbrev pub drops_text : List ExchangeAct → Bool
 drops_text = elim [ TextDropped ∷ acts ↦ true | _ ↦ false ]
 
 -- the text that acts bring, in order
-abbrev pub brought : List ExchangeAct → List Symbol
-brought [] = []
-brought (Accepted bytes ended ∷ acts) = brought acts ++ (map Byte bytes ++ end_mark ended)
-brought (_ ∷ acts) = brought acts
+abbrev pub symbols_of : List ExchangeAct → List Symbol
+symbols_of [] = []
+symbols_of (Accepted bytes ended ∷ acts) = symbols_of acts ++ (map Byte bytes ++ end_mark ended)
+symbols_of (_ ∷ acts) = symbols_of acts
 
 -- the text that was accepted since text was last dropped
 abbrev pub text : List ExchangeAct → List Symbol
-text acts = brought (since drops_text acts)
+text acts = symbols_of (since drops_text acts)
 
 -- The text cut at each new line and each mark: each part but the last is a message that has ended; the last is one that hasn't.
 abbrev pub messages : List Symbol → List (List ℕ)
@@ -50,8 +50,8 @@ messages (End ∷ symbols) = [] ∷ messages symbols
 messages (Byte b ∷ symbols) = if b == 10 then [] ∷ messages symbols else onto_first b (messages symbols)
 
 -- how many messages were finished since text was last dropped
-abbrev pub finished : List ExchangeAct → ℕ
-finished acts = length (filter (elim [ Finished ↦ true | _ ↦ false ]) (since drops_text acts))
+abbrev pub messages_finished : List ExchangeAct → ℕ
+messages_finished acts = length (filter (elim [ Finished ↦ true | _ ↦ false ]) (since drops_text acts))
 
 -- the acts since the current message began: since a message was finished, or text dropped
 abbrev pub current : List ExchangeAct → List ExchangeAct
@@ -70,22 +70,22 @@ abbrev pub has_dropped : List ExchangeAct → Bool
 has_dropped acts = list_any (elim [ AnswersDropped ↦ true | _ ↦ false ]) acts
 
 -- the answers that were given, in these acts
-abbrev pub answered : List ExchangeAct → List (List ℕ)
-answered [] = []
-answered (Answered answer ∷ acts) = answered acts ++ answer ∷ []
-answered (_ ∷ acts) = answered acts
+abbrev pub all_answers : List ExchangeAct → List (List ℕ)
+all_answers [] = []
+all_answers (Answered answer ∷ acts) = all_answers acts ++ answer ∷ []
+all_answers (_ ∷ acts) = all_answers acts
 
 -- the answers of the current message; none once they were dropped
 abbrev pub answers : List ExchangeAct → List (List ℕ)
-answers acts = if has_dropped (current acts) then [] else answered (current acts)
+answers acts = if has_dropped (current acts) then [] else all_answers (current acts)
 
 -- the current message
 abbrev pub message : List ExchangeAct → List ℕ
-message acts = slice_index_or (messages (text acts)) (finished acts) []
+message acts = slice_index_or (messages (text acts)) (messages_finished acts) []
 
 -- whether the current message has ended
 abbrev pub has_ended : List ExchangeAct → Bool
-has_ended acts = nat_lt (finished acts + 1) (length (messages (text acts)))
+has_ended acts = nat_lt (messages_finished acts + 1) (length (messages (text acts)))
 
 -- whether the current message is too long: above 4,096 bytes
 abbrev pub is_long : List ExchangeAct → Bool
@@ -107,8 +107,8 @@ next_unit acts =
     (units_done (current acts)) else None
 
 -- answers joined by semicolons
-abbrev pub joined : List (List ℕ) → List ℕ
-joined = join_with_byte 59
+abbrev pub joined_answers : List (List ℕ) → List ℕ
+joined_answers = join_with_byte 59
 
 -- The newest act makes a new response: a message that had answers is finished, or the response is interrupted.
 abbrev pub renews : List ExchangeAct → Bool
@@ -117,9 +117,9 @@ renews (Interrupted ∷ acts) = true
 renews _ = false
 
 -- that response: the answers, joined and ended by a new line; none once interrupted
-abbrev pub renewed : List ExchangeAct → List ℕ
-renewed (Finished ∷ acts) = joined (answers acts) ++ 10 ∷ []
-renewed _ = []
+abbrev pub new_response : List ExchangeAct → List ℕ
+new_response (Finished ∷ acts) = joined_answers (answers acts) ++ 10 ∷ []
+new_response _ = []
 
 -- how many bytes were read
 abbrev pub bytes_read : List ExchangeAct → ℕ
@@ -129,7 +129,7 @@ bytes_read (_ ∷ acts) = bytes_read acts
 
 -- what can be read: the response as it was made, without the bytes that were read since
 abbrev pub response : List ExchangeAct → List ℕ
-response acts = drop (bytes_read (since renews acts)) (renewed (newest renews acts))
+response acts = drop (bytes_read (since renews acts)) (new_response (newest renews acts))
 
 -- What is due: a message that is too long is reported once; a unit starts, and before the first unit a response that is still there is
 -- interrupted; a message that has ended is finished.
@@ -153,4 +153,4 @@ due acts =
 
 -- whether an answer fits the response, behind the answers before it and with the new line
 abbrev pub fits_response : List (List ℕ) → List ℕ → Bool
-fits_response before answer = nat_lt (length (joined (before ++ answer ∷ []))) max_response
+fits_response before answer = nat_lt (length (joined_answers (before ++ answer ∷ []))) max_response

@@ -44,5 +44,5 @@ kept_by _ path all = but_last all
 
 -- The path that a header leaves: its mnemonics with the path before them, as they were sent, without the last one. A common command leaves
 -- the path as it was.
-abbrev pub kept : List (List ℕ) → List ℕ → List (List ℕ)
-kept path header = kept_by (lead header) path (full path header)
+abbrev pub next_path : List (List ℕ) → List ℕ → List (List ℕ)
+next_path path header = kept_by (lead header) path (full path header)

@@ -5,7 +5,7 @@ ghost use Rattle.sv_header.specs.declared.command.CommandId.{CommandId as Comman
 ghost use Rattle.std.specs.List.{list_all};
 ghost use Rattle.sv_text.specs.Cut.{cut_at};
 ghost use Rattle.sv_header.specs.Plain.{is_short};
-ghost use Rattle.sv_header.specs.Resolve.{Resolves, but_last, kept};
+ghost use Rattle.sv_header.specs.Resolve.{Resolves, but_last, next_path};
 
 use arrayvec::ArrayVec;
 use std::marker::Model;
@@ -86,7 +86,7 @@ impl Path {
     /// was.
     pub fn follow(&mut self, header: &[u8])
         requires { (command : Command) × Resolves self.old header.now command }
-        ensures { self.new ≡ kept self.old header.now }
+        ensures { self.new ≡ next_path self.old header.now }
     {
         let parts = header_parts(header);
         match parts.lead {

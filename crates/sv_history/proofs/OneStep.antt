@@ -15,10 +15,10 @@ use Rattle.sv_history.specs.declared.event.Config.{Config}
 use Rattle.sv_history.specs.Act.{Act, DeviceAct, Applied, OnDevice, of, device_acts, wait_acts, instrument_acts, ticks}
 use Rattle.sv_history.specs.PolledStatus.{IsPolled}
 use Rattle.sv_history.specs.Settling.{First, InstrumentDoes, CanResume, Resumes, TimesOut, IsNext}
-use Rattle.sv_history.specs.Connection.{unanswered}
+use Rattle.sv_history.specs.Connection.{pending_call}
 use Rattle.sv_history.specs.Request.{core_call_in}
 use Rattle.sv_history.specs.Effect.{acts_of}
-use Rattle.sv_history.specs.Resuming.{resumed, failed, late}
+use Rattle.sv_history.specs.Resuming.{resume_effect, failure_effect, late}
 
 first_once : (A B : List Act → Type 0) → ((x y : List Act) → A x → A y → x ≡ y) → ((x y : List Act) → B x → B y → x ≡ y)
     → (x y : List Act) → First A B x → First A B y → x ≡ y
@@ -40,10 +40,10 @@ happens_once IsSuch once log x y (first, a, is) (second, b, same) =
 -- what a step of a call leaves
 abbrev pub went_on : Config → List Act → ℕ → ℕ → Wait → List Act
 went_on config log polled c wait =
-    acts_of c (resumed config polled c wait (core_call_in (unanswered (of c log))) (device_acts log)) ++ log
+    acts_of c (resume_effect config polled c wait (core_call_in (pending_call (of c log))) (device_acts log)) ++ log
 
 abbrev pub gave_up : List Act → ℕ → Wait → List Act
-gave_up log c wait = acts_of c (failed (late wait) c (core_call_in (unanswered (of c log)))) ++ log
+gave_up log c wait = acts_of c (failure_effect (late wait) c (core_call_in (pending_call (of c log)))) ++ log
 
 -- the number in an option
 some_of : (a b : ℕ) → Some a ≡ Some b → a ≡ b

@@ -16,7 +16,7 @@ use Rattle.sv_exchange.specs.Exchange.{has_ended}
 use Rattle.sv_instrument.specs.Step.{is_answerable}
 use Rattle.sv_history.specs.declared.event.Config.{Config}
 use Rattle.sv_history.specs.Act.{DeviceAct, link_acts, wait_acts, instrument_acts, exchange_acts, ticks}
-use Rattle.sv_history.specs.CallOutcome.{CallOutcome, only, suspended}
+use Rattle.sv_history.specs.CallOutcome.{CallOutcome, only, suspend_by}
 use Rattle.sv_history.specs.CoreCall.{lid_of, is_too_long, failure}
 use Rattle.sv_history.specs.Interrupts.{has_channel, is_peer}
 use Rattle.sv_history.specs.CoreChannel.{owns, own_call}
@@ -81,8 +81,8 @@ abbrev pub deadline : Config → Option ℕ → List DeviceAct → Option ℕ
 deadline config timeout acts = option_map (λ milliseconds. config.clock + ticks acts + milliseconds) timeout
 
 -- The outcome of a call: it is executed, unless something stops it.
-abbrev pub admitted : Config → ℕ → ℕ → Arguments → Option Stop → List DeviceAct → CallOutcome
-admitted config polled c arguments None acts = own_call config polled c arguments acts
-admitted config polled c arguments (Some (Fails error)) acts = only (failure arguments error)
-admitted config polled c arguments (Some (Awaits wait timeout)) acts =
-    suspended (Entered c (lid_of (link arguments)) wait (deadline config timeout acts))
+abbrev pub admission : Config → ℕ → ℕ → Arguments → Option Stop → List DeviceAct → CallOutcome
+admission config polled c arguments None acts = own_call config polled c arguments acts
+admission config polled c arguments (Some (Fails error)) acts = only (failure arguments error)
+admission config polled c arguments (Some (Awaits wait timeout)) acts =
+    suspend_by (Entered c (lid_of (link arguments)) wait (deadline config timeout acts))

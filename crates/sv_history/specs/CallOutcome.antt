@@ -10,13 +10,13 @@ pub record CallOutcome : Type 0 where
   pub result : Option Outcome
 
 -- a call that is answered, with the acts that it adds
-abbrev pub answered : List DeviceAct → Outcome → CallOutcome
-answered adds result = record { adds = adds; result = Some result }
+abbrev pub answer_with : List DeviceAct → Outcome → CallOutcome
+answer_with adds result = record { adds = adds; result = Some result }
 
 -- a call that is answered and adds no act
 abbrev pub only : Outcome → CallOutcome
-only result = answered [] result
+only result = answer_with [] result
 
 -- a call that is suspended by this act
-abbrev pub suspended : WaitAct → CallOutcome
-suspended act = record { adds = Waited act ∷ []; result = None }
+abbrev pub suspend_by : WaitAct → CallOutcome
+suspend_by act = record { adds = Waited act ∷ []; result = None }

@@ -22,13 +22,13 @@ abbrev pub open_role : List ConnAct → Option Role
 open_role = last_given opening None
 
 -- the acts since then
-abbrev pub lived : List ConnAct → List ConnAct
-lived = since (elim [ Opened role ∷ older ↦ true | PortClosed ∷ older ↦ true | _ ↦ false ])
+abbrev pub acts_since_opening : List ConnAct → List ConnAct
+acts_since_opening = since (elim [ Opened role ∷ older ↦ true | PortClosed ∷ older ↦ true | _ ↦ false ])
 
 -- pieces of bytes, the newest first, as one list of bytes in the order in which they came
-abbrev pub joined : List (List ℕ) → List ℕ
-joined [] = []
-joined (piece ∷ pieces) = joined pieces ++ piece
+abbrev pub join_pieces : List (List ℕ) → List ℕ
+join_pieces [] = []
+join_pieces (piece ∷ pieces) = join_pieces pieces ++ piece
 
 -- the sum of numbers
 abbrev pub total : List ℕ → ℕ
@@ -37,44 +37,44 @@ total (number ∷ numbers) = total numbers + number
 
 -- all bytes that came on it
 abbrev pub stream : List ConnAct → List ℕ
-stream acts = joined (filter_map (elim [ Piece bytes ↦ Some bytes | _ ↦ None ]) (lived acts))
+stream acts = join_pieces (filter_map (elim [ Piece bytes ↦ Some bytes | _ ↦ None ]) (acts_since_opening acts))
 
 -- all bytes of its replies, and how many of these the peer took
-abbrev pub sent : List ConnAct → List ℕ
-sent acts = joined (filter_map (elim [ Replied bytes ↦ Some bytes | _ ↦ None ]) (lived acts))
+abbrev pub bytes_sent : List ConnAct → List ℕ
+bytes_sent acts = join_pieces (filter_map (elim [ Replied bytes ↦ Some bytes | _ ↦ None ]) (acts_since_opening acts))
 
-abbrev pub given : List ConnAct → ℕ
-given acts = total (filter_map (elim [ BytesTaken count ↦ Some count | _ ↦ None ]) (lived acts))
+abbrev pub bytes_taken : List ConnAct → ℕ
+bytes_taken acts = total (filter_map (elim [ BytesTaken count ↦ Some count | _ ↦ None ]) (acts_since_opening acts))
 
 -- what the newest record that was taken came to: it waits as a call, or came to its end by an answer, or since it is no call
 abbrev pub taking : ConnAct → Option (Option (List ℕ))
 taking = elim [ CallTaken call ↦ Some (Some call) | Replied bytes ↦ Some None | Faulted ↦ Some None | _ ↦ None ]
 
 -- the call that was taken and has no answer yet
-abbrev pub unanswered : List ConnAct → Option (List ℕ)
-unanswered acts = last_given taking None (lived acts)
+abbrev pub pending_call : List ConnAct → Option (List ℕ)
+pending_call acts = last_given taking None (acts_since_opening acts)
 
 abbrev pub is_busy : List ConnAct → Bool
-is_busy acts = is_some (unanswered acts)
+is_busy acts = is_some (pending_call acts)
 
 -- how many of its records came to their end
-abbrev pub completed : List ConnAct → ℕ
-completed acts = length (filter (elim [ Replied bytes ↦ true | Faulted ↦ true | _ ↦ false ]) (lived acts))
+abbrev pub records_ended : List ConnAct → ℕ
+records_ended acts = length (filter (elim [ Replied bytes ↦ true | Faulted ↦ true | _ ↦ false ]) (acts_since_opening acts))
 
 -- whether a record that is no call was taken
 abbrev pub took_no_call : List ConnAct → Bool
-took_no_call acts = list_any (elim [ Faulted ↦ true | _ ↦ false ]) (lived acts)
+took_no_call acts = list_any (elim [ Faulted ↦ true | _ ↦ false ]) (acts_since_opening acts)
 
 abbrev pub is_open : List ConnAct → Bool
 is_open acts = is_some (open_role acts)
 
 -- those that the peer didn't take
-abbrev pub untaken : List ConnAct → List ℕ
-untaken acts = drop (given acts) (sent acts)
+abbrev pub bytes_left : List ConnAct → List ℕ
+bytes_left acts = drop (bytes_taken acts) (bytes_sent acts)
 
 -- the bytes that wait to be sent on it; none where it isn't open
 abbrev pub waiting : List ConnAct → List ℕ
-waiting acts = if is_open acts then untaken acts else []
+waiting acts = if is_open acts then bytes_left acts else []
 
 -- the bytes that wait on a port, where this was told to interrupt channels
 abbrev pub waiting_on : List ChannelAct → Port → List Act → List ℕ
@@ -83,12 +83,12 @@ waiting_on channel_log (Intr c) log = channel_waiting c channel_log
 
 -- all bytes that were sent on a port since it was opened
 abbrev pub sent_on : List ChannelAct → Port → List Act → List ℕ
-sent_on channel_log (Conn c) log = sent (of c log)
+sent_on channel_log (Conn c) log = bytes_sent (of c log)
 sent_on channel_log (Intr c) log = concat (calls c channel_log)
 
 -- The call to take next: the first record that didn't come to its end, unless it was taken already, or a record was no call.
 abbrev pub next_call : List ConnAct → Option (List ℕ)
-next_call acts = if took_no_call acts || is_busy acts then None else slice_get (records_of (stream acts)) (completed acts)
+next_call acts = if took_no_call acts || is_busy acts then None else slice_get (records_of (stream acts)) (records_ended acts)
 
 -- whether there is none
 abbrev pub is_idle : List ConnAct → Bool
@@ -100,13 +100,13 @@ is_overlong acts = ends_overlong (tail_of (stream acts))
 
 -- whether a record that is no call was taken, or all records in front of one that is too long came to their end
 abbrev pub is_faulted : List ConnAct → Bool
-is_faulted acts = took_no_call acts || (is_overlong acts && (completed acts == length (records_of (stream acts))))
+is_faulted acts = took_no_call acts || (is_overlong acts && (records_ended acts == length (records_of (stream acts))))
 
 -- how many bytes may come: a record counts until it comes to its end
 abbrev pub room : List ConnAct → ℕ
 room acts =
-    if is_open acts then capacity - used_by (drop (completed acts) (records_of (stream acts))) (tail_of (stream acts)) else 0
+    if is_open acts then capacity - used_by (drop (records_ended acts) (records_of (stream acts))) (tail_of (stream acts)) else 0
 
 -- how many outgoing bytes are free
 abbrev pub free : List ConnAct → ℕ
-free acts = max_output - length (untaken acts)
+free acts = max_output - length (bytes_left acts)

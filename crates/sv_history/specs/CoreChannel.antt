@@ -7,7 +7,7 @@ use Rattle.sv_vxi.specs.declared.error_code.ErrorCode.TheVariants.{Locked as Dev
 use Rattle.sv_vxi.specs.declared.arguments.GenericCall.TheVariants.{Readstb, Trigger, Clear}
 use Rattle.sv_vxi.specs.Arguments.{LinkCall, DeviceWrite, DeviceRead, Generic, DeviceLock, DeviceUnlock, DeviceEnableSrq, DestroyLink, Arguments, CreateLink, OnLink, DestroyIntrChan}
 use Rattle.sv_vxi.specs.Results.{Outcome, Link, Size, Read, Status, Plain}
-use Rattle.sv_links.specs.Links.{Made, Destroyed, Locked, Unlocked, owner, is_of, made, lids_left, holder, is_locked_out, is_this}
+use Rattle.sv_links.specs.Links.{Made, Destroyed, Locked, Unlocked, owner, is_of, links_made, lids_left, holder, is_locked_out, is_this}
 use Rattle.sv_links.specs.Channels.{ChannelClosed}
 use Rattle.sv_exchange.specs.Exchange.{Accepted, TextDropped, ResponseRead, has_ended, response, is_something}
 use Rattle.sv_exchange.specs.Read.{read_count, ends_at_term}
@@ -17,7 +17,7 @@ use Rattle.sv_layers.specs.Act.{Exchanged, Reported, Purged, Polled}
 use Rattle.sv_instrument.specs.Step.{is_answerable}
 use Rattle.sv_instrument.specs.Stimulus.{trigger_acts}
 use Rattle.sv_history.specs.Act.{DeviceAct, Linked, Channel, Applied, link_acts, instrument_acts, exchange_acts}
-use Rattle.sv_history.specs.CallOutcome.{CallOutcome, answered, only}
+use Rattle.sv_history.specs.CallOutcome.{CallOutcome, answer_with, only}
 use Rattle.sv_history.specs.CoreCall.{no_bytes, failure}
 use Rattle.sv_history.specs.Interrupts.{has_channel, enable_srq}
 
@@ -30,26 +30,26 @@ owns c None acts = false
 abbrev pub make_link : Config → ℕ → Bool → List DeviceAct → CallOutcome
 make_link config c lock_device acts =
     if not (lids_left (link_acts acts)) then only (Link OutOfResources (pos 0) 0 0)
-    else (let lid = made (link_acts acts) + 1 in
-    answered ((if lock_device then Linked (Locked lid) ∷ [] else []) ++ Linked (Made lid c) ∷ [])
+    else (let lid = links_made (link_acts acts) + 1 in
+    answer_with ((if lock_device then Linked (Locked lid) ∷ [] else []) ++ Linked (Made lid c) ∷ [])
     (Link NoError (pos lid) config.abort max_message))
 
 -- device_lock: the link gets the lock, also if it holds it already; error 11 if another link holds it
 abbrev pub device_lock : ℕ → List DeviceAct → CallOutcome
 device_lock lid acts = if is_locked_out (holder (link_acts acts)) (Some lid) then only (Plain DeviceLocked)
-    else answered (Linked (Locked lid) ∷ []) (Plain NoError)
+    else answer_with (Linked (Locked lid) ∷ []) (Plain NoError)
 
 -- device_unlock: the lock is freed; error 12 if this link doesn't hold it
 abbrev pub device_unlock : ℕ → List DeviceAct → CallOutcome
 device_unlock lid acts =
-    if is_this lid (holder (link_acts acts)) then answered (Linked (Unlocked lid) ∷ []) (Plain NoError) else only (Plain NoLock)
+    if is_this lid (holder (link_acts acts)) then answer_with (Linked (Unlocked lid) ∷ []) (Plain NoError) else only (Plain NoLock)
 
 -- device_write: the bytes are accepted; error 5 above 4,096 bytes, error 15 if an ended message waits to be finished
 abbrev pub device_write : ℕ → List ℕ → List DeviceAct → CallOutcome
 device_write flags bytes acts =
     if nat_lt max_message (length bytes) then only (Size ParameterError 0)
     else (if has_ended (exchange_acts acts) then only (Size IoTimeout 0)
-    else answered (Applied (Exchanged (Accepted bytes (bit_at flags 3 == 1))) ∷ []) (Size NoError (length bytes)))
+    else answer_with (Applied (Exchanged (Accepted bytes (bit_at flags 3 == 1))) ∷ []) (Size NoError (length bytes)))
 
 -- the termination character: the low eight bits of the argument if its flag (bit 7) is set, else none
 abbrev pub term_of : ℕ → ℕ → Option ℕ
@@ -64,7 +64,7 @@ read_of bytes most term =
 
 -- a read of a response that is there
 abbrev pub reads : List ℕ → ℕ → Option ℕ → CallOutcome
-reads bytes most term = answered (Applied (Exchanged (ResponseRead (read_count bytes most term))) ∷ []) (read_of bytes most term)
+reads bytes most term = answer_with (Applied (Exchanged (ResponseRead (read_count bytes most term))) ∷ []) (read_of bytes most term)
 
 -- device_read: bytes of the response, if there is one. Else error 15; if no response can come any more, the unfinished text is also
 -- dropped, and -420 is reported.
@@ -72,7 +72,7 @@ abbrev pub device_read : ℕ → Option ℕ → List DeviceAct → CallOutcome
 device_read most term acts =
     if is_something (response (exchange_acts acts)) then reads (response (exchange_acts acts)) most term
     else (if not (is_answerable (instrument_acts acts)) then only (no_bytes IoTimeout)
-    else answered (Applied (Reported QueryUnterminated) ∷ Applied (Exchanged TextDropped) ∷ []) (no_bytes IoTimeout))
+    else answer_with (Applied (Reported QueryUnterminated) ∷ Applied (Exchanged TextDropped) ∷ []) (no_bytes IoTimeout))
 
 -- What a call on this link does, if a poll of the status byte would give `polled`. device_remote and device_local do nothing. device_docmd
 -- isn't supported (error 8). device_abort, which isn't a call of this channel, gets error 8 too.
@@ -80,16 +80,16 @@ abbrev pub link_call : ℕ → ℕ → ℕ → LinkCall → List DeviceAct → C
 link_call polled c lid (DeviceWrite io_timeout lock_timeout flags bytes) acts = device_write flags bytes acts
 link_call polled c lid (DeviceRead request_size io_timeout lock_timeout flags term_char) acts =
     device_read request_size (term_of flags term_char) acts
-link_call polled c lid (Generic Readstb flags lock_timeout io_timeout) acts = answered (Applied Polled ∷ []) (Status NoError polled)
+link_call polled c lid (Generic Readstb flags lock_timeout io_timeout) acts = answer_with (Applied Polled ∷ []) (Status NoError polled)
 link_call polled c lid (Generic Trigger flags lock_timeout io_timeout) acts =
-    answered (map Applied (trigger_acts (instrument_acts acts))) (Plain NoError)
-link_call polled c lid (Generic Clear flags lock_timeout io_timeout) acts = answered (Applied Purged ∷ []) (Plain NoError)
+    answer_with (map Applied (trigger_acts (instrument_acts acts))) (Plain NoError)
+link_call polled c lid (Generic Clear flags lock_timeout io_timeout) acts = answer_with (Applied Purged ∷ []) (Plain NoError)
 link_call polled c lid (Generic _ flags lock_timeout io_timeout) acts = only (Plain NoError)
 link_call polled c lid (DeviceLock flags lock_timeout) acts = device_lock lid acts
 link_call polled c lid DeviceUnlock acts = device_unlock lid acts
 link_call polled c lid (DeviceEnableSrq enable handle) acts =
     if owns c (Some lid) acts then enable_srq c enable lid handle else only (Plain InvalidLink)
-link_call polled c lid DestroyLink acts = answered (Linked (Destroyed lid) ∷ []) (Plain NoError)
+link_call polled c lid DestroyLink acts = answer_with (Linked (Destroyed lid) ∷ []) (Plain NoError)
 link_call polled c lid call acts = only (failure (OnLink (pos lid) call) NotSupported)
 
 -- What any call of the core channel does. No link has a negative number. create_intr_chan gets error 8 here: it is always stopped before
@@ -99,5 +99,5 @@ own_call config polled c (CreateLink client_id lock_device lock_timeout device) 
 own_call config polled c (OnLink (pos lid) call) acts = link_call polled c lid call acts
 own_call config polled c (OnLink (negsuc n) call) acts = only (failure (OnLink (negsuc n) call) InvalidLink)
 own_call config polled c DestroyIntrChan acts =
-    if has_channel c acts then answered (Channel (ChannelClosed c) ∷ []) (Plain NoError) else only (Plain NotEstablished)
+    if has_channel c acts then answer_with (Channel (ChannelClosed c) ∷ []) (Plain NoError) else only (Plain NotEstablished)
 own_call config polled c arguments acts = only (failure arguments NotSupported)

@@ -29,5 +29,5 @@ abbrev pub call_effect : ℕ → CallOutcome → Effect
 call_effect xid outcome = record { own = replies xid outcome.result; adds = outcome.adds }
 
 -- the effect of a reply alone
-abbrev pub replied : List ℕ → Effect
-replied bytes = record { own = Replied bytes ∷ []; adds = [] }
+abbrev pub only_reply : List ℕ → Effect
+only_reply bytes = record { own = Replied bytes ∷ []; adds = [] }

@@ -7,10 +7,10 @@ use Rattle.sv_rpc.specs.Ports.{port_at}
 use Rattle.sv_history.specs.declared.event.Config.{Config}
 use Rattle.sv_history.specs.Act.{DeviceAct, Faulted}
 use Rattle.sv_history.specs.Reply.{reply_record}
-use Rattle.sv_history.specs.Effect.{Effect, result_reply, call_effect, replied}
+use Rattle.sv_history.specs.Effect.{Effect, result_reply, call_effect, only_reply}
 use Rattle.sv_history.specs.Request.{Request, NoCall, Decided, CoreRequest, AbortRequest, PortRequest}
 use Rattle.sv_history.specs.CoreCall.{lid_of}
-use Rattle.sv_history.specs.Admission.{stop_of, admitted}
+use Rattle.sv_history.specs.Admission.{stop_of, admission}
 use Rattle.sv_history.specs.AbortChannel.{owner_of, if_waiting, abort_result}
 
 -- the reply of the port mapper (RFC 1833, section 3)
@@ -21,12 +21,12 @@ port_reply xid (Err garbage) = reply_record xid GarbageArgs []
 -- The effect of a request, if a poll of the status byte would give `polled`. A record that is no call faults its connection.
 abbrev pub request_effect : Config → ℕ → ℕ → Request → List DeviceAct → Effect
 request_effect config polled c NoCall acts = record { own = Faulted ∷ []; adds = [] }
-request_effect config polled c (Decided xid reply) acts = replied (reply_record xid reply [])
+request_effect config polled c (Decided xid reply) acts = only_reply (reply_record xid reply [])
 request_effect config polled c (CoreRequest call) acts =
-    call_effect call.xid (admitted config polled c call.arguments (stop_of c call.arguments acts) acts)
-request_effect config polled c (AbortRequest xid lid) acts = replied (result_reply xid (abort_result (lid_of (Some lid)) acts))
+    call_effect call.xid (admission config polled c call.arguments (stop_of c call.arguments acts) acts)
+request_effect config polled c (AbortRequest xid lid) acts = only_reply (result_reply xid (abort_result (lid_of (Some lid)) acts))
 request_effect config polled c (PortRequest xid args) acts =
-    replied (port_reply xid (port_at (record { core = config.core; abort = config.abort }) args))
+    only_reply (port_reply xid (port_at (record { core = config.core; abort = config.abort }) args))
 
 -- the connection whose suspended call a device_abort ends; `None` if it ends none
 abbrev pub aborts : Request → List DeviceAct → Option ℕ

@@ -2,7 +2,7 @@
 use Rattle.std.specs.Prelude.{◌≡◌, ℕ, ◌+◌, ◌||◌, ◌==◌, not, ℤ, pos, negsuc, Bool, true, List, [], ◌∷◌, ◌++◌, length, map, Option, Some, None, is_none, Result, Ok, Err, nat_lt, if◌then◌else◌}
 use Rattle.sv_errors.specs.Limits.{is_channel, most_microvolts}
 use Rattle.sv_vxi.specs.declared.error_code.ErrorCode.TheVariants.{Abort}
-use Rattle.sv_links.specs.Links.{closing, made}
+use Rattle.sv_links.specs.Links.{closing, links_made}
 use Rattle.sv_links.specs.Waiting.{Left, creating}
 use Rattle.sv_links.specs.Channels.{ChannelAct, ChannelClosed, ChannelTaken, waiting as channel_waiting}
 use Rattle.sv_scan.specs.declared.acts.ScanAct.TheVariants.{Input as InputTo}
@@ -17,7 +17,7 @@ use Rattle.sv_history.specs.declared.event.Refused.{Refused}
 use Rattle.sv_history.specs.declared.event.Refused.TheVariants.{NoMemory, ConnInUse, NoConn, NoRoom, NotSent, NoDial, NotRefusable, BadChannel, BadInput, TimeOver}
 use Rattle.sv_history.specs.Event.{IsEvent, IsConfig, PlainEvent, Open, Bytes, Turn, Refuse, Took, Close, Dialed, Input, External, Tick}
 use Rattle.sv_history.specs.Act.{Act, ConnAct, DeviceAct, Opened, Piece, CallTaken, Replied, BytesTaken, PortClosed, Linked, Waited, Channel, Applied, Ticked, On, OnDevice, of, device_acts, link_acts, wait_acts, instrument_acts, ticks}
-use Rattle.sv_history.specs.Connection.{is_open, waiting, next_call, is_idle, room, free, unanswered}
+use Rattle.sv_history.specs.Connection.{is_open, waiting, next_call, is_idle, room, free, pending_call}
 use Rattle.sv_history.specs.CoreCall.{CoreCall}
 use Rattle.sv_history.specs.Request.{Request, core_call_in, next_request}
 use Rattle.sv_history.specs.Requests.{HearsOf}
@@ -25,14 +25,14 @@ use Rattle.sv_history.specs.Interrupts.{has_channel, is_dialing, dialing}
 use Rattle.sv_history.specs.Refusing.{refusable, refused_reply}
 use Rattle.sv_history.specs.Effect.{Effect, acts_of}
 use Rattle.sv_history.specs.Execution.{request_effect, aborts}
-use Rattle.sv_history.specs.Resuming.{failed, connected}
+use Rattle.sv_history.specs.Resuming.{failure_effect, connect_effect}
 use Rattle.sv_history.specs.PolledStatus.{IsPolled}
 use Rattle.sv_history.specs.Settling.{Settles}
 use Rattle.sv_history.specs.Limits.{longest_reply}
 
 -- the acts of the suspended call that a device_abort ends, if it ends one: error 23
 abbrev pub abort_acts : Option ℕ → List Act → List Act
-abort_acts (Some c) log = acts_of c (failed Abort c (core_call_in (unanswered (of c log))))
+abort_acts (Some c) log = acts_of c (failure_effect Abort c (core_call_in (pending_call (of c log))))
 abort_acts None log = []
 
 -- the acts of a record that was taken: those of the call that it aborts, its own effect, and that it was taken
@@ -64,7 +64,7 @@ own_acts config polled (Close (Conn c)) log =
     map OnDevice (Channel (ChannelClosed c) ∷ map Linked (closing c (link_acts (device_acts log))) ++ Waited (Left c) ∷ [])
     ++ On c PortClosed ∷ []
 own_acts config polled (Close (Intr c)) log = OnDevice (Channel (ChannelClosed c)) ∷ []
-own_acts config polled (Dialed c ok) log = acts_of c (connected c ok (core_call_in (unanswered (of c log))))
+own_acts config polled (Dialed c ok) log = acts_of c (connect_effect c ok (core_call_in (pending_call (of c log))))
 own_acts config polled (Input channel microvolts) log = OnDevice (Applied (Scanned (InputTo channel microvolts))) ∷ []
 own_acts config polled External log = map OnDevice (map Applied (external_acts (instrument_acts (device_acts log))))
 own_acts config polled Tick log = map OnDevice (map Applied (tick_acts (instrument_acts (device_acts log)))) ++ OnDevice Ticked ∷ []
@@ -113,8 +113,8 @@ took_refusal count bytes = if nat_lt (length bytes) count then Some NotSent else
 abbrev pub unless_shut : ℕ → List Act → Option Refused → Option Refused
 unless_shut c log other = if is_shut c log then Some NoConn else other
 
--- Which check an event fails, the first in their order; `None` if none. `told` is what interrupt channels were told. Out of memory isn't
--- among them.
+-- Which check an event fails, the first in their order; `None` if none. `channel_log` is what interrupt channels were told. Out of memory
+-- isn't among them.
 abbrev pub refusal : Config → List ChannelAct → PlainEvent → List Act → Option Refused
 refusal config channel_log (Open c role) log = if nat_lt 15 c then Some NoConn else (if is_open (of c log) then Some ConnInUse else None)
 refusal config channel_log (Bytes c piece) log = unless_shut c log (if nat_lt (room (of c log)) (length piece) then Some NoRoom else None)
@@ -145,7 +145,7 @@ did _ log = Done
 
 -- whether acts need memory: they make a link, or suspend a create_link or a create_intr_chan
 abbrev pub wants_memory : List DeviceAct → Bool
-wants_memory acts = nat_lt 0 (made (link_acts acts)) || (nat_lt 0 (creating (wait_acts acts)) || nat_lt 0 (dialing (wait_acts acts)))
+wants_memory acts = nat_lt 0 (links_made (link_acts acts)) || (nat_lt 0 (creating (wait_acts acts)) || nat_lt 0 (dialing (wait_acts acts)))
 
 -- The result of an event: what it did, or the first check that failed. Out of memory is possible only if no check fails, and the event
 -- makes a link, or suspends a create_link or a create_intr_chan.

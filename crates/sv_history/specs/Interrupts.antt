@@ -9,8 +9,8 @@ use Rattle.sv_links.specs.Waiting.{WaitAct, waits, connections}
 use Rattle.sv_links.specs.Channels.{SrqEnabled, SrqDisabled, ChannelOpened, is_channel_open}
 use Rattle.sv_history.specs.declared.event.Dial.{Dial}
 use Rattle.sv_history.specs.Act.{Act, DeviceAct, Channel, of, device_acts, wait_acts, channel_acts}
-use Rattle.sv_history.specs.Connection.{unanswered}
-use Rattle.sv_history.specs.CallOutcome.{CallOutcome, answered, only}
+use Rattle.sv_history.specs.Connection.{pending_call}
+use Rattle.sv_history.specs.CallOutcome.{CallOutcome, answer_with, only}
 use Rattle.sv_history.specs.CoreCall.{CoreCall, failure}
 use Rattle.sv_history.specs.Request.{core_call_in}
 
@@ -21,8 +21,8 @@ has_channel c acts = is_channel_open c (channel_acts acts)
 -- device_enable_srq: a link enables service requests, with a handle of at most 40 bytes (else error 5), or disables them
 abbrev pub enable_srq : ℕ → Bool → ℕ → List ℕ → CallOutcome
 enable_srq c true lid handle = if nat_lt max_handle (length handle) then only (Plain ParameterError)
-    else answered (Channel (SrqEnabled lid c handle) ∷ []) (Plain NoError)
-enable_srq c false lid handle = answered (Channel (SrqDisabled lid) ∷ []) (Plain NoError)
+    else answer_with (Channel (SrqEnabled lid c handle) ∷ []) (Plain NoError)
+enable_srq c false lid handle = answer_with (Channel (SrqDisabled lid) ∷ []) (Plain NoError)
 
 -- whether an interrupt channel may go there: to an address in 127.0.0.0/8, on a port of 1 to 65535
 abbrev pub is_peer : ℕ → ℕ → Bool
@@ -54,10 +54,10 @@ dial_in None = None
 
 -- where to connect the interrupt channel of a connection; `None` if no create_intr_chan of it is suspended
 abbrev pub dial_of : ℕ → List Act → Option Dial
-dial_of c log = if is_dialing c (wait_acts (device_acts log)) then dial_in (core_call_in (unanswered (of c log))) else None
+dial_of c log = if is_dialing c (wait_acts (device_acts log)) then dial_in (core_call_in (pending_call (of c log))) else None
 
 -- the outcome of a suspended create_intr_chan whose peer was connected, or couldn't be: the channel opens, or the call gets error 6
-abbrev pub dialed : ℕ → Bool → Arguments → CallOutcome
-dialed c true (CreateIntrChan host_addr host_port prog_num prog_vers prog_family) =
-    answered (Channel (ChannelOpened c (record { prog = prog_num; vers = prog_vers })) ∷ []) (Plain NoError)
-dialed c _ arguments = only (failure arguments NotEstablished)
+abbrev pub connect_outcome : ℕ → Bool → Arguments → CallOutcome
+connect_outcome c true (CreateIntrChan host_addr host_port prog_num prog_vers prog_family) =
+    answer_with (Channel (ChannelOpened c (record { prog = prog_num; vers = prog_vers })) ∷ []) (Plain NoError)
+connect_outcome c _ arguments = only (failure arguments NotEstablished)

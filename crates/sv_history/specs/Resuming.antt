@@ -9,11 +9,11 @@ use Rattle.sv_links.specs.declared.waiting.Wait.TheVariants.{Lock}
 use Rattle.sv_links.specs.Waiting.{Again, Left}
 use Rattle.sv_history.specs.declared.event.Config.{Config}
 use Rattle.sv_history.specs.Act.{DeviceAct, Waited}
-use Rattle.sv_history.specs.CallOutcome.{CallOutcome, only, suspended}
+use Rattle.sv_history.specs.CallOutcome.{CallOutcome, only, suspend_by}
 use Rattle.sv_history.specs.Effect.{Effect, call_effect}
 use Rattle.sv_history.specs.CoreCall.{CoreCall, failure}
 use Rattle.sv_history.specs.CoreChannel.{own_call}
-use Rattle.sv_history.specs.Interrupts.{dialed}
+use Rattle.sv_history.specs.Interrupts.{connect_outcome}
 use Rattle.sv_history.specs.Admission.{device_wait, deadline}
 
 -- the call isn't suspended any more, and has this outcome
@@ -26,9 +26,9 @@ next_wait Lock (OnLink lid call) acts = device_wait call acts
 next_wait _ arguments acts = None
 
 -- the outcome of a call that resumes: it is suspended anew, or executed
-abbrev pub continued : Config → ℕ → ℕ → Arguments → Option (Wait × ℕ) → List DeviceAct → CallOutcome
-continued config polled c arguments (Some wait) acts = suspended (Again c wait.0 (deadline config (Some wait.1) acts))
-continued config polled c arguments None acts = leaving c (own_call config polled c arguments (Waited (Left c) ∷ acts))
+abbrev pub resume_outcome : Config → ℕ → ℕ → Arguments → Option (Wait × ℕ) → List DeviceAct → CallOutcome
+resume_outcome config polled c arguments (Some wait) acts = suspend_by (Again c wait.0 (deadline config (Some wait.1) acts))
+resume_outcome config polled c arguments None acts = leaving c (own_call config polled c arguments (Waited (Left c) ∷ acts))
 
 -- the effect of a suspended call with this outcome; if its record is no such call, it only isn't suspended any more
 abbrev pub effect_of : ℕ → (Arguments → CallOutcome) → Option CoreCall → Effect
@@ -37,17 +37,17 @@ effect_of c does None = record { own = []; adds = Waited (Left c) ∷ [] }
 
 -- The effect of a call that resumes after this wait: it is executed, or suspended anew, in its place of the order, from now on. Link and
 -- lock aren't checked again.
-abbrev pub resumed : Config → ℕ → ℕ → Wait → Option CoreCall → List DeviceAct → Effect
-resumed config polled c wait call acts =
-    effect_of c (λ arguments. continued config polled c arguments (next_wait wait arguments acts) acts) call
+abbrev pub resume_effect : Config → ℕ → ℕ → Wait → Option CoreCall → List DeviceAct → Effect
+resume_effect config polled c wait call acts =
+    effect_of c (λ arguments. resume_outcome config polled c arguments (next_wait wait arguments acts) acts) call
 
 -- the effect of a call that ends with this error
-abbrev pub failed : ErrorCode → ℕ → Option CoreCall → Effect
-failed error c call = effect_of c (λ arguments. leaving c (only (failure arguments error))) call
+abbrev pub failure_effect : ErrorCode → ℕ → Option CoreCall → Effect
+failure_effect error c call = effect_of c (λ arguments. leaving c (only (failure arguments error))) call
 
 -- the effect of a create_intr_chan whose peer was connected, or couldn't be
-abbrev pub connected : ℕ → Bool → Option CoreCall → Effect
-connected c ok call = effect_of c (λ arguments. leaving c (dialed c ok arguments)) call
+abbrev pub connect_effect : ℕ → Bool → Option CoreCall → Effect
+connect_effect c ok call = effect_of c (λ arguments. leaving c (connect_outcome c ok arguments)) call
 
 -- the error of a call that times out: 11 if it waited for the lock, else 15
 abbrev pub late : Wait → ErrorCode

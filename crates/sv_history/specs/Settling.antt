@@ -9,11 +9,11 @@ use Rattle.sv_instrument.specs.Stimulus.{IsFired}
 use Rattle.sv_instrument.specs.Step.{IsStep, is_answerable}
 use Rattle.sv_history.specs.declared.event.Config.{Config}
 use Rattle.sv_history.specs.Act.{Act, DeviceAct, Applied, OnDevice, of, device_acts, link_acts, wait_acts, instrument_acts, exchange_acts, ticks}
-use Rattle.sv_history.specs.Connection.{unanswered}
+use Rattle.sv_history.specs.Connection.{pending_call}
 use Rattle.sv_history.specs.PolledStatus.{IsPolled}
 use Rattle.sv_history.specs.Request.{core_call_in}
 use Rattle.sv_history.specs.Effect.{acts_of}
-use Rattle.sv_history.specs.Resuming.{resumed, failed, late}
+use Rattle.sv_history.specs.Resuming.{resume_effect, failure_effect, late}
 
 -- The instrument takes a step of this kind, which adds acts to its log.
 abbrev pub InstrumentDoes : (List InstrumentAct → List InstrumentAct → Type 0) → List Act → List Act → Type 0
@@ -31,14 +31,14 @@ abbrev pub Resumes : Config → List Act → List Act → Type 0
 Resumes config log new = (c : ℕ) × (wait : Wait) × (polled : ℕ)
     × IsOldest (wait_acts (device_acts log)) (CanResume (device_acts log)) (Some c)
     × (waits c (wait_acts (device_acts log)) ≡ Some wait) × IsPolled polled (device_acts log)
-    × (new ≡ acts_of c (resumed config polled c wait (core_call_in (unanswered (of c log))) (device_acts log)) ++ log)
+    × (new ≡ acts_of c (resume_effect config polled c wait (core_call_in (pending_call (of c log))) (device_acts log)) ++ log)
 
 -- The oldest suspended call whose deadline has come times out.
 abbrev pub TimesOut : Config → List Act → List Act → Type 0
 TimesOut config log new = (c : ℕ) × (wait : Wait)
     × IsOldest (wait_acts (device_acts log)) (IsExpired (config.clock + ticks (device_acts log)) (wait_acts (device_acts log))) (Some c)
     × (waits c (wait_acts (device_acts log)) ≡ Some wait)
-    × (new ≡ acts_of c (failed (late wait) c (core_call_in (unanswered (of c log)))) ++ log)
+    × (new ≡ acts_of c (failure_effect (late wait) c (core_call_in (pending_call (of c log)))) ++ log)
 
 -- The first of two steps is taken; the second only if the first isn't possible.
 abbrev pub First : (List Act → Type 0) → (List Act → Type 0) → List Act → Type 0

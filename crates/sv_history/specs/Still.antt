@@ -3,7 +3,7 @@ use Rattle.std.specs.Prelude.{◌≡◌, ℕ, ◌+◌, false, List}
 use Rattle.sv_links.specs.Waiting.{IsExpired}
 use Rattle.sv_scan.specs.Counted.{is_scanning}
 use Rattle.sv_scan.specs.Scan.{state}
-use Rattle.sv_layers.specs.Condition.{counted}
+use Rattle.sv_layers.specs.Condition.{effective_acts}
 use Rattle.sv_history.specs.declared.event.Config.{Config}
 use Rattle.sv_history.specs.Act.{DeviceAct, wait_acts, instrument_acts, ticks}
 
@@ -13,4 +13,4 @@ IsUnhurried most config acts = (c : ℕ) → IsExpired (config.clock + ticks act
 
 -- No suspended call has a deadline within so many milliseconds, and no scan is under way, in which each millisecond reads a channel.
 abbrev pub IsStill : ℕ → Config → List DeviceAct → Type 0
-IsStill most config acts = (is_scanning (state (counted (instrument_acts acts))) ≡ false) × IsUnhurried most config acts
+IsStill most config acts = (is_scanning (state (effective_acts (instrument_acts acts))) ≡ false) × IsUnhurried most config acts

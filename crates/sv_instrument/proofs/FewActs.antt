@@ -16,11 +16,11 @@ use Rattle.sv_header.specs.declared.command.Question.TheVariants as question
 use Rattle.sv_layers.specs.declared.change.Awaited.{Awaited}
 use Rattle.sv_layers.specs.declared.change.Awaited.TheVariants.{Nothing, One, Readings}
 use Rattle.sv_layers.specs.Act.{Act, Exchanged, Held, Reported, Scanned, exchange_acts}
-use Rattle.sv_layers.specs.Condition.{counted}
-use Rattle.sv_instrument.specs.HeldUnit.{held}
+use Rattle.sv_layers.specs.Condition.{effective_acts}
+use Rattle.sv_instrument.specs.HeldUnit.{held_unit}
 use Rattle.sv_instrument.specs.QueryResponse.{readings_text}
-use Rattle.sv_instrument.specs.CommandEffect.{Performs, Replies, acted, answered, configured, done, taken, unless}
-use Rattle.sv_instrument.specs.Step.{Does, IsStep, Starts, StepOf, interrupted, released}
+use Rattle.sv_instrument.specs.CommandEffect.{Performs, Replies, after_action, after_answering, after_configure, done, after_query, unless}
+use Rattle.sv_instrument.specs.Step.{Does, IsStep, Starts, StepOf, after_interrupt, after_release}
 use Rattle.sv_instrument.specs.Inside.Acted.{IsCountable}
 
 -- So many acts are between, at most.
@@ -32,17 +32,17 @@ told_few : (fits : Bool) (text : List ℕ) (log : List Act)
 told_few true text log = omega arith
 told_few false text log = omega arith
 
-answered_few : (text : List ℕ) (log : List Act) → IsWithin 2 log (answered text log)
+answered_few : (text : List ℕ) (log : List Act) → IsWithin 2 log (after_answering text log)
 answered_few text log = told_few (fits_response (answers (exchange_acts log)) text) text log
 
-taken_few : (asked : Question) (log : List Act) → IsWithin 1 log (taken asked log)
+taken_few : (asked : Question) (log : List Act) → IsWithin 1 log (after_query asked log)
 taken_few question.StandardEvents log = omega arith
 taken_few _ log = omega arith
 
 replies_few : (fault : Option Code) (asked : Question) (log new : List Act) → Replies fault asked log new → IsWithin 9 log new
 replies_few (Some code) asked log new is = rw is (omega arith)
 replies_few None asked log new (text, says, is) =
-    let answers = answered_few text (done (taken asked log)) in
+    let answers = answered_few text (done (after_query asked log)) in
     let takes = taken_few asked log in
     rw is (omega arith)
 
@@ -50,11 +50,11 @@ unless_few : (fault : Option Code) (acts log : List Act) → IsWithin 9 log acts
 unless_few None acts log few = few
 unless_few (Some code) acts log few = omega arith
 
-configured_few : (list : Option (List ℕ)) (log : List Act) → IsWithin 5 log (configured list log)
+configured_few : (list : Option (List ℕ)) (log : List Act) → IsWithin 5 log (after_configure list log)
 configured_few None log = omega arith
 configured_few (Some channels) log = omega arith
 
-acted_few : (done_so : Action) (log : List Act) → IsWithin 9 log (acted done_so log)
+acted_few : (done_so : Action) (log : List Act) → IsWithin 9 log (after_action done_so log)
 acted_few action.Trigger log = unless_few _ (done (Scanned (scan.Trigger Bus) ∷ log)) log (omega arith)
 acted_few action.Initiate log = unless_few _ (done (Scanned scan.Init ∷ log)) log (omega arith)
 acted_few action.Read log = unless_few _ (Held Readings ∷ Scanned scan.Init ∷ Scanned scan.Abort ∷ log) log (omega arith)
@@ -72,10 +72,10 @@ does_few : (outcome : Result Order Code) (log new : List Act) → Does outcome l
 does_few (Ok ordered) log new does = performs_few ordered log new does
 does_few (Err code) log new is = rw is (omega arith)
 
-released_few : (awaited : Awaited) (log : List Act) → IsWithin 9 log (released awaited log)
+released_few : (awaited : Awaited) (log : List Act) → IsWithin 9 log (after_release awaited log)
 released_few Nothing log = omega arith
 released_few One log = let few = answered_few (codes "1") (done log) in omega arith
-released_few Readings log = let few = answered_few (readings_text (readings (counted log))) (done log) in omega arith
+released_few Readings log = let few = answered_few (readings_text (readings (effective_acts log))) (done log) in omega arith
 
 starts_few : (unit : List ℕ) (log new : List Act) → Starts unit log new → IsWithin 9 log new
 starts_few unit log new (path, behind, outcome, front, read, does) = does_few outcome log new does
@@ -84,9 +84,9 @@ step_few : (awaited : Option Awaited) (next : Due) (log new : List Act) → Step
 step_few (Some awaited) next log new (idle, is) = let few = released_few awaited log in rw is (omega arith)
 step_few None NothingDue log new none = absurd none
 step_few None OverrunDue log new is = rw is (omega arith)
-step_few None InterruptDue log new (unit, is, starts) = let few = starts_few unit (interrupted log) new starts in omega arith
+step_few None InterruptDue log new (unit, is, starts) = let few = starts_few unit (after_interrupt log) new starts in omega arith
 step_few None (UnitDue unit) log new starts = let few = starts_few unit log new starts in omega arith
 step_few None FinishDue log new is = rw is (omega arith)
 
 pub step_countable : (log new : List Act) → IsStep log new → IsCountable log new
-step_countable log new = step_few (held log) (due (exchange_acts log)) log new
+step_countable log new = step_few (held_unit log) (due (exchange_acts log)) log new

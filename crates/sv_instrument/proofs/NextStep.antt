@@ -10,31 +10,31 @@ use Rattle.sv_layers.specs.declared.change.Awaited.{Awaited}
 use Rattle.sv_layers.specs.Act.{Act, exchange_acts}
 use Rattle.sv_layers.specs.Condition.{is_idle}
 use Rattle.sv_layers.specs.Inside.Representation.{LayerState, state_by}
-use Rattle.sv_instrument.specs.HeldUnit.{held}
+use Rattle.sv_instrument.specs.HeldUnit.{held_unit}
 use Rattle.sv_instrument.specs.Path.{IsPath}
 use Rattle.sv_instrument.specs.Step.{StepOf, IsStep, Starts}
-use Rattle.sv_instrument.specs.Representation.{Kept, IsHeldRight, unheld, waits}
+use Rattle.sv_instrument.specs.Representation.{Kept, IsHeldRight, one_if_unheld, waits}
 use Rattle.sv_instrument.specs.Inside.Acted.{Behaves, Follows, StartsUnit}
 use Rattle.sv_instrument.proofs.Paths.{started_path}
 use Rattle.sv_instrument.proofs.Dues.{unit_is_next}
 
 -- the step that is due, by what is held and what is due of the exchange
-pub step_of : (log new : List Act) (kept : Option Awaited) (next : Due) → kept ≡ held log → next ≡ due (exchange_acts log)
+pub step_of : (log new : List Act) (kept : Option Awaited) (next : Due) → kept ≡ held_unit log → next ≡ due (exchange_acts log)
     → StepOf kept next log new → IsStep log new
 step_of log new kept next is next_is step =
-    subst (λ (d : Due). StepOf (held log) d log new) next_is (subst (λ (h : Option Awaited). StepOf h next log new) is step)
+    subst (λ (d : Due). StepOf (held_unit log) d log new) next_is (subst (λ (h : Option Awaited). StepOf h next log new) is step)
 
 differ : false ≡ true → ⊥
 differ same = absurd cc
 
 -- none is due where nothing is
-pub nothing_due : (log new : List Act) → None ≡ held log → NothingDue ≡ due (exchange_acts log) → IsStep log new → ⊥
+pub nothing_due : (log new : List Act) → None ≡ held_unit log → NothingDue ≡ due (exchange_acts log) → IsStep log new → ⊥
 nothing_due log new free is step =
     subst (λ (d : Due). StepOf None d log new) (sym is)
     (subst (λ (h : Option Awaited). StepOf h (due (exchange_acts log)) log new) (sym free) step)
 
 -- none is due where a unit is held and a measurement is under way
-pub none_while_busy : (log new : List Act) (awaited : Awaited) → Some awaited ≡ held log → false ≡ is_idle log → IsStep log new → ⊥
+pub none_while_busy : (log new : List Act) (awaited : Awaited) → Some awaited ≡ held_unit log → false ≡ is_idle log → IsStep log new → ⊥
 none_while_busy log new awaited is busy step =
     let ended = subst (λ (h : Option Awaited). StepOf h (due (exchange_acts log)) log new) (sym is) step in
     differ (busy ∙ ended.0)
@@ -47,7 +47,7 @@ same_unit : (next : Option (List ℕ)) (unit text : List ℕ) → next ≡ Some 
 same_unit next unit text is same = cc
 
 -- the unit that is due is the next one
-pub unit_step : (log new : List Act) (unit text : List ℕ) → None ≡ held log → UnitDue text ≡ due (exchange_acts log)
+pub unit_step : (log new : List Act) (unit text : List ℕ) → None ≡ held_unit log → UnitDue text ≡ due (exchange_acts log)
     → next_unit (exchange_acts log) ≡ Some unit → Starts unit log new → IsStep log new
 unit_step log new unit text free is next starts =
     step_of log new None (UnitDue text) free is
@@ -55,7 +55,7 @@ unit_step log new unit text free is next starts =
     (same_unit (next_unit (exchange_acts log)) unit text next (unit_is_next (exchange_acts log) text is)) starts)
 
 -- a unit started
-pub started : (start log : List Act) (unit : List ℕ) (path : List (List ℕ)) (kept : Kept) → None ≡ held log
+pub started : (start log : List Act) (unit : List ℕ) (path : List (List ℕ)) (kept : Kept) → None ≡ held_unit log
     → next_unit (exchange_acts log) ≡ Some unit → IsPath log path
     → Behaves (Follows unit path kept.path log) start kept.layers kept.held log → StartsUnit start log kept
 started start log unit path kept free next here b =
@@ -75,8 +75,8 @@ started start log unit path kept free next here b =
 -- a trigger that was waited for leaves less
 pub fired_less : (new old : LayerState) (kept : Option Awaited) → new.exchange ≡ old.exchange → state_by old ≡ Waiting
     → state_by new ≡ Scanning
-    → 2 * (2 * exchange_measure new.exchange + unheld kept) + waits (state_by new)
-    < 2 * (2 * exchange_measure old.exchange + unheld kept) + waits (state_by old)
+    → 2 * (2 * exchange_measure new.exchange + one_if_unheld kept) + waits (state_by new)
+    < 2 * (2 * exchange_measure old.exchange + one_if_unheld kept) + waits (state_by old)
 fired_less new old kept exchange waiting scanning =
     let work : exchange_measure new.exchange ≡ exchange_measure old.exchange = ap (λ (c : Contents). exchange_measure c) exchange in
     let before : waits (state_by old) ≡ 1 = ap waits waiting in

@@ -11,11 +11,11 @@ use Rattle.sv_command.proofs.OneReading.{one_reading}
 use Rattle.sv_layers.specs.declared.change.Awaited.{Awaited}
 use Rattle.sv_layers.specs.Act.{Act, exchange_acts}
 use Rattle.sv_layers.proofs.PolledByte.{one_word}
-use Rattle.sv_instrument.specs.HeldUnit.{held}
+use Rattle.sv_instrument.specs.HeldUnit.{held_unit}
 use Rattle.sv_instrument.specs.QueryResponse.{Says, IsWord}
-use Rattle.sv_instrument.specs.CommandEffect.{Performs, Replies, question_fault, answered, done, taken}
+use Rattle.sv_instrument.specs.CommandEffect.{Performs, Replies, question_fault, after_answering, done, after_query}
 use Rattle.sv_instrument.specs.Path.{Leaves}
-use Rattle.sv_instrument.specs.Step.{StepOf, Starts, Does, interrupted}
+use Rattle.sv_instrument.specs.Step.{StepOf, Starts, Does, after_interrupt}
 use Rattle.sv_instrument.specs.Laws.{OneStep}
 
 -- what two are
@@ -35,7 +35,7 @@ says_once _ log a b = both_are
 replies_once : (fault : Option Code) (asked : Question) (log a b : List Act) → Replies fault asked log a → Replies fault asked log b → a ≡ b
 replies_once (Some code) asked log a b x y = both_are x y
 replies_once None asked log a b x y =
-    x.2 ∙ ap (λ (text : List ℕ). answered text (done (taken asked log))) (says_once asked log x.0 y.0 x.1 y.1) ∙ sym y.2
+    x.2 ∙ ap (λ (text : List ℕ). after_answering text (done (after_query asked log))) (says_once asked log x.0 y.0 x.1 y.1) ∙ sym y.2
 
 performs_once : (ordered : Order) (log a b : List Act) → Performs ordered log a → Performs ordered log b → a ≡ b
 performs_once (order.Ask asked) log a b = replies_once (question_fault asked log) asked log a b
@@ -66,9 +66,9 @@ step_once None NothingDue log a b x y = absurd x
 step_once None OverrunDue log a b x y = both_are x y
 step_once None InterruptDue log a b (unit, is, x) (other, same, y) =
     let one = next_once (next_unit (exchange_acts log)) unit other is same in
-    starts_once other (interrupted log) a b (rw one at x) y
+    starts_once other (after_interrupt log) a b (rw one at x) y
 step_once None (UnitDue unit) log a b x y = starts_once unit log a b x y
 step_once None FinishDue log a b x y = both_are x y
 
 pub one_step : OneStep
-one_step log = step_once (held log) (due (exchange_acts log)) log
+one_step log = step_once (held_unit log) (due (exchange_acts log)) log

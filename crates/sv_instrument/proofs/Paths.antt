@@ -14,7 +14,7 @@ use Rattle.sv_layers.specs.declared.change.Awaited.{Awaited}
 use Rattle.sv_layers.specs.Act.{Act, Exchanged, exchange_acts}
 use Rattle.sv_layers.specs.Inside.Representation.{LayerState}
 use Rattle.sv_layers.proofs.Projected.{projected}
-use Rattle.sv_instrument.specs.HeldUnit.{held}
+use Rattle.sv_instrument.specs.HeldUnit.{held_unit}
 use Rattle.sv_instrument.specs.Path.{IsPath, Leaves, units_begun, one_if_held}
 use Rattle.sv_instrument.specs.Representation.{Kept, StandsFor, IsHeldRight}
 use Rattle.sv_instrument.specs.Inside.Acted.{BeginsOne}
@@ -44,7 +44,7 @@ none_begun kept log s right open_now =
     let joined = s.layers.stands.joined in
     let exchange = subst (λ (acts : List ExchangeAct). Exchanges kept.layers.exchange acts) (projected log).0 joined.exchange in
     let done = none_done kept.layers.exchange (exchange_acts log) exchange unended in
-    let held_now : one_if_held (held log) ≡ 0 = ap one_if_held (sym s.held) ∙ none_held kept.held kept.layers right unended in
+    let held_now : one_if_held (held_unit log) ≡ 0 = ap one_if_held (sym s.held) ∙ none_held kept.held kept.layers right unended in
     omega (arith, done, held_now)
 
 -- more text leaves the path
@@ -54,7 +54,7 @@ accepted_path kept log bytes ended s right open_now =
     same_root (units_begun log) _ _ kept.path (none_begun kept log s right open_now) s.path
 
 -- a message that is finished leaves the root
-pub finished_path : (log : List Act) → None ≡ held log → IsPath (Exchanged Finished ∷ log) []
+pub finished_path : (log : List Act) → None ≡ held_unit log → IsPath (Exchanged Finished ∷ log) []
 finished_path log free =
     let none : units_begun (Exchanged Finished ∷ log) ≡ 0 = ap (λ (n : ℕ). 0 + n) (ap one_if_held (sym free)) in
     subst (λ (n : ℕ). Leaves (reverse (take n (units (message (exchange_acts (Exchanged Finished ∷ log)))))) []) (sym none) refl
@@ -74,7 +74,7 @@ of_cond true next unit is = is
 of_cond false next unit is = absurd cc
 
 -- a unit that starts leaves what it was read with
-pub started_path : (log new : List Act) (unit : List ℕ) (front behind : List (List ℕ)) (outcome : Result Order Code) → None ≡ held log
+pub started_path : (log new : List Act) (unit : List ℕ) (front behind : List (List ℕ)) (outcome : Result Order Code) → None ≡ held_unit log
     → BeginsOne log new → next_unit (exchange_acts log) ≡ Some unit → IsPath log front → IsReadAs front unit outcome behind
     → IsPath new behind
 started_path log new unit front behind outcome free begins next before read =
@@ -90,7 +90,7 @@ started_path log new unit front behind outcome free begins next before read =
     subst (λ (list : List (List ℕ)). Leaves list behind) (sym are) (front, outcome, all, read)
 
 -- a unit that was held leaves what it left when it started
-pub released_path : (log new : List Act) (awaited : Awaited) (path : List (List ℕ)) → Some awaited ≡ held log → BeginsOne log new
+pub released_path : (log new : List Act) (awaited : Awaited) (path : List (List ℕ)) → Some awaited ≡ held_unit log → BeginsOne log new
     → IsPath log path → IsPath new path
 released_path log new awaited path is begins before =
     let n = units_done (current (exchange_acts log)) in

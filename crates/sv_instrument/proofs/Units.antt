@@ -14,8 +14,8 @@ use Rattle.sv_layers.specs.declared.change.Change.TheVariants as changes
 use Rattle.sv_layers.specs.Act.{Act, Exchanged, Held, Reported, exchange_acts}
 use Rattle.sv_layers.specs.Change.{act_of}
 use Rattle.sv_layers.specs.Inside.Representation.{LayerState}
-use Rattle.sv_instrument.specs.HeldUnit.{held}
-use Rattle.sv_instrument.specs.CommandEffect.{done, answered, unless, configured, taken, Replies}
+use Rattle.sv_instrument.specs.HeldUnit.{held_unit}
+use Rattle.sv_instrument.specs.CommandEffect.{done, after_answering, unless, after_configure, after_query, Replies}
 use Rattle.sv_instrument.specs.QueryResponse.{Says}
 use Rattle.sv_instrument.specs.Step.{Does}
 use Rattle.sv_instrument.specs.Inside.Acted.{Counts, IsApart, BeginsOne, Behaves, Follows}
@@ -26,11 +26,11 @@ change_apart (changes.Scan act) log = refl
 change_apart _ log = refl
 
 -- nor what a query takes or clears
-pub taken_apart : (asked : Question) (log : List Act) → IsApart log (taken asked log)
+pub taken_apart : (asked : Question) (log : List Act) → IsApart log (after_query asked log)
 taken_apart question.Identification log = refl
 taken_apart _ log = refl
 
-pub configured_apart : (list : Option (List ℕ)) (log : List Act) → IsApart log (configured list log)
+pub configured_apart : (list : Option (List ℕ)) (log : List Act) → IsApart log (after_configure list log)
 configured_apart None log = refl
 configured_apart (Some channels) log = refl
 
@@ -62,14 +62,14 @@ told fits text log = if fits then Exchanged (Answered text) ∷ log else Reporte
 
 pub counts_told : {start : List Act} {layers : LayerState} (fits : Bool) (text : List ℕ) (log : List Act)
     → fits ≡ fits_response (answers (exchange_acts log)) text → Counts start layers (told fits text log)
-    → Counts start layers (answered text log)
+    → Counts start layers (after_answering text log)
 counts_told {start} {layers} fits text log same = subst (λ (b : Bool). Counts start layers (told b text log)) same
 
 told_begins : (fits : Bool) (text : List ℕ) (log : List Act) → BeginsOne log (told fits text (done log))
 told_begins true text log = record { message = refl; begun = omega arith }
 told_begins false text log = record { message = refl; begun = omega arith }
 
-told_held : (fits : Bool) (text : List ℕ) (log : List Act) → None ≡ held (told fits text (done log))
+told_held : (fits : Bool) (text : List ℕ) (log : List Act) → None ≡ held_unit (told fits text (done log))
 told_held true text log = refl
 told_held false text log = refl
 
@@ -83,12 +83,12 @@ pub behaves_held : (start log : List Act) (awaited : Awaited) (layers : LayerSta
 behaves_held start log awaited layers counts =
     record { new = Held awaited ∷ log; makes = refl; counts = counts; held = refl; begins = held_begins awaited log }
 
-pub behaves_answered : (start log : List Act) (text : List ℕ) (layers : LayerState) → Counts start layers (answered text (done log))
-    → Behaves (λ new. new ≡ answered text (done log)) start layers None log
+pub behaves_answered : (start log : List Act) (text : List ℕ) (layers : LayerState) → Counts start layers (after_answering text (done log))
+    → Behaves (λ new. new ≡ after_answering text (done log)) start layers None log
 behaves_answered start log text layers counts =
     let fits = fits_response (answers (exchange_acts (done log))) text in
     record {
-      new = answered text (done log);
+      new = after_answering text (done log);
       makes = refl;
       counts = counts;
       held = told_held fits text log;
@@ -105,7 +105,7 @@ behaves_unless {start} {layers} {awaited} {fault} {given} {log} acts is =
 -- an answer
 pub behaves_replied : {start : List Act} {layers : LayerState} {awaited : Option Awaited} {fault : Option Code} (asked : Question)
     (text : List ℕ) (log : List Act) → fault ≡ None → Says asked log text
-    → Behaves (λ new. new ≡ answered text (done (taken asked log))) start layers awaited log
+    → Behaves (λ new. new ≡ after_answering text (done (after_query asked log))) start layers awaited log
     → Behaves (Replies fault asked log) start layers awaited log
 behaves_replied {start} {layers} {awaited} {fault} asked text log is says b =
     subst (λ (f : Option Code). Behaves (Replies f asked log) start layers awaited log) (sym is) (record {

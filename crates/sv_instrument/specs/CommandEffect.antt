@@ -17,7 +17,7 @@ use Rattle.sv_command.specs.declared.order.Order.{Order}
 use Rattle.sv_command.specs.declared.order.Order.TheVariants as order
 use Rattle.sv_layers.specs.declared.change.Awaited.TheVariants as awaited
 use Rattle.sv_layers.specs.Act.{Act, Exchanged, Scanned, Held, Reported, EntryTaken, Cleared, Preset, OpcAsked, StandardRead, StandardEnabled, EventRead, Enabled, RiseSet, FallSet, ServiceEnabled, exchange_acts}
-use Rattle.sv_layers.specs.Condition.{counted}
+use Rattle.sv_layers.specs.Condition.{effective_acts}
 use Rattle.sv_instrument.specs.QueryResponse.{Says}
 
 -- the unit is done
@@ -25,8 +25,8 @@ abbrev pub done : List Act → List Act
 done log = Exchanged UnitDone ∷ log
 
 -- An answer joins the response; if it doesn't fit, all answers of the message are dropped and -430 is reported.
-abbrev pub answered : List ℕ → List Act → List Act
-answered text log =
+abbrev pub after_answering : List ℕ → List Act → List Act
+after_answering text log =
     if fits_response (answers (exchange_acts log)) text then Exchanged (Answered text) ∷ log
     else Reported QueryDeadlocked ∷ Exchanged AnswersDropped ∷ log
 
@@ -42,50 +42,52 @@ set_list (Some channels) log = Scanned (scan.Configure (setting.List channels)) 
 
 -- A measurement is configured: it is aborted; range (10 V), source (immediate) and count (1) take their defaults; the list is set, if one
 -- is given.
-abbrev pub configured : Option (List ℕ) → List Act → List Act
-configured list log = set_list list
+abbrev pub after_configure : Option (List ℕ) → List Act → List Act
+after_configure list log = set_list list
     (Scanned (scan.Configure (setting.Count 1)) ∷ Scanned (scan.Configure (setting.Source Immediate))
     ∷ Scanned (scan.Configure (setting.Range (pos 10000000))) ∷ Scanned scan.Abort ∷ log)
 
 -- what a query takes or clears
-abbrev pub taken : Question → List Act → List Act
-taken question.StandardEvents log = StandardRead ∷ log
-taken question.Error log = EntryTaken ∷ log
-taken (question.Events name) log = EventRead name ∷ log
-taken asked log = log
+abbrev pub after_query : Question → List Act → List Act
+after_query question.StandardEvents log = StandardRead ∷ log
+after_query question.Error log = EntryTaken ∷ log
+after_query (question.Events name) log = EventRead name ∷ log
+after_query asked log = log
 
 -- why a query is refused: its readings aren't complete, or were aborted (-230)
 abbrev pub question_fault : Question → List Act → Option Code
-question_fault question.Readings log = if is_complete (counted log) then None else Some DataCorruptOrStale
+question_fault question.Readings log = if is_complete (effective_acts log) then None else Some DataCorruptOrStale
 question_fault asked log = None
 
 -- A query answers with its text, after it took or cleared what it does; or its error is reported.
 abbrev pub Replies : Option Code → Question → List Act → List Act → Type 0
 Replies (Some code) asked log new = new ≡ done (Reported code ∷ log)
-Replies None asked log new = (text : List ℕ) × Says asked log text × (new ≡ answered text (done (taken asked log)))
+Replies None asked log new = (text : List ℕ) × Says asked log text × (new ≡ after_answering text (done (after_query asked log)))
 
 -- the effect of a command without a value
-abbrev pub acted : Action → List Act → List Act
-acted action.ClearStatus log = done (Cleared ∷ log)
-acted action.Reset log = done (Scanned scan.Reset ∷ log)
-acted action.TellComplete log = done (OpcAsked ∷ log)
-acted action.Wait log = Held awaited.Nothing ∷ log
-acted action.WaitAndTell log = Held awaited.One ∷ log
-acted action.Trigger log = unless (trigger_fault (counted log) Bus) (done (Scanned (scan.Trigger Bus) ∷ log)) log
-acted action.Preset log = done (Preset ∷ log)
-acted action.Initiate log = unless (init_fault (counted log)) (done (Scanned scan.Init ∷ log)) log
-acted action.Abort log = done (Scanned scan.Abort ∷ log)
-acted action.Read log = unless (read_fault (counted log)) (Held awaited.Readings ∷ Scanned scan.Init ∷ Scanned scan.Abort ∷ log) log
+abbrev pub after_action : Action → List Act → List Act
+after_action action.ClearStatus log = done (Cleared ∷ log)
+after_action action.Reset log = done (Scanned scan.Reset ∷ log)
+after_action action.TellComplete log = done (OpcAsked ∷ log)
+after_action action.Wait log = Held awaited.Nothing ∷ log
+after_action action.WaitAndTell log = Held awaited.One ∷ log
+after_action action.Trigger log = unless (trigger_fault (effective_acts log) Bus) (done (Scanned (scan.Trigger Bus) ∷ log)) log
+after_action action.Preset log = done (Preset ∷ log)
+after_action action.Initiate log = unless (init_fault (effective_acts log)) (done (Scanned scan.Init ∷ log)) log
+after_action action.Abort log = done (Scanned scan.Abort ∷ log)
+after_action action.Read log = unless (read_fault (effective_acts log))
+    (Held awaited.Readings ∷ Scanned scan.Init ∷ Scanned scan.Abort ∷ log) log
 
 -- The effect of an order on the log.
 abbrev pub Performs : Order → List Act → List Act → Type 0
-Performs (order.Do action) log new = new ≡ acted action log
+Performs (order.Do action) log new = new ≡ after_action action log
 Performs (order.Ask asked) log new = Replies (question_fault asked log) asked log new
 Performs (order.EnableStandard mask) log new = new ≡ done (StandardEnabled mask ∷ log)
 Performs (order.EnableService mask) log new = new ≡ done (ServiceEnabled mask ∷ log)
 Performs (order.Enable name mask) log new = new ≡ done (Enabled name mask ∷ log)
 Performs (order.SetRise name mask) log new = new ≡ done (RiseSet name mask ∷ log)
 Performs (order.SetFall name mask) log new = new ≡ done (FallSet name mask ∷ log)
-Performs (order.Set given) log new = new ≡ unless (setting_fault (counted log) given) (done (Scanned (scan.Configure given) ∷ log)) log
-Performs (order.Configure list) log new = new ≡ done (configured list log)
-Performs (order.Measure list) log new = new ≡ Held awaited.Readings ∷ Scanned scan.Init ∷ configured list log
+Performs (order.Set given) log new = new
+    ≡ unless (setting_fault (effective_acts log) given) (done (Scanned (scan.Configure given) ∷ log)) log
+Performs (order.Configure list) log new = new ≡ done (after_configure list log)
+Performs (order.Measure list) log new = new ≡ Held awaited.Readings ∷ Scanned scan.Init ∷ after_configure list log

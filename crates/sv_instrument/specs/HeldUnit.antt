@@ -5,10 +5,10 @@ use Rattle.sv_layers.specs.declared.change.Awaited.{Awaited}
 use Rattle.sv_layers.specs.Act.{Act, Exchanged, Purged, Held}
 
 -- what the held unit will answer; `None` if no unit is held. It is held until it is done, or the text is dropped.
-abbrev pub held : List Act → Option Awaited
-held [] = None
-held (Held awaited ∷ log) = Some awaited
-held (Exchanged UnitDone ∷ log) = None
-held (Exchanged TextDropped ∷ log) = None
-held (Purged ∷ log) = None
-held (_ ∷ log) = held log
+abbrev pub held_unit : List Act → Option Awaited
+held_unit [] = None
+held_unit (Held awaited ∷ log) = Some awaited
+held_unit (Exchanged UnitDone ∷ log) = None
+held_unit (Exchanged TextDropped ∷ log) = None
+held_unit (Purged ∷ log) = None
+held_unit (_ ∷ log) = held_unit log

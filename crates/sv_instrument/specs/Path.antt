@@ -7,7 +7,7 @@ use Rattle.sv_command.specs.declared.order.Order.{Order}
 use Rattle.sv_command.specs.Unit.{IsReadAs}
 use Rattle.sv_layers.specs.declared.change.Awaited.{Awaited}
 use Rattle.sv_layers.specs.Act.{Act, exchange_acts}
-use Rattle.sv_instrument.specs.HeldUnit.{held}
+use Rattle.sv_instrument.specs.HeldUnit.{held_unit}
 
 -- These units, the last one first, leave this path.
 abbrev pub Leaves : List (List ℕ) → List (List ℕ) → Type 0
@@ -22,7 +22,7 @@ one_if_held (Some awaited) = 1
 
 -- how many units of the current message began: those that are done, and the one that is held
 abbrev pub units_begun : List Act → ℕ
-units_begun log = units_done (current (exchange_acts log)) + one_if_held (held log)
+units_begun log = units_done (current (exchange_acts log)) + one_if_held (held_unit log)
 
 -- The units of the current message that began leave this path.
 abbrev pub IsPath : List Act → List (List ℕ) → Type 0

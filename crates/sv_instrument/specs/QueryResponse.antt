@@ -16,7 +16,7 @@ use Rattle.sv_header.specs.declared.command.Question.TheVariants as question
 use Rattle.sv_header.specs.declared.command.SettingName.{SettingName}
 use Rattle.sv_header.specs.declared.command.SettingName.TheVariants as name
 use Rattle.sv_layers.specs.Act.{Act, queue_acts}
-use Rattle.sv_layers.specs.Condition.{condition, counted}
+use Rattle.sv_layers.specs.Condition.{condition, effective_acts}
 use Rattle.sv_layers.specs.Event.{EventStands}
 use Rattle.sv_layers.specs.Filter.{rise, fall, enable}
 use Rattle.sv_layers.specs.Standard.{Stands, enable as standard_enable}
@@ -50,14 +50,14 @@ value_text name.ServiceEnable log = decimal (service log)
 value_text (name.Enable register) log = decimal (enable register log)
 value_text (name.Rise register) log = decimal (rise register log)
 value_text (name.Fall register) log = decimal (fall register log)
-value_text name.ScanList log = channels_text (scan_list (counted log))
-value_text name.Monitor log = channels_text (monitor (counted log) ∷ [])
-value_text name.Range log = voltage_text (range (counted log))
-value_text name.UpperLimit log = voltage_text (upper (counted log))
-value_text name.LowerLimit log = voltage_text (lower (counted log))
-value_text name.Limits log = switch_text (limits (counted log))
-value_text name.Source log = source_text (source (counted log))
-value_text name.Count log = decimal (count (counted log))
+value_text name.ScanList log = channels_text (scan_list (effective_acts log))
+value_text name.Monitor log = channels_text (monitor (effective_acts log) ∷ [])
+value_text name.Range log = voltage_text (range (effective_acts log))
+value_text name.UpperLimit log = voltage_text (upper (effective_acts log))
+value_text name.LowerLimit log = voltage_text (lower (effective_acts log))
+value_text name.Limits log = switch_text (limits (effective_acts log))
+value_text name.Source log = source_text (source (effective_acts log))
+value_text name.Count log = decimal (count (effective_acts log))
 
 -- The answer of a query.
 abbrev pub Says : Question → List Act → List ℕ → Type 0
@@ -70,5 +70,5 @@ Says question.Error log text = text ≡ oldest_text (oldest (queue_acts log))
 Says question.ErrorCount log text = text ≡ decimal (length (entries (queue_acts log)))
 Says (question.Events name) log text = IsWord (λ k. EventStands name k log) text
 Says (question.Condition name) log text = text ≡ decimal (condition name log)
-Says question.Readings log text = text ≡ readings_text (readings (counted log))
+Says question.Readings log text = text ≡ readings_text (readings (effective_acts log))
 Says (question.Value name) log text = text ≡ value_text name log

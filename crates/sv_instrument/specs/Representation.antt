@@ -6,7 +6,7 @@ use Rattle.sv_exchange.specs.Contents.{IsUnitDue, next_of, exchange_measure}
 use Rattle.sv_layers.specs.declared.change.Awaited.{Awaited}
 use Rattle.sv_layers.specs.Act.{Act}
 use Rattle.sv_layers.specs.Inside.Representation.{LayerState, AllRead as Layers, state_by}
-use Rattle.sv_instrument.specs.HeldUnit.{held}
+use Rattle.sv_instrument.specs.HeldUnit.{held_unit}
 use Rattle.sv_instrument.specs.Path.{IsPath}
 use Rattle.sv_instrument.specs.RequestCount.{Raises}
 
@@ -19,7 +19,7 @@ pub record Kept : Type 0 where
 -- What is kept stands for the log.
 pub record StandsFor (kept : Kept) (log : List Act) : Type 0 where
   pub layers : Layers kept.layers log
-  pub held : kept.held ≡ held log
+  pub held : kept.held ≡ held_unit log
   pub path : IsPath log kept.path
 
 -- What is kept stands for the new log, and so many requests for service were raised on the way to it.
@@ -33,9 +33,9 @@ Takes IsNext kept None log = (new : List Act) → IsNext log new → ⊥
 Takes IsNext kept (Some count) log = (new : List Act) × IsNext log new × Ran kept count log new
 
 -- 1 if no unit is held, so that one may start; else 0
-abbrev pub unheld : Option Awaited → ℕ
-unheld None = 1
-unheld (Some awaited) = 0
+abbrev pub one_if_unheld : Option Awaited → ℕ
+one_if_unheld None = 1
+one_if_unheld (Some awaited) = 0
 
 -- 1 if a trigger is waited for, else 0
 abbrev pub waits : State → ℕ
@@ -45,7 +45,7 @@ waits Scanning = 0
 
 -- how much is left to do: a trigger or a step always makes it less, so repeated stepping terminates
 abbrev pub instrument_measure : Kept → ℕ
-instrument_measure kept = 2 * (2 * exchange_measure kept.layers.exchange + unheld kept.held)
+instrument_measure kept = 2 * (2 * exchange_measure kept.layers.exchange + one_if_unheld kept.held)
     + waits (state_by kept.layers)
 
 -- If a unit is held, it is the one that is due.

@@ -10,17 +10,17 @@ use Rattle.sv_command.specs.Unit.{IsReadAs}
 use Rattle.sv_layers.specs.declared.change.Awaited.{Awaited}
 use Rattle.sv_layers.specs.declared.change.Awaited.TheVariants.{Nothing, One, Readings}
 use Rattle.sv_layers.specs.Act.{Act, Exchanged, Reported, exchange_acts}
-use Rattle.sv_layers.specs.Condition.{counted, is_idle}
-use Rattle.sv_instrument.specs.HeldUnit.{held}
+use Rattle.sv_layers.specs.Condition.{effective_acts, is_idle}
+use Rattle.sv_instrument.specs.HeldUnit.{held_unit}
 use Rattle.sv_instrument.specs.Path.{IsPath}
 use Rattle.sv_instrument.specs.QueryResponse.{readings_text}
-use Rattle.sv_instrument.specs.CommandEffect.{Performs, done, answered}
+use Rattle.sv_instrument.specs.CommandEffect.{Performs, done, after_answering}
 
 -- a held unit ends: it is done, and its answer is given
-abbrev pub released : Awaited → List Act → List Act
-released Nothing log = done log
-released One log = answered (codes "1") (done log)
-released Readings log = answered (readings_text (readings (counted log))) (done log)
+abbrev pub after_release : Awaited → List Act → List Act
+after_release Nothing log = done log
+after_release One log = after_answering (codes "1") (done log)
+after_release Readings log = after_answering (readings_text (readings (effective_acts log))) (done log)
 
 -- A unit does what it asks for, or its error is reported.
 abbrev pub Does : Result Order Code → List Act → List Act → Type 0
@@ -33,21 +33,21 @@ Starts unit log new = (path behind : List (List ℕ)) × (outcome : Result Order
     × Does outcome log new
 
 -- the response is dropped, interrupted by a new message, and -410 is reported
-abbrev pub interrupted : List Act → List Act
-interrupted log = Reported QueryInterrupted ∷ Exchanged Interrupted ∷ log
+abbrev pub after_interrupt : List Act → List Act
+after_interrupt log = Reported QueryInterrupted ∷ Exchanged Interrupted ∷ log
 
 -- The step, by whether a unit is held and by what is due. A held unit ends only while no measurement is under way.
 abbrev pub StepOf : Option Awaited → Due → List Act → List Act → Type 0
-StepOf (Some awaited) next log new = (is_idle log ≡ true) × (new ≡ released awaited log)
+StepOf (Some awaited) next log new = (is_idle log ≡ true) × (new ≡ after_release awaited log)
 StepOf None NothingDue log new = ⊥
 StepOf None OverrunDue log new = new ≡ Reported InputBufferOverrun ∷ Exchanged Overran ∷ log
-StepOf None InterruptDue log new = (unit : List ℕ) × (next_unit (exchange_acts log) ≡ Some unit) × Starts unit (interrupted log) new
+StepOf None InterruptDue log new = (unit : List ℕ) × (next_unit (exchange_acts log) ≡ Some unit) × Starts unit (after_interrupt log) new
 StepOf None (UnitDue unit) log new = Starts unit log new
 StepOf None FinishDue log new = new ≡ Exchanged Finished ∷ log
 
 -- The step that is due makes this log of the other.
 abbrev pub IsStep : List Act → List Act → Type 0
-IsStep log new = StepOf (held log) (due (exchange_acts log)) log new
+IsStep log new = StepOf (held_unit log) (due (exchange_acts log)) log new
 
 -- whether a unit is held
 abbrev pub is_held : Option Awaited → Bool
@@ -56,4 +56,4 @@ is_held (Some awaited) = true
 
 -- whether a read is answered now: there is a response, or nothing is under way that could make one
 abbrev pub is_answerable : List Act → Bool
-is_answerable log = is_something (response (exchange_acts log)) || (not (is_held (held log)) && not (has_ended (exchange_acts log)))
+is_answerable log = is_something (response (exchange_acts log)) || (not (is_held (held_unit log)) && not (has_ended (exchange_acts log)))

@@ -8,7 +8,7 @@ use Rattle.sv_scan.specs.declared.setting.State.TheVariants.{Idle, Waiting, Scan
 use Rattle.sv_scan.specs.Counted.{trigger_fault}
 use Rattle.sv_scan.specs.Scan.{state}
 use Rattle.sv_layers.specs.Act.{Act, Scanned, Reported}
-use Rattle.sv_layers.specs.Condition.{counted}
+use Rattle.sv_layers.specs.Condition.{effective_acts}
 
 -- the controller's trigger, or the error with which it is ignored
 abbrev pub or_reported : Option Code → Act
@@ -17,7 +17,7 @@ or_reported (Some code) = Reported code
 
 -- a trigger from the controller (VXI-11, device_trigger): if none from there is waited for, -211 is reported
 abbrev pub trigger_acts : List Act → List Act
-trigger_acts log = or_reported (trigger_fault (counted log) Bus) ∷ []
+trigger_acts log = or_reported (trigger_fault (effective_acts log) Bus) ∷ []
 
 -- the trigger input's trigger, or nothing
 abbrev pub or_nothing : Option Code → List Act
@@ -26,7 +26,7 @@ or_nothing (Some code) = []
 
 -- a trigger at the trigger input: if none from there is waited for, nothing happens
 abbrev pub external_acts : List Act → List Act
-external_acts log = or_nothing (trigger_fault (counted log) External)
+external_acts log = or_nothing (trigger_fault (effective_acts log) External)
 
 -- the next channel is read, in a scan
 abbrev pub where_scanning : State → List Act
@@ -35,8 +35,8 @@ where_scanning _ = []
 
 -- a millisecond passes: in a scan the next channel is read
 abbrev pub tick_acts : List Act → List Act
-tick_acts log = where_scanning (state (counted log))
+tick_acts log = where_scanning (state (effective_acts log))
 
 -- An immediate trigger comes, as soon as one is waited for.
 abbrev pub IsFired : List Act → List Act → Type 0
-IsFired log new = (trigger_fault (counted log) Immediate ≡ None) × (new ≡ Scanned (Trigger Immediate) ∷ log)
+IsFired log new = (trigger_fault (effective_acts log) Immediate ≡ None) × (new ≡ Scanned (Trigger Immediate) ∷ log)

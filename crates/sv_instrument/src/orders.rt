@@ -4,7 +4,7 @@ ghost use Rattle.std.specs.Prelude.{◌≡◌, ◌≤◌, List, vec_capacity};
 ghost use Rattle.sv_exchange.specs.Contents.{IsUnitDue, next_of};
 ghost use Rattle.sv_exchange.specs.Limits.{max_response};
 ghost use Rattle.sv_layers.specs.Act.{Act};
-ghost use Rattle.sv_instrument.specs.CommandEffect.{Performs, acted};
+ghost use Rattle.sv_instrument.specs.CommandEffect.{Performs, after_action};
 ghost use Rattle.sv_instrument.specs.Inside.Acted.{Counts, Behaves, Advances};
 
 use crate::queries::ask;
@@ -53,7 +53,7 @@ pub(crate) fn perform<A: Allocator>(
 fn act<A: Allocator>(layers: &mut Layers<A>, action: Action) -> Option<Awaited>
     requires { IsUnitDue (next_of layers.old.exchange) }
     ensures behaves { (start log : List Act) → Counts start layers.old log
-        → Behaves (λ new. new ≡ acted action log) start layers.new result log }
+        → Behaves (λ new. new ≡ after_action action log) start layers.new result log }
     ensures advances { Advances layers.old layers.new result }
 {
     let change = match action {

@@ -5,7 +5,7 @@ ghost use Rattle.sv_exchange.specs.Contents.{IsUnitDue, next_of};
 ghost use Rattle.sv_exchange.specs.Limits.{max_response};
 ghost use Rattle.sv_layers.specs.Act.{Act};
 ghost use Rattle.sv_layers.specs.Inside.Representation.{StandsFor as Stands};
-ghost use Rattle.sv_instrument.specs.CommandEffect.{question_fault, taken, Replies};
+ghost use Rattle.sv_instrument.specs.CommandEffect.{question_fault, after_query, Replies};
 ghost use Rattle.sv_instrument.specs.Inside.Acted.{Counts, Behaves, Advances};
 ghost use Rattle.sv_instrument.specs.QueryResponse.{Says, value_text};
 
@@ -55,7 +55,7 @@ fn refused<A: Allocator>(layers: &Layers<A>, question: Question) -> Option<Code>
 /// What a query asks for is taken, or cleared.
 fn take<A: Allocator>(layers: &mut Layers<A>, question: Question)
     ensures counts { (start log : List Act) → Counts start layers.old log
-        → Counts start layers.new (taken question log) }
+        → Counts start layers.new (after_query question log) }
     ensures exchange { layers.new.exchange ≡ layers.old.exchange }
 {
     match question {

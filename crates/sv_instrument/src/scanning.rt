@@ -9,7 +9,7 @@ ghost use Rattle.sv_layers.specs.Act.{Act, Scanned};
 ghost use Rattle.sv_layers.specs.Change.{act_of};
 ghost use Rattle.sv_errors.specs.declared.code.Code.{Code};
 ghost use Rattle.sv_scan.specs.Answered.{refused_by};
-ghost use Rattle.sv_instrument.specs.CommandEffect.{Performs, acted, unless, done as done_of, configured, set_list as with_list};
+ghost use Rattle.sv_instrument.specs.CommandEffect.{Performs, after_action, unless, done as done_of, after_configure, set_list as with_list};
 ghost use Rattle.sv_instrument.specs.Inside.Acted.{Counts, Behaves, Advances};
 
 use crate::unit_effects::{carry_out, end, hold};
@@ -25,7 +25,7 @@ const RANGE: i64 = 10_000_000;
 pub(crate) fn trigger<A: Allocator>(layers: &mut Layers<A>) -> Option<Awaited>
     requires { IsUnitDue (next_of layers.old.exchange) }
     ensures behaves { (start log : List Act) → Counts start layers.old log
-        → Behaves (λ new. new ≡ acted Trigger log) start layers.new result log }
+        → Behaves (λ new. new ≡ after_action Trigger log) start layers.new result log }
     ensures advances { Advances layers.old layers.new result }
 {
     match layers.trigger(Source::Bus) {
@@ -63,7 +63,7 @@ pub(crate) fn set<A: Allocator>(layers: &mut Layers<A>, setting: Setting) -> Opt
 pub(crate) fn initiate<A: Allocator>(layers: &mut Layers<A>) -> Option<Awaited>
     requires { IsUnitDue (next_of layers.old.exchange) }
     ensures behaves { (start log : List Act) → Counts start layers.old log
-        → Behaves (λ new. new ≡ acted Initiate log) start layers.new result log }
+        → Behaves (λ new. new ≡ after_action Initiate log) start layers.new result log }
     ensures advances { Advances layers.old layers.new result }
 {
     let allowed = layers.scanner().may_init();
@@ -74,7 +74,7 @@ pub(crate) fn initiate<A: Allocator>(layers: &mut Layers<A>) -> Option<Awaited>
 /// is set, if one is given.
 pub(crate) fn configure<A: Allocator>(layers: &mut Layers<A>, list: Option<ScanList>)
     ensures counts { (start log : List Act) → Counts start layers.old log
-        → Counts start layers.new (configured list log) }
+        → Counts start layers.new (after_configure list log) }
     ensures exchange { layers.new.exchange ≡ layers.old.exchange }
 {
     layers.apply(Change::Scan(ScanAct::Abort));
@@ -101,7 +101,7 @@ fn set_list<A: Allocator>(layers: &mut Layers<A>, list: Option<ScanList>)
 pub(crate) fn read<A: Allocator>(layers: &mut Layers<A>) -> Option<Awaited>
     requires { IsUnitDue (next_of layers.old.exchange) }
     ensures behaves { (start log : List Act) → Counts start layers.old log
-        → Behaves (λ new. new ≡ acted Read log) start layers.new result log }
+        → Behaves (λ new. new ≡ after_action Read log) start layers.new result log }
     ensures advances { Advances layers.old layers.new result }
 {
     match layers.scanner().may_read() {

@@ -6,7 +6,7 @@ ghost use Rattle.sv_exchange.specs.Exchange.{Overran, Finished, OverrunDue, Inte
 ghost use Rattle.sv_exchange.specs.Contents.{IsUnitDue, next_of};
 ghost use Rattle.sv_layers.specs.Act.{Act, Exchanged, Reported};
 ghost use Rattle.sv_instrument.specs.Stimulus.{IsFired};
-ghost use Rattle.sv_instrument.specs.Step.{IsStep, interrupted};
+ghost use Rattle.sv_instrument.specs.Step.{IsStep, after_interrupt};
 ghost use Rattle.sv_instrument.specs.Representation.{StandsFor, Takes, instrument_measure};
 ghost use Rattle.sv_instrument.specs.Inside.Acted.{Runs, StartsUnit, Steps};
 
@@ -111,7 +111,7 @@ impl<A: Allocator> Instrument<A> {
         requires free { self.old.held ≡ None }
         requires due { next_of self.old.layers.exchange ≡ InterruptDue }
         ensures starts { (start log : List Act) → Runs start self.old log
-            → StartsUnit start (interrupted log) self.new }
+            → StartsUnit start (after_interrupt log) self.new }
         ensures measure { instrument_measure self.new < instrument_measure self.old }
     {
         self.layers.interrupt();

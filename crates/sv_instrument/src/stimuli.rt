@@ -5,7 +5,7 @@ ghost use Rattle.sv_scan.specs.declared.acts.ScanAct.TheVariants.{Input};
 ghost use Rattle.sv_scan.specs.Counted.{is_scanning as scans};
 ghost use Rattle.sv_scan.specs.Scan.{state};
 ghost use Rattle.sv_layers.specs.Act.{Act, Scanned};
-ghost use Rattle.sv_layers.specs.Condition.{counted};
+ghost use Rattle.sv_layers.specs.Condition.{effective_acts};
 ghost use Rattle.sv_instrument.specs.Stimulus.{trigger_acts, external_acts, tick_acts};
 ghost use Rattle.sv_instrument.specs.Representation.{StandsFor, Ran};
 
@@ -71,7 +71,7 @@ impl<A: Allocator> Instrument<A> {
     /// Whether a scan is under way, so that the next millisecond reads a channel.
     pub fn is_scanning(&self) -> bool
         ensures { (log : List Act) → StandsFor self.now log
-            → result ≡ scans (state (counted log)) }
+            → result ≡ scans (state (effective_acts log)) }
     {
         self.layers.scanner().state().is_scanning()
     }

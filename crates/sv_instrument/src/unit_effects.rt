@@ -4,7 +4,7 @@ ghost use Rattle.std.specs.Prelude.{◌≡◌, ◌≤◌, List, ◌∷◌, None,
 ghost use Rattle.sv_exchange.specs.Contents.{IsUnitDue, next_of, may_respond, exchange_measure};
 ghost use Rattle.sv_layers.specs.Act.{Act, Held as HeldAct};
 ghost use Rattle.sv_layers.specs.Change.{act_of};
-ghost use Rattle.sv_instrument.specs.CommandEffect.{done as done_of, answered};
+ghost use Rattle.sv_instrument.specs.CommandEffect.{done as done_of, after_answering};
 ghost use Rattle.sv_instrument.specs.Inside.Acted.{Counts, Behaves, Advances};
 
 use std::alloc::Allocator;
@@ -50,7 +50,7 @@ pub(crate) fn hold<A: Allocator>(layers: &mut Layers<A>, awaited: Awaited) -> Op
 fn respond<A: Allocator>(layers: &mut Layers<A>, text: &[u8])
     requires { IsTrue (may_respond layers.old.exchange) }
     ensures counts { (start log : List Act) → Counts start layers.old log
-        → Counts start layers.new (answered text.now log) }
+        → Counts start layers.new (after_answering text.now log) }
     ensures measure { exchange_measure layers.new.exchange ≤ exchange_measure layers.old.exchange }
 {
     if !layers.respond(text) {
@@ -62,7 +62,7 @@ fn respond<A: Allocator>(layers: &mut Layers<A>, text: &[u8])
 pub(crate) fn reply<A: Allocator>(layers: &mut Layers<A>, text: &[u8])
     requires { IsUnitDue (next_of layers.old.exchange) }
     ensures behaves { (start log : List Act) → Counts start layers.old log
-        → Behaves (λ new. new ≡ answered text.now (done_of log)) start layers.new None log }
+        → Behaves (λ new. new ≡ after_answering text.now (done_of log)) start layers.new None log }
     ensures advances { Advances layers.old layers.new None }
 {
     layers.done();

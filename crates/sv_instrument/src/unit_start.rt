@@ -5,7 +5,7 @@ ghost use Rattle.sv_exchange.specs.Exchange.{next_unit};
 ghost use Rattle.sv_exchange.specs.Contents.{IsUnitDue, next_of};
 ghost use Rattle.sv_exchange.specs.Limits.{max_response};
 ghost use Rattle.sv_layers.specs.Act.{Act, exchange_acts};
-ghost use Rattle.sv_instrument.specs.Step.{released};
+ghost use Rattle.sv_instrument.specs.Step.{after_release};
 ghost use Rattle.sv_instrument.specs.Inside.Acted.{Counts, Behaves, Advances, Follows};
 
 use crate::orders::perform;
@@ -48,7 +48,7 @@ pub(crate) fn release<A: Allocator>(
     requires due { IsUnitDue (next_of layers.old.exchange) }
     requires room { max_response ≤ vec_capacity answer.old }
     ensures behaves { (start log : List Act) → Counts start layers.old log
-        → Behaves (λ new. new ≡ released awaited log) start layers.new None log }
+        → Behaves (λ new. new ≡ after_release awaited log) start layers.new None log }
     ensures advances { Advances layers.old layers.new None }
     ensures capacity { max_response ≤ vec_capacity answer.new }
 {

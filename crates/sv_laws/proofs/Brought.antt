@@ -1,7 +1,7 @@
 -- What events bring to a connection and tell to interrupt channels by themselves, as crates above use it.
 use Rattle.std.specs.Prelude.{◌≡◌, ℕ, ◌+◌, filter, ◌<◌, ◌==◌, Bool, true, false, List, [], ◌∷◌, ◌++◌, length, Option, Some, None, Result, Ok, Err, ⊤, if◌then◌else◌}
 use Rattle.sv_links.specs.declared.request.Peer.{Peer}
-use Rattle.sv_links.specs.Channels.{ChannelAct, ChannelOpened, ChannelTaken, is_channel_open, taken, calls}
+use Rattle.sv_links.specs.Channels.{ChannelAct, ChannelOpened, ChannelTaken, is_channel_open, bytes_taken, calls}
 use Rattle.sv_history.specs.declared.event.Config.{Config}
 use Rattle.sv_history.specs.declared.event.Did.{Did}
 use Rattle.sv_history.specs.declared.event.Did.TheVariants.{Done}
@@ -10,7 +10,7 @@ use Rattle.sv_history.specs.declared.event.Refused.{Refused}
 use Rattle.sv_history.specs.declared.event.Refused.TheVariants.{NoMemory}
 use Rattle.sv_history.specs.Event.{PlainEvent, Open, Bytes, Turn, Refuse, Took, Close, Dialed, Tick}
 use Rattle.sv_history.specs.Act.{Act, ConnAct, Opened, Piece, CallTaken, Faulted, Replied, BytesTaken, PortClosed, of, device_acts}
-use Rattle.sv_history.specs.Connection.{open_role, unanswered}
+use Rattle.sv_history.specs.Connection.{open_role, pending_call}
 use Rattle.sv_history.specs.CoreCall.{CoreCall}
 use Rattle.sv_history.specs.Request.{core_call_in}
 use Rattle.sv_history.proofs.Dialing.{peer_by}
@@ -61,12 +61,12 @@ peer_in None = None
 
 abbrev pub tells : PlainEvent → List Act → List ChannelAct
 tells (Took (Intr c) count) log = ChannelTaken c count ∷ []
-tells (Dialed c true) log = opened_to c (peer_in (core_call_in (unanswered (of c log))))
+tells (Dialed c true) log = opened_to c (peer_in (core_call_in (pending_call (of c log))))
 tells _ log = []
 
 -- A channel that is open was open, and calls were added alone.
 abbrev pub OnlyAdds : ℕ → List ChannelAct → List ChannelAct → Type 0
-OnlyAdds c before after = is_channel_open c after ≡ true → (is_channel_open c before ≡ true) × (taken c after ≡ taken c before)
+OnlyAdds c before after = is_channel_open c after ≡ true → (is_channel_open c before ≡ true) × (bytes_taken c after ≡ bytes_taken c before)
     × (more : List (List ℕ)) × (calls c after ≡ calls c before ++ more)
 
 -- An event tells to each interrupt channel its own act, and behind it a channel is closed, or calls are added to it.

@@ -9,7 +9,7 @@ use Rattle.sv_vxi.specs.declared.arguments.LockWait.{LockWait}
 use Rattle.sv_vxi.specs.Arguments.{LinkCall, DeviceWrite, DeviceRead, Arguments, CreateLink, OnLink, CreateIntrChan, DestroyIntrChan, link, lock_wait, is_create_link}
 use Rattle.sv_links.specs.declared.waiting.Wait.{Wait}
 use Rattle.sv_links.specs.declared.waiting.Wait.TheVariants.{Lock, Input as ForInput, Response, Dial}
-use Rattle.sv_links.specs.Links.{Made, Destroyed, Locked, Unlocked, made}
+use Rattle.sv_links.specs.Links.{Made, Destroyed, Locked, Unlocked, links_made}
 use Rattle.sv_links.specs.Waiting.{WaitAct, Entered, Left, is_lock, is_creating, creating, connections}
 use Rattle.sv_exchange.specs.Exchange.{has_ended}
 use Rattle.sv_instrument.specs.Step.{is_answerable}
@@ -17,17 +17,17 @@ use Rattle.sv_history.specs.declared.event.Config.{Config}
 use Rattle.sv_history.specs.declared.event.Refused.TheVariants.{NoConn, NoRoom, NotRefusable}
 use Rattle.sv_history.specs.Event.{Refuse}
 use Rattle.sv_history.specs.Act.{Act, DeviceAct, CallTaken, Replied, Linked, Waited, Channel, Applied, Ticked, On, of, device_acts, link_acts, wait_acts, instrument_acts, exchange_acts}
-use Rattle.sv_history.specs.Connection.{next_call, is_idle, free, unanswered}
+use Rattle.sv_history.specs.Connection.{next_call, is_idle, free, pending_call}
 use Rattle.sv_history.specs.Limits.{longest_reply}
 use Rattle.sv_history.specs.CoreCall.{CoreCall, lid_of, is_too_long}
 use Rattle.sv_history.specs.CoreChannel.{owns, own_call}
 use Rattle.sv_history.specs.Request.{Request, NoCall, Decided, CoreRequest, AbortRequest, PortRequest, core_call_in, next_request}
 use Rattle.sv_history.specs.Effect.{Effect, acts_of}
 use Rattle.sv_history.specs.Interrupts.{is_dial, is_dialing, dialing}
-use Rattle.sv_history.specs.Admission.{Stop, Fails, Awaits, lock_stop, device_wait, call_stop, deadline, stop_of, admitted}
+use Rattle.sv_history.specs.Admission.{Stop, Fails, Awaits, lock_stop, device_wait, call_stop, deadline, stop_of, admission}
 use Rattle.sv_history.specs.Execution.{request_effect, aborts}
 use Rattle.sv_history.specs.Refusing.{takes_memory, refusable_call, refusable}
-use Rattle.sv_history.specs.Resuming.{failed}
+use Rattle.sv_history.specs.Resuming.{failure_effect}
 use Rattle.sv_history.specs.History.{taken_acts, turn_acts, refuse_acts, is_shut, wants_memory}
 use Rattle.sv_laws.proofs.Brought.{CanBeRefused}
 use Rattle.sv_history.proofs.Projections.{device_effect}
@@ -37,7 +37,7 @@ use Rattle.sv_laws.proofs.NothingLost.{is_done, not_both, filter_none, left_mode
 -- ---- a call that is done
 
 done_made : (c : ℕ) (arguments : Arguments) (adds acts : List DeviceAct) → is_create_link arguments ≡ false
-    → Each (IsDone c arguments) adds acts → (made (link_acts adds) ≡ 0) × (wait_acts adds ≡ [])
+    → Each (IsDone c arguments) adds acts → (links_made (link_acts adds) ≡ 0) × (wait_acts adds ≡ [])
 done_made c arguments [] acts other h = (refl, refl)
 done_made c arguments (Linked (Made lid conn) ∷ adds) acts other h = not_both (is_create_link arguments) other h.0.2
 done_made c arguments (Linked (Destroyed lid) ∷ adds) acts other h = done_made c arguments adds acts other h.1
@@ -133,7 +133,7 @@ entered_dials : (c d : ℕ) (named : Option ℕ) (wait : Wait) (last : Option �
     → is_dialing d (Entered c named wait last ∷ []) ≡ false
 entered_dials c d named wait last h = elim (cases_Bool (eqb c d)) [ inl e ↦ rw e h | inr e ↦ rw e refl ]
 
-modest_by : (acts : List DeviceAct) (calls : List WaitAct) → made (link_acts acts) ≡ 0 → wait_acts acts ≡ calls → creating calls ≡ 0
+modest_by : (acts : List DeviceAct) (calls : List WaitAct) → links_made (link_acts acts) ≡ 0 → wait_acts acts ≡ calls → creating calls ≡ 0
     → dialing calls ≡ 0 → wants_memory acts ≡ false
 modest_by acts calls no_link is none nobody =
     let a : creating (wait_acts acts) ≡ 0 = ap creating is ∙ none in
@@ -150,12 +150,12 @@ entered_modest c named wait last h =
 
 -- ---- a call that takes none
 
-none_made : (adds : List DeviceAct) → made (link_acts adds) ≡ 0 → wait_acts adds ≡ [] → wants_memory adds ≡ false
+none_made : (adds : List DeviceAct) → links_made (link_acts adds) ≡ 0 → wait_acts adds ≡ [] → wants_memory adds ≡ false
 none_made adds none still = modest_by adds [] none still refl refl
 
 admitted_modest : (config : Config) (polled c : ℕ) (arguments : Arguments) (stop : Option Stop) (acts : List DeviceAct)
     → takes_memory arguments ≡ false → stop_of c arguments acts ≡ stop
-    → wants_memory (admitted config polled c arguments stop acts).adds ≡ false
+    → wants_memory (admission config polled c arguments stop acts).adds ≡ false
 admitted_modest config polled c arguments None acts small e =
     let none = done_made c arguments (own_call config polled c arguments acts).adds acts (creates_not arguments small)
     (each_done config polled c arguments acts) in
@@ -170,10 +170,10 @@ taken_adds c bytes effect log = device_effect c effect (On c (CallTaken bytes) �
 
 abort_adds : (c d : ℕ) (bytes own : List ℕ) (log : List Act)
     → wants_memory (device_acts (taken_acts c bytes (record { own = Replied own ∷ []; adds = [] }) (Some d) log)) ≡ false
-abort_adds c d bytes own log = by (core_call_in (unanswered (of d (On c (Replied own) ∷ On c (CallTaken bytes) ∷ log))))
+abort_adds c d bytes own log = by (core_call_in (pending_call (of d (On c (Replied own) ∷ On c (CallTaken bytes) ∷ log))))
   where
     by : (call : Option CoreCall)
-        → wants_memory (device_acts (acts_of d (failed Abort d call) ++ (On c (Replied own) ∷ On c (CallTaken bytes) ∷ []))) ≡ false
+        → wants_memory (device_acts (acts_of d (failure_effect Abort d call) ++ (On c (Replied own) ∷ On c (CallTaken bytes) ∷ []))) ≡ false
     by (Some call) = left_modest d (Waited (Left d) ∷ []) refl refl
     by None = left_modest d (Waited (Left d) ∷ []) refl refl
 

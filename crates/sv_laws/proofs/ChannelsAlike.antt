@@ -4,7 +4,7 @@ use Rattle.std.specs.Prelude.{filter, not}
 use Rattle.std.specs.List.{AllByRecursion, cons_option}
 use Rattle.std.proofs.lemmas.Bool.{cases_Bool, eqb-true, ne_eqb, lt-ltb, le-ltb, ltb-false, ltb-true}
 use Rattle.sv_links.specs.declared.enabled.Enabled.{Enabled}
-use Rattle.sv_links.specs.Channels.{ChannelAct, SrqEnabled, SrqDisabled, ChannelOpened, ChannelClosed, Requested, ChannelTaken, srq_enabled, past, enabled, peer, taken, calls, all_calls}
+use Rattle.sv_links.specs.Channels.{ChannelAct, SrqEnabled, SrqDisabled, ChannelOpened, ChannelClosed, Requested, ChannelTaken, srq_enabled, past, enabled_links, peer, bytes_taken, calls, all_calls}
 use Rattle.sv_links.specs.ChannelRepresentation.{IsSorted}
 use Rattle.sv_links.proofs.Asking.{below, above, other_links, none_below, sorted-filter}
 use Rattle.sv_links.proofs.Rising.{among, asked-at, with_link, enabled-enabled, enabled-disabled, enabled-sorted}
@@ -15,8 +15,8 @@ own_links c links = filter (λ link. eqb link.conn c) links
 
 pub record SameChannel (c : ℕ) (acts other : List ChannelAct) : Type 0 where
   pub opened : peer c acts ≡ peer c other
-  pub took : taken c acts ≡ taken c other
-  pub links : own_links c (enabled acts) ≡ own_links c (enabled other)
+  pub took : bytes_taken c acts ≡ bytes_taken c other
+  pub links : own_links c (enabled_links acts) ≡ own_links c (enabled_links other)
   pub sent : calls c acts ≡ calls c other
   pub all : all_calls c acts ≡ all_calls c other
 
@@ -83,8 +83,8 @@ differ c lid acts (x ∷ xs) none all = elim (cases_Bool (eqb x.conn c)) [
   | inr e ↦ rw e (differ c lid acts xs none all.1)
 ]
 
-differ_enabled : (c lid : ℕ) (acts : List ChannelAct) → AsksElsewhere c lid acts → Differ lid (own_links c (enabled acts))
-differ_enabled c lid acts none = differ c lid acts (enabled acts) none (among_asked 0 (past acts) acts)
+differ_enabled : (c lid : ℕ) (acts : List ChannelAct) → AsksElsewhere c lid acts → Differ lid (own_links c (enabled_links acts))
+differ_enabled c lid acts none = differ c lid acts (enabled_links acts) none (among_asked 0 (past acts) acts)
 
 all_weak : (lid low : ℕ) (xs : List Enabled) → lid < low → AllByRecursion (λ other. low < other.lid) xs
     → AllByRecursion (λ other. lid < other.lid) xs
@@ -129,14 +129,14 @@ own_with c link links = elim (cases_Bool (eqb link.conn c)) [
 ]
 
 own_enabled : (c : ℕ) (link : Enabled) (acts : List ChannelAct)
-    → own_links c (enabled (SrqEnabled link.lid link.conn link.handle ∷ acts))
-    ≡ below link.lid (own_links c (enabled acts)) ++ (own_links c (link ∷ []) ++ above link.lid (own_links c (enabled acts)))
-own_enabled c link acts = ap (own_links c) (enabled-enabled link acts) ∙ own_with c link (enabled acts)
+    → own_links c (enabled_links (SrqEnabled link.lid link.conn link.handle ∷ acts))
+    ≡ below link.lid (own_links c (enabled_links acts)) ++ (own_links c (link ∷ []) ++ above link.lid (own_links c (enabled_links acts)))
+own_enabled c link acts = ap (own_links c) (enabled-enabled link acts) ∙ own_with c link (enabled_links acts)
 
 own_disabled : (c lid : ℕ) (acts : List ChannelAct)
-    → own_links c (enabled (SrqDisabled lid ∷ acts)) ≡ other_links lid (own_links c (enabled acts))
+    → own_links c (enabled_links (SrqDisabled lid ∷ acts)) ≡ other_links lid (own_links c (enabled_links acts))
 own_disabled c lid acts = ap (own_links c) (enabled-disabled lid acts)
-    ∙ filter_comm (λ link. eqb link.conn c) (λ other. not (eqb other.lid lid)) (enabled acts)
+    ∙ filter_comm (λ link. eqb link.conn c) (λ other. not (eqb other.lid lid)) (enabled_links acts)
 
 -- ---- over an act of others
 
@@ -146,15 +146,16 @@ channel_foreign c (SrqEnabled lid conn handle) acts other h same =
     let one : Enabled = record { lid = lid; conn = conn; handle = handle } in record {
       opened = same.opened;
       took = same.took;
-      links = own_enabled c one acts ∙ rw (ne_eqb conn c h.0) (parted lid (own_links c (enabled acts))
-          (sorted-filter (λ link. eqb link.conn c) (enabled acts) (enabled-sorted acts)) (differ_enabled c lid acts h.1)) ∙ same.links;
+      links = own_enabled c one acts ∙ rw (ne_eqb conn c h.0) (parted lid (own_links c (enabled_links acts))
+          (sorted-filter (λ link. eqb link.conn c) (enabled_links acts) (enabled-sorted acts)) (differ_enabled c lid acts h.1))
+          ∙ same.links;
       sent = same.sent;
       all = same.all;
     }
 channel_foreign c (SrqDisabled lid) acts other h same = record {
   opened = same.opened;
   took = same.took;
-  links = own_disabled c lid acts ∙ kept_differ lid (own_links c (enabled acts)) (differ_enabled c lid acts h) ∙ same.links;
+  links = own_disabled c lid acts ∙ kept_differ lid (own_links c (enabled_links acts)) (differ_enabled c lid acts h) ∙ same.links;
   sent = same.sent;
   all = same.all;
 }

@@ -11,29 +11,30 @@ use Rattle.sv_history.specs.Request.{core_call_in}
 use Rattle.sv_history.specs.History.{IsLogOf}
 use Rattle.sv_laws.proofs.EveryLog.BusyWaits.{busy_waits}
 use Rattle.sv_laws.proofs.EveryLog.EachEvent.{fit_log}
-use Rattle.sv_history.specs.Connection.{is_busy, completed, unanswered}
-use Rattle.sv_laws.specs.Laws.{taken, one_if, EachAnswered}
+use Rattle.sv_history.specs.Connection.{is_busy, records_ended, pending_call}
+use Rattle.sv_laws.specs.Laws.{calls_taken, one_if, EachAnswered}
 use Rattle.sv_laws.proofs.EveryLog.Taken.{free_call}
 use Rattle.sv_laws.proofs.EveryLog.EachAct.{AllCame, all_came}
 
-paid_ends : (taken done : ℕ) (busy : Bool) → busy ≡ true → taken ≡ done + one_if busy → taken ≡ suc done + 0
+paid_ends : (calls_taken done : ℕ) (busy : Bool) → busy ≡ true → calls_taken ≡ done + one_if busy → calls_taken ≡ suc done + 0
 paid_ends n m true e h = omega (arith, h)
 paid_ends n m false e h = absurd cc
 
-paid_begins : (taken done : ℕ) (busy : Bool) → busy ≡ false → taken ≡ done + one_if busy → suc taken ≡ done + 1
+paid_begins : (calls_taken done : ℕ) (busy : Bool) → busy ≡ false → calls_taken ≡ done + one_if busy → suc calls_taken ≡ done + 1
 paid_begins n m false e h = omega (arith, h)
 paid_begins n m true e h = absurd cc
 
-all_paid : (acts : List ConnAct) → AllCame acts → taken acts ≡ completed acts + one_if (is_busy acts)
+all_paid : (acts : List ConnAct) → AllCame acts → calls_taken acts ≡ records_ended acts + one_if (is_busy acts)
 all_paid [] all = refl
 all_paid (Opened role ∷ acts) all = refl
 all_paid (PortClosed ∷ acts) all = refl
 all_paid (Piece bytes ∷ acts) all = all_paid acts all.1
 all_paid (BytesTaken count ∷ acts) all = all_paid acts all.1
 all_paid (CallTaken call ∷ acts) all =
-    paid_begins (taken acts) (completed acts) (is_busy acts) (ap is_some (free_call acts call all.0.1)) (all_paid acts all.1)
-all_paid (Faulted ∷ acts) all = paid_ends (taken acts) (completed acts) (is_busy acts) (ap is_some all.0.1) (all_paid acts all.1)
-all_paid (Replied reply ∷ acts) all = paid_ends (taken acts) (completed acts) (is_busy acts) (ap is_some all.0.1) (all_paid acts all.1)
+    paid_begins (calls_taken acts) (records_ended acts) (is_busy acts) (ap is_some (free_call acts call all.0.1)) (all_paid acts all.1)
+all_paid (Faulted ∷ acts) all = paid_ends (calls_taken acts) (records_ended acts) (is_busy acts) (ap is_some all.0.1) (all_paid acts all.1)
+all_paid (Replied reply ∷ acts) all = paid_ends (calls_taken acts) (records_ended acts) (is_busy acts) (ap is_some all.0.1)
+    (all_paid acts all.1)
 
 -- a call has no answer exactly if it waits
 waits_or_not : (config : Config) (history : List PlainEvent) (log : List Act) (c : ℕ) → IsLogOf config history log
@@ -41,7 +42,7 @@ waits_or_not : (config : Config) (history : List PlainEvent) (log : List Act) (c
 waits_or_not config history log c was None none = ap is_some (busy_waits config history log was c none)
 waits_or_not config history log c was (Some wait) is =
     let held = (fit_log config history log was).held c wait is in
-    some_call (unanswered (of c log)) held.1.0 held.1.1
+    some_call (pending_call (of c log)) held.1.0 held.1.1
   where
     some_call : (found : Option (List ℕ)) (call : CoreCall) → core_call_in found ≡ Some call → is_some found ≡ true
     some_call (Some bytes) call e = refl
@@ -50,5 +51,5 @@ waits_or_not config history log c was (Some wait) is =
 pub each_answered : EachAnswered
 each_answered config history log c was =
     all_paid (of c log) (all_came config history log c was)
-    ∙ ap (λ (b : Bool). completed (of c log) + one_if b)
+    ∙ ap (λ (b : Bool). records_ended (of c log) + one_if b)
     (waits_or_not config history log c was (waits c (wait_acts (device_acts log))) refl)

@@ -3,7 +3,7 @@ use Rattle.std.proofs.Common.{◌≡◌, ◌≢◌, ℕ, Bool, true, false, eqb,
 use Rattle.std.specs.Prelude.{not, filter, find, option_map, ◌&&◌, ⊤}
 use Rattle.std.proofs.lemmas.Bool.{ne_eqb, cases_Bool, cases_eq, eqb-true, eqb-false}
 use Rattle.sv_links.specs.declared.links.Link.{Link}
-use Rattle.sv_links.specs.Links.{LinkAct, Made, Destroyed, Locked, Unlocked, live, owner, is_of, locked, is_locked, holder}
+use Rattle.sv_links.specs.Links.{LinkAct, Made, Destroyed, Locked, Unlocked, live, owner, is_of, lock_order, is_locked, holder}
 use Rattle.sv_links.proofs.Tables.{other_than}
 
 -- ---- the owner of a number
@@ -178,29 +178,29 @@ not_same : (a b : ℕ) → not (eqb a b) ≡ true → a ≢ b
 not_same a b e same = absurd (let z : not true ≡ true = rw (eq-eqb a b same) at e in cc)
 
 pub holder_locked : (lid : ℕ) (acts : List LinkAct) → is_locked lid acts ≡ false → holder acts ≡ Some lid → ⊥
-holder_locked lid acts free h = let z : false ≡ true = sym free ∙ find_true (λ n. is_locked n acts) lid (locked acts) h in cc
+holder_locked lid acts free h = let z : false ≡ true = sym free ∙ find_true (λ n. is_locked n acts) lid (lock_order acts) h in cc
 
 -- the link that holds the lock behind an act isn't freed by it
 pub not_unlocked : (lid n : ℕ) (acts : List LinkAct) → holder (Unlocked n ∷ acts) ≡ Some lid → n ≢ lid
 not_unlocked lid n acts h =
-    let found = find_true (λ (m : ℕ). is_locked m (Unlocked n ∷ acts)) lid (locked acts) h in
+    let found = find_true (λ (m : ℕ). is_locked m (Unlocked n ∷ acts)) lid (lock_order acts) h in
     not_same n lid (both_true (not (eqb n lid)) (is_locked lid acts) found).0
 
 pub not_destroyed : (lid n : ℕ) (acts : List LinkAct) → holder (Destroyed n ∷ acts) ≡ Some lid → n ≢ lid
 not_destroyed lid n acts h =
-    let found = find_true (λ (m : ℕ). is_locked m (Destroyed n ∷ acts)) lid (locked acts) h in
+    let found = find_true (λ (m : ℕ). is_locked m (Destroyed n ∷ acts)) lid (lock_order acts) h in
     not_same n lid (both_true (not (eqb n lid)) (is_locked lid acts) found).0
 
 locked_now : (n : ℕ) (acts : List LinkAct) → holder (Locked n ∷ acts) ≡ Some n
 locked_now n acts = rw (eq-eqb n n refl) refl
 
 still_found : (lid n : ℕ) (acts : List LinkAct) → n ≢ lid → holder acts ≡ Some lid
-    → find (λ m. not (eqb n m) && is_locked m acts) (locked acts) ≡ Some lid
+    → find (λ m. not (eqb n m) && is_locked m acts) (lock_order acts) ≡ Some lid
 still_found lid n acts ne h =
-    find_narrow (λ m. is_locked m acts) (λ m. not (eqb n m) && is_locked m acts) lid (locked acts)
+    find_narrow (λ m. is_locked m acts) (λ m. not (eqb n m) && is_locked m acts) lid (lock_order acts)
     (λ x e. (both_true (not (eqb n x)) (is_locked x acts) e).1)
     (and_true (not (eqb n lid)) (is_locked lid acts) (rw (ne_eqb n lid ne) refl)
-    (find_true (λ m. is_locked m acts) lid (locked acts) h)) h
+    (find_true (λ m. is_locked m acts) lid (lock_order acts) h)) h
 
 -- the same act leaves the same holder, where it leaves this one
 pub holder_same : (lid : ℕ) (act : LinkAct) (acts other : List LinkAct) → holder other ≡ Some lid → holder (act ∷ acts) ≡ Some lid

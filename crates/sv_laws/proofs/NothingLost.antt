@@ -4,7 +4,7 @@ use Rattle.std.specs.Prelude.{map, not, is_some, ◌||◌, Result, Ok, Err}
 use Rattle.std.proofs.lemmas.Bool.{cases_Bool}
 use Rattle.sv_logs.proofs.Each.{Each}
 use Rattle.sv_links.specs.declared.request.Peer.{Peer}
-use Rattle.sv_links.specs.Links.{LinkAct, Made, Destroyed, Locked, Unlocked, closing, made}
+use Rattle.sv_links.specs.Links.{LinkAct, Made, Destroyed, Locked, Unlocked, closing, links_made}
 use Rattle.sv_links.specs.Waiting.{Left, waits, is_creating, creating, connections}
 use Rattle.sv_links.specs.Channels.{ChannelAct, ChannelClosed, is_channel_open, waiting as channel_waiting}
 use Rattle.sv_laws.proofs.LinksAlike.{MakesNone}
@@ -21,13 +21,13 @@ use Rattle.sv_history.specs.declared.event.Refused.{Refused}
 use Rattle.sv_history.specs.declared.event.Refused.TheVariants.{NoMemory, ConnInUse, NoConn, NoRoom, NotSent, NoDial, NotRefusable, BadChannel, BadInput, TimeOver}
 use Rattle.sv_history.specs.Event.{PlainEvent, Open, Bytes, Turn, Refuse, Took, Close, Dialed, Input, External, Tick}
 use Rattle.sv_history.specs.Act.{Act, ConnAct, DeviceAct, Linked, Waited, Channel, Applied, Ticked, PortClosed, On, OnDevice, of, device_acts, link_acts, wait_acts, instrument_acts}
-use Rattle.sv_history.specs.Connection.{is_open, room, waiting, open_role, unanswered}
+use Rattle.sv_history.specs.Connection.{is_open, room, waiting, open_role, pending_call}
 use Rattle.sv_history.specs.CoreCall.{CoreCall}
 use Rattle.sv_history.specs.Request.{core_call_in}
 use Rattle.sv_history.specs.Effect.{acts_of}
 use Rattle.sv_history.specs.Interrupts.{has_channel, is_dialing, dialing, dial_in}
 use Rattle.sv_history.proofs.Dialing.{peer_by, dialed_to, dialed_is}
-use Rattle.sv_history.specs.Resuming.{connected}
+use Rattle.sv_history.specs.Resuming.{connect_effect}
 use Rattle.sv_history.specs.History.{is_shut, refusal, own_acts, did, wants_memory, AnswersBy, IsLogOf}
 use Rattle.sv_laws.specs.Laws.{NothingLost}
 use Rattle.sv_history.proofs.Projections.{device_effect, device_shared, link_acts-links, wait_acts-links}
@@ -67,7 +67,8 @@ pub filter_none : (p : ℕ → Bool) (xs : List ℕ) → ((x : ℕ) → p x ≡ 
 filter_none p [] h = refl
 filter_none p (x ∷ xs) h = rw (h x) (filter_none p xs h)
 
-pub left_modest : (c : ℕ) (acts : List DeviceAct) → made (link_acts acts) ≡ 0 → wait_acts acts ≡ Left c ∷ [] → wants_memory acts ≡ false
+pub left_modest : (c : ℕ) (acts : List DeviceAct) → links_made (link_acts acts) ≡ 0 → wait_acts acts ≡ Left c ∷ []
+    → wants_memory acts ≡ false
 left_modest c acts no_link is =
     let none : creating (wait_acts acts) ≡ 0 =
     rw is (filter_none (is_creating (Left c ∷ [])) connections (λ d. rw (waits_none c d) refl)) in
@@ -75,7 +76,7 @@ left_modest c acts no_link is =
     rw is (filter_none (λ d. is_dialing d (Left c ∷ [])) connections (λ d. rw (waits_none c d) refl)) in
     rw (no_link, none, nobody) refl
 
-made_none : (links before : List LinkAct) → Each (λ before act. MakesNone act) links before → made links ≡ 0
+made_none : (links before : List LinkAct) → Each (λ before act. MakesNone act) links before → links_made links ≡ 0
 made_none [] before h = refl
 made_none (Made lid conn ∷ links) before h = absurd h.0
 made_none (Destroyed lid ∷ links) before h = made_none links before h.1
@@ -91,13 +92,13 @@ close_modest c log =
     let adds = Channel (ChannelClosed c) ∷ map Linked links ++ Waited (Left c) ∷ [] in
     let is : device_acts (map OnDevice adds ++ On c PortClosed ∷ []) ≡ adds = device_shared adds (On c PortClosed ∷ []) ∙ append-nil adds in
     rw is (left_modest c adds
-    (ap made (link_acts-links links (Waited (Left c) ∷ []) ∙ append-nil links)
+    (ap links_made (link_acts-links links (Waited (Left c) ∷ []) ∙ append-nil links)
     ∙ made_none links (link_acts (device_acts log)) (closed_makes_none c (link_acts (device_acts log))))
     (wait_acts-links links (Waited (Left c) ∷ [])))
 
-dialed_modest : (c : ℕ) (ok : Bool) (call : Option CoreCall) → wants_memory (device_acts (acts_of c (connected c ok call))) ≡ false
+dialed_modest : (c : ℕ) (ok : Bool) (call : Option CoreCall) → wants_memory (device_acts (acts_of c (connect_effect c ok call))) ≡ false
 dialed_modest c ok call =
-    let effect = connected c ok call in
+    let effect = connect_effect c ok call in
     let is : device_acts (acts_of c effect) ≡ effect.adds =
     ap device_acts (sym (append-nil (acts_of c effect))) ∙ device_effect c effect [] ∙ append-nil effect.adds in
     rw is (by call)
@@ -108,7 +109,7 @@ dialed_modest c ok call =
     at_peer false call (Some one) = left_modest c ((dialed_to c false call.arguments (Some one)).adds ++ Waited (Left c) ∷ []) refl refl
     at_peer ok call None = left_modest c ((dialed_to c ok call.arguments None).adds ++ Waited (Left c) ∷ []) refl refl
 
-    by : (call : Option CoreCall) → wants_memory (connected c ok call).adds ≡ false
+    by : (call : Option CoreCall) → wants_memory (connect_effect c ok call).adds ≡ false
     by (Some call) = rw (dialed_is c ok call.arguments) (at_peer ok call (peer_by call.arguments))
     by None = left_modest c (Waited (Left c) ∷ []) refl refl
 
@@ -118,7 +119,7 @@ happened_none (act ∷ adds) = happened_none adds
 
 none_wanted : (acts : List DeviceAct) → link_acts acts ≡ [] → wait_acts acts ≡ [] → wants_memory acts ≡ false
 none_wanted acts none still =
-    let a : made (link_acts acts) ≡ 0 = ap made none in
+    let a : links_made (link_acts acts) ≡ 0 = ap links_made none in
     let b : creating (wait_acts acts) ≡ 0 = ap creating still in
     let c : dialing (wait_acts acts) ≡ 0 = ap dialing still in rw (a, b, c) refl
 
@@ -173,7 +174,7 @@ dials true found dial e = (refl, e)
 dials false found dial e = absurd cc
 
 open_dialing : (config : Config) (history : List PlainEvent) (log : List Act) (c : ℕ) (dial : Dial) → IsLogOf config history log
-    → dial_in (core_call_in (unanswered (of c log))) ≡ Some dial → is_open (of c log) ≡ true
+    → dial_in (core_call_in (pending_call (of c log))) ≡ Some dial → is_open (of c log) ≡ true
 open_dialing config history log c dial was some = some_role (open_role (of c log)) (λ shut.
     let none = clear_free (of c log) (shut_is_clear config history log c was shut) in
     let z : None ≡ Some dial = sym (ap (λ (call : Option (List ℕ)). dial_in (core_call_in call)) none) ∙ some in cc)
@@ -219,7 +220,7 @@ nothing_lost config history (Dialed c ok) channel_log log result was tells suits
     let both = dials (is_dialing c (wait_acts (device_acts log))) _ suits.1 suits.2 in
     let free : refusal config also (Dialed c ok) log ≡ None =
     rw (not_shut c log suits.0 (open_dialing config history log c suits.1 was both.1), both.0) refl in
-    is_done config also (Dialed c ok) log result free refl (λ polled. dialed_modest c ok (core_call_in (unanswered (of c log)))) h
+    is_done config also (Dialed c ok) log result free refl (λ polled. dialed_modest c ok (core_call_in (pending_call (of c log)))) h
 nothing_lost config history (Turn c) channel_log log result was tells suits answers = absurd suits
 nothing_lost config history (Refuse c) channel_log log result was tells suits answers = absurd suits
 nothing_lost config history (Input channel microvolts) channel_log log result was tells suits (also, hears, h) =

@@ -15,14 +15,14 @@ use Rattle.sv_history.specs.declared.event.Config.{Config}
 use Rattle.sv_history.specs.declared.event.Port.TheVariants.{Conn, Intr}
 use Rattle.sv_history.specs.Event.{PlainEvent, Open, Bytes, Turn, Refuse, Took, Close, Dialed, Input, External, Tick}
 use Rattle.sv_history.specs.Act.{Act, ConnAct, DeviceAct, Opened, Piece, CallTaken, Faulted, Replied, BytesTaken, PortClosed, Linked, Waited, Channel, Applied, Ticked, On, OnDevice, of, device_acts, link_acts, instrument_acts}
-use Rattle.sv_history.specs.Connection.{next_call, unanswered}
+use Rattle.sv_history.specs.Connection.{next_call, pending_call}
 use Rattle.sv_history.specs.CallOutcome.{CallOutcome, only}
 use Rattle.sv_history.specs.CoreCall.{CoreCall, failure}
 use Rattle.sv_history.specs.Effect.{Effect, acts_of, replies}
 use Rattle.sv_history.specs.Request.{Request, NoCall, Decided, CoreRequest, AbortRequest, PortRequest, core_call_in, next_request}
 use Rattle.sv_history.specs.Execution.{request_effect, aborts}
-use Rattle.sv_history.specs.Interrupts.{dialed}
-use Rattle.sv_history.specs.Resuming.{effect_of, leaving, next_wait, continued, late}
+use Rattle.sv_history.specs.Interrupts.{connect_outcome}
+use Rattle.sv_history.specs.Resuming.{effect_of, leaving, next_wait, resume_outcome, late}
 use Rattle.sv_history.specs.Refusing.{refusable}
 use Rattle.sv_history.specs.Settling.{IsNext}
 use Rattle.sv_history.specs.History.{abort_acts, turn_acts, refuse_acts, own_acts}
@@ -86,19 +86,19 @@ behind_ended base c does None log = behind_effect base c (effect_of c does None)
 behind_step : (base : ℕ → List ConnAct) (config : Config) (log new : List Act) → Behind base log → IsNext config log new → Behind base new
 behind_step base config log new all (inl fires) = subst (Behind base) (sym fires.2) (behind_shared base (map Applied fires.0) log all)
 behind_step base config log new all (inr (none, inl (c, wait, polled, oldest, for, said, is))) =
-    subst (Behind base) (sym is) (behind_ended base c (λ arguments. continued config polled c arguments
-    (next_wait wait arguments (device_acts log)) (device_acts log)) (core_call_in (unanswered (of c log))) log all)
+    subst (Behind base) (sym is) (behind_ended base c (λ arguments. resume_outcome config polled c arguments
+    (next_wait wait arguments (device_acts log)) (device_acts log)) (core_call_in (pending_call (of c log))) log all)
 behind_step base config log new all (inr (none, inr (still, inl step))) =
     subst (Behind base) (sym step.2) (behind_shared base (map Applied step.0) log all)
 behind_step base config log new all (inr (none, inr (still, inr (idle, (c, wait, oldest, for, is))))) =
     subst (Behind base) (sym is) (behind_ended base c (λ arguments. leaving c (only (failure arguments (late wait))))
-    (core_call_in (unanswered (of c log))) log all)
+    (core_call_in (pending_call (of c log))) log all)
 
 -- ---- an event's own acts
 
 behind_abort : (base : ℕ → List ConnAct) (aborts : Option ℕ) (log : List Act) → Behind base log → Behind base (abort_acts aborts log ++ log)
 behind_abort base (Some d) log =
-    behind_ended base d (λ arguments. leaving d (only (failure arguments Abort))) (core_call_in (unanswered (of d log))) log
+    behind_ended base d (λ arguments. leaving d (only (failure arguments Abort))) (core_call_in (pending_call (of d log))) log
 behind_abort base None log = λ all. all
 
 pub request_calls : (config : Config) (polled c : ℕ) (request : Request) (acts : List DeviceAct)
@@ -160,7 +160,7 @@ behind_event config (Close (Conn c)) polled log = λ d.
     )
 behind_event config (Close (Intr c)) polled log = behind_shared (λ c. of c log) (Channel (ChannelClosed c) ∷ []) log (behind_none log)
 behind_event config (Dialed c ok) polled log =
-    behind_ended (λ c. of c log) c (λ arguments. leaving c (dialed c ok arguments)) (core_call_in (unanswered (of c log))) log
+    behind_ended (λ c. of c log) c (λ arguments. leaving c (connect_outcome c ok arguments)) (core_call_in (pending_call (of c log))) log
     (behind_none log)
 behind_event config (Input channel microvolts) polled log =
     behind_shared (λ c. of c log) (Applied (Scanned (InputTo channel microvolts)) ∷ []) log (behind_none log)

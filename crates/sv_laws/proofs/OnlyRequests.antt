@@ -10,7 +10,7 @@ use Rattle.sv_links.specs.declared.request.Peer.{Peer}
 use Rattle.sv_links.specs.declared.waiting.Wait.{Wait}
 use Rattle.sv_links.specs.Links.{LinkAct, Made, Destroyed, Locked, Unlocked, closing, owner, is_of, holder, is_locked_out, is_this, lids_left}
 use Rattle.sv_links.specs.Waiting.{Left}
-use Rattle.sv_links.specs.Channels.{ChannelAct, SrqEnabled, SrqDisabled, ChannelOpened, ChannelClosed, Requested, ChannelTaken, peer, taken, may_call, called, calls, handles_of, enabled}
+use Rattle.sv_links.specs.Channels.{ChannelAct, SrqEnabled, SrqDisabled, ChannelOpened, ChannelClosed, Requested, ChannelTaken, peer, bytes_taken, may_call, add_call, calls, handles_of, enabled_links}
 use Rattle.sv_exchange.specs.Exchange.{has_ended, response, is_something}
 use Rattle.sv_exchange.specs.Limits.{max_message}
 use Rattle.sv_scan.specs.declared.acts.ScanAct.TheVariants.{Input as InputTo}
@@ -21,18 +21,18 @@ use Rattle.sv_history.specs.declared.event.Config.{Config}
 use Rattle.sv_history.specs.declared.event.Port.TheVariants.{Conn, Intr}
 use Rattle.sv_history.specs.Event.{PlainEvent, Open, Bytes, Turn, Refuse, Took, Close, Dialed, Input, External, Tick}
 use Rattle.sv_history.specs.Act.{Act, DeviceAct, CallTaken, PortClosed, Linked, Waited, Channel, Applied, Ticked, On, OnDevice, of, device_acts, link_acts, instrument_acts, exchange_acts, ticks}
-use Rattle.sv_history.specs.Connection.{next_call, unanswered}
+use Rattle.sv_history.specs.Connection.{next_call, pending_call}
 use Rattle.sv_history.specs.CallOutcome.{CallOutcome, only}
 use Rattle.sv_history.specs.CoreCall.{CoreCall, failure}
 use Rattle.sv_history.specs.CoreChannel.{own_call}
 use Rattle.sv_history.specs.Effect.{Effect, acts_of}
 use Rattle.sv_history.specs.Request.{Request, NoCall, Decided, CoreRequest, AbortRequest, PortRequest, core_call_in, next_request}
 use Rattle.sv_history.specs.Requests.{HearsOf, link_told, request_told}
-use Rattle.sv_history.specs.Admission.{Stop, Fails, Awaits, stop_of, admitted}
+use Rattle.sv_history.specs.Admission.{Stop, Fails, Awaits, stop_of, admission}
 use Rattle.sv_history.specs.Execution.{request_effect, aborts}
 use Rattle.sv_history.specs.Interrupts.{has_channel}
 use Rattle.sv_history.proofs.Dialing.{peer_by, dialed_to, dialed_is}
-use Rattle.sv_history.specs.Resuming.{effect_of, leaving, next_wait, continued, connected, late}
+use Rattle.sv_history.specs.Resuming.{effect_of, leaving, next_wait, resume_outcome, connect_effect, late}
 use Rattle.sv_history.specs.Refusing.{refusable}
 use Rattle.sv_history.specs.Settling.{IsNext, SettlesIn}
 use Rattle.sv_history.specs.History.{abort_acts, turn_acts, refuse_acts, own_acts}
@@ -75,18 +75,18 @@ plain_links (act ∷ links) = plain_links links
 
 -- ---- what they tell
 
-fold_adds : (p : Option Peer) (t : ℕ) (cs handles : List (List ℕ)) → (more : List (List ℕ)) × (fold (called p t) cs handles ≡ cs ++ more)
+fold_adds : (p : Option Peer) (t : ℕ) (cs handles : List (List ℕ)) → (more : List (List ℕ)) × (fold (add_call p t) cs handles ≡ cs ++ more)
 fold_adds p t cs [] = ([], sym (append-nil cs))
 fold_adds p t cs (handle ∷ handles) =
     let one = one_adds p handle in
-    let rest = fold_adds p t (called p t cs handle) handles in
+    let rest = fold_adds p t (add_call p t cs handle) handles in
     (one.0 ++ rest.0, rest.1 ∙ ap (λ (l : List (List ℕ)). l ++ rest.0) one.1 ∙ append_assoc cs one.0 rest.0)
   where
     by_test : (may : Bool) (call : List ℕ) → (more : List (List ℕ)) × (cond may (cs ++ call ∷ []) cs ≡ cs ++ more)
     by_test true call = (call ∷ [], refl)
     by_test false call = ([], sym (append-nil cs))
 
-    one_adds : (p : Option Peer) (handle : List ℕ) → (more : List (List ℕ)) × (called p t cs handle ≡ cs ++ more)
+    one_adds : (p : Option Peer) (handle : List ℕ) → (more : List (List ℕ)) × (add_call p t cs handle ≡ cs ++ more)
     one_adds (Some what) handle = by_test (may_call t cs) _
     one_adds None handle = ([], sym (append-nil cs))
 
@@ -111,7 +111,8 @@ adds_linked c (Unlocked lid) channel_log = adds_none c channel_log
 
 adds_requested : (c : ℕ) (raised : Bool) (channel_log : List ChannelAct) → OnlyAdds c channel_log (request_told raised channel_log)
 adds_requested c true channel_log = λ opened.
-    let more = fold_adds (peer c channel_log) (taken c channel_log) (calls c channel_log) (handles_of c (enabled channel_log)) in
+    let more = fold_adds (peer c channel_log) (bytes_taken c channel_log) (calls c channel_log)
+    (handles_of c (enabled_links channel_log)) in
     (opened, refl, more.0, more.1)
 adds_requested c false channel_log = adds_none c channel_log
 
@@ -209,7 +210,7 @@ plain_own config polled c (OnLink (pos n) (DeviceDocmd flags io_timeout lock_tim
 plain_own config polled c (CreateIntrChan host_addr host_port prog_num prog_vers prog_family) acts = tt
 
 plain_admitted : (config : Config) (polled c : ℕ) (arguments : Arguments) (stop : Option Stop) (acts : List DeviceAct)
-    → ArePlain (admitted config polled c arguments stop acts).adds
+    → ArePlain (admission config polled c arguments stop acts).adds
 plain_admitted config polled c arguments None acts = plain_own config polled c arguments acts
 plain_admitted config polled c arguments (Some (Fails error)) acts = tt
 plain_admitted config polled c arguments (Some (Awaits wait timeout)) acts = tt
@@ -223,7 +224,7 @@ plain_request config polled c (AbortRequest xid lid) acts = tt
 plain_request config polled c (PortRequest xid args) acts = tt
 
 plain_continued : (config : Config) (polled c : ℕ) (arguments : Arguments) (next : Option (Wait × ℕ)) (acts : List DeviceAct)
-    → ArePlain (continued config polled c arguments next acts).adds
+    → ArePlain (resume_outcome config polled c arguments next acts).adds
 plain_continued config polled c arguments (Some wait) acts = tt
 plain_continued config polled c arguments None acts =
     plain_join (own_call config polled c arguments (Waited (Left c) ∷ acts)).adds (Waited (Left c) ∷ [])
@@ -262,14 +263,14 @@ behind_step : (base : List DeviceAct) (config : Config) (log new : List Act) →
 behind_step base config log new all (inl fires) =
     subst (Behind base) (sym fires.2) (behind_shared base (map Applied fires.0) log (plain_happened fires.0) all)
 behind_step base config log new all (inr (none, inl (c, wait, polled, oldest, for, said, is))) =
-    subst (Behind base) (sym is) (behind_ended base c (λ arguments. continued config polled c arguments
-    (next_wait wait arguments (device_acts log)) (device_acts log)) (core_call_in (unanswered (of c log))) log
+    subst (Behind base) (sym is) (behind_ended base c (λ arguments. resume_outcome config polled c arguments
+    (next_wait wait arguments (device_acts log)) (device_acts log)) (core_call_in (pending_call (of c log))) log
     (λ arguments. plain_continued config polled c arguments (next_wait wait arguments (device_acts log)) (device_acts log)) all)
 behind_step base config log new all (inr (none, inr (still, inl step))) =
     subst (Behind base) (sym step.2) (behind_shared base (map Applied step.0) log (plain_happened step.0) all)
 behind_step base config log new all (inr (none, inr (still, inr (idle, (c, wait, oldest, for, is))))) =
     subst (Behind base) (sym is) (behind_ended base c (λ arguments. leaving c (only (failure arguments (late wait))))
-    (core_call_in (unanswered (of c log))) log (λ arguments. tt) all)
+    (core_call_in (pending_call (of c log))) log (λ arguments. tt) all)
 
 -- ---- an event's own acts
 
@@ -278,7 +279,7 @@ behind_none log = ([], tt, refl)
 
 behind_abort : (base : List DeviceAct) (aborts : Option ℕ) (log : List Act) → Behind base log → Behind base (abort_acts aborts log ++ log)
 behind_abort base (Some d) log = behind_ended base d (λ arguments. leaving d (only (failure arguments Abort)))
-    (core_call_in (unanswered (of d log))) log (λ arguments. tt)
+    (core_call_in (pending_call (of d log))) log (λ arguments. tt)
 behind_abort base None log = λ all. all
 
 behind_turn : (config : Config) (polled c : ℕ) (found : Option (List ℕ)) (request : Option Request) (log : List Act)
@@ -309,13 +310,13 @@ Begins event log new = (base : List DeviceAct) × Behind base new
     × ((channel_log : List ChannelAct) → HearsOf (device_acts log) channel_log → HearsOf base (tells event log ++ channel_log))
     × (ticks base ≡ ticks (device_acts log) + bit 0 (is_tick event))
 
-begins_dialed : (c : ℕ) (ok : Bool) (call : Option CoreCall) (log : List Act) → core_call_in (unanswered (of c log)) ≡ call
-    → (base : List DeviceAct) × Behind base (acts_of c (connected c ok call) ++ log)
+begins_dialed : (c : ℕ) (ok : Bool) (call : Option CoreCall) (log : List Act) → core_call_in (pending_call (of c log)) ≡ call
+    → (base : List DeviceAct) × Behind base (acts_of c (connect_effect c ok call) ++ log)
     × ((channel_log : List ChannelAct) → HearsOf (device_acts log) channel_log
     → HearsOf base ((cond ok (opened_to c (peer_in call)) []) ++ channel_log))
     × (ticks base ≡ ticks (device_acts log) + 0)
 begins_dialed c ok None log e =
-    (device_acts log, behind_effect (device_acts log) c (connected c ok None) log tt (behind_none log), by ok, no_tick log)
+    (device_acts log, behind_effect (device_acts log) c (connect_effect c ok None) log tt (behind_none log), by ok, no_tick log)
   where
     by : (ok : Bool) (channel_log : List ChannelAct) → HearsOf (device_acts log) channel_log
         → HearsOf (device_acts log) (cond ok [] [] ++ channel_log)
@@ -383,8 +384,8 @@ begins config (Close (Intr c)) polled log = (
   (λ channel_log x. x),
   no_tick log,
 )
-begins config (Dialed c true) polled log = begins_dialed c true (core_call_in (unanswered (of c log))) log refl
-begins config (Dialed c false) polled log = begins_dialed c false (core_call_in (unanswered (of c log))) log refl
+begins config (Dialed c true) polled log = begins_dialed c true (core_call_in (pending_call (of c log))) log refl
+begins config (Dialed c false) polled log = begins_dialed c false (core_call_in (pending_call (of c log))) log refl
 begins config (Input channel microvolts) polled log = (
   device_acts log,
   (behind_shared (device_acts log) (Applied (Scanned (InputTo channel microvolts)) ∷ []) log tt (behind_none log)),

@@ -17,7 +17,7 @@ use Rattle.sv_rpc.proofs.Calls.{call_is}
 use Rattle.sv_rpc.proofs.EveryStream.{every_stream}
 use Rattle.sv_laws.proofs.ReadOn.{no_bytes, bytes_join, bytes_front, bytes_back}
 use Rattle.sv_history.specs.Act.{ConnAct, Opened, Piece, CallTaken, Faulted, Replied, BytesTaken, PortClosed}
-use Rattle.sv_history.specs.Connection.{next_call, stream, unanswered, completed, took_no_call, is_busy}
+use Rattle.sv_history.specs.Connection.{next_call, stream, pending_call, records_ended, took_no_call, is_busy}
 use Rattle.sv_history.specs.Reply.{reply_record}
 use Rattle.sv_laws.specs.Laws.{HasXidOf, RepliesMatch}
 use Rattle.sv_laws.proofs.EveryLog.EachAct.{xid_of, IsReplyTo, AllCame, all_came}
@@ -68,11 +68,11 @@ next_bytes : (acts : List ConnAct) (call : List ℕ) → AllCame acts → next_c
 next_bytes acts call all next =
     let s = every_stream (stream acts) (stream_bytes acts all) in
     let fits : IsBytes (flat_map bytes_of s.sent ++ s.rest) = subst IsBytes s.whole (stream_bytes acts all) in
-    let found = next_by (took_no_call acts || is_busy acts) (slice_get (records_of (stream acts)) (completed acts)) call next in
-    taken_bytes s.sent (completed acts) call (bytes_front (flat_map bytes_of s.sent) s.rest fits)
-    (ap (λ (l : List (List ℕ)). slice_get l (completed acts)) s.records_are ∙ found)
+    let found = next_by (took_no_call acts || is_busy acts) (slice_get (records_of (stream acts)) (records_ended acts)) call next in
+    taken_bytes s.sent (records_ended acts) call (bytes_front (flat_map bytes_of s.sent) s.rest fits)
+    (ap (λ (l : List (List ℕ)). slice_get l (records_ended acts)) s.records_are ∙ found)
 
-call_bytes : (acts : List ConnAct) (call : List ℕ) → AllCame acts → unanswered acts ≡ Some call → IsBytes call
+call_bytes : (acts : List ConnAct) (call : List ℕ) → AllCame acts → pending_call acts ≡ Some call → IsBytes call
 call_bytes [] call all busy = absurd cc
 call_bytes (Opened role ∷ acts) call all busy = absurd cc
 call_bytes (PortClosed ∷ acts) call all busy = absurd cc

@@ -2,12 +2,12 @@
 use Rattle.std.proofs.Common.{◌≡◌, ℕ, true, false, List, [], ◌∷◌, Some, None, refl, sym, ap, ◌∙◌}
 use Rattle.std.specs.Prelude.{is_some}
 use Rattle.sv_history.specs.Act.{ConnAct, Opened, Piece, CallTaken, Faulted, Replied, BytesTaken, PortClosed, of}
-use Rattle.sv_history.specs.Connection.{is_open, open_role, unanswered}
+use Rattle.sv_history.specs.Connection.{is_open, open_role, pending_call}
 use Rattle.sv_laws.proofs.Brought.{IsClear, ShutIsClear}
 use Rattle.sv_laws.proofs.EveryLog.EachAct.{AllCame, all_came}
 
 -- a call waits for its answer on open ones alone
-pub clear_free : (acts : List ConnAct) → IsClear acts → unanswered acts ≡ None
+pub clear_free : (acts : List ConnAct) → IsClear acts → pending_call acts ≡ None
 clear_free [] h = refl
 clear_free (PortClosed ∷ acts) h = refl
 clear_free (Opened role ∷ acts) h = absurd h
@@ -21,7 +21,7 @@ clear_free (BytesTaken count ∷ acts) h = absurd h
 not_open : {A : Type 0} (acts : List ConnAct) → open_role acts ≡ None → is_open acts ≡ true → A
 not_open {A} acts shut opened = absurd (let z : false ≡ true = sym (ap is_some shut) ∙ opened in cc)
 
-not_called : {A : Type 0} (acts : List ConnAct) (call : List ℕ) → IsClear acts → unanswered acts ≡ Some call → A
+not_called : {A : Type 0} (acts : List ConnAct) (call : List ℕ) → IsClear acts → pending_call acts ≡ Some call → A
 not_called {A} acts call clear busy = absurd (let z : None ≡ Some call = sym (clear_free acts clear) ∙ busy in cc)
 
 all_clear : (acts : List ConnAct) → AllCame acts → open_role acts ≡ None → IsClear acts

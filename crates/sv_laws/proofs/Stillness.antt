@@ -8,7 +8,7 @@ use Rattle.sv_scan.specs.declared.setting.State.TheVariants.{Idle, Waiting, Scan
 use Rattle.sv_scan.specs.Counted.{is_scanning}
 use Rattle.sv_scan.specs.Scan.{state}
 use Rattle.sv_layers.specs.Act.{Act as InstrumentAct}
-use Rattle.sv_layers.specs.Condition.{counted}
+use Rattle.sv_layers.specs.Condition.{effective_acts}
 use Rattle.sv_instrument.specs.Stimulus.{IsFired, where_scanning, tick_acts}
 use Rattle.sv_instrument.specs.Step.{IsStep}
 use Rattle.sv_history.specs.declared.event.Config.{Config}
@@ -78,7 +78,7 @@ one_tick m config history log was (idle, still) before =
     let polled = some_polled (device_acts log) in
     let told = some_told (device_acts log) in
     let none : tick_acts (instrument_acts (device_acts log)) ≡ [] =
-    not_read (state (counted (instrument_acts (device_acts log)))) idle in
+    not_read (state (effective_acts (instrument_acts (device_acts log)))) idle in
     let other : config.clock + ticks (device_acts log) ≢ last_clock = λ e. absurd (omega (arith, before, e)) in
     let free : refusal config told.0 Tick log ≡ None = rw (ne_eqb _ _ other) refl in
     let settled = tick_settled m config log (later config (device_acts log) m still) (log_settled config history log was) in (

@@ -13,13 +13,13 @@ use Rattle.sv_history.specs.declared.event.Config.{Config}
 use Rattle.sv_history.specs.declared.event.Role.{Role}
 use Rattle.sv_history.specs.Event.{PlainEvent, Turn}
 use Rattle.sv_history.specs.Act.{Act, ConnAct, DeviceAct, CallTaken, Faulted, Replied, Applied, On, OnDevice, of, device_acts, wait_acts}
-use Rattle.sv_history.specs.Connection.{is_open, next_call, open_role, unanswered}
+use Rattle.sv_history.specs.Connection.{is_open, next_call, open_role, pending_call}
 use Rattle.sv_history.specs.CallOutcome.{CallOutcome, only}
 use Rattle.sv_history.specs.CoreCall.{CoreCall, failure}
 use Rattle.sv_history.specs.Effect.{acts_of, replies, result_reply}
 use Rattle.sv_history.specs.Request.{Request, NoCall, Decided, CoreRequest, AbortRequest, PortRequest, core_call_in, request_of, request_for, next_request}
 use Rattle.sv_history.specs.Execution.{request_effect, aborts}
-use Rattle.sv_history.specs.Resuming.{effect_of, leaving, next_wait, continued, late}
+use Rattle.sv_history.specs.Resuming.{effect_of, leaving, next_wait, resume_outcome, late}
 use Rattle.sv_history.specs.Settling.{IsNext}
 use Rattle.sv_history.specs.History.{abort_acts, turn_acts, own_acts, IsLogOf}
 use Rattle.sv_laws.specs.Laws.{TurnAnswered}
@@ -45,14 +45,14 @@ stands_replies xid (Some result) call before acts is =
 stands_replies xid None call before acts is = inr (inr is)
 
 stands_ended : (c : ℕ) (does : Arguments → CallOutcome) (call : List ℕ) (before acts : List ConnAct) → Stands call before acts
-    → Stands call before ((effect_of c does (core_call_in (unanswered acts))).own ++ acts)
+    → Stands call before ((effect_of c does (core_call_in (pending_call acts))).own ++ acts)
 stands_ended c does call before acts (inl (reply, is)) =
-    subst (λ (l : List ConnAct). Stands call before ((effect_of c does (core_call_in (unanswered l))).own ++ l)) (sym is)
+    subst (λ (l : List ConnAct). Stands call before ((effect_of c does (core_call_in (pending_call l))).own ++ l)) (sym is)
     (inl (reply, refl))
 stands_ended c does call before acts (inr (inl (is, none))) =
-    subst (λ (l : List ConnAct). Stands call before ((effect_of c does (core_call_in (unanswered l))).own ++ l)) (sym is)
+    subst (λ (l : List ConnAct). Stands call before ((effect_of c does (core_call_in (pending_call l))).own ++ l)) (sym is)
     (inr (inl (refl, none)))
-stands_ended c does call before acts (inr (inr is)) = by (core_call_in (unanswered acts))
+stands_ended c does call before acts (inr (inr is)) = by (core_call_in (pending_call acts))
   where
     by : (found : Option CoreCall) → Stands call before ((effect_of c does found).own ++ acts)
     by (Some found) = stands_replies found.xid (does found.arguments).result call before acts is
@@ -68,9 +68,9 @@ in_shared : (c : ℕ) (call : List ℕ) (before : List ConnAct) (adds : List Dev
 in_shared c call before adds log h = subst (Stands call before) (sym (of_shared c adds log)) h
 
 in_ended : (c : ℕ) (call : List ℕ) (before : List ConnAct) (d : ℕ) (does : Arguments → CallOutcome) (log : List Act)
-    → StandsIn c call before log → StandsIn c call before (acts_of d (effect_of d does (core_call_in (unanswered (of d log)))) ++ log)
+    → StandsIn c call before log → StandsIn c call before (acts_of d (effect_of d does (core_call_in (pending_call (of d log)))) ++ log)
 in_ended c call before d does log h =
-    let effect = effect_of d does (core_call_in (unanswered (of d log))) in
+    let effect = effect_of d does (core_call_in (pending_call (of d log))) in
     elim (cases_eq c d) [
       | inl e ↦ subst (λ (n : ℕ). Stands call before (of n (acts_of d effect ++ log))) (sym e)
           (subst (Stands call before) (sym (of_effect d effect log))
@@ -83,7 +83,7 @@ in_step : (c : ℕ) (call : List ℕ) (before : List ConnAct) (config : Config) 
 in_step c call before config log new h (inl fires) =
     subst (StandsIn c call before) (sym fires.2) (in_shared c call before (map Applied fires.0) log h)
 in_step c call before config log new h (inr (none, inl (d, wait, polled, oldest, for, said, is))) =
-    subst (StandsIn c call before) (sym is) (in_ended c call before d (λ arguments. continued config polled d arguments
+    subst (StandsIn c call before) (sym is) (in_ended c call before d (λ arguments. resume_outcome config polled d arguments
     (next_wait wait arguments (device_acts log)) (device_acts log)) log h)
 in_step c call before config log new h (inr (none, inr (still, inl step))) =
     subst (StandsIn c call before) (sym step.2) (in_shared c call before (map Applied step.0) log h)
@@ -130,7 +130,7 @@ asks_some acts call opened next = by (open_role acts) (next_call acts) opened ne
 
 -- one that has no answer waits
 waits_on : (config : Config) (history : List PlainEvent) (log : List Act) (c : ℕ) (call : List ℕ) → IsLogOf config history log
-    → unanswered (of c log) ≡ Some call → (wait : Wait) × (waits c (wait_acts (device_acts log)) ≡ Some wait)
+    → pending_call (of c log) ≡ Some call → (wait : Wait) × (waits c (wait_acts (device_acts log)) ≡ Some wait)
 waits_on config history log c call was busy = by (waits c (wait_acts (device_acts log))) refl
   where
     by : (found : Option Wait) → waits c (wait_acts (device_acts log)) ≡ found → (wait : Wait) × (found ≡ Some wait)
@@ -152,6 +152,6 @@ turn_answered config history before log c call was now next =
       | inl answered ↦ inl answered
       | inr (inl faulted) ↦ inr (inl faulted)
       | inr (inr is) ↦
-          let wait = waits_on config (Turn c ∷ history) log c call now (ap unanswered is) in
+          let wait = waits_on config (Turn c ∷ history) log c call now (ap pending_call is) in
           inr (inr (is, wait.0, wait.1, (none_late config (Turn c ∷ history) log c now).1))
     ]

@@ -14,7 +14,7 @@ use Rattle.sv_history.specs.declared.event.Port.{Port}
 use Rattle.sv_history.specs.declared.event.Port.TheVariants.{Conn}
 use Rattle.sv_history.specs.Event.{PlainEvent, Bytes, Turn}
 use Rattle.sv_history.specs.Act.{Act, ConnAct, Piece, CallTaken, Replied, of, device_acts, wait_acts}
-use Rattle.sv_history.specs.Connection.{completed, joined, stream}
+use Rattle.sv_history.specs.Connection.{records_ended, join_pieces, stream}
 use Rattle.sv_history.specs.Effect.{result_reply}
 use Rattle.sv_history.specs.Request.{core_call}
 use Rattle.sv_history.specs.History.{IsLogOf}
@@ -50,7 +50,7 @@ pub record Feeds (c : ℕ) (config : Config) (past events : List PlainEvent) (be
   pub feeding : AllByRecursion (IsFeeding c) events
   pub was : IsLogOf config past before
   pub is_log : IsLogOf config (events ++ past) log
-  pub none_left : drop (completed (of c log)) (records_of (stream (of c log))) ≡ []
+  pub none_left : drop (records_ended (of c log)) (records_of (stream (of c log))) ≡ []
 
 -- No read or write is suspended for input or output.
 abbrev pub NoneWaits : List WaitAct → Type 0
@@ -89,7 +89,7 @@ pub data Recut (config : Config) : List PlainEvent → List PlainEvent → Type 
   Nothing : Recut config [] []
   Same : {past other : List PlainEvent} (event : PlainEvent) → Recut config past other → Recut config (event ∷ past) (event ∷ other)
   Pieces : {past other : List PlainEvent} (c : ℕ) (pieces others : List (List ℕ)) (log : List Act) → IsLogOf config past log
-      → reading (stream (of c log) ++ joined pieces) ≡ reading (stream (of c log) ++ joined others) → Recut config past other
+      → reading (stream (of c log) ++ join_pieces pieces) ≡ reading (stream (of c log) ++ join_pieces others) → Recut config past other
       → Recut config (map (Bytes c) pieces ++ past) (map (Bytes c) others ++ other)
 
 -- Then both send the same bytes on each port.

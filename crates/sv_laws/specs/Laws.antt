@@ -12,7 +12,7 @@ use Rattle.sv_history.specs.declared.event.Did.TheVariants.{Done}
 use Rattle.sv_history.specs.declared.event.Refused.{Refused}
 use Rattle.sv_history.specs.Event.{PlainEvent, Open, Bytes, Turn, Took, Close, Dialed, Tick, Input, External, port_number}
 use Rattle.sv_history.specs.Act.{Act, ConnAct, Opened, CallTaken, Faulted, Replied, PortClosed, Ticked, OnDevice, of, device_acts, wait_acts, ticks}
-use Rattle.sv_history.specs.Connection.{is_open, lived, next_call, room, waiting_on, completed, unanswered}
+use Rattle.sv_history.specs.Connection.{is_open, acts_since_opening, next_call, room, waiting_on, records_ended, pending_call}
 use Rattle.sv_history.specs.Interrupts.{dial_of}
 use Rattle.sv_history.specs.Requests.{HearsOf}
 use Rattle.sv_history.specs.Settling.{CanResume}
@@ -54,8 +54,8 @@ NothingLost = (config : Config) (history : List PlainEvent) (event : PlainEvent)
     → Answers config event log result → result ≡ Ok Done
 
 -- how many calls were taken on a connection since it opened
-abbrev pub taken : List ConnAct → ℕ
-taken acts = length (filter (elim [ CallTaken call ↦ true | _ ↦ false ]) (lived acts))
+abbrev pub calls_taken : List ConnAct → ℕ
+calls_taken acts = length (filter (elim [ CallTaken call ↦ true | _ ↦ false ]) (acts_since_opening acts))
 
 -- 1 if so, else 0
 abbrev pub one_if : Bool → ℕ
@@ -64,7 +64,7 @@ one_if false = 0
 
 -- As many records were taken on a connection as were answered or are no calls, and one more if a call of it is suspended.
 abbrev pub IsPaid : ℕ → List Act → Type 0
-IsPaid c log = taken (of c log) ≡ completed (of c log) + one_if (is_some (waits c (wait_acts (device_acts log))))
+IsPaid c log = calls_taken (of c log) ≡ records_ended (of c log) + one_if (is_some (waits c (wait_acts (device_acts log))))
 
 -- Each call that is taken is answered once, or is suspended.
 abbrev pub EachAnswered : Type 0
@@ -78,7 +78,7 @@ HasXidOf call reply = (4 ≤ length call) × (take 4 (drop 4 reply) ≡ take 4 c
 abbrev pub RepliesMatch : Type 0
 RepliesMatch = (config : Config) (history : List PlainEvent) (log : List Act) (c : ℕ) (newer older : List ConnAct) (reply : List ℕ)
     → IsLogOf config history log → of c log ≡ newer ++ Replied reply ∷ older
-    → (call : List ℕ) × (unanswered older ≡ Some call) × HasXidOf call reply
+    → (call : List ℕ) × (pending_call older ≡ Some call) × HasXidOf call reply
 
 -- A call that a Turn takes is answered; or it is no call, which faults its connection; or it is suspended, for what isn't there (VXI-11
 -- revision 1.0, section B.4.4).

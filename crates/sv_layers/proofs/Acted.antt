@@ -3,11 +3,11 @@ use Rattle.std.proofs.Common.{List, ◌∷◌}
 use Rattle.sv_exchange.specs.Exchange.{ExchangeAct}
 use Rattle.sv_exchange.specs.Contents.{Contents, StandsFor as Exchanges}
 use Rattle.sv_layers.specs.Act.{Act, Exchanged}
-use Rattle.sv_layers.specs.Inside.LayerLogs.{seen}
+use Rattle.sv_layers.specs.Inside.LayerLogs.{layer_logs}
 use Rattle.sv_layers.specs.Inside.Representation.{LayerState, StandsFor, Begun}
 
 pub exchange_acted : {log : List Act} {layered : LayerState} {new : Contents} {act : ExchangeAct} → StandsFor layered log
-    → Exchanges new (act ∷ (seen log).exchange) → Begun (record layered { exchange = new }) (Exchanged act) log
+    → Exchanges new (act ∷ (layer_logs log).exchange) → Begun (record layered { exchange = new }) (Exchanged act) log
 exchange_acted h stands = record {
   status_log = h.status_log;
   are = h.are;

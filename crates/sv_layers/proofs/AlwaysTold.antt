@@ -14,7 +14,7 @@ use Rattle.sv_status.proofs.StandardEvents as events
 use Rattle.sv_status.specs.declared.register_name.RegisterName.TheVariants.{Operation, Questionable}
 use Rattle.sv_layers.specs.Act.{Act}
 use Rattle.sv_layers.specs.Filter.{start as start_of}
-use Rattle.sv_layers.specs.Inside.LayerLogs.{LayerLogs, seen}
+use Rattle.sv_layers.specs.Inside.LayerLogs.{LayerLogs, layer_logs}
 use Rattle.sv_layers.specs.Inside.Representation.{IsSummary, IsStatus}
 use Rattle.sv_layers.specs.Laws.{OneAccount, SameRaising}
 use Rattle.sv_layers.proofs.OneStatus.{one_status}
@@ -76,7 +76,7 @@ some_status : (log : List Act) → (status_log : List StatusAct) × IsStatus log
 some_status [] = ([], refl)
 some_status (act ∷ log) =
     let before = some_status log in
-    let summary = some_summary (seen (act ∷ log)) in
+    let summary = some_summary (layer_logs (act ∷ log)) in
     (_, (summary.0, before.0, summary.1, before.1, refl))
 
 pub one_account : OneAccount

@@ -5,11 +5,11 @@ use Rattle.sv_logs.proofs.Since.{since_unique, step_kept, step_same, step_ended,
 use Rattle.sv_scan.specs.declared.acts.ScanAct.{ScanAct}
 use Rattle.sv_scan.specs.declared.acts.ScanAct.TheVariants.{Reset}
 use Rattle.sv_scan.specs.Scan.{state}
-use Rattle.sv_scan.specs.Counted.{kept, is_idle as idle_state}
+use Rattle.sv_scan.specs.Counted.{effective, is_idle as idle_state}
 use Rattle.sv_layers.specs.Act.{Act, Purged, Scanned, Cleared, OpcAsked}
 use Rattle.sv_layers.specs.Condition.{is_idle}
 use Rattle.sv_layers.specs.Standard.{IsAsked, IsPending, Completes, cancels}
-use Rattle.sv_layers.specs.Inside.LayerLogs.{LayerLogs, begun, resets, idles, seen}
+use Rattle.sv_layers.specs.Inside.LayerLogs.{LayerLogs, after_begin, resets, idles, layer_logs}
 use Rattle.sv_layers.specs.Laws.{SameWaiting, SameCompletion}
 use Rattle.sv_layers.proofs.Either.{unchanged}
 use Rattle.sv_layers.proofs.Booleans.{and_both, and_not}
@@ -23,7 +23,7 @@ scanned_waits _ log b = step_same refl (λ none. none) (then_same (and_not b fal
 
 -- where an act began; and an `*OPC` cancels none
 begun_waits : (act : Act) (log : List Act) (at : LayerLogs)
-    → (((begun act at).waits ≡ true) ↔ ((cancels act ≡ false) × (IsAsked (act ∷ log) ⊎ (at.waits ≡ true))))
+    → (((after_begin act at).waits ≡ true) ↔ ((cancels act ≡ false) × (IsAsked (act ∷ log) ⊎ (at.waits ≡ true))))
     × (IsAsked (act ∷ log) → cancels act ≡ false)
 begun_waits Purged log at = (step_ended (λ e. absurd cc) (λ e. absurd cc), λ asked. absurd asked)
 begun_waits (Scanned act) log at = (scanned_waits act log at.waits, λ asked. absurd asked)
@@ -32,32 +32,33 @@ begun_waits OpcAsked log at = (step_kept refl ((λ e. inl tt), (λ h. refl)), λ
 begun_waits _ log at = (step_same refl (λ none. none) unchanged, λ asked. refl)
 
 -- whether no measurement is under way where an act began
-begun_idle : (act : Act) (log : List Act) → idles (begun act (seen log)) ≡ is_idle (act ∷ log)
-begun_idle act log = ap (λ (acts : List ScanAct). idle_state (state (kept acts))) (begun_scanner act log)
+begun_idle : (act : Act) (log : List Act) → idles (after_begin act (layer_logs log)) ≡ is_idle (act ∷ log)
+begun_idle act log = ap (λ (acts : List ScanAct). idle_state (state (effective acts))) (begun_scanner act log)
 
-seen_waits : (act : Act) (log : List Act) → (seen (act ∷ log)).waits ≡ ((begun act (seen log)).waits && not (is_idle (act ∷ log)))
-seen_waits act log = ap (λ (b : Bool). (begun act (seen log)).waits && not b) (begun_idle act log)
+seen_waits : (act : Act) (log : List Act)
+    → (layer_logs (act ∷ log)).waits ≡ ((after_begin act (layer_logs log)).waits && not (is_idle (act ∷ log)))
+seen_waits act log = ap (λ (b : Bool). (after_begin act (layer_logs log)).waits && not b) (begun_idle act log)
 
 waits_step : (act : Act) (log : List Act)
-    → ((seen (act ∷ log)).waits ≡ true) ↔ (IsPending (act ∷ log) × (IsAsked (act ∷ log) ⊎ ((seen log).waits ≡ true)))
+    → ((layer_logs (act ∷ log)).waits ≡ true) ↔ (IsPending (act ∷ log) × (IsAsked (act ∷ log) ⊎ ((layer_logs log).waits ≡ true)))
 waits_step act log =
-    let both = and_not (begun act (seen log)).waits (is_idle (act ∷ log)) in
-    let began = (begun_waits act log (seen log)).0 in (
+    let both = and_not (after_begin act (layer_logs log)).waits (is_idle (act ∷ log)) in
+    let began = (begun_waits act log (layer_logs log)).0 in (
       (λ e. let h = both.0 (sym (seen_waits act log) ∙ e) in let w = began.0 h.1 in ((h.0, w.0), w.1)),
       (λ h. seen_waits act log ∙ both.1 (h.0.0, began.1 (h.0.1, h.1))),
     )
 
 pub same_waiting : SameWaiting
-same_waiting = since_unique IsAsked IsPending (λ log. (seen log).waits ≡ true) ((λ e. absurd cc), (λ h. absurd h.0)) waits_step
+same_waiting = since_unique IsAsked IsPending (λ log. (layer_logs log).waits ≡ true) ((λ e. absurd cc), (λ h. absurd h.0)) waits_step
 
 -- whether an `*OPC` completes at an act
 abbrev pub completes : Act → List Act → Bool
-completes act before = (begun act (seen before)).waits && idles (begun act (seen before))
+completes act before = (after_begin act (layer_logs before)).waits && idles (after_begin act (layer_logs before))
 
 pub completes_is : (act : Act) (before : List Act) → (completes act before ≡ true) ↔ Completes (act ∷ before)
 completes_is act before =
-    let both = and_both (begun act (seen before)).waits (idles (begun act (seen before))) in
-    let began = (begun_waits act before (seen before)).0 in
+    let both = and_both (after_begin act (layer_logs before)).waits (idles (after_begin act (layer_logs before))) in
+    let began = (begun_waits act before (layer_logs before)).0 in
     let idle = begun_idle act before in
     let waits = same_waiting before in (
       (λ e.
@@ -67,7 +68,7 @@ completes_is act before =
       (λ h. both.1 (
         idle ∙ h.0,
         elim h.1 [
-          | inl asked ↦ began.1 ((begun_waits act before (seen before)).1 asked, inl asked)
+          | inl asked ↦ began.1 ((begun_waits act before (layer_logs before)).1 asked, inl asked)
           | inr waited ↦ began.1 (waited.1, inr (waits.1 waited.0))
         ],
       )),

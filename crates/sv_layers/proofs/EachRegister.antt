@@ -6,7 +6,7 @@ use Rattle.sv_scan.specs.declared.acts.ScanAct.{ScanAct}
 use Rattle.sv_scan.specs.Condition as scan
 use Rattle.sv_layers.specs.Act.{Act}
 use Rattle.sv_layers.specs.Filter.{start}
-use Rattle.sv_layers.specs.Condition.{counted, scan_word, word, summary, condition}
+use Rattle.sv_layers.specs.Condition.{effective_acts, scan_word, word, summary, condition}
 
 pub first_condition : (name : RegisterName) → condition name [] ≡ 0
 first_condition Operation = refl
@@ -19,7 +19,7 @@ start_small Questionable = omega arith
 start_small Limit = omega arith
 
 -- with the same acts of the scanner and the same summaries a condition is the same
-pub condition_same : (name : RegisterName) (log other : List Act) → counted log ≡ counted other
+pub condition_same : (name : RegisterName) (log other : List Act) → effective_acts log ≡ effective_acts other
     → ((below : RegisterName) → summary below log ≡ summary below other) → condition name log ≡ condition name other
 condition_same Questionable log other same summaries =
     ap (λ (acts : List ScanAct). scan_word Questionable acts + scan.bit 9 (summary Limit log)) same

@@ -11,14 +11,14 @@ use Rattle.sv_status.proofs.Registers.{event-unchanged}
 use Rattle.sv_scan.specs.declared.touched.Touched.{Touched}
 use Rattle.sv_scan.specs.declared.acts.ScanAct.{ScanAct}
 use Rattle.sv_scan.specs.Stands.{Contents, StandsFor as Scans}
-use Rattle.sv_scan.specs.Counted.{kept, counts}
+use Rattle.sv_scan.specs.Counted.{effective, counts}
 use Rattle.sv_scan.specs.Scan.{last_reading}
 use Rattle.sv_scan.specs.Condition as scan
 use Rattle.sv_scan.specs.Touched.{IsTouched}
 use Rattle.sv_layers.specs.Act.{Act, Exchanged, Scanned, scan_acts}
 use Rattle.sv_layers.specs.Filter.{start}
-use Rattle.sv_layers.specs.Condition.{counted, condition}
-use Rattle.sv_layers.specs.Inside.LayerLogs.{own, begun, register_acts, seen}
+use Rattle.sv_layers.specs.Condition.{effective_acts, condition}
+use Rattle.sv_layers.specs.Inside.LayerLogs.{own, after_begin, register_acts, layer_logs}
 use Rattle.sv_layers.proofs.Projected.{begun_scanner, begun_register}
 use Rattle.sv_layers.proofs.Registered.{seen_register}
 
@@ -40,39 +40,39 @@ Leaves touched after before = (touched.operation ≡ false → scan.operation af
     × (touched.questionable ≡ false → scan.questionable after ≡ scan.questionable before)
     × (touched.limit ≡ false → scan.limit after ≡ scan.limit before)
 
-scanned_leaves : (touched : Touched) (act : ScanAct) (acts : List ScanAct) → IsTouched touched (kept (act ∷ acts))
-    → Leaves touched (kept (act ∷ acts)) (kept acts)
-scanned_leaves touched act acts = cond_both (counts (kept acts) act) (act ∷ kept acts) (kept acts)
-    (λ (log : List ScanAct). IsTouched touched log → Leaves touched log (kept acts))
+scanned_leaves : (touched : Touched) (act : ScanAct) (acts : List ScanAct) → IsTouched touched (effective (act ∷ acts))
+    → Leaves touched (effective (act ∷ acts)) (effective acts)
+scanned_leaves touched act acts = cond_both (counts (effective acts) act) (act ∷ effective acts) (effective acts)
+    (λ (log : List ScanAct). IsTouched touched log → Leaves touched log (effective acts))
     (λ e is. is)
     (λ e is. ((λ no. refl), (λ no. refl), (λ no. refl)))
 
-pub counted_leaves : (touched : Touched) (act : Act) (log : List Act) → IsTouched touched (counted (act ∷ log))
-    → Leaves touched (counted (act ∷ log)) (counted log)
+pub counted_leaves : (touched : Touched) (act : Act) (log : List Act) → IsTouched touched (effective_acts (act ∷ log))
+    → Leaves touched (effective_acts (act ∷ log)) (effective_acts log)
 counted_leaves touched (Scanned act) log is = scanned_leaves touched act (scan_acts log) is
 counted_leaves touched (Exchanged act) log is = ((λ no. refl), (λ no. refl), (λ no. refl))
 counted_leaves touched _ log is = ((λ no. refl), (λ no. refl), (λ no. refl))
 
 -- where an act began, the scanner stands for its acts, and each register for those that it saw
-pub begun_scans : (contents : Contents) (act : Act) (log : List Act) → Scans contents (begun act (seen log)).scanner
+pub begun_scans : (contents : Contents) (act : Act) (log : List Act) → Scans contents (after_begin act (layer_logs log)).scanner
     → Scans contents (scan_acts (act ∷ log))
 begun_scans contents act log = subst (λ (acts : List ScanAct). Scans contents acts) (begun_scanner act log)
 
 pub begun_stands : (name : RegisterName) (act : Act) (log : List Act) (latches : Latches)
-    → StandsFor (start name) latches (register_acts name (begun act (seen log)))
-    → StandsFor (start name) latches (register_acts name (seen log))
+    → StandsFor (start name) latches (register_acts name (after_begin act (layer_logs log)))
+    → StandsFor (start name) latches (register_acts name (layer_logs log))
 begun_stands name act log latches = subst (λ (acts : List RegisterAct). StandsFor (start name) latches acts) (begun_register name act log)
 
 -- a register that was told its condition, and ended the act as another one ends, has ended it
 pub ended_stands : (name : RegisterName) (other act : Act) (log : List Act) (latches : Latches) (word : ℕ)
     → word ≡ condition name (act ∷ log)
     → ((acts : List RegisterAct) → own name other acts ≡ own name act acts)
-    → StandsFor (start name) latches (own name other (Condition word ∷ register_acts name (seen log)))
-    → StandsFor (start name) latches (register_acts name (seen (act ∷ log)))
+    → StandsFor (start name) latches (own name other (Condition word ∷ register_acts name (layer_logs log)))
+    → StandsFor (start name) latches (register_acts name (layer_logs (act ∷ log)))
 ended_stands name other act log latches word told same =
     subst (λ (acts : List RegisterAct). StandsFor (start name) latches acts)
-    (same (Condition word ∷ register_acts name (seen log))
-    ∙ ap (λ (w : ℕ). own name act (Condition w ∷ register_acts name (seen log))) told ∙ sym (seen_register name act log))
+    (same (Condition word ∷ register_acts name (layer_logs log))
+    ∙ ap (λ (w : ℕ). own name act (Condition w ∷ register_acts name (layer_logs log))) told ∙ sym (seen_register name act log))
 
 -- bit 9 beside bit 0
 or_is : (low high : Bool) → bit_or (scan.bit 0 low) (scan.bit 9 high) ≡ scan.bit 0 low + scan.bit 9 high

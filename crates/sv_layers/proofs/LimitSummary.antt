@@ -11,7 +11,7 @@ use Rattle.std.proofs.lemmas.Nat.Bits.{bit_at_above}
 use Rattle.sv_logs.specs.Since.{is_since}
 use Rattle.sv_logs.proofs.Since.{both_true, either_true, is_since_is}
 use Rattle.sv_status.specs.declared.register_name.RegisterName.{RegisterName}
-use Rattle.sv_status.specs.Register.{masked}
+use Rattle.sv_status.specs.Register.{without_top_bit}
 use Rattle.sv_layers.specs.Act.{Act, Enabled, Preset}
 use Rattle.sv_layers.specs.Filter.{is_same, enable, has_bit, passes, leaves}
 use Rattle.sv_layers.specs.Condition.{word, summary, condition}
@@ -33,7 +33,7 @@ below_found k is_such lt e =
     list_any_at is_such (range_with_len 0 16) k 0 lt (ap is_such at ∙ e)
 
 -- a mask has no bit 15
-small_of : (b : Bool) (mask word : ℕ) → word < 2 ^ 16 → unwrap_or (if b then Some (masked mask) else None) word < 2 ^ 16
+small_of : (b : Bool) (mask word : ℕ) → word < 2 ^ 16 → unwrap_or (if b then Some (without_top_bit mask) else None) word < 2 ^ 16
 small_of true mask word small = let below = mod_below mask (2 ^ 15) (omega arith) in omega (arith, below)
 small_of false mask word small = small
 

@@ -6,7 +6,7 @@ use Rattle.sv_status.specs.declared.status_byte.StatusAct.TheVariants.{Update}
 use Rattle.sv_scan.specs.Condition.{bit}
 use Rattle.sv_exchange.specs.Exchange.{response, is_something}
 use Rattle.sv_layers.specs.Act.{Act}
-use Rattle.sv_layers.specs.Inside.LayerLogs.{LayerLogs, seen}
+use Rattle.sv_layers.specs.Inside.LayerLogs.{LayerLogs, layer_logs}
 use Rattle.sv_layers.specs.Inside.Representation.{IsSummary, IsStatus, own_status}
 use Rattle.sv_layers.proofs.Booleans.{same_bool}
 
@@ -27,7 +27,7 @@ one_summary a b at s t =
 pub one_status : (log : List Act) (a b : List StatusAct) → IsStatus log a → IsStatus log b → a ≡ b
 one_status [] a b s t = s ∙ sym t
 one_status (act ∷ log) a b (word, before, summary, is, made) (other, earlier, summed, are, so) =
-    let words = one_summary word other (seen (act ∷ log)) summary summed in
+    let words = one_summary word other (layer_logs (act ∷ log)) summary summed in
     let befores = one_status log before earlier is are in
-    made ∙ ap (λ (w : ℕ). Update w (seen (act ∷ log)).service ∷ own_status act before) words
-    ∙ ap (λ (acts : List StatusAct). Update other (seen (act ∷ log)).service ∷ own_status act acts) befores ∙ sym so
+    made ∙ ap (λ (w : ℕ). Update w (layer_logs (act ∷ log)).service ∷ own_status act before) words
+    ∙ ap (λ (acts : List StatusAct). Update other (layer_logs (act ∷ log)).service ∷ own_status act acts) befores ∙ sym so

@@ -12,7 +12,7 @@ use Rattle.sv_scan.specs.Condition.{bit}
 use Rattle.sv_exchange.specs.Exchange.{response, is_something}
 use Rattle.sv_layers.specs.Act.{Act}
 use Rattle.sv_layers.specs.StatusByte.{PolledBit}
-use Rattle.sv_layers.specs.Inside.LayerLogs.{LayerLogs, seen}
+use Rattle.sv_layers.specs.Inside.LayerLogs.{LayerLogs, layer_logs}
 use Rattle.sv_layers.specs.Inside.Representation.{LayerState, IsSummary, IsStatus, StandsFor}
 use Rattle.sv_layers.proofs.SameRequests.{same_status}
 
@@ -34,7 +34,7 @@ summary_small word at s =
 -- so have those that the status byte was told last
 told_small : (log : List Act) (status_log : List StatusAct) → IsStatus log status_log → bits status_log < 256
 told_small [] status_log is = rw is (omega arith)
-told_small (act ∷ log) status_log (word, before, summary, earlier, is) = rw is (summary_small word (seen (act ∷ log)) summary)
+told_small (act ∷ log) status_log (word, before, summary, earlier, is) = rw is (summary_small word (layer_logs (act ∷ log)) summary)
 
 pub polled_byte : (layered : LayerState) (log : List Act) → StandsFor layered log
     → (word : ℕ) × ((k : ℕ) → (bit_at word k ≡ 1) ↔ PolledBit k log)

@@ -8,7 +8,7 @@ use Rattle.sv_scan.specs.declared.acts.ScanAct.{ScanAct}
 use Rattle.sv_exchange.specs.Exchange.{ExchangeAct, TextDropped, Interrupted}
 use Rattle.sv_layers.specs.Act.{Act, Exchanged, Purged, Scanned, Reported, EntryTaken, Cleared, ServiceEnabled, exchange_acts, queue_acts, scan_acts}
 use Rattle.sv_layers.specs.StatusByte.{service}
-use Rattle.sv_layers.specs.Inside.LayerLogs.{LayerLogs, begun, register_acts, seen}
+use Rattle.sv_layers.specs.Inside.LayerLogs.{LayerLogs, after_begin, register_acts, layer_logs}
 use Rattle.sv_layers.specs.Laws.{OwnActs}
 
 -- these layers see what is theirs of the log
@@ -18,8 +18,8 @@ Projects at log = (at.exchange ≡ exchange_acts log) × (at.errors ≡ queue_ac
 
 -- It begins in these layers, and in no register.
 abbrev Begins : Act → List Act → LayerLogs → Type 0
-Begins act log at = Projects at log → Projects (begun act at) (act ∷ log)
-    × ((begun act at).registers ≡ at.registers)
+Begins act log at = Projects at log → Projects (after_begin act at) (act ∷ log)
+    × ((after_begin act at).registers ≡ at.registers)
 
 begins : (act : Act) (log : List Act) (at : LayerLogs) → Begins act log at
 begins (Exchanged act) log at h = ((ap (λ (acts : List ExchangeAct). act ∷ acts) h.0, h.1, h.2, h.3), refl)
@@ -33,12 +33,12 @@ begins _ log at h = (h, refl)
 
 pub projected : OwnActs
 projected [] = (refl, refl, refl, refl)
-projected (act ∷ log) = (begins act log (seen log) (projected log)).0
+projected (act ∷ log) = (begins act log (layer_logs log) (projected log)).0
 
 -- where an act began
-pub begun_scanner : (act : Act) (log : List Act) → (begun act (seen log)).scanner ≡ scan_acts (act ∷ log)
-begun_scanner act log = (begins act log (seen log) (projected log)).0.2
+pub begun_scanner : (act : Act) (log : List Act) → (after_begin act (layer_logs log)).scanner ≡ scan_acts (act ∷ log)
+begun_scanner act log = (begins act log (layer_logs log) (projected log)).0.2
 
 pub begun_register : (name : RegisterName) (act : Act) (log : List Act)
-    → register_acts name (begun act (seen log)) ≡ register_acts name (seen log)
-begun_register name act log = ap (λ (at : RegisterName → List RegisterAct). at name) (begins act log (seen log) (projected log)).1
+    → register_acts name (after_begin act (layer_logs log)) ≡ register_acts name (layer_logs log)
+begun_register name act log = ap (λ (at : RegisterName → List RegisterAct). at name) (begins act log (layer_logs log) (projected log)).1

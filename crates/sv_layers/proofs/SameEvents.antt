@@ -10,7 +10,7 @@ use Rattle.sv_status.proofs.Registers.{event-none, event-condition, event-read, 
 use Rattle.sv_layers.specs.Act.{Act, Cleared, Preset, EventRead, Enabled, RiseSet, FallSet}
 use Rattle.sv_layers.specs.Condition.{condition}
 use Rattle.sv_layers.specs.Filter.{is_same, rise, fall}
-use Rattle.sv_layers.specs.Inside.LayerLogs.{own, seen, register_acts}
+use Rattle.sv_layers.specs.Inside.LayerLogs.{own, layer_logs, register_acts}
 use Rattle.sv_layers.specs.Laws.{SameEvents}
 use Rattle.sv_layers.proofs.Registered.{seen_register}
 use Rattle.sv_layers.proofs.Either.{unchanged, either_same}
@@ -22,11 +22,11 @@ flip same = (same.1, same.0)
 
 -- the condition behind an act
 at_condition : (name : RegisterName) (k : ℕ) (act : Act) (log : List Act)
-    → stands.EventStands k (register.Condition (condition name (act ∷ log)) ∷ register_acts name (seen log))
-    ↔ (Passes name k (act ∷ log) ⊎ stands.EventStands k (register_acts name (seen log)))
+    → stands.EventStands k (register.Condition (condition name (act ∷ log)) ∷ register_acts name (layer_logs log))
+    ↔ (Passes name k (act ∷ log) ⊎ stands.EventStands k (register_acts name (layer_logs log)))
 at_condition name k act log =
     let words = same_words name log in
-    let told = rw (words.0, words.1, words.2) at (event-condition k (condition name (act ∷ log)) (register_acts name (seen log))) in
+    let told = rw (words.0, words.1, words.2) at (event-condition k (condition name (act ∷ log)) (register_acts name (layer_logs log))) in
     let is = changes_is k (condition name log) (condition name (act ∷ log)) (rise name log) (fall name log) in
     either_same told (flip is) unchanged
 
@@ -54,13 +54,13 @@ own_event name k (RiseSet other mask) log acts Q h = step_kept refl (where_event
 own_event name k (FallSet other mask) log acts Q h = step_kept refl (where_event (is_same name other) k _ acts (event-filter k _ _ acts) h)
 own_event name k _ log acts Q h = step_kept refl h
 
-event_step : (name : RegisterName) (k : ℕ) (act : Act) (log : List Act) → stands.EventStands k (register_acts name (seen (act ∷ log)))
-    ↔ (NotCleared name (act ∷ log) × (Passes name k (act ∷ log) ⊎ stands.EventStands k (register_acts name (seen log))))
+event_step : (name : RegisterName) (k : ℕ) (act : Act) (log : List Act) → stands.EventStands k (register_acts name (layer_logs (act ∷ log)))
+    ↔ (NotCleared name (act ∷ log) × (Passes name k (act ∷ log) ⊎ stands.EventStands k (register_acts name (layer_logs log))))
 event_step name k act log = rw (seen_register name act log) (own_event name k act log _ _ (at_condition name k act log))
 
-none_first : (name : RegisterName) (k : ℕ) → stands.EventStands k (register_acts name (seen [])) → ⊥
+none_first : (name : RegisterName) (k : ℕ) → stands.EventStands k (register_acts name (layer_logs [])) → ⊥
 none_first name k = event-none k
 
 pub same_events : SameEvents
-same_events name k = since_unique (Passes name k) (NotCleared name) (λ log. stands.EventStands k (register_acts name (seen log)))
+same_events name k = since_unique (Passes name k) (NotCleared name) (λ log. stands.EventStands k (register_acts name (layer_logs log)))
     ((λ s. absurd (none_first name k s)), (λ h. absurd (let none = h.0 in cc))) (event_step name k)

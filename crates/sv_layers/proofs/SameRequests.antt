@@ -9,7 +9,7 @@ use Rattle.sv_status.specs.StatusByte as status
 use Rattle.sv_status.proofs.StatusBytes.{request-none, request-updated, request-polled}
 use Rattle.sv_layers.specs.Act.{Act, Polled}
 use Rattle.sv_layers.specs.StatusByte.{SummaryBit, service, ServiceRequested, Master, Reason, Lasts, Request, IsRaised}
-use Rattle.sv_layers.specs.Inside.LayerLogs.{seen}
+use Rattle.sv_layers.specs.Inside.LayerLogs.{layer_logs}
 use Rattle.sv_layers.specs.Inside.Representation.{IsSummary, IsStatus, own_status}
 use Rattle.sv_layers.specs.Laws.{SameRequests, SameStatus}
 use Rattle.sv_layers.proofs.Projected.{projected}
@@ -55,15 +55,15 @@ told_master log status_log is =
 
 -- the request behind an act by that before it
 abbrev RequestStep : Act → Type 0
-RequestStep act = (log : List Act) (word : ℕ) (before : List StatusAct) → IsSummary word (seen (act ∷ log)) → IsStatus log before
+RequestStep act = (log : List Act) (word : ℕ) (before : List StatusAct) → IsSummary word (layer_logs (act ∷ log)) → IsStatus log before
     → status.Request before ↔ Request log
-    → status.Request (Update word (seen (act ∷ log)).service ∷ own_status act before) ↔ Request (act ∷ log)
+    → status.Request (Update word (layer_logs (act ∷ log)).service ∷ own_status act before) ↔ Request (act ∷ log)
 
 polled_step : RequestStep Polled
 polled_step log word before summary is same =
     let now = told_asks (Polled ∷ log) _ (word, before, summary, is, refl) in
     let was = told_asks log before is in (
-      (λ s. elim ((request-updated word (seen (Polled ∷ log)).service (Poll ∷ before)).0 s).1 [
+      (λ s. elim ((request-updated word (layer_logs (Polled ∷ log)).service (Poll ∷ before)).0 s).1 [
         | inl r ↦ absurd (r.2 ((was r.0).1 (polled_asks r.0 log ((now r.0).0 r.1))))
         | inr q ↦ absurd (request-polled before q)
       ]),
@@ -72,7 +72,7 @@ polled_step log word before summary is same =
 
 other_step : (act : Act) → IsOther act → RequestStep act
 other_step act other log word before summary is same =
-    let mask = (seen (act ∷ log)).service in
+    let mask = (layer_logs (act ∷ log)).service in
     let made : Update word mask ∷ before ≡ Update word mask ∷ own_status act before =
     ap (λ (acts : List StatusAct). Update word mask ∷ acts) (sym (other.0 before)) in
     let now = told_asks (act ∷ log) (Update word mask ∷ before) (word, before, summary, is, made) in

@@ -13,7 +13,7 @@ use Rattle.sv_status.proofs.StandardEvents.{stands-none, stands-occurred, stands
 use Rattle.sv_scan.specs.Condition.{bit}
 use Rattle.sv_layers.specs.Act.{Act, Reported, Cleared, StandardRead, StandardEnabled}
 use Rattle.sv_layers.specs.Standard.{Completes, Occurs, NotCleared, enable}
-use Rattle.sv_layers.specs.Inside.LayerLogs.{report_bits, seen}
+use Rattle.sv_layers.specs.Inside.LayerLogs.{report_bits, layer_logs}
 use Rattle.sv_layers.specs.Laws.{SameEnable, SameStandardEvents}
 use Rattle.sv_layers.proofs.Bits.{bit_of}
 use Rattle.sv_layers.proofs.Either.{unchanged, either_same, both_same, equal_same, four_same}
@@ -29,22 +29,22 @@ completed k act log acts = either_same (stands-occurred k (bit 0 (completes act 
 -- an error is reported: its class, an overflow, and the completion of an operation
 reported : (k : ℕ) (code : Code) (log : List Act)
     → stands.Stands k (standard.Occur (bit 0 (completes (Reported code) log))
-    ∷ report_bits code (is_full (seen log).errors) (seen log).standard)
-    ↔ (Occurs k (Reported code ∷ log) ⊎ stands.Stands k (seen log).standard)
+    ∷ report_bits code (is_full (layer_logs log).errors) (layer_logs log).standard)
+    ↔ (Occurs k (Reported code ∷ log) ⊎ stands.Stands k (layer_logs log).standard)
 reported k code log =
-    let full = is_full (seen log).errors in
+    let full = is_full (layer_logs log).errors in
     let event = standard_event_of code in
     let queue = ap (λ (acts : List QueueAct). is_full acts) (projected log).1 in
     let overflow = then_same (bit_of 3 full k) (both_same (equal_same full _ queue)) in
-    four_same (completed k (Reported code) log (report_bits code full (seen log).standard))
-    (either_same (stands-occurred k (bit 3 full) (standard.Occur event ∷ (seen log).standard)) overflow unchanged)
-    (stands-occurred k event (seen log).standard)
+    four_same (completed k (Reported code) log (report_bits code full (layer_logs log).standard))
+    (either_same (stands-occurred k (bit 3 full) (standard.Occur event ∷ (layer_logs log).standard)) overflow unchanged)
+    (stands-occurred k event (layer_logs log).standard)
 
 -- what stands behind an act, and the enable
 abbrev StandardStep : ℕ → Act → List Act → Type 0
-StandardStep k act log = (stands.Stands k (seen (act ∷ log)).standard
-    ↔ (NotCleared (act ∷ log) × (Occurs k (act ∷ log) ⊎ stands.Stands k (seen log).standard)))
-    × (stands.enable (seen log).standard ≡ enable log → stands.enable (seen (act ∷ log)).standard ≡ enable (act ∷ log))
+StandardStep k act log = (stands.Stands k (layer_logs (act ∷ log)).standard
+    ↔ (NotCleared (act ∷ log) × (Occurs k (act ∷ log) ⊎ stands.Stands k (layer_logs log).standard)))
+    × (stands.enable (layer_logs log).standard ≡ enable log → stands.enable (layer_logs (act ∷ log)).standard ≡ enable (act ∷ log))
 
 standard_step : (k : ℕ) (act : Act) (log : List Act) → StandardStep k act log
 standard_step k (Reported code) log = (step_kept tt (reported k code log), λ same. same)
@@ -55,7 +55,7 @@ standard_step k (StandardEnabled mask) log =
 standard_step k act log = (step_kept tt (completed k act log _), λ same. same)
 
 pub same_standard_events : SameStandardEvents
-same_standard_events k = since_unique (Occurs k) NotCleared (λ log. stands.Stands k (seen log).standard)
+same_standard_events k = since_unique (Occurs k) NotCleared (λ log. stands.Stands k (layer_logs log).standard)
     ((λ s. ((stands-none k).0 s, tt)), (λ h. (stands-none k).1 h.0)) (λ act log. (standard_step k act log).0)
 
 pub same_enable : SameEnable

@@ -17,7 +17,7 @@ use Rattle.sv_layers.specs.Act.{Act}
 use Rattle.sv_layers.specs.Filter.{start}
 use Rattle.sv_layers.specs.Event.{Summary}
 use Rattle.sv_layers.specs.Standard.{Summary as StandardSummary}
-use Rattle.sv_layers.specs.Inside.LayerLogs.{seen, register_acts}
+use Rattle.sv_layers.specs.Inside.LayerLogs.{layer_logs, register_acts}
 use Rattle.sv_layers.specs.Inside.Representation.{IsSummary}
 use Rattle.sv_layers.specs.Laws.{SameSummaries}
 use Rattle.sv_layers.proofs.Either.{either_same, both_same, equal_same}
@@ -29,16 +29,16 @@ use Rattle.sv_layers.proofs.SameStandard.{same_enable, same_standard_events}
 
 -- whether an enabled bit stands
 pub same_summary : (name : RegisterName) (log : List Act)
-    → register.Summary (start name) (register_acts name (seen log)) ↔ Summary name log
+    → register.Summary (start name) (register_acts name (layer_logs log)) ↔ Summary name log
 same_summary name log = same_enabled _ _ (same_words name log).3 (λ k. same_events name k log)
 
-same_standard_summary : (log : List Act) → standard.Summary (seen log).standard ↔ StandardSummary log
+same_standard_summary : (log : List Act) → standard.Summary (layer_logs log).standard ↔ StandardSummary log
 same_standard_summary log = same_enabled _ _ (same_enable log) (λ k. same_standard_events k log)
 
 pub same_summaries : SameSummaries
 same_summaries word log is k =
-    let available = is_something (response (seen log).exchange) in
-    let errors = is_something (entries (seen log).errors) in
+    let available = is_something (response (layer_logs log).exchange) in
+    let errors = is_something (entries (layer_logs log).errors) in
     let seven = bit-le 7 is.operates in
     let five = bit-le 5 is.happened in
     let four = bit-le 4 available in
@@ -59,7 +59,7 @@ same_summaries word log is k =
     (then_same (bit_of 2 errors k) (both_same (equal_same errors _ queue)))))))
 
 -- before all acts no summary bit stands
-pub no_summary : IsSummary 0 (seen [])
+pub no_summary : IsSummary 0 (layer_logs [])
 no_summary = record {
   operates = false;
   happened = false;

@@ -7,11 +7,11 @@ use Rattle.sv_status.specs.declared.register.RegisterAct.{RegisterAct}
 use Rattle.sv_status.specs.declared.register.RegisterAct.TheVariants.{Condition, SetFilter, SetEnable, ReadEvent, Clear}
 use Rattle.sv_status.specs.declared.register.RegisterAct.TheVariants as register
 use Rattle.sv_status.specs.Register as register_words
-use Rattle.sv_status.specs.Register.{masked}
+use Rattle.sv_status.specs.Register.{without_top_bit}
 use Rattle.sv_layers.specs.Act.{Act, Preset, EventRead, Enabled, RiseSet, FallSet}
 use Rattle.sv_layers.specs.Condition.{condition}
 use Rattle.sv_layers.specs.Filter.{is_same, start, rise, fall, enable}
-use Rattle.sv_layers.specs.Inside.LayerLogs.{own, seen, register_acts}
+use Rattle.sv_layers.specs.Inside.LayerLogs.{own, layer_logs, register_acts}
 use Rattle.sv_layers.specs.Laws.{SameWords}
 use Rattle.sv_layers.proofs.EachRegister.{first_condition}
 use Rattle.sv_layers.proofs.Registered.{seen_register}
@@ -25,8 +25,8 @@ abbrev WordsOf : RegisterName → List RegisterAct → List Act → Type 0
 WordsOf name acts log = Words (start name) acts (condition name log) (rise name log) (fall name log) (enable name log)
 
 -- a filter has no bit 15
-filters_masked : (acts : List RegisterAct) → (masked (register_words.rise acts) ≡ register_words.rise acts)
-    × (masked (register_words.fall acts) ≡ register_words.fall acts)
+filters_masked : (acts : List RegisterAct) → (without_top_bit (register_words.rise acts) ≡ register_words.rise acts)
+    × (without_top_bit (register_words.fall acts) ≡ register_words.fall acts)
 filters_masked [] = (refl, refl)
 filters_masked (Condition word ∷ acts) = filters_masked acts
 filters_masked (SetFilter up down ∷ acts) = (mod-mod up (2 ^ 15), mod-mod down (2 ^ 15))
@@ -42,19 +42,19 @@ read_words s true acts c r f e h = h
 read_words s false acts c r f e h = h
 
 enabled_words : (s : ℕ) (b : Bool) (mask : ℕ) (acts : List RegisterAct) (c r f e : ℕ) → Words s acts c r f e
-    → Words s (if b then SetEnable mask ∷ acts else acts) c r f (unwrap_or (if b then Some (masked mask) else None) e)
+    → Words s (if b then SetEnable mask ∷ acts else acts) c r f (unwrap_or (if b then Some (without_top_bit mask) else None) e)
 enabled_words s true mask acts c r f e h = (h.0, h.1, h.2, refl)
 enabled_words s false mask acts c r f e h = h
 
 rise_words : (s : ℕ) (b : Bool) (mask : ℕ) (acts : List RegisterAct) (c r f e : ℕ) → Words s acts c r f e
     → Words s (if b then SetFilter mask (register_words.fall acts) ∷ acts else acts) c
-    (unwrap_or (if b then Some (masked mask) else None) r) f e
+    (unwrap_or (if b then Some (without_top_bit mask) else None) r) f e
 rise_words s true mask acts c r f e h = (h.0, refl, (filters_masked acts).1 ∙ h.2, h.3)
 rise_words s false mask acts c r f e h = h
 
 fall_words : (s : ℕ) (b : Bool) (mask : ℕ) (acts : List RegisterAct) (c r f e : ℕ) → Words s acts c r f e
     → Words s (if b then SetFilter (register_words.rise acts) mask ∷ acts else acts) c r
-    (unwrap_or (if b then Some (masked mask) else None) f) e
+    (unwrap_or (if b then Some (without_top_bit mask) else None) f) e
 fall_words s true mask acts c r f e h = (h.0, (filters_masked acts).0 ∙ h.1, refl, h.3)
 fall_words s false mask acts c r f e h = h
 
@@ -74,4 +74,4 @@ same_words name [] = (sym (first_condition name), refl, refl, refl)
 same_words name (act ∷ log) =
     let h = same_words name log in
     subst (λ (acts : List RegisterAct). WordsOf name acts (act ∷ log)) (sym (seen_register name act log))
-    (own_words name act log (Condition (condition name (act ∷ log)) ∷ register_acts name (seen log)) (refl, h.1, h.2, h.3))
+    (own_words name act log (Condition (condition name (act ∷ log)) ∷ register_acts name (layer_logs log)) (refl, h.1, h.2, h.3))

@@ -6,18 +6,18 @@ use Rattle.sv_status.specs.declared.register_name.RegisterName.{RegisterName}
 use Rattle.sv_status.specs.declared.register_name.RegisterName.TheVariants.{Operation, Questionable, Limit}
 use Rattle.sv_scan.specs.declared.acts.ScanAct.{ScanAct}
 use Rattle.sv_scan.specs.Scan.{state}
-use Rattle.sv_scan.specs.Counted.{kept, is_idle as idles}
+use Rattle.sv_scan.specs.Counted.{effective, is_idle as idles}
 use Rattle.sv_scan.specs.Condition as scan
 use Rattle.sv_layers.specs.Act.{Act, scan_acts}
 use Rattle.sv_layers.specs.Filter.{enable, has_bit, passes, leaves}
 
 -- the acts of the scanner that count: one that is refused stands in the log, and counts for nothing
-abbrev pub counted : List Act → List ScanAct
-counted log = kept (scan_acts log)
+abbrev pub effective_acts : List Act → List ScanAct
+effective_acts log = effective (scan_acts log)
 
 -- whether no measurement is under way
 abbrev pub is_idle : List Act → Bool
-is_idle log = idles (state (counted log))
+is_idle log = idles (state (effective_acts log))
 
 -- the condition of a register, by the acts of the scanner
 abbrev pub scan_word : RegisterName → List ScanAct → ℕ
@@ -27,7 +27,7 @@ scan_word Limit acts = scan.limit acts
 
 -- the same, by the log
 abbrev pub word : RegisterName → List Act → ℕ
-word name log = scan_word name (counted log)
+word name log = scan_word name (effective_acts log)
 
 -- The summary of a register with none nested in it: some enabled bit passed its filter after the last clearing.
 abbrev pub summary : RegisterName → List Act → Bool

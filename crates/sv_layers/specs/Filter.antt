@@ -4,7 +4,7 @@ use Rattle.std.specs.Int.{bit_at}
 use Rattle.sv_logs.specs.Since.{last_given}
 use Rattle.sv_status.specs.declared.register_name.RegisterName.{RegisterName}
 use Rattle.sv_status.specs.declared.register_name.RegisterName.TheVariants.{Operation, Questionable, Limit}
-use Rattle.sv_status.specs.Register.{masked}
+use Rattle.sv_status.specs.Register.{without_top_bit}
 use Rattle.sv_layers.specs.Act.{Act, RiseSet, FallSet, Enabled, Preset, EventRead, Cleared}
 
 -- whether two registers are the same
@@ -20,7 +20,7 @@ start = elim [ Limit ↦ 32767 | _ ↦ 0 ]
 
 -- the mask that is set, without bit 15, if it is this register that is named
 abbrev pub mask_for : RegisterName → RegisterName → ℕ → Option ℕ
-mask_for name other mask = if is_same name other then Some (masked mask) else None
+mask_for name other mask = if is_same name other then Some (without_top_bit mask) else None
 
 -- the positive transition filter: as last set, or 32767 after power on or a preset
 abbrev pub rise : RegisterName → List Act → ℕ

@@ -15,46 +15,48 @@ use Rattle.sv_layers.specs.Filter.{start, rise, fall, enable}
 use Rattle.sv_layers.specs.Event.{EventStands}
 use Rattle.sv_layers.specs.Standard.{Waits, Completes, Stands, enable as standard_enable}
 use Rattle.sv_layers.specs.StatusByte.{service, SummaryBit, Request, IsRaised, PolledBit, MasterBit}
-use Rattle.sv_layers.specs.Inside.LayerLogs.{seen, begun, completed, register_acts}
+use Rattle.sv_layers.specs.Inside.LayerLogs.{layer_logs, after_begin, after_complete, register_acts}
 use Rattle.sv_layers.specs.Inside.Representation.{IsSummary, IsStatus, RaisedAt}
 
 -- Message exchange, error queue and scanner see exactly their own acts; the service request enable is the one that was set last.
 abbrev pub OwnActs : Type 0
-OwnActs = (log : List Act) → ((seen log).exchange ≡ exchange_acts log) × ((seen log).errors ≡ queue_acts log)
-    × ((seen log).scanner ≡ scan_acts log) × ((seen log).service ≡ service log)
+OwnActs = (log : List Act) → ((layer_logs log).exchange ≡ exchange_acts log) × ((layer_logs log).errors ≡ queue_acts log)
+    × ((layer_logs log).scanner ≡ scan_acts log) × ((layer_logs log).service ≡ service log)
 
 -- Condition, filters and enable of a register are those of the log.
 abbrev pub SameWords : Type 0
-SameWords = (name : RegisterName) (log : List Act) → (register.condition (register_acts name (seen log)) ≡ condition name log)
-    × (register.rise (register_acts name (seen log)) ≡ rise name log) × (register.fall (register_acts name (seen log)) ≡ fall name log)
-    × (register.enable (start name) (register_acts name (seen log)) ≡ enable name log)
+SameWords = (name : RegisterName) (log : List Act) → (register.condition (register_acts name (layer_logs log)) ≡ condition name log)
+    × (register.rise (register_acts name (layer_logs log)) ≡ rise name log)
+    × (register.fall (register_acts name (layer_logs log)) ≡ fall name log)
+    × (register.enable (start name) (register_acts name (layer_logs log)) ≡ enable name log)
 
 -- The enable of the standard events is that of the log.
 abbrev pub SameEnable : Type 0
-SameEnable = (log : List Act) → standard.enable (seen log).standard ≡ standard_enable log
+SameEnable = (log : List Act) → standard.enable (layer_logs log).standard ≡ standard_enable log
 
 -- A bit of an event register is set exactly if it is by the log.
 abbrev pub SameEvents : Type 0
 SameEvents = (name : RegisterName) (k : ℕ) (log : List Act)
-    → register.EventStands k (register_acts name (seen log)) ↔ EventStands name k log
+    → register.EventStands k (register_acts name (layer_logs log)) ↔ EventStands name k log
 
 -- An `*OPC` is pending exactly if it is by the log.
 abbrev pub SameWaiting : Type 0
-SameWaiting = (log : List Act) → ((seen log).waits ≡ true) ↔ Waits log
+SameWaiting = (log : List Act) → ((layer_logs log).waits ≡ true) ↔ Waits log
 
 -- Operation complete occurs at an act exactly if an `*OPC` completes at that act.
 abbrev pub SameCompletion : Type 0
 SameCompletion = (act : Act) (before : List Act) → (completes : Bool)
-    × ((completed (begun act (seen before))).standard ≡ Occur (bit 0 completes) ∷ (begun act (seen before)).standard)
+    × ((after_complete (after_begin act (layer_logs before))).standard ≡ Occur (bit 0 completes)
+    ∷ (after_begin act (layer_logs before)).standard)
     × ((completes ≡ true) ↔ Completes (act ∷ before))
 
 -- A standard event is set exactly if it is by the log.
 abbrev pub SameStandardEvents : Type 0
-SameStandardEvents = (k : ℕ) (log : List Act) → standard.Stands k (seen log).standard ↔ Stands k log
+SameStandardEvents = (k : ℕ) (log : List Act) → standard.Stands k (layer_logs log).standard ↔ Stands k log
 
 -- The summary bits of the layers are those of the log.
 abbrev pub SameSummaries : Type 0
-SameSummaries = (word : ℕ) (log : List Act) → IsSummary word (seen log) → (k : ℕ) → (bit_at word k ≡ 1) ↔ SummaryBit k log
+SameSummaries = (word : ℕ) (log : List Act) → IsSummary word (layer_logs log) → (k : ℕ) → (bit_at word k ≡ 1) ↔ SummaryBit k log
 
 -- For each log, the status byte is told exactly one list of acts.
 abbrev pub OneAccount : Type 0

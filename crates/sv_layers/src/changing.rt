@@ -5,10 +5,10 @@ ghost use Rattle.sv_status.specs.declared.status_byte.StatusAct.{StatusAct};
 ghost use Rattle.sv_scan.specs.declared.acts.ScanAct.TheVariants.{Trigger};
 ghost use Rattle.sv_scan.specs.declared.setting.State.TheVariants.{Waiting, Scanning};
 ghost use Rattle.sv_scan.specs.Counted.{trigger_fault};
-ghost use Rattle.sv_layers.specs.Condition.{counted};
+ghost use Rattle.sv_layers.specs.Condition.{effective_acts};
 ghost use Rattle.sv_layers.specs.Act.{Act, Scanned, Reported};
 ghost use Rattle.sv_layers.specs.Change.{act_of};
-ghost use Rattle.sv_layers.specs.Inside.LayerLogs.{LayerLogs, begun, resets};
+ghost use Rattle.sv_layers.specs.Inside.LayerLogs.{LayerLogs, after_begin, resets};
 ghost use Rattle.sv_layers.specs.Inside.Representation.{StandsFor, IsApplied, Represents, state_by};
 
 use crate::change::Change;
@@ -37,7 +37,7 @@ impl<A: Allocator> Layers<A> {
     fn begin(&mut self, change: &Change)
         ensures stands { (at : LayerLogs) (status_log : List StatusAct)
             → Represents self.old at status_log
-            → Represents self.new (begun (act_of change.now) at) status_log }
+            → Represents self.new (after_begin (act_of change.now) at) status_log }
         ensures exchange { self.new.exchange ≡ self.old.exchange }
         ensures requests { self.new.requests ≡ self.old.requests }
     {
@@ -68,7 +68,7 @@ impl<A: Allocator> Layers<A> {
     fn scan(&mut self, act: ScanAct)
         ensures stands { (at : LayerLogs) (status_log : List StatusAct)
             → Represents self.old at status_log
-            → Represents self.new (begun (Scanned act) at) status_log }
+            → Represents self.new (after_begin (Scanned act) at) status_log }
         ensures exchange { self.new.exchange ≡ self.old.exchange }
         ensures requests { self.new.requests ≡ self.old.requests }
     {
@@ -80,7 +80,7 @@ impl<A: Allocator> Layers<A> {
     fn report(&mut self, code: Code)
         ensures stands { (at : LayerLogs) (status_log : List StatusAct)
             → Represents self.old at status_log
-            → Represents self.new (begun (Reported code) at) status_log }
+            → Represents self.new (after_begin (Reported code) at) status_log }
         ensures exchange { self.new.exchange ≡ self.old.exchange }
         ensures requests { self.new.requests ≡ self.old.requests }
     {
@@ -96,9 +96,9 @@ impl<A: Allocator> Layers<A> {
     /// nothing happens.
     pub fn trigger(&mut self, source: Source) -> Result<(), Code>
         ensures applied { (log : List Act) → StandsFor self.old log
-            → MatchResult result (λ done. (trigger_fault (counted log) source ≡ None)
+            → MatchResult result (λ done. (trigger_fault (effective_acts log) source ≡ None)
             × IsApplied self.old.requests self.new (Scanned (Trigger source) ∷ log))
-            (λ code. trigger_fault (counted log) source ≡ Some code) }
+            (λ code. trigger_fault (effective_acts log) source ≡ Some code) }
         ensures exchange { self.new.exchange ≡ self.old.exchange }
         ensures scanning { OnOk result ((state_by self.old ≡ Waiting)
             × (state_by self.new ≡ Scanning)) }

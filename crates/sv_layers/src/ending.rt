@@ -10,7 +10,7 @@ ghost use Rattle.sv_scan.specs.Condition.{bit};
 ghost use Rattle.sv_layers.specs.Act.{Act};
 ghost use Rattle.sv_layers.specs.Change.{act_of};
 ghost use Rattle.sv_layers.specs.Filter.{is_same as same_register};
-ghost use Rattle.sv_layers.specs.Inside.LayerLogs.{LayerLogs, EndsAs, begun, completed, own, own_standard, seen};
+ghost use Rattle.sv_layers.specs.Inside.LayerLogs.{LayerLogs, EndsAs, after_begin, after_complete, own, own_standard, layer_logs};
 ghost use Rattle.sv_layers.specs.Inside.Representation.{Represents};
 
 use crate::change::Change;
@@ -32,8 +32,9 @@ impl<A: Allocator> Layers<A> {
     /// register above it is told its condition.
     pub(crate) fn end(&mut self, change: &Change)
         ensures stands { (log : List Act) (act : Act) (status_log : List StatusAct)
-            → EndsAs (act_of change.now) act → Represents self.old (begun act (seen log)) status_log
-            → Represents self.new (seen (act ∷ log)) status_log }
+            → EndsAs (act_of change.now) act
+            → Represents self.old (after_begin act (layer_logs log)) status_log
+            → Represents self.new (layer_logs (act ∷ log)) status_log }
         ensures exchange { self.new.exchange ≡ self.old.exchange }
         ensures scanner { self.new.scanner ≡ self.old.scanner }
         ensures requests { self.new.requests ≡ self.old.requests }
@@ -58,7 +59,7 @@ impl<A: Allocator> Layers<A> {
     fn complete(&mut self)
         ensures stands { (at : LayerLogs) (status_log : List StatusAct)
             → Represents self.old at status_log
-            → Represents self.new (completed at) status_log }
+            → Represents self.new (after_complete at) status_log }
         ensures exchange { self.new.exchange ≡ self.old.exchange }
         ensures scanner { self.new.scanner ≡ self.old.scanner }
         ensures requests { self.new.requests ≡ self.old.requests }

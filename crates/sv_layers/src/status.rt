@@ -3,7 +3,7 @@
 ghost use Rattle.std.specs.Prelude.{◌≡◌, true, List, ◌∷◌, if◌then◌else◌};
 ghost use Rattle.sv_status.specs.declared.status_byte.StatusAct.{StatusAct};
 ghost use Rattle.sv_layers.specs.Act.{Act};
-ghost use Rattle.sv_layers.specs.Inside.LayerLogs.{LayerLogs, seen, is_plain};
+ghost use Rattle.sv_layers.specs.Inside.LayerLogs.{LayerLogs, layer_logs, is_plain};
 ghost use Rattle.sv_layers.specs.Inside.Representation.{IsSummary, IsStatus, AllRead, Represents, Begun, IsApplied, StandsFor, own_status};
 
 use crate::change::{Awaited, Change};
@@ -37,7 +37,8 @@ impl<A: Allocator> Layers<A> {
     /// Tells the status byte, and counts the request for service that this raises, if it does.
     pub(crate) fn tell(&mut self)
         ensures applied { (log : List Act) (act : Act) (before : List StatusAct)
-            → IsStatus log before → Represents self.old (seen (act ∷ log)) (own_status act before)
+            → IsStatus log before
+            → Represents self.old (layer_logs (act ∷ log)) (own_status act before)
             → IsApplied self.old.requests self.new (act ∷ log) }
         ensures exchange { self.new.exchange ≡ self.old.exchange }
         ensures scanner { self.new.scanner ≡ self.old.scanner }

@@ -10,9 +10,9 @@ use Rattle.sv_errors.specs.declared.code.Code.TheVariants.{InvalidCharacter, Syn
 use Rattle.sv_text.specs.White.{is_white}
 use Rattle.sv_lexer.specs.Spelled.{is_word_byte, is_header, words}
 use Rattle.sv_lexer.specs.Unit.{header, header_place, rest, rest_place, is_legal, unit_fault}
-use Rattle.sv_lexer.specs.Partial.{Progress, kept, header_end, rest_end, last, others, longest, is_illegal, HasData, IsRead, At, Reads}
+use Rattle.sv_lexer.specs.Partial.{Progress, in_u64, header_end, rest_end, last, others, longest, is_illegal, HasData, IsRead, At, Reads}
 use Rattle.sv_lexer.specs.Inside.Stage.{behind_graphic, behind_space, next}
-use Rattle.sv_lexer.specs.Inside.Moved.{moved, one_more}
+use Rattle.sv_lexer.specs.Inside.Moved.{progress_to, one_more}
 use Rattle.sv_lexer.specs.Inside.Finish.{IsCut, length_fault_of, fault_of, data_of}
 use Rattle.sv_lexer.specs.declared.stage.Stage.{Stage}
 use Rattle.sv_lexer.specs.declared.stage.Stage.TheVariants.{WhiteSpace, Asterisk, Colon, CommonMnemonic, Mnemonic, QuerySign, HeaderSeparator, ProgramData, DataSpace, Misspelled, Illegal}
@@ -81,10 +81,11 @@ reads_none p stage size start mnemonic front = record {
 }
 
 -- a byte behind those that were read
-pub reads_push : (p new : Progress) (unit : List ℕ) (b : ℕ) → new ≡ moved (next p.stage b) p → Reads p unit → Reads new (unit ++ b ∷ [])
+pub reads_push : (p new : Progress) (unit : List ℕ) (b : ℕ) → new ≡ progress_to (next p.stage b) p → Reads p unit
+    → Reads new (unit ++ b ∷ [])
 reads_push p new unit b is h =
     let long = length_push unit b in
-    let size : one_more p.size ≡ kept (length (unit ++ b ∷ [])) = omega (arith, long, h.size) in
+    let size : one_more p.size ≡ in_u64 (length (unit ++ b ∷ [])) = omega (arith, long, h.size) in
     subst (λ (q : Progress). Reads q (unit ++ b ∷ [])) (sym is) (record {
       size = size;
       legal = all_push is_legal unit b ∙ ap (λ (t : Bool). t && is_legal b) h.legal ∙ legal_next p.stage b;
@@ -141,11 +142,11 @@ max_le m n =
           same ∙ sym (ap (λ (t : Bool). t && nat_le n 12) (le-leb m 12 ge))
     ]
 
-kept_le : (n : ℕ) → nat_le (kept n) 12 ≡ nat_le n 12
+kept_le : (n : ℕ) → nat_le (in_u64 n) 12 ≡ nat_le n 12
 kept_le n =
     elim (cases_lt 12 n) [
-      | inl lt ↦ lt-leb (kept n) 12 (omega (arith, lt)) ∙ sym (lt-leb n 12 lt)
-      | inr le ↦ le-leb (kept n) 12 (omega (arith, le)) ∙ sym (le-leb n 12 le)
+      | inl lt ↦ lt-leb (in_u64 n) 12 (omega (arith, lt)) ∙ sym (lt-leb n 12 lt)
+      | inr le ↦ le-leb (in_u64 n) 12 (omega (arith, le)) ∙ sym (le-leb n 12 le)
     ]
 
 -- words are brief exactly if the longest one is
@@ -160,9 +161,9 @@ counts_brief stage p unit h =
     let parts : List (List ℕ) = words (header unit) in
     longest_brief parts ∙ ap (λ (n : ℕ). nat_le n 12) (longest_is parts) ∙ max_le (longest (others parts)) (length (last parts))
     ∙ sym (ap (λ (t : Bool). t && nat_le (length (last parts)) 12) (kept_le (longest (others parts))))
-    ∙ sym (ap (λ (t : Bool). nat_le (kept (longest (others parts))) 12 && t) (kept_le (length (last parts))))
-    ∙ sym (max_le (kept (longest (others parts))) (kept (length (last parts))))
-    ∙ ap (λ (n : ℕ). nat_le (max n (kept (length (last parts)))) 12) (sym h.front)
+    ∙ sym (ap (λ (t : Bool). nat_le (in_u64 (longest (others parts))) 12 && t) (kept_le (length (last parts))))
+    ∙ sym (max_le (in_u64 (longest (others parts))) (in_u64 (length (last parts))))
+    ∙ ap (λ (n : ℕ). nat_le (max n (in_u64 (length (last parts)))) 12) (sym h.front)
     ∙ ap (λ (n : ℕ). nat_le (max p.longest n) 12) (sym h.mnemonic)
 
 unspelled : (stage : Stage) (p : Progress) (unit : List ℕ) → may_end stage ≡ false → list_all is_legal unit ≡ true
@@ -192,7 +193,7 @@ fault_is p unit h = fault_at p.stage p unit h.legal h.known
 -- ---- where its parts stand
 
 -- a place within a text is kept whole
-whole : (place n : ℕ) (unit : List ℕ) → length unit ≤ 2 ^ 64 - 1 → n ≤ length unit → place ≡ kept n → place ≡ n
+whole : (place n : ℕ) (unit : List ℕ) → length unit ≤ 2 ^ 64 - 1 → n ≤ length unit → place ≡ in_u64 n → place ≡ n
 whole place n unit room within e = omega (arith, room, within, e)
 
 header_within : (unit : List ℕ) → header_end unit ≤ length unit

@@ -10,7 +10,7 @@ use Rattle.sv_text.specs.Cut.{cut_at}
 use Rattle.sv_text.specs.Front.{is_empty}
 use Rattle.sv_text.specs.Header.{is_query}
 use Rattle.sv_lexer.specs.Spelled.{is_word_byte, is_mnemonic, is_header, words}
-use Rattle.sv_lexer.specs.Partial.{kept, last, others, longest, is_common, Awaits, IsUnsigned, HeaderEnds}
+use Rattle.sv_lexer.specs.Partial.{in_u64, last, others, longest, is_common, Awaits, IsUnsigned, HeaderEnds}
 use Rattle.sv_lexer.specs.Inside.Stage.{behind_graphic}
 use Rattle.sv_lexer.specs.Inside.Moved.{one_more, mnemonic_in, longest_in}
 use Rattle.sv_lexer.specs.declared.stage.Stage.{Stage}
@@ -20,8 +20,8 @@ use Rattle.sv_lexer.proofs.Words.{strip, strip_other, strip_front, sign_push, cu
 
 -- The last word and the longest of the others have so many characters.
 pub record IsCounted (mnemonic front : ℕ) (head : List ℕ) : Type 0 where
-  pub last_size : mnemonic ≡ kept (length (last (words head)))
-  pub front_size : front ≡ kept (longest (others (words head)))
+  pub last_size : mnemonic ≡ in_u64 (length (last (words head)))
+  pub front_size : front ≡ in_u64 (longest (others (words head)))
 
 -- A header so far with one byte more ends in this, and is counted.
 pub record IsPushed (stage : Stage) (n m : ℕ) (head : List ℕ) : Type 0 where
@@ -91,7 +91,7 @@ counted_word n m head b s q w h =
     record {
       last_size = omega (arith, size, h.last_size);
       front_size = h.front_size
-          ∙ ap (λ (ps : List (List ℕ)). kept (longest ps)) (sym (ap others all ∙ others_push (others (words head)) _));
+          ∙ ap (λ (ps : List (List ℕ)). in_u64 (longest ps)) (sym (ap others all ∙ others_push (others (words head)) _));
     }
 
 counted_sign : (n m : ℕ) (head : List ℕ) (b : ℕ) → is_empty head ≡ false → is_query head ≡ false → (b == 63) ≡ true
@@ -99,8 +99,8 @@ counted_sign : (n m : ℕ) (head : List ℕ) (b : ℕ) → is_empty head ≡ fal
 counted_sign n m head b s q e h =
     let same : words (head ++ b ∷ []) ≡ words head = ap (λ (x : ℕ). words (head ++ x ∷ [])) (eqb-true b 63 e) ∙ words_sign head s q in
     record {
-      last_size = h.last_size ∙ ap (λ (ps : List (List ℕ)). kept (length (last ps))) (sym same);
-      front_size = h.front_size ∙ ap (λ (ps : List (List ℕ)). kept (longest (others ps))) (sym same);
+      last_size = h.last_size ∙ ap (λ (ps : List (List ℕ)). in_u64 (length (last ps))) (sym same);
+      front_size = h.front_size ∙ ap (λ (ps : List (List ℕ)). in_u64 (longest (others ps))) (sym same);
     }
 
 counted_colon : (n m : ℕ) (head : List ℕ) (b : ℕ) → words (head ++ b ∷ []) ≡ words head ++ [] ∷ []
@@ -110,7 +110,7 @@ counted_colon n m head b all h =
     ap longest (ap others all ∙ others_push (words head) []) in
     let two = longest_is (words head) in
     record {
-      last_size = ap (λ (l : List ℕ). kept (length l)) (sym (ap last all ∙ last_push (words head) []));
+      last_size = ap (λ (l : List ℕ). in_u64 (length l)) (sym (ap last all ∙ last_push (words head) []));
       front_size = omega (arith, long, two, h.last_size, h.front_size);
     }
 
@@ -237,8 +237,8 @@ pushed_first b n m h = at (b == 42) refl (b == 58) refl (is_letter b) refl
             record { header = ap (list_all is_mnemonic) one ∙ ap (λ (t : Bool). (t && true) && true) l; unsigned = sign_push [] b ∙ sign },
           );
           counted = record {
-            last_size = ap one_more h.last_size ∙ ap (λ (ps : List (List ℕ)). kept (length (last ps))) (sym one);
-            front_size = h.front_size ∙ ap (λ (ps : List (List ℕ)). kept (longest (others ps))) (sym one);
+            last_size = ap one_more h.last_size ∙ ap (λ (ps : List (List ℕ)). in_u64 (length (last ps))) (sym one);
+            front_size = h.front_size ∙ ap (λ (ps : List (List ℕ)). in_u64 (longest (others ps))) (sym one);
           };
         }
 

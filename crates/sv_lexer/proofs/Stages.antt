@@ -6,9 +6,9 @@ use Rattle.sv_text.specs.Front.{is_empty}
 use Rattle.sv_text.specs.White.{is_white}
 use Rattle.sv_lexer.specs.Spelled.{is_mnemonic, is_header, words}
 use Rattle.sv_lexer.specs.Unit.{header, header_place, rest, rest_place}
-use Rattle.sv_lexer.specs.Partial.{Progress, kept, header_end, rest_end, last, others, longest, Awaits, HeaderEnds, UnitEnds, HasData, IsRead, At}
+use Rattle.sv_lexer.specs.Partial.{Progress, in_u64, header_end, rest_end, last, others, longest, Awaits, HeaderEnds, UnitEnds, HasData, IsRead, At}
 use Rattle.sv_lexer.specs.Inside.Stage.{behind_graphic, behind_space, next}
-use Rattle.sv_lexer.specs.Inside.Moved.{moved, one_more}
+use Rattle.sv_lexer.specs.Inside.Moved.{progress_to, one_more}
 use Rattle.sv_lexer.specs.declared.stage.Stage.{Stage}
 use Rattle.sv_lexer.specs.declared.stage.Stage.TheVariants.{WhiteSpace, Asterisk, Colon, CommonMnemonic, Mnemonic, QuerySign, HeaderSeparator, ProgramData, DataSpace, Misspelled, Illegal}
 use Rattle.sv_lexer.proofs.Ends.{run}
@@ -52,34 +52,34 @@ header_at _ text h = h
 
 -- ---- a byte more of the header
 
-word_read : (stage : Stage) (q : Progress) (unit : List ℕ) (b : ℕ) → IsLonger unit b → q.header_start ≡ kept (header_place unit)
-    → q.header_end ≡ kept (length (unit ++ b ∷ [])) → HeaderEnds stage (header unit ++ b ∷ [])
+word_read : (stage : Stage) (q : Progress) (unit : List ℕ) (b : ℕ) → IsLonger unit b → q.header_start ≡ in_u64 (header_place unit)
+    → q.header_end ≡ in_u64 (length (unit ++ b ∷ [])) → HeaderEnds stage (header unit ++ b ∷ [])
     → IsCounted q.mnemonic q.longest (header unit ++ b ∷ []) → UnitEnds stage q (unit ++ b ∷ []) → IsRead stage q (unit ++ b ∷ [])
 word_read stage q unit b l start end spelled counted ends =
     let c = subst (IsCounted q.mnemonic q.longest) (sym l.heads) counted in record {
       spelled = subst (HeaderEnds stage) (sym l.heads) spelled;
       ends = ends;
-      begins = start ∙ ap kept (sym l.begins);
-      closes = λ some. end ∙ ap kept (sym l.ends);
+      begins = start ∙ ap in_u64 (sym l.begins);
+      closes = λ some. end ∙ ap in_u64 (sym l.ends);
       mnemonic = c.last_size;
       front = c.front_size;
     }
 
-at_word : (stage : Stage) (p : Progress) (unit : List ℕ) (b : ℕ) → one_more p.size ≡ kept (length (unit ++ b ∷ []))
-    → p.header_start ≡ kept (header_place unit) → IsLonger unit b
+at_word : (stage : Stage) (p : Progress) (unit : List ℕ) (b : ℕ) → one_more p.size ≡ in_u64 (length (unit ++ b ∷ []))
+    → p.header_start ≡ in_u64 (header_place unit) → IsLonger unit b
     → ((more : List ℕ) → header ((unit ++ b ∷ []) ++ more) ≡ header unit ++ b ∷ run more)
-    → Pushed stage p.mnemonic p.longest (header unit) b → At stage (moved stage p) (unit ++ b ∷ [])
+    → Pushed stage p.mnemonic p.longest (header unit) b → At stage (progress_to stage p) (unit ++ b ∷ [])
 at_word WhiteSpace p unit b size start l over h = absurd h
 at_word HeaderSeparator p unit b size start l over h = absurd h
 at_word ProgramData p unit b size start l over h = absurd h
 at_word DataSpace p unit b size start l over h = absurd h
 at_word Illegal p unit b size start l over h = absurd h
 at_word Misspelled p unit b size start l over h = λ more. ap is_header (over more) ∙ h (run more)
-at_word stage p unit b size start l over h = word_read stage (moved stage p) unit b l start size h.spelled h.counted l.ends
+at_word stage p unit b size start l over h = word_read stage (progress_to stage p) unit b l start size h.spelled h.counted l.ends
 
 first_on : (stage : Stage) (p : Progress) (unit : List ℕ) (b : ℕ) → is_first stage ≡ true → header_end unit ≡ length unit
-    → one_more p.size ≡ kept (length (unit ++ b ∷ [])) → is_white b ≡ false → IsRead stage p unit
-    → At (behind_graphic stage b) (moved (behind_graphic stage b) p) (unit ++ b ∷ [])
+    → one_more p.size ≡ in_u64 (length (unit ++ b ∷ [])) → is_white b ≡ false → IsRead stage p unit
+    → At (behind_graphic stage b) (progress_to (behind_graphic stage b) p) (unit ++ b ∷ [])
 first_on stage p unit b first ends size w h =
     at_word (behind_graphic stage b) p unit b size h.begins (longer unit b ends w)
     (λ more. header_on unit b more ends w)
@@ -87,18 +87,18 @@ first_on stage p unit b first ends size w h =
 
 -- ---- white space in front
 
-wider_on : (p : Progress) (unit : List ℕ) (b : ℕ) → one_more p.size ≡ kept (length (unit ++ b ∷ [])) → is_white b ≡ true
-    → IsRead WhiteSpace p unit → IsRead WhiteSpace (moved WhiteSpace p) (unit ++ b ∷ [])
+wider_on : (p : Progress) (unit : List ℕ) (b : ℕ) → one_more p.size ≡ in_u64 (length (unit ++ b ∷ [])) → is_white b ≡ true
+    → IsRead WhiteSpace p unit → IsRead WhiteSpace (progress_to WhiteSpace p) (unit ++ b ∷ [])
 wider_on p unit b size w h =
     let g = wider unit b h.spelled w in
     let heads : header (unit ++ b ∷ []) ≡ header unit = g.heads ∙ sym h.spelled in
     let none : length (header (unit ++ b ∷ [])) ≡ 0 = ap length g.heads in record {
       spelled = g.heads;
       ends = omega (arith, g.begins, none);
-      begins = size ∙ ap kept (sym g.begins);
+      begins = size ∙ ap in_u64 (sym g.begins);
       closes = λ some. (let f : true ≡ false = sym (ap is_empty g.heads) ∙ some in absurd cc);
-      mnemonic = h.mnemonic ∙ ap (λ (l : List ℕ). kept (length (last (words l)))) (sym heads);
-      front = h.front ∙ ap (λ (l : List ℕ). kept (longest (others (words l)))) (sym heads);
+      mnemonic = h.mnemonic ∙ ap (λ (l : List ℕ). in_u64 (length (last (words l)))) (sym heads);
+      front = h.front ∙ ap (λ (l : List ℕ). in_u64 (longest (others (words l)))) (sym heads);
     }
 
 -- ---- behind the header
@@ -115,56 +115,56 @@ carried : (stage next : Stage) (p q : Progress) (unit new : List ℕ) → is_emp
 carried stage next p q unit new some c s spelled ends h = record {
   spelled = subst (HeaderEnds next) (sym s.heads) spelled;
   ends = ends;
-  begins = c.start ∙ h.begins ∙ ap kept (sym s.begins);
-  closes = λ full. c.end ∙ h.closes some ∙ ap kept (sym (end_same unit new s));
-  mnemonic = c.mnemonic ∙ h.mnemonic ∙ ap (λ (l : List ℕ). kept (length (last (words l)))) (sym s.heads);
-  front = c.longest_one ∙ h.front ∙ ap (λ (l : List ℕ). kept (longest (others (words l)))) (sym s.heads);
+  begins = c.start ∙ h.begins ∙ ap in_u64 (sym s.begins);
+  closes = λ full. c.end ∙ h.closes some ∙ ap in_u64 (sym (end_same unit new s));
+  mnemonic = c.mnemonic ∙ h.mnemonic ∙ ap (λ (l : List ℕ). in_u64 (length (last (words l)))) (sym s.heads);
+  front = c.longest_one ∙ h.front ∙ ap (λ (l : List ℕ). in_u64 (longest (others (words l)))) (sym s.heads);
 }
 
-gap_read : (stage : Stage) (p : Progress) (unit : List ℕ) (b : ℕ) → one_more p.size ≡ kept (length (unit ++ b ∷ [])) → is_white b ≡ true
+gap_read : (stage : Stage) (p : Progress) (unit : List ℕ) (b : ℕ) → one_more p.size ≡ in_u64 (length (unit ++ b ∷ [])) → is_white b ≡ true
     → is_header (header unit) ≡ true → rest unit ≡ [] → IsRead stage p unit
-    → IsRead HeaderSeparator (moved HeaderSeparator p) (unit ++ b ∷ [])
+    → IsRead HeaderSeparator (progress_to HeaderSeparator p) (unit ++ b ∷ [])
 gap_read stage p unit b size w is none h =
     let some = header_some (header unit) is in
     let g = gap_on unit b some none w in
-    carried stage HeaderSeparator p (moved HeaderSeparator p) unit (unit ++ b ∷ []) some
+    carried stage HeaderSeparator p (progress_to HeaderSeparator p) unit (unit ++ b ∷ []) some
     (record { start = refl; end = refl; mnemonic = refl; longest_one = refl }) g.same is (g.rests, g.ends, size) h
 
 -- where the program data begin
-data_begun : (p : Progress) (unit : List ℕ) (place : ℕ) → (is_empty (rest unit) ≡ true → p.data_start ≡ kept (length unit))
-    → (is_empty (rest unit) ≡ false → p.data_start ≡ kept (rest_place unit))
-    → place ≡ cond (is_empty (rest unit)) (length unit) (rest_place unit) → p.data_start ≡ kept place
+data_begun : (p : Progress) (unit : List ℕ) (place : ℕ) → (is_empty (rest unit) ≡ true → p.data_start ≡ in_u64 (length unit))
+    → (is_empty (rest unit) ≡ false → p.data_start ≡ in_u64 (rest_place unit))
+    → place ≡ cond (is_empty (rest unit)) (length unit) (rest_place unit) → p.data_start ≡ in_u64 place
 data_begun p unit place none some e = at (is_empty (rest unit)) refl e
   where
-    at : (t : Bool) → is_empty (rest unit) ≡ t → place ≡ cond t (length unit) (rest_place unit) → p.data_start ≡ kept place
-    at true f e = none f ∙ ap kept (sym e)
-    at false f e = some f ∙ ap kept (sym e)
+    at : (t : Bool) → is_empty (rest unit) ≡ t → place ≡ cond t (length unit) (rest_place unit) → p.data_start ≡ in_u64 place
+    at true f e = none f ∙ ap in_u64 (sym e)
+    at false f e = some f ∙ ap in_u64 (sym e)
 
-data_read : (stage : Stage) (p : Progress) (unit : List ℕ) (b : ℕ) → one_more p.size ≡ kept (length (unit ++ b ∷ [])) → is_white b ≡ false
+data_read : (stage : Stage) (p : Progress) (unit : List ℕ) (b : ℕ) → one_more p.size ≡ in_u64 (length (unit ++ b ∷ [])) → is_white b ≡ false
     → is_header (header unit) ≡ true → header_end unit < length unit
-    → (is_empty (rest unit) ≡ true → p.data_start ≡ kept (length unit))
-    → (is_empty (rest unit) ≡ false → p.data_start ≡ kept (rest_place unit))
-    → IsRead stage p unit → IsRead ProgramData (moved ProgramData p) (unit ++ b ∷ [])
+    → (is_empty (rest unit) ≡ true → p.data_start ≡ in_u64 (length unit))
+    → (is_empty (rest unit) ≡ false → p.data_start ≡ in_u64 (rest_place unit))
+    → IsRead stage p unit → IsRead ProgramData (progress_to ProgramData p) (unit ++ b ∷ [])
 data_read stage p unit b size w is lt none data_there h =
     let some = header_some (header unit) is in
     let g = data_on unit b some lt w in
-    carried stage ProgramData p (moved ProgramData p) unit (unit ++ b ∷ []) some
+    carried stage ProgramData p (progress_to ProgramData p) unit (unit ++ b ∷ []) some
     (record { start = refl; end = refl; mnemonic = refl; longest_one = refl }) g.same is
-    (record { some = g.some; begins = data_begun p unit _ none data_there g.begins; ends = size ∙ ap kept (sym g.ends) }, g.ends) h
+    (record { some = g.some; begins = data_begun p unit _ none data_there g.begins; ends = size ∙ ap in_u64 (sym g.ends) }, g.ends) h
 
 space_read : (stage : Stage) (p : Progress) (unit : List ℕ) (b : ℕ) → is_white b ≡ true → is_header (header unit) ≡ true → HasData p unit
-    → IsRead stage p unit → IsRead DataSpace (moved DataSpace p) (unit ++ b ∷ [])
+    → IsRead stage p unit → IsRead DataSpace (progress_to DataSpace p) (unit ++ b ∷ [])
 space_read stage p unit b w is d h =
     let some = header_some (header unit) is in
     let g = space_on unit b some d.some w in
     let tail : length (rest (unit ++ b ∷ [])) ≡ length (rest unit) = ap length g.rests in
     let same : rest_end (unit ++ b ∷ []) ≡ rest_end unit = omega (arith, tail, g.begins) in
-    carried stage DataSpace p (moved DataSpace p) unit (unit ++ b ∷ []) some
+    carried stage DataSpace p (progress_to DataSpace p) unit (unit ++ b ∷ []) some
     (record { start = refl; end = refl; mnemonic = refl; longest_one = refl }) g.same is (
       record {
         some = ap is_empty g.rests ∙ d.some;
-        begins = d.begins ∙ ap kept (sym g.begins);
-        ends = d.ends ∙ ap kept (sym same);
+        begins = d.begins ∙ ap in_u64 (sym g.begins);
+        ends = d.ends ∙ ap in_u64 (sym same);
       },
       g.ends,
     ) h
@@ -180,8 +180,8 @@ ended : (unit : List ℕ) (b : ℕ) → header_end unit ≡ length unit → is_e
     → is_header (header unit) ≡ false → (more : List ℕ) → is_header (header ((unit ++ b ∷ []) ++ more)) ≡ false
 ended unit b ends some w none more = ap is_header (header_closed unit b more ends some w) ∙ none
 
-at_space : (stage : Stage) (p : Progress) (unit : List ℕ) (b : ℕ) → one_more p.size ≡ kept (length (unit ++ b ∷ [])) → is_white b ≡ true
-    → At stage p unit → At (behind_space stage) (moved (behind_space stage) p) (unit ++ b ∷ [])
+at_space : (stage : Stage) (p : Progress) (unit : List ℕ) (b : ℕ) → one_more p.size ≡ in_u64 (length (unit ++ b ∷ [])) → is_white b ≡ true
+    → At stage p unit → At (behind_space stage) (progress_to (behind_space stage) p) (unit ++ b ∷ [])
 at_space WhiteSpace p unit b size w h = wider_on p unit b size w h
 at_space Asterisk p unit b size w h = ended unit b h.ends (ap is_empty h.spelled) w (header_at Asterisk (header unit) h.spelled)
 at_space Colon p unit b size w h = ended unit b h.ends h.spelled.1.some w (header_at Colon (header unit) h.spelled)
@@ -193,14 +193,16 @@ at_space Illegal p unit b size w h = tt
 at_space stage p unit b size w h =
     gap_read stage p unit b size w (header_at stage (header unit) h.spelled) (rest_none unit h.ends) h
 
-data_more : (stage : Stage) (p : Progress) (unit : List ℕ) (b : ℕ) → one_more p.size ≡ kept (length (unit ++ b ∷ [])) → is_white b ≡ false
-    → is_header (header unit) ≡ true → HasData p unit → IsRead stage p unit → IsRead ProgramData (moved ProgramData p) (unit ++ b ∷ [])
+data_more : (stage : Stage) (p : Progress) (unit : List ℕ) (b : ℕ) → one_more p.size ≡ in_u64 (length (unit ++ b ∷ [])) → is_white b ≡ false
+    → is_header (header unit) ≡ true → HasData p unit → IsRead stage p unit
+    → IsRead ProgramData (progress_to ProgramData p) (unit ++ b ∷ [])
 data_more stage p unit b size w is d h =
     data_read stage p unit b size w is (rest_within unit d.some)
     (λ e. (let f : false ≡ true = sym d.some ∙ e in absurd cc)) (λ e. d.begins) h
 
-at_graphic : (stage : Stage) (p : Progress) (unit : List ℕ) (b : ℕ) → one_more p.size ≡ kept (length (unit ++ b ∷ [])) → is_white b ≡ false
-    → At stage p unit → At (behind_graphic stage b) (moved (behind_graphic stage b) p) (unit ++ b ∷ [])
+at_graphic : (stage : Stage) (p : Progress) (unit : List ℕ) (b : ℕ) → one_more p.size ≡ in_u64 (length (unit ++ b ∷ []))
+    → is_white b ≡ false
+    → At stage p unit → At (behind_graphic stage b) (progress_to (behind_graphic stage b) p) (unit ++ b ∷ [])
 at_graphic HeaderSeparator p unit b size w h =
     data_read HeaderSeparator p unit b size w h.spelled h.ends.1 (λ e. h.ends.2)
     (λ e. (let f : true ≡ false = sym (ap is_empty h.ends.0) ∙ e in absurd cc)) h
@@ -211,12 +213,12 @@ at_graphic Illegal p unit b size w h = tt
 at_graphic stage p unit b size w h = first_on stage p unit b refl h.ends size w h
 
 -- a byte more
-pub at_next : (stage : Stage) (p : Progress) (unit : List ℕ) (b : ℕ) → one_more p.size ≡ kept (length (unit ++ b ∷ [])) → At stage p unit
-    → At (next stage b) (moved (next stage b) p) (unit ++ b ∷ [])
+pub at_next : (stage : Stage) (p : Progress) (unit : List ℕ) (b : ℕ) → one_more p.size ≡ in_u64 (length (unit ++ b ∷ [])) → At stage p unit
+    → At (next stage b) (progress_to (next stage b) p) (unit ++ b ∷ [])
 at_next stage p unit b size h = at (is_white b) refl (is_ascii_graphic b)
   where
     at : (w : Bool) → is_white b ≡ w → (g : Bool) → At (cond w (behind_space stage) (cond g (behind_graphic stage b) Illegal))
-        (moved (cond w (behind_space stage) (cond g (behind_graphic stage b) Illegal)) p) (unit ++ b ∷ [])
+        (progress_to (cond w (behind_space stage) (cond g (behind_graphic stage b) Illegal)) p) (unit ++ b ∷ [])
     at true w g = at_space stage p unit b size w h
     at false w true = at_graphic stage p unit b size w h
     at false w false = tt

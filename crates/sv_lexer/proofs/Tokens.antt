@@ -3,7 +3,7 @@ use Rattle.std.proofs.Common.{◌≡◌, ℕ, ◌+◌, ◌<◌, ◌≤◌, List,
 use Rattle.sv_text.specs.White.{is_white, trim}
 use Rattle.sv_text.proofs.Places.{place_within}
 use Rattle.sv_lexer.specs.declared.token.Token.{Token}
-use Rattle.sv_lexer.specs.Token.{StandsAt, IsToken, kind_of, told}
+use Rattle.sv_lexer.specs.Token.{StandsAt, IsToken, kind_of, in_u32}
 use Rattle.sv_lexer.specs.Unit.{white_size, header_size, header, header_place, rest, rest_place}
 use Rattle.sv_lexer.specs.Inside.Finish.{IsCut}
 use Rattle.sv_lexer.specs.Parameters.{cut_outside, parts, part_place, count, parameter, parameter_place}
@@ -29,7 +29,7 @@ rest_stands unit =
 -- the parts of a unit that was cut are its header and the text behind it
 pub cut_holds : (unit slice text : List ℕ) (header_start header_end data_start data_end : ℕ) (token : Token)
     → IsCut unit header_start header_end data_start data_end → slice ≡ slice_range unit header_start header_end
-    → text ≡ slice_range unit data_start data_end → token.text.now ≡ slice → token.start ≡ told header_start → token.kind ≡ kind_of slice
+    → text ≡ slice_range unit data_start data_end → token.text.now ≡ slice → token.start ≡ in_u32 header_start → token.kind ≡ kind_of slice
     → IsToken unit (header_place unit) (header unit) token × (text ≡ rest unit) × (data_start ≡ rest_place unit)
     × StandsAt unit data_start text
 cut_holds unit slice text header_start header_end data_start data_end token cut is behind said start kind =
@@ -41,7 +41,13 @@ cut_holds unit slice text header_start header_end data_start data_end token cut 
     behind ∙ slice_stands unit (rest unit) data_start data_end
     (stands_same unit (rest unit) (rest_place unit) data_start (sym cut.data_begins) (rest_stands unit))
     (omega (arith, cut.data_begins, cut.data_ends)) in (
-      record { text = said ∙ head; start = start ∙ ap told cut.header_begins; kind = kind ∙ ap kind_of head; stands = header_stands unit },
+      record {
+        text = said ∙ head;
+        start = start ∙ ap in_u32 cut.header_begins;
+        kind = kind
+            ∙ ap kind_of head;
+        stands = header_stands unit;
+      },
       rests,
       cut.data_begins,
       rw (cut.data_begins, rests) (rest_stands unit),
@@ -69,7 +75,7 @@ pub parameter_holds : (unit text part : List ℕ) (base index place space : ℕ)
     → StandsAt unit base text
     → index < count unit → part ≡ slice_index_or (cut_outside [] text) index [] → place ≡ part_place index (cut_outside [] text)
     → StandsAt text place part
-    → space ≡ white_size part → token.text.now ≡ trim part → token.start ≡ told (base + place + space) → token.kind ≡ kind_of (trim part)
+    → space ≡ white_size part → token.text.now ≡ trim part → token.start ≡ in_u32 (base + place + space) → token.kind ≡ kind_of (trim part)
     → (index < count unit) × IsToken unit (parameter_place unit index) (parameter unit index) token
 parameter_holds unit text part base index place space token whole at stands lt part_is place_is inner space_is slice start kind =
     let cut : cut_outside [] text ≡ parts (rest unit) = ap (cut_outside []) whole ∙ sym (parts_some (rest unit) index lt) in
@@ -84,7 +90,7 @@ parameter_holds unit text part base index place space token whole at stands lt p
       lt,
       record {
         text = slice ∙ ap trim same;
-        start = start ∙ ap told place_all;
+        start = start ∙ ap in_u32 place_all;
         kind = kind ∙ ap (λ p. kind_of (trim p)) same;
         stands =
             rw (← place_all, ← same) there;

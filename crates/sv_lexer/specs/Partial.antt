@@ -21,8 +21,8 @@ pub record Progress : Type 0 where
   pub data_end : ℕ
 
 -- a count, in 64 bits
-abbrev pub kept : ℕ → ℕ
-kept n = min n (2 ^ 64 - 1)
+abbrev pub in_u64 : ℕ → ℕ
+in_u64 n = min n (2 ^ 64 - 1)
 
 -- where the header of a unit ends
 abbrev pub header_end : List ℕ → ℕ
@@ -80,12 +80,12 @@ HeaderEnds _ text = is_header text ≡ true
 -- There are program data, which begin and end there.
 pub record HasData (p : Progress) (unit : List ℕ) : Type 0 where
   pub some : is_empty (rest unit) ≡ false
-  pub begins : p.data_start ≡ kept (rest_place unit)
-  pub ends : p.data_end ≡ kept (rest_end unit)
+  pub begins : p.data_start ≡ in_u64 (rest_place unit)
+  pub ends : p.data_end ≡ in_u64 (rest_end unit)
 
 -- What a unit ends in (7.3): its header, white space behind that, its program data, or white space behind these.
 abbrev pub UnitEnds : Stage → Progress → List ℕ → Type 0
-UnitEnds HeaderSeparator p unit = (rest unit ≡ []) × (header_end unit < length unit) × (p.data_start ≡ kept (length unit))
+UnitEnds HeaderSeparator p unit = (rest unit ≡ []) × (header_end unit < length unit) × (p.data_start ≡ in_u64 (length unit))
 UnitEnds ProgramData p unit = HasData p unit × (rest_end unit ≡ length unit)
 UnitEnds DataSpace p unit = HasData p unit × (rest_end unit < length unit)
 UnitEnds _ p unit = header_end unit ≡ length unit
@@ -94,10 +94,10 @@ UnitEnds _ p unit = header_end unit ≡ length unit
 pub record IsRead (stage : Stage) (p : Progress) (unit : List ℕ) : Type 0 where
   pub spelled : HeaderEnds stage (header unit)
   pub ends : UnitEnds stage p unit
-  pub begins : p.header_start ≡ kept (header_place unit)
-  pub closes : is_empty (header unit) ≡ false → p.header_end ≡ kept (header_end unit)
-  pub mnemonic : p.mnemonic ≡ kept (length (last (words (header unit))))
-  pub front : p.longest ≡ kept (longest (others (words (header unit))))
+  pub begins : p.header_start ≡ in_u64 (header_place unit)
+  pub closes : is_empty (header unit) ≡ false → p.header_end ≡ in_u64 (header_end unit)
+  pub mnemonic : p.mnemonic ≡ in_u64 (length (last (words (header unit))))
+  pub front : p.longest ≡ in_u64 (longest (others (words (header unit))))
 
 -- What holds at each stage. A unit that is misspelled has no header, whatever bytes follow.
 abbrev pub At : Stage → Progress → List ℕ → Type 0
@@ -112,6 +112,6 @@ is_illegal _ = false
 
 -- These bytes were read; the stage is illegal exactly if one of them is.
 pub record Reads (p : Progress) (unit : List ℕ) : Type 0 where
-  pub size : p.size ≡ kept (length unit)
+  pub size : p.size ≡ in_u64 (length unit)
   pub legal : list_all is_legal unit ≡ not (is_illegal p.stage)
   pub known : At p.stage p unit

@@ -16,8 +16,8 @@ kind_of (b ∷ text) =
     if begins_number b then Number else if b == 35 then Base else if is_letter b then Word else if b == 40 then Expression else Other
 
 -- a place, in 32 bits
-abbrev pub told : ℕ → ℕ
-told place = min place 4294967295
+abbrev pub in_u32 : ℕ → ℕ
+in_u32 place = min place 4294967295
 
 -- The text stands in the unit at this place.
 abbrev pub StandsAt : List ℕ → ℕ → List ℕ → Type 0
@@ -26,6 +26,6 @@ StandsAt unit place text = (front behind : List ℕ) × (unit ≡ front ++ (text
 -- The token is the text at this place of the unit.
 pub record IsToken (unit : List ℕ) (place : ℕ) (slice : List ℕ) (token : Token) : Type 0 where
   pub text : token.text.now ≡ slice
-  pub start : token.start ≡ told place
+  pub start : token.start ≡ in_u32 place
   pub kind : token.kind ≡ kind_of slice
   pub stands : StandsAt unit place slice

@@ -3,7 +3,7 @@
 ghost use Rattle.std.specs.Prelude.{◌≡◌, ◌≤◌, ℕ, List, [], ◌∷◌, ◌++◌, None, Some, MatchResult, length};
 ghost use Rattle.sv_lexer.specs.Unit.{unit_fault};
 ghost use Rattle.sv_lexer.specs.Inside.Finish.{IsCut, data_of, fault_of, length_fault_of};
-ghost use Rattle.sv_lexer.specs.Inside.Moved.{moved};
+ghost use Rattle.sv_lexer.specs.Inside.Moved.{progress_to};
 ghost use Rattle.sv_lexer.specs.Partial.{Reads};
 
 use crate::parts::Unit;
@@ -107,7 +107,7 @@ impl Partial {
 
     /// It ends in this, with one byte more.
     fn move_to(&mut self, stage: Stage)
-        ensures { self.new ≡ moved stage self.old }
+        ensures { self.new ≡ progress_to stage self.old }
     {
         self.stage = stage;
         self.size = self.size.saturating_add(1);

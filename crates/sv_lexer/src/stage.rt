@@ -2,7 +2,7 @@
 
 ghost use Rattle.std.specs.Prelude.{◌≡◌};
 ghost use Rattle.sv_lexer.specs.Spelled.{is_word_byte as is_word};
-ghost use Rattle.sv_lexer.specs.Inside.Stage.{behind_graphic as graphic, behind_space as space, begun, next as next_of};
+ghost use Rattle.sv_lexer.specs.Inside.Stage.{behind_graphic as graphic, behind_space as space, letter_stage, next as next_of};
 
 use sv_text::is_space;
 
@@ -99,7 +99,7 @@ fn header_begun(byte: u8) -> Stage
 
 /// A letter begins a mnemonic, which the unit ends in then (IEEE 488.2, 7.6.1.4).
 fn mnemonic_begun(mnemonic: Stage, byte: u8) -> Stage
-    ensures { result ≡ begun mnemonic byte }
+    ensures { result ≡ letter_stage mnemonic byte }
 {
     if byte.is_ascii_alphabetic() {
         mnemonic

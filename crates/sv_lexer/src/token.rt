@@ -1,7 +1,7 @@
 //! The tokens of a unit.
 
 ghost use Rattle.std.specs.Prelude.{◌≡◌, min};
-ghost use Rattle.sv_lexer.specs.Token.{kind_of, told};
+ghost use Rattle.sv_lexer.specs.Token.{kind_of, in_u32};
 
 /// The kind of data of a token, by its first byte.
 #[derive(Clone, Copy, Debug, PartialEq, Eq)]
@@ -32,7 +32,7 @@ pub struct Token<'a> {
 /// The token of a text at a place.
 pub(crate) fn token_at(text: &[u8], place: usize) -> Token<'_>
     ensures text { result.text.now ≡ text.now }
-    ensures start { result.start ≡ told place }
+    ensures start { result.start ≡ in_u32 place }
     ensures kind { result.kind ≡ kind_of text.now }
 {
     let start = u32::try_from(place).unwrap_or(u32::MAX);

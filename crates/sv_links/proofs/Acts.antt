@@ -6,8 +6,8 @@ use Rattle.std.proofs.lemmas.Bool.{cases_eq}
 use Rattle.std.proofs.lemmas.List.{get_or-set_same, get_or-set_other}
 use Rattle.sv_links.specs.declared.enabled.Enabled.{Enabled}
 use Rattle.sv_links.specs.declared.request.Peer.{Peer}
-use Rattle.sv_links.specs.Channels.{ChannelAct, SrqEnabled, SrqDisabled, Requested, enabled, peer, taken, calls, called, handles_of}
-use Rattle.sv_links.specs.ChannelRepresentation.{Channel, Channels, AreChannels, disabled, IsChannel, IsChannelFor, IsQueued, opened_for}
+use Rattle.sv_links.specs.Channels.{ChannelAct, SrqEnabled, SrqDisabled, Requested, enabled_links, peer, bytes_taken, calls, add_call, handles_of}
+use Rattle.sv_links.specs.ChannelRepresentation.{Channel, Channels, AreChannels, without_links, IsChannel, IsChannelFor, IsQueued, opened_for}
 use Rattle.sv_links.proofs.Asking.{other_links}
 use Rattle.sv_links.proofs.Rising.{with_link, enabled-enabled, enabled-disabled}
 
@@ -23,10 +23,10 @@ AreChannels-disabled kept links lid acts same is = record {
 
 -- nor do these
 pub AreChannels-without : (kept : Channels) (lids : List ℕ) (acts : List ChannelAct) → AreChannels kept acts
-    → AreChannels (record kept { enabled = disabled lids kept.enabled }) (map SrqDisabled lids ++ acts)
+    → AreChannels (record kept { enabled = without_links lids kept.enabled }) (map SrqDisabled lids ++ acts)
 AreChannels-without kept [] acts is = is
 AreChannels-without kept (lid ∷ lids) acts is =
-    AreChannels-disabled (record kept { enabled = disabled lids kept.enabled }) (disabled (lid ∷ lids) kept.enabled) lid
+    AreChannels-disabled (record kept { enabled = without_links lids kept.enabled }) (without_links (lid ∷ lids) kept.enabled) lid
     (map SrqDisabled lids ++ acts) refl (AreChannels-without kept lids acts is)
 
 -- a link asks
@@ -41,22 +41,23 @@ AreChannels-enabled kept links link acts same is = record {
 
 channel-requested : (what : Option Peer) (old new : Channel) (count : ℕ) (handles calls : List (List ℕ)) → opened_for old.stage ≡ what
     → ((count : ℕ) (calls : List (List ℕ)) (peer : Peer) → opened_for old.stage ≡ Some peer → IsQueued old count calls
-    → IsQueued new count (fold (called (Some peer) count) calls handles))
-    → IsChannelFor what old count calls → IsChannelFor what new count (fold (called what count) calls handles)
+    → IsQueued new count (fold (add_call (Some peer) count) calls handles))
+    → IsChannelFor what old count calls → IsChannelFor what new count (fold (add_call what count) calls handles)
 channel-requested None old new count handles calls opened sends is = tt
 channel-requested (Some what) old new count handles calls opened sends is = sends count calls what opened is
 
 -- a channel that was sent its calls, as a request is raised
-pub IsChannel-requested : (c : ℕ) (old new : Channel) (links : List Enabled) (acts : List ChannelAct) → links ≡ enabled acts
+pub IsChannel-requested : (c : ℕ) (old new : Channel) (links : List Enabled) (acts : List ChannelAct) → links ≡ enabled_links acts
     → new.stage ≡ old.stage
     → ((count : ℕ) (calls : List (List ℕ)) (peer : Peer) → opened_for old.stage ≡ Some peer → IsQueued old count calls
-    → IsQueued new count (fold (called (Some peer) count) calls (handles_of c links)))
+    → IsQueued new count (fold (add_call (Some peer) count) calls (handles_of c links)))
     → IsChannel old c acts → IsChannel new c (Requested ∷ acts)
 IsChannel-requested c old new links acts same stage sends is = (
   ap opened_for stage ∙ is.0,
   subst (λ (links : List Enabled).
-      IsChannelFor (peer c acts) new (taken c acts) (fold (called (peer c acts) (taken c acts)) (calls c acts) (handles_of c links))) same
-      (channel-requested (peer c acts) old new (taken c acts) (handles_of c links) (calls c acts) is.0 sends is.1),
+      IsChannelFor (peer c acts) new (bytes_taken c acts)
+      (fold (add_call (peer c acts) (bytes_taken c acts)) (calls c acts) (handles_of c links))) same
+      (channel-requested (peer c acts) old new (bytes_taken c acts) (handles_of c links) (calls c acts) is.0 sends is.1),
 )
 
 -- ---- a channel that is written

@@ -8,7 +8,7 @@ use Rattle.sv_links.specs.declared.enabled.Enabled.{Enabled}
 use Rattle.sv_links.specs.declared.request.Peer.{Peer}
 use Rattle.sv_links.specs.declared.channel.Stage.{Stage}
 use Rattle.sv_links.specs.declared.channel.Stage.TheVariants.{Open}
-use Rattle.sv_links.specs.Channels.{called, handles_of}
+use Rattle.sv_links.specs.Channels.{add_call, handles_of}
 use Rattle.sv_links.specs.ChannelRepresentation.{opened_for}
 
 handles_own : (conn : ℕ) (links : List Enabled) (link : Enabled) → eqb link.conn conn ≡ true
@@ -29,16 +29,16 @@ handles_other conn (first ∷ links) link e = elim (cases_Bool (eqb first.conn c
 
 -- the calls for the first links
 abbrev pub called_for : Peer → ℕ → ℕ → List Enabled → ℕ → List (List ℕ) → List (List ℕ)
-called_for peer count conn links n calls = fold (called (Some peer) count) calls (handles_of conn (take n links))
+called_for peer count conn links n calls = fold (add_call (Some peer) count) calls (handles_of conn (take n links))
 
 -- a link of the connection is called
 pub called_own : (peer : Peer) (count conn : ℕ) (links : List Enabled) (i : ℕ) (link : Enabled) (calls : List (List ℕ)) → i < length links
     → link ≡ get_or links i link → link.conn ≡ conn
-    → called (Some peer) count (called_for peer count conn links i calls) link.handle
+    → add_call (Some peer) count (called_for peer count conn links i calls) link.handle
     ≡ called_for peer count conn links (i + 1) calls
 called_own peer count conn links i link calls lt at own =
-    sym (fold-append (called (Some peer) count) calls (handles_of conn (take i links)) (link.handle ∷ []))
-    ∙ ap (fold (called (Some peer) count) calls)
+    sym (fold-append (add_call (Some peer) count) calls (handles_of conn (take i links)) (link.handle ∷ []))
+    ∙ ap (fold (add_call (Some peer) count) calls)
     (sym (ap (handles_of conn) (take_more links i link lt ∙ ap (λ (x : Enabled). take i links ++ x ∷ []) (sym at))
     ∙ handles_own conn (take i links) link (eq-eqb link.conn conn own)))
 
@@ -47,7 +47,7 @@ pub called_other : (peer : Peer) (count conn : ℕ) (links : List Enabled) (i : 
     → link ≡ get_or links i link → link.conn ≢ conn
     → called_for peer count conn links i calls ≡ called_for peer count conn links (i + 1) calls
 called_other peer count conn links i link calls lt at apart =
-    ap (fold (called (Some peer) count) calls)
+    ap (fold (add_call (Some peer) count) calls)
     (sym (ap (handles_of conn) (take_more links i link lt ∙ ap (λ (x : Enabled). take i links ++ x ∷ []) (sym at))
     ∙ handles_other conn (take i links) link (ne_eqb link.conn conn apart)))
 

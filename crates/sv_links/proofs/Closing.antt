@@ -6,7 +6,7 @@ use Rattle.std.specs.Option.{option_eq}
 use Rattle.std.proofs.lemmas.Bool.{ne_eqb, cases_Bool, eqb-true}
 use mathlib.Core.List.{reverse_aux, reverse_aux-eq}
 use Rattle.sv_links.specs.declared.links.Link.{Link}
-use Rattle.sv_links.specs.Links.{LinkAct, Destroyed, made, live, owner, is_of, closing, is_locked, is_this}
+use Rattle.sv_links.specs.Links.{LinkAct, Destroyed, links_made, live, owner, is_of, closing, is_locked, is_this}
 use Rattle.sv_links.specs.Table.{Table, IsTable, IsRising}
 use Rattle.sv_links.proofs.Slots.{keep, kept-filter}
 use Rattle.sv_links.proofs.Tables.{Below, above-filter, rising-filter, other_than}
@@ -20,7 +20,7 @@ abbrev without : List Link → List Link → List Link
 without [] xs = xs
 without (y ∷ ys) xs = without ys (filter (other_than y.lid) xs)
 
-made-gone : (ys : List Link) (acts : List LinkAct) → made (gone ys acts) ≡ made acts
+made-gone : (ys : List Link) (acts : List LinkAct) → links_made (gone ys acts) ≡ links_made acts
 made-gone [] acts = refl
 made-gone (y ∷ ys) acts = made-gone ys (Destroyed y.lid ∷ acts)
 

@@ -5,12 +5,12 @@ use Rattle.std.specs.List.{concat, AllByRecursion}
 use Rattle.std.proofs.lemmas.Bool.{cases_Bool, ltb-true, ltb-false, lt-ltb, le-ltb}
 use Rattle.std.proofs.lemmas.List.{length-append, length-drop, drop_at, drop-drop, drop-append-le}
 use Rattle.std.proofs.lemmas.List.Sums.{sum_by-cons}
-use Rattle.sv_links.specs.Channels.{untaken}
+use Rattle.sv_links.specs.Channels.{calls_left}
 use Rattle.sv_links.specs.Limits.{longest_call}
 use Rattle.sv_links.specs.ChannelRepresentation.{left_in}
 
 -- the sizes of what is left of calls are what is left of their sizes
-pub left-sizes : (count : ℕ) (calls : List (List ℕ)) → map length (untaken count calls) ≡ left_in count (map length calls)
+pub left-sizes : (count : ℕ) (calls : List (List ℕ)) → map length (calls_left count calls) ≡ left_in count (map length calls)
 left-sizes count [] = refl
 left-sizes count (call ∷ calls) = elim (cases_Bool (ltb count (length call))) [
   | inl e ↦ rw e (ap (λ (n : ℕ). n ∷ map length calls) (length-drop count call))
@@ -24,7 +24,7 @@ drop-past count xs ys h =
     ∙ ap (drop (count - length xs)) (drop_at xs ys (length xs) refl)
 
 -- the bytes of what is left of calls are what is left of their bytes
-pub left-bytes : (count : ℕ) (calls : List (List ℕ)) → concat (untaken count calls) ≡ drop count (concat calls)
+pub left-bytes : (count : ℕ) (calls : List (List ℕ)) → concat (calls_left count calls) ≡ drop count (concat calls)
 left-bytes zero [] = refl
 left-bytes (suc count) [] = refl
 left-bytes count (call ∷ calls) = elim (cases_Bool (ltb count (length call))) [
@@ -35,7 +35,7 @@ left-bytes count (call ∷ calls) = elim (cases_Bool (ltb count (length call))) 
 ]
 
 -- what is left, and of that what is left
-pub left-left : (m n : ℕ) (calls : List (List ℕ)) → untaken n (untaken m calls) ≡ untaken (m + n) calls
+pub left-left : (m n : ℕ) (calls : List (List ℕ)) → calls_left n (calls_left m calls) ≡ calls_left (m + n) calls
 left-left m n [] = refl
 left-left m n (call ∷ calls) = elim (cases_Bool (ltb m (length call))) [
   | inl e ↦
@@ -48,18 +48,18 @@ left-left m n (call ∷ calls) = elim (cases_Bool (ltb m (length call))) [
         | inr k ↦
             let all = ltb-false (m + n) (length call) k in
             let rest : n - length (drop m call) ≡ m + n - length call = omega arith in
-            rw (e, k, le-ltb n (length (drop m call)) (omega arith)) (ap (λ (n : ℕ). untaken n calls) rest)
+            rw (e, k, le-ltb n (length (drop m call)) (omega arith)) (ap (λ (n : ℕ). calls_left n calls) rest)
       ]
   | inr e ↦
       let le = ltb-false m (length call) e in
       let rest : m - length call + n ≡ m + n - length call = omega arith in
       rw (e, le-ltb (m + n) (length call) (omega arith))
-      (left-left (m - length call) n calls ∙ ap (λ (n : ℕ). untaken n calls) rest)
+      (left-left (m - length call) n calls ∙ ap (λ (n : ℕ). calls_left n calls) rest)
 ]
 
 -- a call that is sent behind others is left, where no more than those were taken
 pub left-push : (count : ℕ) (calls : List (List ℕ)) (call : List ℕ) → 0 < length call → count ≤ length (concat calls)
-    → untaken count (calls ++ call ∷ []) ≡ untaken count calls ++ call ∷ []
+    → calls_left count (calls ++ call ∷ []) ≡ calls_left count calls ++ call ∷ []
 left-push count [] call some h = rw (lt-ltb count (length call) (omega arith)) (
     let none : count ≡ 0 = omega arith in rw none refl
     )

@@ -3,7 +3,7 @@ use Rattle.std.proofs.Common.{◌≡◌, ℕ, Bool, true, false, eqb, cond, List
 use Rattle.std.specs.Prelude.{not, find, ◌&&◌}
 use Rattle.std.specs.Option.{option_eq}
 use Rattle.std.proofs.lemmas.Bool.{cases_Bool, eqb-true, eqb-false, ne_eqb, true≢false, false≢true}
-use Rattle.sv_links.specs.Links.{LinkAct, Made, Destroyed, Locked, Unlocked, locked, is_locked, holder, is_this, is_locked_out}
+use Rattle.sv_links.specs.Links.{LinkAct, Made, Destroyed, Locked, Unlocked, lock_order, is_locked, holder, is_this, is_locked_out}
 use Rattle.sv_links.specs.Table.{Table, IsTable}
 
 abbrev Among : ℕ → List ℕ → Type 0
@@ -15,7 +15,7 @@ and-true true b e = e
 and-true false b e = absurd (false≢true e)
 
 -- what is locked was locked
-was_locked : (lid : ℕ) (acts : List LinkAct) → is_locked lid acts ≡ true → Among lid (locked acts)
+was_locked : (lid : ℕ) (acts : List LinkAct) → is_locked lid acts ≡ true → Among lid (lock_order acts)
 was_locked lid [] e = absurd (false≢true e)
 was_locked lid (Made other conn ∷ acts) e = was_locked lid acts e
 was_locked lid (Destroyed other ∷ acts) e = was_locked lid acts (and-true (not (eqb other lid)) (is_locked lid acts) e)
@@ -37,9 +37,9 @@ found_one test m all (n ∷ ns) among = elim (cases_Bool (eqb m n)) [
 ]
 
 holder_from : (o : Option ℕ) (acts : List LinkAct) → ((lid : ℕ) → is_locked lid acts ≡ is_this lid o) → holder acts ≡ o
-holder_from None acts h = found_none (λ lid. is_locked lid acts) h (locked acts)
+holder_from None acts h = found_none (λ lid. is_locked lid acts) h (lock_order acts)
 holder_from (Some m) acts h =
-    found_one (λ lid. is_locked lid acts) m h (locked acts) (was_locked m acts (h m ∙ eq-eqb m m refl))
+    found_one (λ lid. is_locked lid acts) m h (lock_order acts) (was_locked m acts (h m ∙ eq-eqb m m refl))
 
 pub holder_is : (table : Table) (acts : List LinkAct) → IsTable table acts → holder acts ≡ table.holder
 holder_is table acts is = holder_from table.holder acts is.lock

@@ -4,7 +4,7 @@ use Rattle.std.specs.Prelude.{max}
 use Rattle.std.specs.List.{AllByRecursion, filter_map, range_with_len, cons_option}
 use Rattle.std.proofs.lemmas.Bool.{cases_Bool, cases_eq, cond_both, ne_eqb, lt-ltb, le-ltb}
 use Rattle.sv_links.specs.declared.enabled.Enabled.{Enabled}
-use Rattle.sv_links.specs.Channels.{ChannelAct, SrqEnabled, SrqDisabled, srq_enabled, past, enabled}
+use Rattle.sv_links.specs.Channels.{ChannelAct, SrqEnabled, SrqDisabled, srq_enabled, past, enabled_links}
 use Rattle.sv_links.specs.ChannelRepresentation.{IsSorted}
 use Rattle.sv_links.proofs.Asking.{below, above, other_links, none_below, all_above}
 
@@ -67,7 +67,7 @@ sorted a (suc n) acts =
     sorted_with a (srq_enabled a acts) (among (a + 1) n acts) (asked-at a acts) (behind a (a + 1) n acts (omega arith)) (sorted (a
     + 1) n acts)
 
-pub enabled-sorted : (acts : List ChannelAct) → IsSorted (enabled acts)
+pub enabled-sorted : (acts : List ChannelAct) → IsSorted (enabled_links acts)
 enabled-sorted acts = sorted 0 (past acts) acts
 
 -- ---- a link asks no more
@@ -93,7 +93,7 @@ less lid a (suc n) acts =
           ∙ with_other lid a (srq_enabled a acts) rest (asked-at a acts) e)
     ]
 
-pub enabled-disabled : (lid : ℕ) (acts : List ChannelAct) → enabled (SrqDisabled lid ∷ acts) ≡ other_links lid (enabled acts)
+pub enabled-disabled : (lid : ℕ) (acts : List ChannelAct) → enabled_links (SrqDisabled lid ∷ acts) ≡ other_links lid (enabled_links acts)
 enabled-disabled lid acts = less lid 0 (past acts) acts
 
 -- ---- a link asks
@@ -153,7 +153,7 @@ longer a (suc n) (suc m) acts all le =
     ap (cons_option (srq_enabled a acts)) (longer (a + 1) n m acts (omega (arith, all)) (omega (arith, le)))
 
 pub enabled-enabled : (link : Enabled) (acts : List ChannelAct)
-    → enabled (SrqEnabled link.lid link.conn link.handle ∷ acts) ≡ with_link link (enabled acts)
+    → enabled_links (SrqEnabled link.lid link.conn link.handle ∷ acts) ≡ with_link link (enabled_links acts)
 enabled-enabled link acts =
     let n = max (link.lid + 1) (past acts) in
     more link 0 n acts (omega arith) (omega arith)

@@ -10,7 +10,7 @@ use Rattle.sv_links.specs.declared.channel.Stage.TheVariants.{Closed, Open}
 use Rattle.sv_links.specs.declared.request.Peer.{Peer}
 use Rattle.sv_links.specs.Limits.{max_calls}
 use Rattle.sv_links.specs.Request.{request}
-use Rattle.sv_links.specs.Channels.{untaken, may_call, called}
+use Rattle.sv_links.specs.Channels.{calls_left, may_call, add_call}
 use Rattle.sv_links.specs.ChannelRepresentation.{Channel, IsQueued, left_in}
 use Rattle.sv_links.proofs.Left.{left-sizes, left-bytes, left-left, left-push}
 use Rattle.sv_links.proofs.Requests.{request_is_some}
@@ -21,8 +21,8 @@ pub IsQueued-taken : (old new : Channel) (before count : ℕ) (calls : List (Lis
     → IsQueued old before calls → IsQueued new (before + count) calls
 IsQueued-taken old new before count calls made sizes bytes within is = (
   made ∙ is.0,
-  sizes ∙ ap (left_in count) is.1 ∙ sym (left-sizes count (untaken before calls)) ∙ ap (map length) (left-left before count calls),
-  bytes ∙ ap (drop count) is.2 ∙ sym (left-bytes count (untaken before calls)) ∙ ap concat (left-left before count calls),
+  sizes ∙ ap (left_in count) is.1 ∙ sym (left-sizes count (calls_left before calls)) ∙ ap (map length) (left-left before count calls),
+  bytes ∙ ap (drop count) is.2 ∙ sym (left-bytes count (calls_left before calls)) ∙ ap concat (left-left before count calls),
   omega (arith, within, ap length is.2, ap length (left-bytes before calls), length-drop before (concat calls), is.3),
 )
 
@@ -36,17 +36,17 @@ pub IsQueued-called : (old new : Channel) (count : ℕ) (calls : List (List ℕ)
 IsQueued-called old new count calls call made sizes bytes some is =
     let left = left-push count calls call some is.3 in (
       made ∙ ap (λ (n : ℕ). n + 1) is.0 ∙ sym (length_push calls call),
-      sizes ∙ ap (λ (ns : List ℕ). ns ++ length call ∷ []) is.1 ∙ sym (map_push length (untaken count calls) call)
+      sizes ∙ ap (λ (ns : List ℕ). ns ++ length call ∷ []) is.1 ∙ sym (map_push length (calls_left count calls) call)
           ∙ ap (map length) (sym left),
-      bytes ∙ ap (λ (b : List ℕ). b ++ call) is.2 ∙ sym (concat_push (untaken count calls) call) ∙ ap concat (sym left),
+      bytes ∙ ap (λ (b : List ℕ). b ++ call) is.2 ∙ sym (concat_push (calls_left count calls) call) ∙ ap concat (sym left),
       omega (arith, is.3, ap length (concat_push calls call), length-append (concat calls) call),
     )
 
 -- ---- whether one may be sent
 
 sizes_are : (kept : Channel) (count : ℕ) (calls : List (List ℕ)) → IsQueued kept count calls
-    → length kept.sizes ≡ length (untaken count calls)
-sizes_are kept count calls is = ap length is.1 ∙ length-map (untaken count calls) length
+    → length kept.sizes ≡ length (calls_left count calls)
+sizes_are kept count calls is = ap length is.1 ∙ length-map (calls_left count calls) length
 
 pub may_be_sent : (kept : Channel) (count : ℕ) (calls : List (List ℕ)) → IsQueued kept count calls → length kept.sizes < max_calls
     → kept.made < 4294967295 → may_call count calls ≡ true
@@ -60,7 +60,7 @@ and_false false m h = refl
 pub is_last : (kept : Channel) (count : ℕ) (calls : List (List ℕ)) → IsQueued kept count calls → 4294967295 ≤ kept.made
     → may_call count calls ≡ false
 is_last kept count calls is h =
-    rw (← is.0) (and_false (nat_lt (length (untaken count calls)) max_calls) kept.made h)
+    rw (← is.0) (and_false (nat_lt (length (calls_left count calls)) max_calls) kept.made h)
 
 -- the calls behind which one was sent, if it may be
 abbrev with_call : Peer → List ℕ → List (List ℕ) → Bool → List (List ℕ)
@@ -70,7 +70,7 @@ with_call peer handle calls can = if can then calls ++ request (length calls + 1
 pub IsQueued-sent : (old new : Channel) (peer : Peer) (handle : List ℕ) (count : ℕ) (calls : List (List ℕ)) (size : ℕ)
     → new.made ≡ old.made + 1 → new.sizes ≡ old.sizes ++ size ∷ [] → new.bytes ≡ old.bytes ++ request (old.made + 1) peer handle
     → length new.bytes ≡ length old.bytes + size → length old.sizes < max_calls → old.made < 4294967295
-    → IsQueued old count calls → IsQueued new count (called (Some peer) count calls handle)
+    → IsQueued old count calls → IsQueued new count (add_call (Some peer) count calls handle)
 IsQueued-sent old new peer handle count calls size made sizes bytes total few left is =
     let call = request (length calls + 1) peer handle in
     let bytes : new.bytes ≡ old.bytes ++ call = bytes ∙ ap (λ (n : ℕ). old.bytes ++ request (n + 1) peer handle) is.0 in

@@ -6,7 +6,7 @@ use Rattle.sv_links.specs.declared.request.Peer.{Peer}
 use Rattle.sv_links.specs.declared.channel.Stage.{Stage}
 use Rattle.sv_links.specs.declared.channel.Stage.TheVariants.{Closed, Prepared, Open}
 use Rattle.sv_links.specs.Limits.{max_connections, max_enabled}
-use Rattle.sv_links.specs.Channels.{ChannelAct, enabled, peer, taken, calls, untaken}
+use Rattle.sv_links.specs.Channels.{ChannelAct, enabled_links, peer, bytes_taken, calls, calls_left}
 
 -- one channel: its stage, how many calls were sent on it, how many bytes wait of each call, and these bytes
 pub record Channel : Type 0 where
@@ -39,8 +39,8 @@ left_in count (size ∷ sizes) = if nat_lt count size then (size - count) ∷ si
 
 -- The channel keeps these calls, of which the peer took so many bytes, no more than there are.
 abbrev pub IsQueued : Channel → ℕ → List (List ℕ) → Type 0
-IsQueued kept count calls = (kept.made ≡ length calls) × (kept.sizes ≡ map length (untaken count calls))
-    × (kept.bytes ≡ concat (untaken count calls)) × (count ≤ length (concat calls))
+IsQueued kept count calls = (kept.made ≡ length calls) × (kept.sizes ≡ map length (calls_left count calls))
+    × (kept.bytes ≡ concat (calls_left count calls)) × (count ≤ length (concat calls))
 
 -- If the channel is open, it keeps these calls.
 abbrev pub IsChannelFor : Option Peer → Channel → ℕ → List (List ℕ) → Type 0
@@ -49,7 +49,7 @@ IsChannelFor None kept count calls = ⊤
 
 -- The channel of a connection keeps what the acts say.
 abbrev pub IsChannel : Channel → ℕ → List ChannelAct → Type 0
-IsChannel kept c acts = (opened_for kept.stage ≡ peer c acts) × IsChannelFor (peer c acts) kept (taken c acts) (calls c acts)
+IsChannel kept c acts = (opened_for kept.stage ≡ peer c acts) × IsChannelFor (peer c acts) kept (bytes_taken c acts) (calls c acts)
 
 -- The links stand by rising number.
 abbrev pub IsSorted : List Enabled → Type 0
@@ -61,9 +61,9 @@ abbrev pub HasRoomFor : ℕ → Channels → Type 0
 HasRoomFor lid kept = length (filter (λ other. not (other.lid == lid)) kept.enabled) < max_enabled
 
 -- the links without those of these numbers
-abbrev pub disabled : List ℕ → List Enabled → List Enabled
-disabled [] links = links
-disabled (lid ∷ lids) links = filter (λ other. not (other.lid == lid)) (disabled lids links)
+abbrev pub without_links : List ℕ → List Enabled → List Enabled
+without_links [] links = links
+without_links (lid ∷ lids) links = filter (λ other. not (other.lid == lid)) (without_links lids links)
 
 -- the links without those of a connection
 abbrev pub of_others : ℕ → List Enabled → List Enabled
@@ -84,6 +84,6 @@ IsReady kept c = (other : Channel) → is_prepared (slice_index_or kept.channels
 
 -- These are kept as the acts say, and no other channel is open.
 pub record AreChannels (kept : Channels) (acts : List ChannelAct) : Type 0 where
-  pub enabled : kept.enabled ≡ enabled acts
+  pub enabled : kept.enabled ≡ enabled_links acts
   pub each : (c : ℕ) (other : Channel) → c < max_connections → IsChannel (slice_index_or kept.channels c other) c acts
   pub beyond : (c : ℕ) → max_connections ≤ c → peer c acts ≡ None

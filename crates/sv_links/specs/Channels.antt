@@ -32,8 +32,8 @@ past (SrqEnabled lid conn handle ∷ acts) = max (lid + 1) (past acts)
 past (_ ∷ acts) = past acts
 
 -- the links that have service requests enabled, by rising number, each with its newest handle
-abbrev pub enabled : List ChannelAct → List Enabled
-enabled acts = filter_map (λ lid. srq_enabled lid acts) (range_with_len 0 (past acts))
+abbrev pub enabled_links : List ChannelAct → List Enabled
+enabled_links acts = filter_map (λ lid. srq_enabled lid acts) (range_with_len 0 (past acts))
 
 -- the handles of those of a connection
 abbrev pub handles_of : ℕ → List Enabled → List (List ℕ)
@@ -51,33 +51,33 @@ abbrev pub is_channel_open : ℕ → List ChannelAct → Bool
 is_channel_open c acts = is_some (peer c acts)
 
 -- how many bytes of a channel the peer took since it was opened
-abbrev pub taken : ℕ → List ChannelAct → ℕ
-taken c [] = 0
-taken c (ChannelOpened conn what ∷ acts) = if conn == c then 0 else taken c acts
-taken c (ChannelClosed conn ∷ acts) = if conn == c then 0 else taken c acts
-taken c (ChannelTaken conn count ∷ acts) = if conn == c then taken c acts + count else taken c acts
-taken c (_ ∷ acts) = taken c acts
+abbrev pub bytes_taken : ℕ → List ChannelAct → ℕ
+bytes_taken c [] = 0
+bytes_taken c (ChannelOpened conn what ∷ acts) = if conn == c then 0 else bytes_taken c acts
+bytes_taken c (ChannelClosed conn ∷ acts) = if conn == c then 0 else bytes_taken c acts
+bytes_taken c (ChannelTaken conn count ∷ acts) = if conn == c then bytes_taken c acts + count else bytes_taken c acts
+bytes_taken c (_ ∷ acts) = bytes_taken c acts
 
 -- the calls that the peer didn't take completely, the first without the bytes that it took
-abbrev pub untaken : ℕ → List (List ℕ) → List (List ℕ)
-untaken count [] = []
-untaken count (call ∷ calls) = if nat_lt count (length call) then drop count call ∷ calls else untaken (count - length call) calls
+abbrev pub calls_left : ℕ → List (List ℕ) → List (List ℕ)
+calls_left count [] = []
+calls_left count (call ∷ calls) = if nat_lt count (length call) then drop count call ∷ calls else calls_left (count - length call) calls
 
 -- whether one more call may be sent: fewer than 32 aren't taken completely, and a number is left
 abbrev pub may_call : ℕ → List (List ℕ) → Bool
-may_call count calls = nat_lt (length (untaken count calls)) max_calls && nat_lt (length calls) 4294967295
+may_call count calls = nat_lt (length (calls_left count calls)) max_calls && nat_lt (length calls) 4294967295
 
 -- these calls, with one more for this handle if it may be sent; the calls of a channel are numbered from 1
-abbrev pub called : Option Peer → ℕ → List (List ℕ) → List ℕ → List (List ℕ)
-called (Some what) count calls handle = if may_call count calls then calls ++ request (length calls + 1) what handle ∷ [] else calls
-called None count calls handle = calls
+abbrev pub add_call : Option Peer → ℕ → List (List ℕ) → List ℕ → List (List ℕ)
+add_call (Some what) count calls handle = if may_call count calls then calls ++ request (length calls + 1) what handle ∷ [] else calls
+add_call None count calls handle = calls
 
 -- the calls that were sent on the channel of a connection since it was opened: one for each of its links at each request
 abbrev pub calls : ℕ → List ChannelAct → List (List ℕ)
 calls c [] = []
 calls c (ChannelOpened conn what ∷ acts) = if conn == c then [] else calls c acts
 calls c (ChannelClosed conn ∷ acts) = if conn == c then [] else calls c acts
-calls c (Requested ∷ acts) = fold (called (peer c acts) (taken c acts)) (calls c acts) (handles_of c (enabled acts))
+calls c (Requested ∷ acts) = fold (add_call (peer c acts) (bytes_taken c acts)) (calls c acts) (handles_of c (enabled_links acts))
 calls c (_ ∷ acts) = calls c acts
 
 -- all calls that were ever sent on it, also before it was opened anew
@@ -88,4 +88,4 @@ all_calls c (_ ∷ acts) = all_calls c acts
 
 -- the bytes that wait to be sent on the channel of a connection; none if it isn't open
 abbrev pub waiting : ℕ → List ChannelAct → List ℕ
-waiting c acts = if is_channel_open c acts then concat (untaken (taken c acts) (calls c acts)) else []
+waiting c acts = if is_channel_open c acts then concat (calls_left (bytes_taken c acts) (calls c acts)) else []

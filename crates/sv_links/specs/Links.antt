@@ -14,10 +14,10 @@ pub data LinkAct : Type 0 where
   Unlocked : (lid : ℕ) → LinkAct
 
 -- how many links were ever made; the number of the next is one more
-abbrev pub made : List LinkAct → ℕ
-made [] = 0
-made (Made lid conn ∷ acts) = made acts + 1
-made (_ ∷ acts) = made acts
+abbrev pub links_made : List LinkAct → ℕ
+links_made [] = 0
+links_made (Made lid conn ∷ acts) = links_made acts + 1
+links_made (_ ∷ acts) = links_made acts
 
 -- the live links, each with the connection that made it: those that were made and not destroyed, in the order in which they were made
 abbrev pub live : List LinkAct → List Link
@@ -44,7 +44,7 @@ lowest conn acts = find (λ lid. true) (links_of conn acts)
 
 -- whether a number is left for a link: the last is 2,147,483,647
 abbrev pub lids_left : List LinkAct → Bool
-lids_left acts = nat_lt (made acts) 2147483647
+lids_left acts = nat_lt (links_made acts) 2147483647
 
 -- whether one more link may be made: fewer than 32 live, and a number is left
 abbrev pub may_make : List LinkAct → Bool
@@ -55,8 +55,8 @@ abbrev pub closing : ℕ → List LinkAct → List LinkAct
 closing conn acts = reverse (map Destroyed (links_of conn acts))
 
 -- the links that were ever locked, the newest first
-abbrev pub locked : List LinkAct → List ℕ
-locked = filter_map (elim [ Locked lid ↦ Some lid | _ ↦ None ])
+abbrev pub lock_order : List LinkAct → List ℕ
+lock_order = filter_map (elim [ Locked lid ↦ Some lid | _ ↦ None ])
 
 -- whether a link was locked, and since then neither unlocked nor destroyed
 abbrev pub is_locked : ℕ → List LinkAct → Bool
@@ -68,7 +68,7 @@ is_locked lid (_ ∷ acts) = is_locked lid acts
 
 -- the link that holds the lock: the newest that was locked, and since then neither unlocked nor destroyed; `None` if the lock is free
 abbrev pub holder : List LinkAct → Option ℕ
-holder acts = find (λ lid. is_locked lid acts) (locked acts)
+holder acts = find (λ lid. is_locked lid acts) (lock_order acts)
 
 -- whether another link than this one holds the lock; for a call that names no link, whether any link does
 abbrev pub is_locked_out : Option ℕ → Option ℕ → Bool

@@ -2,7 +2,7 @@
 use Rattle.std.specs.Prelude.{◌≡◌, ℕ, ◌<◌, ◌≤◌, List, [], ◌∷◌, ◌++◌, is_some, count_by, Option, Some, None, ⊤}
 use Rattle.std.specs.List.{AllByRecursion}
 use Rattle.sv_links.specs.declared.links.Link.{Link}
-use Rattle.sv_links.specs.Links.{LinkAct, made, live, is_locked, is_this}
+use Rattle.sv_links.specs.Links.{LinkAct, links_made, live, is_locked, is_this}
 
 -- how many links were ever made; a live link or nothing at each key of the slab; the link that holds the lock; for how many more links
 -- there is memory
@@ -30,7 +30,7 @@ IsRising (link ∷ links) last = (link.lid ≤ last) × AllByRecursion (λ other
 
 -- The table keeps what the acts say of links: each live link at one key, and nothing else.
 pub record IsTable (table : Table) (acts : List LinkAct) : Type 0 where
-  pub made : table.made ≡ made acts
+  pub made : table.made ≡ links_made acts
   pub kept : IsKept table.slots (live acts)
   pub rising : IsRising (live acts) table.made
   pub lock : (lid : ℕ) → is_locked lid acts ≡ is_this lid table.holder

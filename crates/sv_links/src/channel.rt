@@ -3,7 +3,7 @@
 ghost use Rattle.std.specs.Prelude.{◌≡◌, ◌+◌, ◌≤◌, ℕ, List, [], length, OnOk, OnErr, is_some, Some, None, true, false};
 ghost use Rattle.std.specs.List.{fold};
 ghost use Rattle.sv_links.specs.Limits.{max_handle, max_queued};
-ghost use Rattle.sv_links.specs.Channels.{called, handles_of};
+ghost use Rattle.sv_links.specs.Channels.{add_call, handles_of};
 ghost use Rattle.sv_links.specs.ChannelRepresentation.{opened_for, is_prepared, IsQueued, left_in};
 
 use crate::enabled::Enabled;
@@ -169,7 +169,7 @@ impl<A: Allocator> Channel<A> {
         ensures stage { self.new.stage ≡ self.old.stage }
         ensures queued { (count : ℕ) (calls : List (List ℕ)) → IsQueued self.old count calls
             → IsQueued self.new count
-            (called (Some peer) count calls handle.now) }
+            (add_call (Some peer) count calls handle.now) }
     {
         if self.sizes.len() >= MAX_CALLS || self.made == u32::MAX {
             return;
@@ -186,7 +186,7 @@ impl<A: Allocator> Channel<A> {
         ensures queued { (count : ℕ) (calls : List (List ℕ)) (peer : Peer)
             → opened_for self.old.stage ≡ Some peer → IsQueued self.old count calls
             → IsQueued self.new count
-            (fold (called (Some peer) count) calls (handles_of conn enabled.now)) }
+            (fold (add_call (Some peer) count) calls (handles_of conn enabled.now)) }
     {
         let Stage::Open(peer) = self.stage else {
             return;

@@ -4,7 +4,7 @@
 ghost use Rattle.std.specs.Prelude.{◌≡◌, ◌<◌, ◌≤◌, ◌==◌, ◌++◌, ℕ, List, [], ◌∷◌, map, length, filter, not, IfOk, OnOk, OnErr, false, true};
 ghost use Rattle.sv_links.specs.Limits.{max_connections, max_handle, max_queued};
 ghost use Rattle.sv_links.specs.Channels.{ChannelAct, SrqEnabled, SrqDisabled, ChannelOpened, ChannelClosed, Requested, ChannelTaken, is_channel_open, waiting};
-ghost use Rattle.sv_links.specs.ChannelRepresentation.{AreChannels, IsReady, HasRoomFor, bytes_of, disabled, of_others};
+ghost use Rattle.sv_links.specs.ChannelRepresentation.{AreChannels, IsReady, HasRoomFor, bytes_of, without_links, of_others};
 
 use crate::channel::Channel;
 use crate::enabled::Enabled;
@@ -160,7 +160,7 @@ impl<A: Allocator> Intr<A> {
     /// Disables service requests of all links of a connection.
     pub fn disable_connection(&mut self, conn: u8)
         ensures stands { (lids : List ℕ) (acts : List ChannelAct) → AreChannels self.old acts
-            → disabled lids self.old.enabled ≡ of_others conn self.old.enabled
+            → without_links lids self.old.enabled ≡ of_others conn self.old.enabled
             → AreChannels self.new (map SrqDisabled lids ++ acts) }
         ensures enabled { self.new.enabled ≡ of_others conn self.old.enabled }
         ensures ready { self.new.channels ≡ self.old.channels }

@@ -2,7 +2,7 @@
 
 ghost use Rattle.std.specs.Prelude.{◌≡◌, ◌+◌, ◌<◌, ◌≤◌, ◌^◌, ◌↔◌, not, ℕ, List, [], ◌∷◌, ◌++◌, length, IfOk, OnOk, OnErr, IsOk, Some, Err, true, false};
 ghost use Rattle.sv_links.specs.Limits.{max_links};
-ghost use Rattle.sv_links.specs.Links.{LinkAct, Made, Destroyed, Locked, Unlocked, closing, made, live, lids_left, owner, may_make, lowest, holder, is_locked_out, is_this};
+ghost use Rattle.sv_links.specs.Links.{LinkAct, Made, Destroyed, Locked, Unlocked, closing, links_made, live, lids_left, owner, may_make, lowest, holder, is_locked_out, is_this};
 ghost use Rattle.sv_links.specs.Table.{IsTable, count_of};
 
 use crate::limits::MAX_LINKS;
@@ -122,7 +122,7 @@ impl<A: Allocator> Links<A> {
     pub fn create(&mut self, conn: u8) -> Result<u32, CreateRefused>
         ensures number { IfOk result (λ lid. lid < 2 ^ 31) }
         ensures ok { (acts : List LinkAct) → IsTable self.old acts → IfOk result
-            (λ lid. (lid ≡ made acts + 1) × IsTable self.new (Made lid conn ∷ acts)) }
+            (λ lid. (lid ≡ links_made acts + 1) × IsTable self.new (Made lid conn ∷ acts)) }
         ensures spare { OnOk result (self.old.spare ≤ self.new.spare + 1) }
         ensures refused { (acts : List LinkAct) → IsTable self.old acts
             → (result ≡ Err CreateRefused.OutOfResources) ↔ (may_make acts ≡ false) }

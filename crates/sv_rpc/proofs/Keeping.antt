@@ -4,7 +4,7 @@ use Rattle.std.specs.Int.{w32, from_be_bytes}
 use Rattle.sv_rpc.specs.Limits.{max_record}
 use Rattle.sv_rpc.specs.Record.{Tail, Header, Data, TooLong}
 use Rattle.sv_rpc.specs.RecordBuf.{Records}
-use Rattle.sv_rpc.specs.Representation.{Keeps, payload_of, after_byte, after_header, after_data, finished}
+use Rattle.sv_rpc.specs.Representation.{Keeps, payload_of, after_byte, after_header, after_data, finish_record}
 
 abbrev held : List (List ℕ) → Tail → Records
 held records tail = record { records = records; tail = tail }
@@ -19,7 +19,7 @@ Front records new = (more : List (List ℕ)) × (new.records ≡ records ++ more
 
 header_cases : (records : List (List ℕ)) (tail : Tail) (size : ℕ) (long some last : Bool)
     → Front records (cond long (held records TooLong) (cond some (held records (Data (payload_of tail) size last))
-    (cond last (finished records tail) (held records (Header (payload_of tail) [])))))
+    (cond last (finish_record records tail) (held records (Header (payload_of tail) [])))))
 header_cases records tail size true some last = ([], sym (append-nil records))
 header_cases records tail size false true last = ([], sym (append-nil records))
 header_cases records tail size false false true = (payload_of tail ∷ [], refl)

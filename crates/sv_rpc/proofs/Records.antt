@@ -8,7 +8,7 @@ use Rattle.sv_rpc.specs.declared.record_buf.Place.TheVariants as place
 use Rattle.sv_rpc.specs.Limits.{capacity}
 use Rattle.sv_rpc.specs.Record.{Header, Data}
 use Rattle.sv_rpc.specs.RecordBuf.{Records, StandsFor, IsRoom, used_by, room_of}
-use Rattle.sv_rpc.specs.Representation.{IsValid, InRoom, IsPlace, IsBeforeHeader, IsInData, held_of, cut, tail_of, finished, begun_of, after_data}
+use Rattle.sv_rpc.specs.Representation.{IsValid, InRoom, IsPlace, IsBeforeHeader, IsInData, held_of, cut, tail_of, finish_record, begun_of, after_data}
 use Rattle.sv_rpc.proofs.Cuts.{sum-push, cut-append, cut-push, used_at_header, used_in_data}
 
 -- the room of a value is the room of the stream
@@ -83,7 +83,7 @@ pub finish_holds : (bytes lengths lengths' header : List ℕ) (space slots paylo
     → IsValid bytes lengths header space slots payload header_len spot
     → IsBeforeHeader (tail_of spot (drop (sum lengths) bytes) (take header_len header)) → lengths' ≡ lengths ++ payload ∷ []
     → held_of bytes lengths' (take header_len header) spot
-    ≡ finished (cut lengths bytes) (tail_of spot (drop (sum lengths) bytes) (take header_len header))
+    ≡ finish_record (cut lengths bytes) (tail_of spot (drop (sum lengths) bytes) (take header_len header))
 finish_holds bytes lengths lengths' header space slots payload header_len place.Header k h e =
     let records : cut lengths' bytes ≡ cut lengths bytes ++ drop (sum lengths) bytes ∷ [] =
     ap (λ (ns : List ℕ). cut ns bytes) e ∙ cut-push lengths bytes payload k.whole in
@@ -178,13 +178,13 @@ data_ended bytes bytes' lengths header piece n missing last spot old is at whole
 pub data_finished : (bytes bytes' lengths header piece : List ℕ) (n missing : ℕ) (last : Bool) (spot : Place) (old new : Records)
     → held_of bytes lengths header spot ≡ old
     → spot ≡ place.Data missing last → sum lengths + n ≡ length bytes → bytes' ≡ bytes ++ piece → missing ≤ length piece → last ≡ true
-    → new ≡ finished (cut lengths bytes') (Header (drop (sum lengths) bytes') header) → new ≡ after_data old.records old.tail piece
+    → new ≡ finish_record (cut lengths bytes') (Header (drop (sum lengths) bytes') header) → new ≡ after_data old.records old.tail piece
 data_finished bytes bytes' lengths header piece n missing last spot old new is at whole e all other value =
     let old_is : held_of bytes lengths header (place.Data missing last) ≡ old = ap (held_of bytes lengths header) (sym at) ∙ is in
     let parts = data_holds bytes bytes' lengths header piece n place.Header whole e in
-    let ended : new ≡ finished (cut lengths bytes) (Header (drop (sum lengths) bytes ++ piece) header) =
-    value ∙ ap (λ (h : Records). finished h.records h.tail) parts in
-    ended ∙ subst (λ (h : Records). finished (cut lengths bytes) (Header (drop (sum lengths) bytes ++ piece) header)
+    let ended : new ≡ finish_record (cut lengths bytes) (Header (drop (sum lengths) bytes ++ piece) header) =
+    value ∙ ap (λ (h : Records). finish_record h.records h.tail) parts in
+    ended ∙ subst (λ (h : Records). finish_record (cut lengths bytes) (Header (drop (sum lengths) bytes ++ piece) header)
     ≡ after_data h.records h.tail piece) old_is
     (rw (le-ltb (length piece) missing all, other) refl)
 

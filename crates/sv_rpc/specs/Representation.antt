@@ -83,8 +83,8 @@ payload_of (Data payload missing last) = payload
 payload_of TooLong = []
 
 -- the unfinished record becomes complete
-abbrev pub finished : List (List ℕ) → Tail → Records
-finished records tail = record { records = records ++ payload_of tail ∷ []; tail = Header [] [] }
+abbrev pub finish_record : List (List ℕ) → Tail → Records
+finish_record records tail = record { records = records ++ payload_of tail ∷ []; tail = Header [] [] }
 
 -- a header is complete
 abbrev pub after_header : List (List ℕ) → Tail → ℕ → Bool → Records
@@ -92,7 +92,7 @@ after_header records tail size last =
     let payload = payload_of tail in
     if nat_lt max_record (length payload + size) then record { records = records; tail = TooLong }
     else (if nat_lt 0 size then record { records = records; tail = Data payload size last }
-    else (if last then finished records tail else record { records = records; tail = Header payload [] }))
+    else (if last then finish_record records tail else record { records = records; tail = Header payload [] }))
 
 -- one more byte of a header came
 abbrev pub after_byte : List (List ℕ) → Tail → ℕ → Records

@@ -5,7 +5,7 @@ ghost use Rattle.std.specs.Int.{w32, from_be_bytes};
 ghost use Rattle.sv_rpc.specs.Limits.{capacity};
 ghost use Rattle.sv_rpc.specs.Record.{header_of, ends_overlong};
 ghost use Rattle.sv_rpc.specs.RecordBuf.{Records, StandsFor, IsNext, IsRoom, no_records, room_of, next_among, used_by, plain_record};
-ghost use Rattle.sv_rpc.specs.Representation.{InRoom, GoesOn, Keeps, IsInHeader, IsBeforeHeader, IsInData, after_byte, after_header, after_data, finished};
+ghost use Rattle.sv_rpc.specs.Representation.{InRoom, GoesOn, Keeps, IsInHeader, IsBeforeHeader, IsInData, after_byte, after_header, after_data, finish_record};
 
 use crate::NoMemory;
 use std::alloc::{Allocator, Global};
@@ -265,7 +265,7 @@ impl<A: Allocator> RecordBuf<A> {
     fn finish(&mut self)
         requires header { IsBeforeHeader self.old.tail }
         requires fits { used_by self.old.records self.old.tail ≤ capacity }
-        ensures { self.new ≡ finished self.old.records self.old.tail }
+        ensures { self.new ≡ finish_record self.old.records self.old.tail }
     {
         self.lengths.push_reserved(self.payload as u16);
         self.payload = 0;

@@ -9,7 +9,7 @@ use Rattle.std.specs.Option.{option_map_or}
 use Rattle.sv_scan.specs.declared.setting.State.{State}
 use Rattle.sv_scan.specs.declared.setting.State.TheVariants.{Idle}
 use Rattle.sv_scan.specs.Scan.{before_init, triggers, samples, state, state_by, is_complete, readings, reading, last_reading}
-use Rattle.sv_scan.specs.Stands.{Run, Contents, Holds, run}
+use Rattle.sv_scan.specs.Stands.{Run, Contents, Holds, current_run}
 use Rattle.sv_scan.specs.Representation.{run_state, run_complete}
 
 -- there are as many readings as samples
@@ -46,7 +46,7 @@ pub state_is : (contents : Contents) (log : List ScanAct) → Holds contents log
     → run_state contents.run (length contents.readings) ≡ state log
 state_is contents log is =
     ap (λ (r : Option Run). run_state r (length contents.readings)) is.run
-    ∙ ap (run_state (run log)) (ap length is.readings ∙ length-readings log)
+    ∙ ap (run_state (current_run log)) (ap length is.readings ∙ length-readings log)
     ∙ state_of_run (before_init log) (triggers log) (samples log)
 
 -- whether its readings are complete
@@ -59,14 +59,14 @@ pub complete_is : (contents : Contents) (log : List ScanAct) → Holds contents 
     → run_complete contents.run (length contents.readings) ≡ is_complete log
 complete_is contents log is =
     ap (λ (r : Option Run). run_complete r (length contents.readings)) is.run
-    ∙ ap (run_complete (run log)) (ap length is.readings ∙ length-readings log)
+    ∙ ap (run_complete (current_run log)) (ap length is.readings ∙ length-readings log)
     ∙ complete_of_run (before_init log) (triggers log) (samples log)
 
 -- the list of the measurement of the contents
 list_of_run : (before : Option (List ScanAct)) (had : ℕ) (r : Run) → option_map (run_of had) before ≡ Some r
     → option_map_or scan_list before [] ≡ r.channels
 list_of_run None had r e = cc
-list_of_run (Some before) had r e = let same : run_of had before ≡ r = cc in ap (λ (run : Run). run.channels) same
+list_of_run (Some before) had r e = let same : run_of had before ≡ r = cc in ap (λ (current_run : Run). current_run.channels) same
 
-pub list_is : (log : List ScanAct) (r : Run) → run log ≡ Some r → option_map_or scan_list (before_init log) [] ≡ r.channels
+pub list_is : (log : List ScanAct) (r : Run) → current_run log ≡ Some r → option_map_or scan_list (before_init log) [] ≡ r.channels
 list_is log r e = list_of_run (before_init log) (triggers log) r e

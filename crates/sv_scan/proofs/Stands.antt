@@ -13,7 +13,7 @@ use Rattle.sv_errors.specs.Limits.{is_channel, channel_count}
 use Rattle.std.specs.Option.{option_map_or}
 use Rattle.sv_scan.specs.Setting.{scan_list, range, input}
 use Rattle.sv_scan.specs.Scan.{before_init, samples, readings, reading, reading_in, channel_at}
-use Rattle.sv_scan.specs.Counted.{kept, counts}
+use Rattle.sv_scan.specs.Counted.{effective, counts}
 use Rattle.sv_scan.specs.Answered.{refused_by}
 use Rattle.sv_scan.specs.Stands.{Run, Contents, Holds, StandsFor}
 use Rattle.sv_scan.specs.Representation.{contents_of}
@@ -24,19 +24,19 @@ use Rattle.sv_scan.proofs.Untouched.{IsTouched-all, IsTouched-input}
 
 -- ---- acts that count
 
-keeps : (act : ScanAct) (acts : List ScanAct) → counts (kept acts) act ≡ true → kept (act ∷ acts) ≡ act ∷ kept acts
-keeps act acts e = ap (λ (b : Bool). if b then act ∷ kept acts else kept acts) e
+keeps : (act : ScanAct) (acts : List ScanAct) → counts (effective acts) act ≡ true → effective (act ∷ acts) ≡ act ∷ effective acts
+keeps act acts e = ap (λ (b : Bool). if b then act ∷ effective acts else effective acts) e
 
-pub StandsFor-counted : (contents : Contents) (act : ScanAct) (acts : List ScanAct) → counts (kept acts) act ≡ true
-    → Holds contents (act ∷ kept acts) → StandsFor contents (act ∷ acts)
+pub StandsFor-counted : (contents : Contents) (act : ScanAct) (acts : List ScanAct) → counts (effective acts) act ≡ true
+    → Holds contents (act ∷ effective acts) → StandsFor contents (act ∷ acts)
 StandsFor-counted contents act acts e is = subst (Holds contents) (sym (keeps act acts e)) is
 
 -- ---- acts that don't
 
-drops : (act : ScanAct) (acts : List ScanAct) → counts (kept acts) act ≡ false → kept (act ∷ acts) ≡ kept acts
-drops act acts e = ap (λ (b : Bool). if b then act ∷ kept acts else kept acts) e
+drops : (act : ScanAct) (acts : List ScanAct) → counts (effective acts) act ≡ false → effective (act ∷ acts) ≡ effective acts
+drops act acts e = ap (λ (b : Bool). if b then act ∷ effective acts else effective acts) e
 
-pub StandsFor-dropped : (contents : Contents) (act : ScanAct) (acts : List ScanAct) → counts (kept acts) act ≡ false
+pub StandsFor-dropped : (contents : Contents) (act : ScanAct) (acts : List ScanAct) → counts (effective acts) act ≡ false
     → StandsFor contents acts → StandsFor contents (act ∷ acts)
 StandsFor-dropped contents act acts e is = subst (Holds contents) (sym (drops act acts e)) is
 

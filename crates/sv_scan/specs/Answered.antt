@@ -6,7 +6,7 @@ use Rattle.sv_scan.specs.declared.acts.ScanAct.TheVariants.{Input, Configure, In
 use Rattle.sv_scan.specs.declared.acts.ScanAnswer.{ScanAnswer}
 use Rattle.sv_scan.specs.declared.acts.ScanAnswer.TheVariants.{Done, Answered, Sampled}
 use Rattle.sv_scan.specs.Scan.{state}
-use Rattle.sv_scan.specs.Counted.{kept, is_scanning, setting_fault, init_fault, trigger_fault}
+use Rattle.sv_scan.specs.Counted.{effective, is_scanning, setting_fault, init_fault, trigger_fault}
 
 -- the result: done, or refused with this error
 abbrev pub refused_by : Option Code → Result ⊤ Code
@@ -25,4 +25,4 @@ answer_to log Sample = Sampled (is_scanning (state log))
 
 -- The answer is that.
 abbrev pub Gives : List ScanAct → ScanAct → ScanAnswer → Type 0
-Gives acts act answer = answer ≡ answer_to (kept acts) act
+Gives acts act answer = answer ≡ answer_to (effective acts) act

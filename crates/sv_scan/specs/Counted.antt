@@ -60,6 +60,6 @@ counts log Sample = is_scanning (state log)
 counts log _ = true
 
 -- the acts that count, of all acts
-abbrev pub kept : List ScanAct → List ScanAct
-kept [] = []
-kept (act ∷ acts) = if counts (kept acts) act then act ∷ kept acts else kept acts
+abbrev pub effective : List ScanAct → List ScanAct
+effective [] = []
+effective (act ∷ acts) = if counts (effective acts) act then act ∷ effective acts else effective acts

@@ -8,7 +8,7 @@ use Rattle.sv_scan.specs.declared.touched.Touched.{Touched}
 use Rattle.sv_errors.specs.Limits.{is_channel}
 use Rattle.sv_scan.specs.Setting.{scan_list, monitor, range, upper, lower, limits, source, count, input}
 use Rattle.sv_scan.specs.Scan.{before_init, triggers, readings}
-use Rattle.sv_scan.specs.Counted.{kept}
+use Rattle.sv_scan.specs.Counted.{effective}
 use Rattle.sv_scan.specs.Touched.{IsTouched}
 
 -- a measurement: its scan list and count, as they were when it was initiated, and how many triggers it had
@@ -18,8 +18,9 @@ pub record Run : Type 0 where
   pub triggers : ℕ
 
 -- the measurement since the last initiation; `None` if it was aborted or reset, or there was none
-abbrev pub run : List ScanAct → Option Run
-run log = option_map (λ before. record { channels = scan_list before; scans = count before; triggers = triggers log }) (before_init log)
+abbrev pub current_run : List ScanAct → Option Run
+current_run log = option_map (λ before. record { channels = scan_list before; scans = count before; triggers = triggers log })
+    (before_init log)
 
 -- what the scanner keeps
 pub record Contents : Type 0 where
@@ -47,10 +48,10 @@ pub record Holds (contents : Contents) (log : List ScanAct) : Type 0 where
   pub limits : contents.limits ≡ limits log
   pub source : contents.source ≡ source log
   pub count : contents.count ≡ count log
-  pub run : contents.run ≡ run log
+  pub run : contents.run ≡ current_run log
   pub readings : contents.readings ≡ readings log
   pub touched : IsTouched contents.touched log
 
 -- What it keeps stands for all acts, of which some count.
 abbrev pub StandsFor : Contents → List ScanAct → Type 0
-StandsFor contents acts = Holds contents (kept acts)
+StandsFor contents acts = Holds contents (effective acts)

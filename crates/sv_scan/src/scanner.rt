@@ -6,7 +6,7 @@ ghost use Rattle.sv_errors.specs.declared.code.Code.TheVariants.{DataCorruptOrSt
 ghost use Rattle.sv_scan.specs.declared.setting.State.TheVariants.{Waiting, Scanning};
 ghost use Rattle.sv_scan.specs.Setting.{is_possible as may_have};
 ghost use Rattle.sv_scan.specs.Scan.{state as state_of, readings as readings_of, last_reading as last_of, is_complete as completes, is_bounded};
-ghost use Rattle.sv_scan.specs.Counted.{kept, setting_fault, init_fault, trigger_fault, read_fault, is_scanning as scans};
+ghost use Rattle.sv_scan.specs.Counted.{effective, setting_fault, init_fault, trigger_fault, read_fault, is_scanning as scans};
 ghost use Rattle.sv_scan.specs.Condition.{operation, questionable, limit, is_outside as lies_outside};
 ghost use Rattle.sv_scan.specs.Answered.{refused_by};
 ghost use Rattle.sv_scan.specs.Touched.{nothing};
@@ -106,7 +106,7 @@ impl<A: Allocator> Scanner<A> {
         ensures stands { (acts : List ScanAct) → StandsFor self.old acts
             → StandsFor self.new (ScanAct.Configure setting ∷ acts) }
         ensures answer { (acts : List ScanAct) → StandsFor self.old acts
-            → result ≡ refused_by (setting_fault (kept acts) setting) }
+            → result ≡ refused_by (setting_fault (effective acts) setting) }
         ensures refused { OnErr result (self.new ≡ self.old) }
     {
         match self.may_set(&setting) {
@@ -130,7 +130,7 @@ impl<A: Allocator> Scanner<A> {
     /// value, then [`Code::SettingsConflict`] if it can't be changed now.
     pub fn may_set(&self, setting: &Setting) -> Result<(), Code>
         ensures answer { (acts : List ScanAct) → StandsFor self.now acts
-            → result ≡ refused_by (setting_fault (kept acts) setting.now) }
+            → result ≡ refused_by (setting_fault (effective acts) setting.now) }
         ensures possible { OnOk result (may_have setting.now ≡ true) }
     {
         if !is_possible(setting) {
@@ -150,7 +150,7 @@ impl<A: Allocator> Scanner<A> {
         ensures stands { (acts : List ScanAct) → StandsFor self.old acts
             → StandsFor self.new (ScanAct.Init ∷ acts) }
         ensures answer { (acts : List ScanAct) → StandsFor self.old acts
-            → result ≡ refused_by (init_fault (kept acts)) }
+            → result ≡ refused_by (init_fault (effective acts)) }
         ensures refused { OnErr result (self.new ≡ self.old) }
     {
         match self.may_init() {
@@ -174,7 +174,7 @@ impl<A: Allocator> Scanner<A> {
     /// [`Code::InitIgnored`] if a measurement is under way.
     pub fn may_init(&self) -> Result<(), Code>
         ensures { (acts : List ScanAct) → StandsFor self.now acts
-            → result ≡ refused_by (init_fault (kept acts)) }
+            → result ≡ refused_by (init_fault (effective acts)) }
     {
         if !self.state().is_idle() {
             return Err(Code::InitIgnored);
@@ -188,7 +188,7 @@ impl<A: Allocator> Scanner<A> {
     /// [`Code::TriggerDeadlock`] if triggers come from the controller, which would be waiting.
     pub fn may_read(&self) -> Result<(), Code>
         ensures { (acts : List ScanAct) → StandsFor self.now acts
-            → result ≡ refused_by (read_fault (kept acts)) }
+            → result ≡ refused_by (read_fault (effective acts)) }
     {
         if is_same(self.settings.source, Source::Bus) {
             return Err(Code::TriggerDeadlock);
@@ -234,7 +234,7 @@ impl<A: Allocator> Scanner<A> {
         ensures stands { (acts : List ScanAct) → StandsFor self.old acts
             → StandsFor self.new (ScanAct.Trigger source ∷ acts) }
         ensures answer { (acts : List ScanAct) → StandsFor self.old acts
-            → result ≡ refused_by (trigger_fault (kept acts) source) }
+            → result ≡ refused_by (trigger_fault (effective acts) source) }
         ensures refused { OnErr result (self.new ≡ self.old) }
         ensures scanning { OnOk result
             ((run_state self.old.run (length self.old.readings) ≡ Waiting)
@@ -263,7 +263,7 @@ impl<A: Allocator> Scanner<A> {
     /// [`Code::TriggerIgnored`] if no trigger is waited for, or one from another source.
     pub fn may_trigger(&self, source: Source) -> Result<(), Code>
         ensures answer { (acts : List ScanAct) → StandsFor self.now acts
-            → result ≡ refused_by (trigger_fault (kept acts) source) }
+            → result ≡ refused_by (trigger_fault (effective acts) source) }
         ensures waiting { OnOk result (run_state self.now.run (length self.now.readings)
             ≡ Waiting) }
     {
@@ -279,7 +279,7 @@ impl<A: Allocator> Scanner<A> {
         ensures stands { (acts : List ScanAct) → StandsFor self.old acts
             → StandsFor self.new (ScanAct.Sample ∷ acts) }
         ensures answer { (acts : List ScanAct) → StandsFor self.old acts
-            → result ≡ scans (state_of (kept acts)) }
+            → result ≡ scans (state_of (effective acts)) }
     {
         if !self.state().is_scanning() {
             return false;
@@ -302,14 +302,15 @@ impl<A: Allocator> Scanner<A> {
     pub fn state(&self) -> State
         ensures value { result ≡ run_state self.now.run (length self.now.readings) }
         ensures answer { (acts : List ScanAct) → StandsFor self.now acts
-            → result ≡ state_of (kept acts) }
+            → result ≡ state_of (effective acts) }
     {
         state_in(&self.run, self.readings.len())
     }
 
     /// The newest reading of the measurement; `None` if there is none.
     fn last_reading(&self) -> Option<Reading>
-        ensures { (acts : List ScanAct) → StandsFor self.now acts → result ≡ last_of (kept acts) }
+        ensures { (acts : List ScanAct)
+            → StandsFor self.now acts → result ≡ last_of (effective acts) }
     {
         self.readings.last().copied()
     }
@@ -317,7 +318,7 @@ impl<A: Allocator> Scanner<A> {
     /// Whether the live input of the monitored channel is outside the limits.
     fn is_outside(&self) -> bool
         ensures { (acts : List ScanAct) → StandsFor self.now acts
-            → result ≡ lies_outside (kept acts) }
+            → result ≡ lies_outside (effective acts) }
     {
         let live = voltage(&self.inputs, self.settings.monitor);
         live < self.settings.lower || self.settings.upper < live
@@ -326,11 +327,11 @@ impl<A: Allocator> Scanner<A> {
     /// The condition words as they are now.
     pub fn conditions(&self) -> Conditions
         ensures operation { (acts : List ScanAct) → StandsFor self.now acts
-            → result.operation ≡ operation (kept acts) }
+            → result.operation ≡ operation (effective acts) }
         ensures questionable { (acts : List ScanAct) → StandsFor self.now acts
-            → result.questionable ≡ questionable (kept acts) }
+            → result.questionable ≡ questionable (effective acts) }
         ensures limit { (acts : List ScanAct) → StandsFor self.now acts
-            → result.limit ≡ limit (kept acts) }
+            → result.limit ≡ limit (effective acts) }
     {
         let last = self.last_reading();
         Conditions {
@@ -352,8 +353,9 @@ impl<A: Allocator> Scanner<A> {
     /// [`Code::DataCorruptOrStale`] if they aren't complete, or were aborted.
     pub fn readings(&self) -> Result<&[Reading], Code>
         ensures { (acts : List ScanAct) → StandsFor self.now acts
-            → MatchResult result (λ found. (completes (kept acts) ≡ true)
-            × (found.now ≡ readings_of (kept acts))) (λ code. (completes (kept acts) ≡ false)
+            → MatchResult result (λ found. (completes (effective acts) ≡ true)
+            × (found.now ≡ readings_of (effective acts)))
+            (λ code. (completes (effective acts) ≡ false)
             × (code ≡ DataCorruptOrStale)) }
     {
         if is_complete(&self.run, self.readings.len()) {
@@ -367,7 +369,7 @@ impl<A: Allocator> Scanner<A> {
     /// not. There are at most [`MOST_READINGS`], and none is a voltage beyond 1,000 V in magnitude.
     pub fn readings_so_far(&self) -> &[Reading]
         ensures answer { (acts : List ScanAct) → StandsFor self.now acts
-            → result.now ≡ readings_of (kept acts) }
+            → result.now ≡ readings_of (effective acts) }
         ensures few { length result.now ≤ most_readings }
         ensures bounded { list_all is_bounded result.now ≡ true }
     {

@@ -2,7 +2,7 @@
 
 ghost use Rattle.std.specs.Prelude.{◌≡◌, List};
 ghost use Rattle.sv_scan.specs.declared.acts.ScanAct.{ScanAct};
-ghost use Rattle.sv_scan.specs.Counted.{kept};
+ghost use Rattle.sv_scan.specs.Counted.{effective};
 ghost use Rattle.sv_scan.specs.Stands.{StandsFor};
 ghost use Rattle.sv_scan.specs.Touched.{IsTouched};
 
@@ -27,7 +27,7 @@ impl<A: Allocator> Scanner<A> {
     pub fn touched(&self) -> Touched
         ensures value { result ≡ self.now.touched }
         ensures stands { (acts : List ScanAct) → StandsFor self.now acts
-            → IsTouched result (kept acts) }
+            → IsTouched result (effective acts) }
     {
         self.touched
     }

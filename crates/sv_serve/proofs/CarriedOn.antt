@@ -1,7 +1,7 @@
 -- What any number of sweeps carries.
 use Rattle.std.proofs.Common.{◌≡◌, ℕ, ◌≤◌, Bool, true, false, List, [], ◌∷◌, ◌++◌, filter, flat_map, nat_lt, None, refl, sym, ap, subst, ◌∙◌}
 use Rattle.std.specs.Prelude.{not, ◌||◌}
-use Rattle.sv_links.specs.Channels.{ChannelAct, is_channel_open, taken as channel_taken, calls}
+use Rattle.sv_links.specs.Channels.{ChannelAct, is_channel_open, bytes_taken as channel_taken, calls}
 use Rattle.sv_history.specs.declared.event.Config.{Config}
 use Rattle.sv_history.specs.Interrupts.{has_channel}
 use Rattle.sv_history.specs.Requests.{HearsOf}
@@ -10,12 +10,12 @@ use Rattle.sv_history.specs.declared.event.Port.{Port}
 use Rattle.sv_history.specs.declared.event.Port.TheVariants.{Conn, Intr}
 use Rattle.sv_history.specs.Event.{PlainEvent}
 use Rattle.sv_history.specs.Act.{Act, ConnAct, of, device_acts}
-use Rattle.sv_history.specs.Connection.{is_open, sent_on, waiting, waiting_on, sent}
+use Rattle.sv_history.specs.Connection.{is_open, sent_on, waiting, waiting_on, bytes_sent}
 use Rattle.sv_history.specs.History.{is_port_shut, last_clock, IsLogOf}
 use Rattle.sv_history.proofs.AlwaysTold.{some_told}
 use Rattle.sv_replay.specs.Scenario.{IsScenario}
 use Rattle.sv_server.specs.Server.State.{StandsFor}
-use Rattle.sv_serve.specs.Timed.{handed}
+use Rattle.sv_serve.specs.Timed.{handed_ticks}
 use Rattle.sv_serve.proofs.Timing.{Played, begins, behind}
 use Rattle.sv_serve.specs.Heard.{Heard}
 use Rattle.sv_serve.specs.DriverView.{DriverState, driver_view}
@@ -48,14 +48,14 @@ record Over {W : Type 0} (hears : W → Heard → W → Type 0) (config : Config
   pub lets : LetsGoRightly config history trace
   pub parts : InSweeps hears config start passed now swept history trace
   pub time : config.clock ≤ last_clock → start.ticks ≡ 0 → IsScenario 0 start.ahead
-      → Played config start.ahead (handed passed) (driver_view now history)
+      → Played config start.ahead (handed_ticks passed) (driver_view now history)
 
 open_by : (far opened : Bool) → (far || not opened) ≡ false → opened ≡ true
 open_by true opened e = absurd cc
 open_by false true e = refl
 open_by false false e = absurd cc
 
-sends_by : (acts : List ConnAct) (came gone : List ℕ) → Holds acts came gone → is_open acts ≡ true → gone ++ waiting acts ≡ sent acts
+sends_by : (acts : List ConnAct) (came gone : List ℕ) → Holds acts came gone → is_open acts ≡ true → gone ++ waiting acts ≡ bytes_sent acts
 sends_by acts came gone h opened = rw opened (h.1 opened).0
 
 sends_all : (port : Port) (log : List Act) (channel_log : List ChannelAct) (trace : List Heard) → HearsOf (device_acts log) channel_log

@@ -12,7 +12,7 @@ use Rattle.sv_history.specs.declared.event.Refused.TheVariants.{NoConn, NotSent}
 use Rattle.sv_history.specs.declared.event.Port.TheVariants.{Conn, Intr}
 use Rattle.sv_history.specs.Event.{PlainEvent, Open, Bytes, Turn, Refuse, Took, Close, Dialed, Input, External, Tick}
 use Rattle.sv_history.specs.Act.{Act, ConnAct, Opened, Piece, CallTaken, Faulted, Replied, BytesTaken, PortClosed, of}
-use Rattle.sv_history.specs.Connection.{is_open, untaken, waiting, free, sent, given}
+use Rattle.sv_history.specs.Connection.{is_open, bytes_left, waiting, free, bytes_sent, bytes_taken}
 use Rattle.sv_history.specs.History.{refusal, is_shut, IsLogOf}
 use Rattle.sv_laws.proofs.Brought.{brings, AreCalls}
 use Rattle.sv_laws.proofs.OneLog.{one_log}
@@ -85,7 +85,7 @@ calls_over config (event ∷ events) history front log c none was is =
 -- ---- no more is taken than was sent
 
 abbrev pub IsWithin : List ConnAct → Type 0
-IsWithin acts = is_open acts ≡ true → given acts ≤ length (sent acts)
+IsWithin acts = is_open acts ≡ true → bytes_taken acts ≤ length (bytes_sent acts)
 
 pub within_calls : (adds acts : List ConnAct) → AreCalls adds → IsWithin acts → IsWithin (adds ++ acts)
 within_calls [] acts h k = k
@@ -93,7 +93,7 @@ within_calls (CallTaken call ∷ adds) acts h k = within_calls adds acts h k
 within_calls (Faulted ∷ adds) acts h k = within_calls adds acts h k
 within_calls (Replied bytes ∷ adds) acts h k = λ opened.
     let le = within_calls adds acts h k opened in
-    let sum = length-append (sent (adds ++ acts)) bytes in omega (arith, le, sum)
+    let sum = length-append (bytes_sent (adds ++ acts)) bytes in omega (arith, le, sum)
 within_calls (Opened role ∷ adds) acts h k = absurd h
 within_calls (Piece bytes ∷ adds) acts h k = absurd h
 within_calls (BytesTaken count ∷ adds) acts h k = absurd h
@@ -117,9 +117,9 @@ within_event config channel_log (Took (Conn d) n) log c free h = elim (cases_Boo
       let few : n ≤ length (waiting (of d log)) =
       ltb-false (length (waiting (of d log))) n (took_few (is_shut d log) (nat_lt (length (waiting (of d log))) n) free) in
       let same : of d log ≡ of c log = ap (λ (m : ℕ). of m log) (eqb-true d c e) in
-      let all : waiting (of d log) ≡ untaken (of c log) = ap waiting same ∙ rw opened refl in
-      let left = length-drop (given (of c log)) (sent (of c log)) in
-      let long : length (waiting (of d log)) ≡ length (untaken (of c log)) = ap length all in
+      let all : waiting (of d log) ≡ bytes_left (of c log) = ap waiting same ∙ rw opened refl in
+      let left = length-drop (bytes_taken (of c log)) (bytes_sent (of c log)) in
+      let long : length (waiting (of d log)) ≡ length (bytes_left (of c log)) = ap length all in
       let le = h opened in omega (arith, few, left, long, le))
   | inr e ↦ rw e h
 ]
@@ -137,7 +137,7 @@ within_event config channel_log External log c free h = h
 within_event config channel_log Tick log c free h = h
 
 pub within_log : (config : Config) (history : List PlainEvent) (log : List Act) (c : ℕ) → IsLogOf config history log → IsWithin (of c log)
-within_log config [] log c (given, none) = subst (λ (l : List Act). IsWithin (of c l)) (sym none) (λ opened. absurd cc)
+within_log config [] log c (bytes_taken, none) = subst (λ (l : List Act). IsWithin (of c l)) (sym none) (λ opened. absurd cc)
 within_log config (event ∷ history) log c is =
     let grown = only_calls config event history is.0 log c is.4 is in
     subst IsWithin (sym grown.2) (within_calls grown.0 (brings c event ++ of c is.0) grown.1
@@ -155,13 +155,13 @@ calls_open (BytesTaken count ∷ adds) acts h = absurd h
 calls_open (PortClosed ∷ adds) acts h = absurd h
 
 pub sent_calls : (adds acts : List ConnAct) → AreCalls adds
-    → (given (adds ++ acts) ≡ given acts) × (more : List ℕ) × (sent (adds ++ acts) ≡ sent acts ++ more)
-sent_calls [] acts h = (refl, [], sym (append-nil (sent acts)))
+    → (bytes_taken (adds ++ acts) ≡ bytes_taken acts) × (more : List ℕ) × (bytes_sent (adds ++ acts) ≡ bytes_sent acts ++ more)
+sent_calls [] acts h = (refl, [], sym (append-nil (bytes_sent acts)))
 sent_calls (CallTaken call ∷ adds) acts h = sent_calls adds acts h
 sent_calls (Faulted ∷ adds) acts h = sent_calls adds acts h
 sent_calls (Replied bytes ∷ adds) acts h =
     let rest = sent_calls adds acts h in
-    (rest.0, rest.1 ++ bytes, ap (λ (l : List ℕ). l ++ bytes) rest.2 ∙ append_assoc (sent acts) rest.1 bytes)
+    (rest.0, rest.1 ++ bytes, ap (λ (l : List ℕ). l ++ bytes) rest.2 ∙ append_assoc (bytes_sent acts) rest.1 bytes)
 sent_calls (Opened role ∷ adds) acts h = absurd h
 sent_calls (Piece bytes ∷ adds) acts h = absurd h
 sent_calls (BytesTaken count ∷ adds) acts h = absurd h
@@ -172,7 +172,7 @@ pub waits_calls : (adds acts : List ConnAct) → AreCalls adds → IsWithin acts
 waits_calls adds acts h within = elim (cases_Bool (is_open acts)) [
   | inl e ↦
       let grown = sent_calls adds acts h in
-      (grown.1, rw (calls_open adds acts h, e, grown.0, grown.2) (drop-append-le (given acts) (sent acts) grown.1 (within e)))
+      (grown.1, rw (calls_open adds acts h, e, grown.0, grown.2) (drop-append-le (bytes_taken acts) (bytes_sent acts) grown.1 (within e)))
   | inr e ↦ ([], rw (calls_open adds acts h, e) refl)
 ]
 

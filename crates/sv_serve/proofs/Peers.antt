@@ -11,7 +11,7 @@ use Rattle.sv_history.specs.declared.event.Port.{Port}
 use Rattle.sv_history.specs.declared.event.Port.TheVariants.{Conn, Intr}
 use Rattle.sv_history.specs.Event.{PlainEvent, Dialed, Tick}
 use Rattle.sv_history.specs.Act.{Act, of, device_acts, wait_acts}
-use Rattle.sv_history.specs.Connection.{is_open, unanswered}
+use Rattle.sv_history.specs.Connection.{is_open, pending_call}
 use Rattle.sv_history.specs.Interrupts.{is_dialing, dial_by, dial_in, dial_of}
 use Rattle.sv_history.proofs.Dialing.{peer_by}
 use Rattle.sv_history.specs.CoreCall.{CoreCall}
@@ -30,7 +30,7 @@ use Rattle.sv_serve.specs.DriverView.{DriverView, ◌then◌}
 use Rattle.sv_serve.specs.Steps.{IsApplied, called_of, is_wanted, KeepsCall, CancelsUnwanted, ConnectResult, PollResult, CallsFor, Dials}
 use Rattle.sv_serve.specs.Sweep.{PlaysOne, Plays, Counts, TicksOnce, Passes}
 use Rattle.sv_serve.specs.Served.{Through, event_of, is_outer}
-use Rattle.sv_serve.specs.Carried.{begins, read, taken}
+use Rattle.sv_serve.specs.Carried.{begins, read, taken_bytes}
 use Rattle.sv_serve.specs.Carried.{ends_port}
 use Rattle.sv_serve.proofs.LettingGo.{LetsGoRightly, IsNoHang, Adds, adds_nothing, none_hung, end_shut, cancel_unwanted, hung_same}
 use Rattle.sv_serve.proofs.Handing.{HandsOver, IsNoWrite, NoneWritten, fits_none}
@@ -43,7 +43,7 @@ use Rattle.sv_serve.proofs.Keeps.{Subject, OfNone, about, AllMay, may_join, Keep
 -- an event that is none of a connection's, with what was heard of no port
 pub step_else : (event : PlainEvent) (heard : Heard) (log : List Act) (channel_log : List ChannelAct) → ((c : ℕ) → brings c event ≡ [])
     → tells event log ≡ [] → ((port : Port) → begins port heard ≡ false) → ((c : ℕ) → read (Conn c) heard ≡ [])
-    → ((port : Port) → taken port heard ≡ []) → (trace : List Heard) (c : ℕ) → Both c (of c log) channel_log trace
+    → ((port : Port) → taken_bytes port heard ≡ []) → (trace : List Heard) (c : ℕ) → Both c (of c log) channel_log trace
     → Both c (brings c event ++ of c log) (tells event log ++ channel_log) (heard ∷ trace)
 step_else event heard log channel_log none untold still unread untaken trace c h =
     rw (none c, untold) (holds_silent c heard trace (of c log) channel_log still (unread c) untaken h)
@@ -63,12 +63,12 @@ dials_call false found dial e = absurd cc
 
 -- its channel opens
 pub step_dialed : (c : ℕ) (dial : Dial) (heard : Heard) (log : List Act) (channel_log : List ChannelAct) → Some dial ≡ dial_of c log
-    → ((d : ℕ) → begins (Conn d) heard ≡ false) → ((d : ℕ) → read (Conn d) heard ≡ []) → ((port : Port) → taken port heard ≡ [])
+    → ((d : ℕ) → begins (Conn d) heard ≡ false) → ((d : ℕ) → read (Conn d) heard ≡ []) → ((port : Port) → taken_bytes port heard ≡ [])
     → ((d : ℕ) → begins (Intr d) heard ≡ eqb c d) → (trace : List Heard) (d : ℕ) → Both d (of d log) channel_log trace
     → Both d (brings d (Dialed c true) ++ of d log) (tells (Dialed c true) log ++ channel_log) (heard ∷ trace)
 step_dialed c dial heard log channel_log wanted still unread untaken opens trace d h =
-    let one = peer_there (core_call_in (unanswered (of c log))) dial
-    (dials_call (is_dialing c (wait_acts (device_acts log))) (dial_in (core_call_in (unanswered (of c log)))) dial wanted) in
+    let one = peer_there (core_call_in (pending_call (of c log))) dial
+    (dials_call (is_dialing c (wait_acts (device_acts log))) (dial_in (core_call_in (pending_call (of c log)))) dial wanted) in
     subst (λ (found : Option Peer). Both d (of d log) (opened_to c found ++ channel_log) (heard ∷ trace)) (sym one.1)
     (step_opened c one.0 heard trace d (of d log) channel_log (still d) (unread d) (untaken (Conn d)) (opens d) (untaken (Intr d)) h)
 

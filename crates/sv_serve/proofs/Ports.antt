@@ -5,7 +5,7 @@ use Rattle.std.specs.List.{concat}
 use Rattle.std.proofs.lemmas.List.Concat.{flat_map-append, concat_is}
 use Rattle.std.proofs.lemmas.Bool.{ltb-true, ltb-false}
 use Rattle.sv_links.specs.declared.request.Peer.{Peer}
-use Rattle.sv_links.specs.Channels.{ChannelAct, ChannelOpened, ChannelTaken, is_channel_open, taken as channel_taken, calls, untaken as untaken_calls, waiting as channel_waiting}
+use Rattle.sv_links.specs.Channels.{ChannelAct, ChannelOpened, ChannelTaken, is_channel_open, bytes_taken as channel_taken, calls, calls_left as untaken_calls, waiting as channel_waiting}
 use Rattle.std.proofs.lemmas.Bool.{cases_Bool}
 use Rattle.std.proofs.lemmas.List.{drop-append-le, take-append-drop, drop-drop, length-drop, length-append}
 use Rattle.sv_history.specs.declared.event.Config.{Config}
@@ -15,19 +15,20 @@ use Rattle.sv_history.specs.declared.event.Port.TheVariants.{Conn, Intr}
 use Rattle.sv_history.specs.Event.{PlainEvent, Open, Bytes, Took, Close}
 use Rattle.sv_history.specs.Act.{Act, ConnAct, Opened, Piece, CallTaken, Faulted, Replied, BytesTaken, PortClosed, of, device_acts}
 use Rattle.sv_history.specs.Requests.{HearsOf}
-use Rattle.sv_history.specs.Connection.{is_open, untaken, waiting, stream, sent, given}
+use Rattle.sv_history.specs.Connection.{is_open, bytes_left, waiting, stream, bytes_sent, bytes_taken}
 use Rattle.sv_history.specs.History.{IsLogOf}
 use Rattle.sv_laws.proofs.Brought.{brings, AreCalls, OnlyCalls, tells, OnlyAdds, OnlyRequests}
 use Rattle.sv_serve.specs.declared.wire.Answer.TheVariants.{Got}
 use Rattle.sv_serve.specs.Heard.{Heard, WasAccepted, WasRead, WasWritten, WasClosed}
 use Rattle.sv_serve.specs.Served.{event_of}
-use Rattle.sv_serve.specs.Carried.{begins, read, taken, since}
+use Rattle.sv_serve.specs.Carried.{begins, read, taken_bytes, since}
 
 -- ---- one connection
 
 -- This came, and this was taken.
 abbrev pub Holds : List ConnAct → List ℕ → List ℕ → Type 0
-Holds acts came went = (stream acts ≡ came) × (is_open acts ≡ true → (went ++ untaken acts ≡ sent acts) × (given acts ≤ length (sent acts)))
+Holds acts came went = (stream acts ≡ came)
+    × (is_open acts ≡ true → (went ++ bytes_left acts ≡ bytes_sent acts) × (bytes_taken acts ≤ length (bytes_sent acts)))
 
 sent_more : (went sends more : List ℕ) (g : ℕ) → went ++ drop g sends ≡ sends → g ≤ length sends
     → (went ++ drop g (sends ++ more) ≡ sends ++ more) × (g ≤ length (sends ++ more))
@@ -56,7 +57,7 @@ holds_calls (Replied bytes ∷ adds) acts came went h k =
       was.0,
       (λ opened.
           let both = was.1 opened in
-          sent_more went (sent (adds ++ acts)) bytes (given (adds ++ acts)) both.0 both.1),
+          sent_more went (bytes_sent (adds ++ acts)) bytes (bytes_taken (adds ++ acts)) both.0 both.1),
     )
 holds_calls (Opened role ∷ adds) acts came went h k = absurd h
 holds_calls (Piece bytes ∷ adds) acts came went h k = absurd h
@@ -106,12 +107,12 @@ abbrev pub came : ℕ → List Heard → List ℕ
 came c trace = since (Conn c) (read (Conn c)) trace
 
 abbrev pub went : Port → List Heard → List ℕ
-went port trace = since port (taken port) trace
+went port trace = since port (taken_bytes port) trace
 
 -- One that is no event, and of no port.
 abbrev pub IsSilent : Heard → Type 0
 IsSilent heard = (event_of heard ≡ []) × ((port : Port) → begins port heard ≡ false) × ((port : Port) → read port heard ≡ [])
-    × ((port : Port) → taken port heard ≡ [])
+    × ((port : Port) → taken_bytes port heard ≡ [])
 
 abbrev pub AreSilent : List Heard → Type 0
 AreSilent [] = ⊤
@@ -122,17 +123,17 @@ abbrev pub Both : ℕ → List ConnAct → List ChannelAct → List Heard → Ty
 Both c acts channel_log trace = Holds acts (came c trace) (went (Conn c) trace) × HoldsOn c channel_log (went (Intr c) trace)
 
 came_silent : (c : ℕ) (heard : Heard) (trace : List Heard) (acts : List ConnAct) → begins (Conn c) heard ≡ false
-    → read (Conn c) heard ≡ [] → taken (Conn c) heard ≡ [] → Holds acts (came c trace) (went (Conn c) trace)
+    → read (Conn c) heard ≡ [] → taken_bytes (Conn c) heard ≡ [] → Holds acts (came c trace) (went (Conn c) trace)
     → Holds acts (came c (heard ∷ trace)) (went (Conn c) (heard ∷ trace))
 came_silent c heard trace acts still none nothing h =
     rw (still, none, nothing, append-nil (came c trace), append-nil (went (Conn c) trace)) h
 
 pub sent_silent : (c : ℕ) (heard : Heard) (trace : List Heard) (channel_log : List ChannelAct) → begins (Intr c) heard ≡ false
-    → taken (Intr c) heard ≡ [] → HoldsOn c channel_log (went (Intr c) trace) → HoldsOn c channel_log (went (Intr c) (heard ∷ trace))
+    → taken_bytes (Intr c) heard ≡ [] → HoldsOn c channel_log (went (Intr c) trace) → HoldsOn c channel_log (went (Intr c) (heard ∷ trace))
 sent_silent c heard trace channel_log still nothing h = rw (still, nothing, append-nil (went (Intr c) trace)) h
 
 pub holds_silent : (c : ℕ) (heard : Heard) (trace : List Heard) (acts : List ConnAct) (channel_log : List ChannelAct)
-    → ((port : Port) → begins port heard ≡ false) → read (Conn c) heard ≡ [] → ((port : Port) → taken port heard ≡ [])
+    → ((port : Port) → begins port heard ≡ false) → read (Conn c) heard ≡ [] → ((port : Port) → taken_bytes port heard ≡ [])
     → Both c acts channel_log trace → Both c acts channel_log (heard ∷ trace)
 holds_silent c heard trace acts channel_log still none nothing h = (
   came_silent c heard trace acts (still (Conn c)) none (nothing (Conn c)) h.0,
@@ -171,8 +172,8 @@ step_took c n bytes trace d acts channel_log few waits h = (
       h.0.0,
       (λ opened.
           let both = h.0.1 opened in
-          let same : bytes ≡ untaken acts = waits e ∙ rw opened refl in
-          taken_more (went (Conn d) trace) bytes (sent acts) (given acts) n same few both.0 both.1),
+          let same : bytes ≡ bytes_left acts = waits e ∙ rw opened refl in
+          taken_more (went (Conn d) trace) bytes (bytes_sent acts) (bytes_taken acts) n same few both.0 both.1),
     )
     | inr e ↦ rw (e, append-nil (came d trace), append-nil (went (Conn d) trace)) h.0
   ],
@@ -210,10 +211,10 @@ step_sent c n bytes trace d acts channel_log few waits h = (
 
 -- it opens, by an answer of this kind
 pub step_opened : (c : ℕ) (what : Peer) (heard : Heard) (trace : List Heard) (d : ℕ) (acts : List ConnAct) (channel_log : List ChannelAct)
-    → begins (Conn d) heard ≡ false → read (Conn d) heard ≡ [] → taken (Conn d) heard ≡ [] → begins (Intr d) heard ≡ eqb c d
-    → taken (Intr d) heard ≡ [] → Both d acts channel_log trace → Both d acts (ChannelOpened c what ∷ channel_log) (heard ∷ trace)
-step_opened c what heard trace d acts channel_log still unread untaken opens nothing h = (
-  came_silent d heard trace acts still unread untaken h.0,
+    → begins (Conn d) heard ≡ false → read (Conn d) heard ≡ [] → taken_bytes (Conn d) heard ≡ [] → begins (Intr d) heard ≡ eqb c d
+    → taken_bytes (Intr d) heard ≡ [] → Both d acts channel_log trace → Both d acts (ChannelOpened c what ∷ channel_log) (heard ∷ trace)
+step_opened c what heard trace d acts channel_log still unread bytes_left opens nothing h = (
+  came_silent d heard trace acts still unread bytes_left h.0,
   elim (cases_Bool (eqb c d)) [
     | inl e ↦ rw (opens, e) (λ opened. (refl, omega arith))
     | inr e ↦ rw (opens, e, nothing, append-nil (went (Intr d) trace)) h.1

@@ -26,7 +26,7 @@ use Rattle.sv_serve.specs.Heard.{Heard}
 use Rattle.sv_serve.specs.DriverView.{DriverState, DriverView, driver_view, ForEach, ◌then◌}
 use Rattle.sv_serve.specs.Steps.{ReadsFrom, Turns, Dials, WritesTo, Ends}
 use Rattle.sv_serve.specs.Sweep.{PlaysOne, IsNoneDue, Plays, most_ticks, Counts, TicksOnce, Passes, Sweeps}
-use Rattle.sv_serve.specs.Timed.{is_timed, played, timed, handed}
+use Rattle.sv_serve.specs.Timed.{is_timed, entry_events, time_events, handed_ticks}
 use Rattle.sv_serve.proofs.Keeps.{applied}
 use Rattle.sv_serve.proofs.Idling.{Idles, idles_same, idles_then, idles_each, accepts_idles, reads_idles, turns_idles, dials_idles, writes_idles, ends_idles}
 
@@ -44,24 +44,24 @@ upto_one : (n : ℕ) (xs : List Entry) (x : Entry) → AllUpTo n xs → x.tick �
 upto_one n [] x h le = (le, tt)
 upto_one n (y ∷ ys) x h le = (h.0, upto_one n ys x h.1 le)
 
-played_join : (n : ℕ) (xs ys : List Entry) → played n (xs ++ ys) ≡ played n ys ++ played n xs
-played_join n [] ys = sym (append-nil (played n ys))
+played_join : (n : ℕ) (xs ys : List Entry) → entry_events n (xs ++ ys) ≡ entry_events n ys ++ entry_events n xs
+played_join n [] ys = sym (append-nil (entry_events n ys))
 played_join n (x ∷ xs) ys =
     let own : List PlainEvent = if x.tick == n then stimulus_event x.stimulus ∷ [] else [] in
-    ap (λ (l : List PlainEvent). l ++ own) (played_join n xs ys) ∙ append_assoc (played n ys) (played n xs) own
+    ap (λ (l : List PlainEvent). l ++ own) (played_join n xs ys) ∙ append_assoc (entry_events n ys) (entry_events n xs) own
 
-played_later : (n k : ℕ) (xs : List Entry) → n < k → IsScenario k xs → played n xs ≡ []
+played_later : (n k : ℕ) (xs : List Entry) → n < k → IsScenario k xs → entry_events n xs ≡ []
 played_later n k [] lt h = refl
 played_later n k (x ∷ xs) lt h =
     let le = h.0 in
     rw (ne_eqb x.tick n (λ e. absurd (omega (arith, lt, le, e))))
-    (append-nil (played n xs) ∙ played_later n x.tick xs (omega (arith, lt, le)) h.2)
+    (append-nil (entry_events n xs) ∙ played_later n x.tick xs (omega (arith, lt, le)) h.2)
 
-played_past : (n : ℕ) (xs : List Entry) → AllUpTo n xs → played (suc n) xs ≡ []
+played_past : (n : ℕ) (xs : List Entry) → AllUpTo n xs → entry_events (suc n) xs ≡ []
 played_past n [] h = refl
 played_past n (x ∷ xs) h =
     let le = h.0 in
-    rw (ne_eqb x.tick (suc n) (λ e. absurd (omega (arith, le, e)))) (append-nil (played (suc n) xs) ∙ played_past n xs h.1)
+    rw (ne_eqb x.tick (suc n) (λ e. absurd (omega (arith, le, e)))) (append-nil (entry_events (suc n) xs) ∙ played_past n xs h.1)
 
 none_due : (n : ℕ) (xs : List Entry) → IsScenario n xs → IsNoneDue n xs → IsScenario (suc n) xs
 none_due n [] h none = tt
@@ -74,10 +74,10 @@ scenario_from k n (x ∷ xs) le h = (let more = h.0 in omega (arith, le, more), 
 
 abbrev base : ℕ → List Entry → List PlainEvent
 base zero s = []
-base (suc n) s = Tick ∷ timed n s
+base (suc n) s = Tick ∷ time_events n s
 
-timed_base : (n : ℕ) (s : List Entry) → played n s ++ base n s ≡ timed n s
-timed_base zero s = append-nil (played 0 s)
+timed_base : (n : ℕ) (s : List Entry) → entry_events n s ++ base n s ≡ time_events n s
+timed_base zero s = append-nil (entry_events 0 s)
 timed_base (suc n) s = refl
 
 -- ---- what holds while a scenario is played
@@ -87,7 +87,7 @@ pub record InPlay {W : Type 0} (config : Config) (s : List Entry) (n k : ℕ) (a
   pub split : s ≡ past ++ a.ahead
   pub rising : IsScenario n a.ahead
   pub upto : AllUpTo n past
-  pub is : filter is_timed a.history ≡ played n past ++ base n s
+  pub is : filter is_timed a.history ≡ entry_events n past ++ base n s
   pub ticks : a.ticks ≡ n
   pub count : length (filter is_tick a.history) ≡ n
   pub within : config.clock + n ≤ last_clock
@@ -108,11 +108,11 @@ idle_play config s n k a b idle p = record {
 }
 
 timed_here : {W : Type 0} (config : Config) (s : List Entry) (n k : ℕ) (a : DriverView W) → InPlay config s n k a → IsNoneDue n a.ahead
-    → filter is_timed a.history ≡ timed n s
+    → filter is_timed a.history ≡ time_events n s
 timed_here config s n k a p none =
-    let later : played n a.ahead ≡ [] = played_later n (suc n) a.ahead (omega arith) (none_due n a.ahead p.rising none) in
-    let all : played n s ≡ played n p.past =
-    ap (played n) p.split ∙ played_join n p.past a.ahead ∙ ap (λ (l : List PlainEvent). l ++ played n p.past) later in
+    let later : entry_events n a.ahead ≡ [] = played_later n (suc n) a.ahead (omega arith) (none_due n a.ahead p.rising none) in
+    let all : entry_events n s ≡ entry_events n p.past =
+    ap (entry_events n) p.split ∙ played_join n p.past a.ahead ∙ ap (λ (l : List PlainEvent). l ++ entry_events n p.past) later in
     p.is ∙ ap (λ (l : List PlainEvent). l ++ base n s) (sym all) ∙ timed_base n s
 
 -- ---- an entry is played
@@ -138,7 +138,7 @@ play_one config s n k a b (entry, others, m, first, due, (result, (log, was, ans
     let done = applied config event a m channel_log.0 log was channel_log.1 (stimulus_suits entry.stimulus channel_log.0 log rising.1)
     (result, (log, was, answers, to)) in
     let history : b.history ≡ event ∷ a.history = ap (λ m. m.history) is ∙ ap (λ m. m.history) done in
-    let own : played n (p.past ++ entry ∷ []) ≡ event ∷ played n p.past = played_join n p.past (entry ∷ []) ∙ rw
+    let own : entry_events n (p.past ++ entry ∷ []) ≡ event ∷ entry_events n p.past = played_join n p.past (entry ∷ []) ∙ rw
     (eq-eqb entry.tick n now) refl in
     record {
       past = p.past ++ entry ∷ [];
@@ -303,11 +303,11 @@ begins config start clock zero_ticks rising = record {
 
 -- and behind one
 pub behind : {W : Type 0} (hears : W → Heard → W → Type 0) (config : Config) (s : List Entry) (passed : List ℕ) (ticks : ℕ)
-    (a b : DriverView W) → Sweeps hears ticks config a b → Played config s (handed passed) a
-    → Played config s (handed (ticks ∷ passed)) b × (filter is_timed b.history ≡ timed (min (handed (ticks ∷ passed))
+    (a b : DriverView W) → Sweeps hears ticks config a b → Played config s (handed_ticks passed) a
+    → Played config s (handed_ticks (ticks ∷ passed)) b × (filter is_timed b.history ≡ time_events (min (handed_ticks (ticks ∷ passed))
     (last_clock - config.clock)) s)
 behind hears config s passed ticks a b sweeps p =
-    let r = sweep_timed hears config s (handed passed) ticks a b sweeps p in (
+    let r = sweep_timed hears config s (handed_ticks passed) ticks a b sweeps p in (
       record { n = r.n; play = r.play },
-      timed_here config s r.n (handed passed + ticks) b r.play r.none ∙ ap (λ (i : ℕ). timed i s) r.play.reached,
+      timed_here config s r.n (handed_ticks passed + ticks) b r.play r.none ∙ ap (λ (i : ℕ). time_events i s) r.play.reached,
     )

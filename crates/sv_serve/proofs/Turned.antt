@@ -15,7 +15,7 @@ use Rattle.sv_history.specs.declared.event.Role.{Role}
 use Rattle.sv_history.specs.declared.event.Port.TheVariants.{Conn}
 use Rattle.sv_history.specs.Event.{PlainEvent, Turn, Refuse}
 use Rattle.sv_history.specs.Act.{Act, ConnAct, Opened, Piece, CallTaken, Faulted, Replied, BytesTaken, PortClosed, of}
-use Rattle.sv_history.specs.Connection.{is_open, waiting, is_idle, free, open_role, given}
+use Rattle.sv_history.specs.Connection.{is_open, waiting, is_idle, free, open_role, bytes_taken}
 use Rattle.sv_history.specs.Limits.{longest_reply}
 use Rattle.sv_history.specs.History.{refusal, IsLogOf, Answers}
 use Rattle.sv_history.proofs.Unrecorded.{nothing_idle}
@@ -191,9 +191,9 @@ pub step_err : {W : Type 0} (hears : W → Heard → W → Type 0) (config : Con
     (x between y : DriverView W) (history events : List PlainEvent) (log : List Act) → c < 16 → x.history ≡ events ++ history
     → IsLogOf config x.history log → true ≡ not (is_idle (of c log)) → Answers config (Turn c) log (Err refused) → between ≡ x
     → EndsTurn c (Err refused) config between y → TurnStep hears config c history events x y
-step_err hears config c NoMemory x between y history events log lt is was ready answers same given = record {
+step_err hears config c NoMemory x between y history events log lt is was ready answers same bytes_taken = record {
   k = keeps_then hears Nobody config x between y (keeps_none hears Nobody config x between same)
-      (inner_by hears Nobody config (Refuse c) (Ok Done) between y refl (λ d. refl) (λ l. refl) given);
+      (inner_by hears Nobody config (Refuse c) (Ok Done) between y refl (λ d. refl) (λ l. refl) bytes_taken);
   turned = turned_by config c x.history history events (Refuse c ∷ []) log is was (inr (inl (refl, answers)));
 }
 step_err hears config c refused x between y history events log lt is was ready (channel_log, tells, says) same to = record {
@@ -206,9 +206,9 @@ pub step_answer : {W : Type 0} (hears : W → Heard → W → Type 0) (config : 
     (x between y : DriverView W) (history events : List PlainEvent) (log : List Act) → c < 16 → x.history ≡ events ++ history
     → IsLogOf config x.history log → true ≡ not (is_idle (of c log)) → Given (Turn c) result config x between
     → EndsTurn c result config between y → TurnStep hears config c history events x y
-step_answer hears config c (Ok did) x between y history events log lt is was ready given same = record {
+step_answer hears config c (Ok did) x between y history events log lt is was ready bytes_taken same = record {
   k = keeps_then hears Nobody config x between y
-      (inner_by hears Nobody config (Turn c) (Ok did) x between refl (λ d. refl) (λ l. refl) given)
+      (inner_by hears Nobody config (Turn c) (Ok did) x between refl (λ d. refl) (λ l. refl) bytes_taken)
       (keeps_none hears Nobody config between y same);
   turned = turned_by config c x.history history events (Turn c ∷ []) log is was (inl refl);
 }
@@ -225,8 +225,8 @@ step_ready hears config c false x y history events log lt is was idle same = rec
   k = keeps_none hears Nobody config x y same;
   turned = turned_by config c x.history history events [] log is was (inr (inr (refl, inl (idle_so (is_idle (of c log)) idle))));
 }
-step_ready hears config c true x y history events log lt is was ready (result, (between, given, ends)) =
-    step_answer hears config c result x between y history events log lt is was ready given ends
+step_ready hears config c true x y history events log lt is was ready (result, (between, bytes_taken, ends)) =
+    step_answer hears config c result x between y history events log lt is was ready bytes_taken ends
 
 -- ---- all turns
 

@@ -18,7 +18,7 @@ use Rattle.sv_serve.specs.declared.wire.Answer.TheVariants.{Got, Failed}
 use Rattle.sv_serve.specs.Heard.{Heard, WasAccepted, WasRead, WasProbed, WasWritten, WasDialed, PeerAnswered, WasClosed}
 use Rattle.sv_serve.specs.DriverView.{DriverState, Steps}
 use Rattle.sv_serve.specs.Sweep.{Sweeps}
-use Rattle.sv_serve.specs.Timed.{is_timed, timed, handed}
+use Rattle.sv_serve.specs.Timed.{is_timed, time_events, handed_ticks}
 use Rattle.sv_serve.specs.Served.{Through, event_of, is_outer, IsServed}
 
 -- Sweeps lead from one state of the driver to another, each with the milliseconds that it was given.
@@ -48,9 +48,9 @@ read port (WasRead d most (Got bytes)) = if is_same port (Conn d) then bytes els
 read _ _ = []
 
 -- the bytes that the wire took for a port
-abbrev pub taken : Port → Heard → List ℕ
-taken port (WasWritten other bytes (Got n)) = if is_same port other then take n bytes else []
-taken _ _ = []
+abbrev pub taken_bytes : Port → Heard → List ℕ
+taken_bytes port (WasWritten other bytes (Got n)) = if is_same port other then take n bytes else []
+taken_bytes _ _ = []
 
 -- those since the port began, the oldest first
 abbrev pub since : Port → (Heard → List ℕ) → List Heard → List ℕ
@@ -96,7 +96,8 @@ pub record IsCarried (config : Config) (history : List PlainEvent) (trace : List
   pub streams : (c : ℕ) → Answered (λ log. stream (of c log)) config history (since (Conn c) (read (Conn c)) trace)
   pub sends : (port : Port) (log : List Act) (channel_log : List ChannelAct) → IsLogOf config history log
       → HearsOf (device_acts log) channel_log
-      → is_port_shut port log ≡ false → since port (taken port) trace ++ waiting_on channel_log port log ≡ sent_on channel_log port log
+      → is_port_shut port log ≡ false → since port (taken_bytes port) trace ++ waiting_on channel_log port log
+      ≡ sent_on channel_log port log
   pub hands : EachHeard (λ heard older. (port : Port) (bytes : List ℕ) (answer : Answer ℕ) → heard ≡ WasWritten port bytes answer
       → Once (λ earlier. WaitOn port config earlier bytes) history older) trace
   pub failures : ClosesAtOnce None trace
@@ -116,7 +117,7 @@ InSweeps hears config start (ticks ∷ passed) now (between, swept, goes) histor
     × (older piece : List Heard) × InSweeps hears config start passed between swept earlier older × IsCarried config earlier older
     × (history ≡ events ++ earlier) × (trace ≡ piece ++ older) × IsServed hears config between now earlier events piece
     × (config.clock ≤ last_clock → start.ticks ≡ 0 → IsScenario 0 start.ahead
-    → filter is_timed history ≡ timed (min (handed (ticks ∷ passed)) (last_clock - config.clock)) start.ahead)
+    → filter is_timed history ≡ time_events (min (handed_ticks (ticks ∷ passed)) (last_clock - config.clock)) start.ahead)
 
 -- This holds after any number of sweeps of a driver whose server is new, over every wire.
 abbrev pub Carried : {W : Type 0} → (W → Heard → W → Type 0) → Type 0

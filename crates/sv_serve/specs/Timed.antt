@@ -9,16 +9,16 @@ abbrev pub is_timed : PlainEvent → Bool
 is_timed = elim [ Input channel microvolts ↦ true | External ↦ true | Tick ↦ true | _ ↦ false ]
 
 -- the events of the entries of this tick, the newest first
-abbrev pub played : ℕ → List Entry → List PlainEvent
-played tick [] = []
-played tick (entry ∷ entries) = played tick entries ++ (if entry.tick == tick then stimulus_event entry.stimulus ∷ [] else [])
+abbrev pub entry_events : ℕ → List Entry → List PlainEvent
+entry_events tick [] = []
+entry_events tick (entry ∷ entries) = entry_events tick entries ++ (if entry.tick == tick then stimulus_event entry.stimulus ∷ [] else [])
 
 -- the events of so many milliseconds, with the entries due before each, and after the last one
-abbrev pub timed : ℕ → List Entry → List PlainEvent
-timed zero entries = played 0 entries
-timed (suc n) entries = played (suc n) entries ++ Tick ∷ timed n entries
+abbrev pub time_events : ℕ → List Entry → List PlainEvent
+time_events zero entries = entry_events 0 entries
+time_events (suc n) entries = entry_events (suc n) entries ++ Tick ∷ time_events n entries
 
 -- how many milliseconds sweeps were given in total
-abbrev pub handed : List ℕ → ℕ
-handed [] = 0
-handed (ticks ∷ passed) = handed passed + ticks
+abbrev pub handed_ticks : List ℕ → ℕ
+handed_ticks [] = 0
+handed_ticks (ticks ∷ passed) = handed_ticks passed + ticks

@@ -4,7 +4,7 @@
 ghost use Rattle.std.specs.Prelude.{◌≡◌, ◌≢◌, ◌+◌, ◌≤◌, ◌||◌, not, ◌&&◌, ℕ, List, [], ◌∷◌, length, IfOk, IsSome, Some, None, true, false, is_some, nat_lt, option_map, if◌then◌else◌};
 ghost use Rattle.sv_rpc.specs.RecordBuf.{StandsFor, room_of, no_records};
 ghost use Rattle.sv_history.specs.Act.{ConnAct, Opened, Piece, CallTaken, Faulted, Replied, BytesTaken, PortClosed};
-ghost use Rattle.sv_history.specs.Connection.{is_open, next_call, is_idle, is_overlong, is_faulted, room, free, waiting, unanswered, is_busy};
+ghost use Rattle.sv_history.specs.Connection.{is_open, next_call, is_idle, is_overlong, is_faulted, room, free, waiting, pending_call, is_busy};
 ghost use Rattle.sv_history.specs.Request.{core_call_in};
 ghost use Rattle.sv_history.specs.Limits.{longest_reply, max_output};
 ghost use Rattle.sv_server.specs.Connection.Representation.{IsConnection};
@@ -218,7 +218,7 @@ impl<A: Allocator> Connection<A> {
     /// The call that was taken and isn't answered; `None` if there is none.
     fn taken(&self) -> Option<&[u8]>
         ensures { (acts : List ConnAct) → IsConnection self.now acts
-            → option_map (λ call. call.now) result ≡ unanswered acts }
+            → option_map (λ call. call.now) result ≡ pending_call acts }
     {
         if !self.busy {
             return None;
@@ -232,7 +232,7 @@ impl<A: Allocator> Connection<A> {
     /// The same, if it is one of the core channel, read once more as when it was taken.
     pub fn taken_call(&self) -> Option<CoreCall<'_>>
         ensures { (acts : List ConnAct) → IsConnection self.now acts
-            → option_map plain_core_call result ≡ core_call_in (unanswered acts) }
+            → option_map plain_core_call result ≡ core_call_in (pending_call acts) }
     {
         core_call(self.taken()?)
     }

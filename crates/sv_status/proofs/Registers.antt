@@ -5,7 +5,7 @@ use Rattle.std.specs.Int.{bit_at}
 use Rattle.sv_logs.proofs.Since.{since_empty, since_step, since_kept, since_same, since_ended, then_same}
 use Rattle.sv_status.specs.declared.register.RegisterAct.{RegisterAct}
 use Rattle.sv_status.specs.declared.register.RegisterAct.TheVariants.{Condition, SetFilter, SetEnable, ReadEvent, Preset, Clear}
-use Rattle.sv_status.specs.Register.{Latches, StandsFor, EventStands, Passes, NotCleared, condition, rise, fall, masked}
+use Rattle.sv_status.specs.Register.{Latches, StandsFor, EventStands, Passes, NotCleared, condition, rise, fall, without_top_bit}
 use Rattle.sv_status.proofs.Words.{no_bits, both_bits, either_bit, rose, fell}
 
 -- a bit that doesn't change passes no filter
@@ -56,7 +56,7 @@ event-cleared k acts = since_ended (Passes k) NotCleared Clear acts (λ kept. ke
 
 -- filters and enable change no event
 pub StandsFor-filter : (start : ℕ) (latches : Latches) (acts : List RegisterAct) (up down : ℕ) → StandsFor start latches acts
-    → StandsFor start (record latches { rise = masked up; fall = masked down }) (SetFilter up down ∷ acts)
+    → StandsFor start (record latches { rise = without_top_bit up; fall = without_top_bit down }) (SetFilter up down ∷ acts)
 StandsFor-filter start latches acts up down is = record {
   begins = is.begins;
   condition = is.condition;
@@ -67,7 +67,7 @@ StandsFor-filter start latches acts up down is = record {
 }
 
 pub StandsFor-enable : (start : ℕ) (latches : Latches) (acts : List RegisterAct) (word : ℕ) → StandsFor start latches acts
-    → StandsFor start (record latches { enable = masked word }) (SetEnable word ∷ acts)
+    → StandsFor start (record latches { enable = without_top_bit word }) (SetEnable word ∷ acts)
 StandsFor-enable start latches acts word is = record {
   begins = is.begins;
   condition = is.condition;

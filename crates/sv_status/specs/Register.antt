@@ -11,20 +11,20 @@ abbrev pub condition : List RegisterAct → ℕ
 condition = last_given (elim [ Condition word ↦ Some word | _ ↦ None ]) 0
 
 -- a mask without bit 15
-abbrev pub masked : ℕ → ℕ
-masked word = word % 2 ^ 15
+abbrev pub without_top_bit : ℕ → ℕ
+without_top_bit word = word % 2 ^ 15
 
 -- the positive transition filter: as last set, or 32767 at first and after a preset
 abbrev pub rise : List RegisterAct → ℕ
-rise = last_given (elim [ SetFilter up down ↦ Some (masked up) | Preset ↦ Some 32767 | _ ↦ None ]) 32767
+rise = last_given (elim [ SetFilter up down ↦ Some (without_top_bit up) | Preset ↦ Some 32767 | _ ↦ None ]) 32767
 
 -- the negative transition filter: as last set, or 0 at first and after a preset
 abbrev pub fall : List RegisterAct → ℕ
-fall = last_given (elim [ SetFilter up down ↦ Some (masked down) | Preset ↦ Some 0 | _ ↦ None ]) 0
+fall = last_given (elim [ SetFilter up down ↦ Some (without_top_bit down) | Preset ↦ Some 0 | _ ↦ None ]) 0
 
 -- the enable, as last set; at first and after a preset this start
 abbrev pub enable : ℕ → List RegisterAct → ℕ
-enable start = last_given (elim [ SetEnable word ↦ Some (masked word) | Preset ↦ Some start | _ ↦ None ]) start
+enable start = last_given (elim [ SetEnable word ↦ Some (without_top_bit word) | Preset ↦ Some start | _ ↦ None ]) start
 
 -- At the newest act a bit of the condition changes in a direction whose filter was on before that act.
 abbrev pub Passes : ℕ → List RegisterAct → Type 0

@@ -12,7 +12,7 @@ use Rattle.sv_errors.specs.declared.code.Code.TheVariants.{DataOutOfRange, TooMu
 use Rattle.sv_lexer.specs.declared.token.Kind.TheVariants.{Number, Base, Word, Expression, Other}
 use Rattle.sv_text.specs.Cut.{cut_at}
 use Rattle.sv_text.proofs.Parts.{parts_some}
-use Rattle.sv_value.specs.Channels.{Span as Ends, inner, listed, next, read_items, read_list, run, span}
+use Rattle.sv_value.specs.Channels.{Span as Ends, inner, list_channels, next, read_items, read_list, channel_range, span}
 use Rattle.sv_value.specs.Value.{ReadIsChannelList}
 use Rattle.sv_value.proofs.Spans.{run-up, run-down, run-one, length-run}
 
@@ -22,7 +22,7 @@ cons-channel c cs some most h = rw (le-leb 1 c some, le-leb c channel_count most
 
 -- a run between two channels
 run-channels : (k first last : ℕ) → (first - last) + (last - first) ≡ k → 1 ≤ first → first ≤ channel_count → 1 ≤ last
-    → last ≤ channel_count → list_all is_channel (run first last) ≡ true
+    → last ≤ channel_count → list_all is_channel (channel_range first last) ≡ true
 run-channels zero first last size f1 f2 l1 l2 =
     let e : first ≡ last = omega (arith, size) in
     rw e (ap (list_all is_channel) (run-one last) ∙ cons-channel last [] l1 l2 refl)
@@ -30,12 +30,12 @@ run-channels (suc k) first last size f1 f2 l1 l2 =
     elim (cases_lt first last) [
       | inl up ↦
           ap (list_all is_channel) (run-up first last up)
-          ∙ cons-channel first (run (first + 1) last) f1 f2
+          ∙ cons-channel first (channel_range (first + 1) last) f1 f2
           (run-channels k (first + 1) last (omega (arith, size, up)) (omega arith) (omega (arith, up, l2)) l1 l2)
       | inr other ↦
           let down : last < first = omega (arith, size, other) in
           ap (list_all is_channel) (run-down first last down)
-          ∙ cons-channel first (run (first - 1) last) f1 f2
+          ∙ cons-channel first (channel_range (first - 1) last) f1 f2
           (run-channels k (first - 1) last (omega (arith, size, down)) (omega (arith, down, l1)) (omega (arith, f2)) l1 l2)
     ]
 
@@ -44,7 +44,7 @@ both : (a b : Bool) → (a && b) ≡ true → (a ≡ true) × (b ≡ true)
 both true b h = (refl, h)
 both false b h = absurd cc
 
-ends-channels : (first last : ℕ) → (is_channel first && is_channel last) ≡ true → list_all is_channel (run first last) ≡ true
+ends-channels : (first last : ℕ) → (is_channel first && is_channel last) ≡ true → list_all is_channel (channel_range first last) ≡ true
 ends-channels first last h =
     let one = both (is_channel first) (is_channel last) h in
     let f = both (nat_le 1 first) (nat_le first channel_count) one.0 in
@@ -64,27 +64,29 @@ item-channels : (o : Option Ends) (before list : List ℕ) (others : List ℕ �
     → next o before others ≡ Ok list → is_channel_list list ≡ true
 item-channels None before list others all go h = absurd cc
 item-channels (Some ends) before list others all go h =
-    at (is_channel ends.first && is_channel ends.last) (nat_lt longest_list (length (before ++ run ends.first ends.last))) refl refl h
+    at (is_channel ends.first && is_channel ends.last)
+    (nat_lt longest_list (length (before ++ channel_range ends.first ends.last))) refl refl h
   where
     at : (legal full : Bool) → (is_channel ends.first && is_channel ends.last) ≡ legal
-        → nat_lt longest_list (length (before ++ run ends.first ends.last)) ≡ full
-        → cond (not legal) (Err DataOutOfRange) (cond full (Err TooMuchData) (others (before ++ run ends.first ends.last))) ≡ Ok list
+        → nat_lt longest_list (length (before ++ channel_range ends.first ends.last)) ≡ full
+        → cond (not legal) (Err DataOutOfRange) (cond full (Err TooMuchData) (others (before ++ channel_range ends.first ends.last)))
+        ≡ Ok list
         → is_channel_list list ≡ true
     at false full is_legal is_full e = absurd cc
     at true true is_legal is_full e = absurd cc
     at true false is_legal is_full e =
         let channels = ends-channels ends.first ends.last is_legal in
         let run_size = length-run ends.first ends.last in
-        let size = length-append before (run ends.first ends.last) in
-        go (before ++ run ends.first ends.last)
-        (list_all-append is_channel before (run ends.first ends.last) ∙ rw (all, channels) refl)
-        (ltb-false longest_list (length (before ++ run ends.first ends.last)) is_full) (omega (arith, size, run_size)) e
+        let size = length-append before (channel_range ends.first ends.last) in
+        go (before ++ channel_range ends.first ends.last)
+        (list_all-append is_channel before (channel_range ends.first ends.last) ∙ rw (all, channels) refl)
+        (ltb-false longest_list (length (before ++ channel_range ends.first ends.last)) is_full) (omega (arith, size, run_size)) e
 
 listed-channels : (items : List (List ℕ)) (before list : List ℕ) → list_all is_channel before ≡ true → length before ≤ longest_list
-    → 1 ≤ length before + length items → listed before items ≡ Ok list → is_channel_list list ≡ true
+    → 1 ≤ length before + length items → list_channels before items ≡ Ok list → is_channel_list list ≡ true
 listed-channels [] before list all most some h = are-listed before list all most (omega (arith, some)) cc
 listed-channels (item ∷ items) before list all most some h =
-    item-channels (span item) before list (λ so_far. listed so_far items) all
+    item-channels (span item) before list (λ so_far. list_channels so_far items) all
     (λ so_far a m s e. listed-channels items so_far list a m (omega (arith, s)) e) h
 
 items-channels : (o : Option (List ℕ)) (list : List ℕ) → option_map_or read_items o (Err InvalidExpression) ≡ Ok list
@@ -92,7 +94,7 @@ items-channels : (o : Option (List ℕ)) (list : List ℕ) → option_map_or rea
 items-channels None list h = absurd cc
 items-channels (Some text) list h = at (list_all (λ item. is_some (span item)) (cut_at 44 text)) h
   where
-    at : (t : Bool) → cond t (listed [] (cut_at 44 text)) (Err InvalidExpression) ≡ Ok list → is_channel_list list ≡ true
+    at : (t : Bool) → cond t (list_channels [] (cut_at 44 text)) (Err InvalidExpression) ≡ Ok list → is_channel_list list ≡ true
     at false e = absurd cc
     at true e = let some = parts_some 44 text in listed-channels (cut_at 44 text) [] list refl (omega arith) (omega (arith, some)) e
 

@@ -9,17 +9,17 @@ use Rattle.sv_errors.specs.declared.code.Code.{Code}
 use Rattle.sv_errors.specs.declared.code.Code.TheVariants.{TooMuchData}
 use Rattle.sv_value.specs.declared.channels.Span.{Span}
 use Rattle.sv_errors.specs.Limits.{is_channel, channel_count, longest_list}
-use Rattle.sv_value.specs.Channels.{Span as Ends, next, run, span_of}
+use Rattle.sv_value.specs.Channels.{Span as Ends, next, channel_range, span_of}
 use Rattle.sv_value.specs.Plain.{ends_up_to}
 
 -- a run upwards begins with its first channel
-pub run-up : (first last : ℕ) → first < last → run first last ≡ first ∷ run (first + 1) last
+pub run-up : (first last : ℕ) → first < last → channel_range first last ≡ first ∷ channel_range (first + 1) last
 run-up first last lt =
     let size : last - first + 1 ≡ suc (last - (first + 1) + 1) = omega (arith, lt) in
     rw (le-leb first last (omega (arith, lt)), le-leb (first + 1) last (omega (arith, lt)), size) refl
 
 -- one channel
-pub run-one : (channel : ℕ) → run channel channel ≡ channel ∷ []
+pub run-one : (channel : ℕ) → channel_range channel channel ≡ channel ∷ []
 run-one channel =
     let size : channel - channel + 1 ≡ 1 = omega arith in
     rw (le-leb channel channel (omega arith), size) refl
@@ -32,11 +32,11 @@ range-push first (suc n) =
     ap (λ cs. first ∷ cs) (range-push (first + 1) n ∙ ap (λ c. range_with_len (first + 1) n ++ c ∷ []) e)
 
 -- a run that doesn't go upwards
-run-back : (first last : ℕ) → last < first → run first last ≡ reverse (range_with_len last (first - last + 1))
+run-back : (first last : ℕ) → last < first → channel_range first last ≡ reverse (range_with_len last (first - last + 1))
 run-back first last lt = rw (lt-leb first last lt) refl
 
 -- one that is left, in the same words
-run-rest : (first last : ℕ) → last < first → run (first - 1) last ≡ reverse (range_with_len last (first - last))
+run-rest : (first last : ℕ) → last < first → channel_range (first - 1) last ≡ reverse (range_with_len last (first - last))
 run-rest first last lt =
     elim (cases_lt last (first - 1)) [
       | inl more ↦
@@ -49,7 +49,7 @@ run-rest first last lt =
     ]
 
 -- a run downwards begins with its first channel too
-pub run-down : (first last : ℕ) → last < first → run first last ≡ first ∷ run (first - 1) last
+pub run-down : (first last : ℕ) → last < first → channel_range first last ≡ first ∷ channel_range (first - 1) last
 run-down first last lt =
     let size : first - last + 1 ≡ suc (first - last) = omega (arith, lt) in
     let end : last + (first - last) ≡ first = omega (arith, lt) in
@@ -64,7 +64,7 @@ length-range : (first n : ℕ) → length (range_with_len first n) ≡ n
 length-range first zero = refl
 length-range first (suc n) = ap suc (length-range (first + 1) n)
 
-pub length-run : (first last : ℕ) → length (run first last) ≡ (first - last) + (last - first) + 1
+pub length-run : (first last : ℕ) → length (channel_range first last) ≡ (first - last) + (last - first) + 1
 length-run first last =
     elim (cases_lt last first) [
       | inl lt ↦ ap length (run-back first last lt) ∙ length-reverse (range_with_len last (first - last + 1))
@@ -76,19 +76,21 @@ length-run first last =
 
 -- what is pushed of a run
 pub push-up : (before items list : List ℕ) (first last channel : ℕ) → channel < last → list ≡ items ++ channel ∷ []
-    → items ++ run channel last ≡ before ++ run first last
-    → list ++ run (channel + 1) last ≡ before ++ run first last
+    → items ++ channel_range channel last ≡ before ++ channel_range first last
+    → list ++ channel_range (channel + 1) last ≡ before ++ channel_range first last
 push-up before items list first last channel lt e h = rw e (simp append_assoc (ap (λ cs. items ++ cs) (sym (run-up channel last lt)) ∙ h))
 
 pub push-down : (before items list : List ℕ) (first last channel : ℕ) → last < channel → list ≡ items ++ channel ∷ []
-    → items ++ run channel last ≡ before ++ run first last
-    → list ++ run (channel - 1) last ≡ before ++ run first last
+    → items ++ channel_range channel last ≡ before ++ channel_range first last
+    → list ++ channel_range (channel - 1) last ≡ before ++ channel_range first last
 push-down before items list first last channel lt e h =
     rw e (simp append_assoc (ap (λ cs. items ++ cs) (sym (run-down channel last lt)) ∙ h))
 
 -- a whole run behind others
-pub run-fits : (before : List ℕ) (first last : ℕ) → length (before ++ run first last) ≡ length before + (first - last) + (last - first) + 1
-run-fits before first last = let run_size = length-run first last in length-append before (run first last) ∙ omega (arith, run_size)
+pub run-fits : (before : List ℕ) (first last : ℕ)
+    → length (before ++ channel_range first last) ≡ length before + (first - last) + (last - first) + 1
+run-fits before first last = let run_size = length-run first last in length-append before (channel_range first last)
+    ∙ omega (arith, run_size)
 
 -- ends that were counted to the bound are ends
 capped-some : (o : Option Ends) (span : Span) → ends_up_to o ≡ Some span
@@ -110,13 +112,21 @@ channel-same n m e c =
 pub add-done : (o : Option Ends) (span : Span) (before : List ℕ) → ends_up_to o ≡ Some span → is_channel span.first ≡ true
     → is_channel span.last ≡ true
     → length before + abs_diff span.first span.last < longest_list → (others : List ℕ → Result (List ℕ) Code)
-    → next o before others ≡ others (before ++ run span.first span.last)
+    → next o before others ≡ others (before ++ channel_range span.first span.last)
 add-done o span before h first last room others =
     let some = capped-some o span h in
     let f = channel-same some.0.first span.first some.2 first in
     let l = channel-same some.0.last span.last some.3 last in
     let size = run-fits before span.first span.last in
-    rw (some.1, f, l, first, last, le-ltb longest_list (length (before ++ run span.first span.last)) (omega (arith, size, room))) refl
+    rw (
+      some.1,
+      f,
+      l,
+      first,
+      last,
+      le-ltb longest_list (length (before ++ channel_range span.first span.last))
+          (omega (arith, size, room)),
+    ) refl
 
 -- and where there is none
 pub add-full : (o : Option Ends) (span : Span) (before : List ℕ) → ends_up_to o ≡ Some span → is_channel span.first ≡ true
@@ -128,7 +138,15 @@ add-full o span before h first last room others =
     let f = channel-same some.0.first span.first some.2 first in
     let l = channel-same some.0.last span.last some.3 last in
     let size = run-fits before span.first span.last in
-    rw (some.1, f, l, first, last, lt-ltb longest_list (length (before ++ run span.first span.last)) (omega (arith, size, room))) refl
+    rw (
+      some.1,
+      f,
+      l,
+      first,
+      last,
+      lt-ltb longest_list (length (before ++ channel_range span.first span.last))
+          (omega (arith, size, room)),
+    ) refl
 
 -- an item of three parts or more is none
 pub span-more : (a b : List ℕ) (others : List (List ℕ)) → 1 ≤ length others → span_of (a ∷ b ∷ others) ≡ None

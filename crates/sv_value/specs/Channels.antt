@@ -45,8 +45,9 @@ abbrev pub span : List ℕ → Option Span
 span item = span_of (cut_at 58 item)
 
 -- the channels from one end to the other, up or down
-abbrev pub run : ℕ → ℕ → List ℕ
-run first last = if nat_le first last then range_with_len first (last - first + 1) else reverse (range_with_len last (first - last + 1))
+abbrev pub channel_range : ℕ → ℕ → List ℕ
+channel_range first last = if nat_le first last then range_with_len first (last - first + 1) else reverse
+    (range_with_len last (first - last + 1))
 
 -- The channels so far and those of the next item, with those of the items after it; or its error: an end that is no channel (-222), then
 -- more channels so far than a list may have (-223). Items that aren't spelled as one were refused before (-171).
@@ -54,17 +55,18 @@ abbrev pub next : Option Span → List ℕ → (List ℕ → Result (List ℕ) C
 next None before others = Err InvalidExpression
 next (Some ends) before others =
     if not (is_channel ends.first && is_channel ends.last) then Err DataOutOfRange
-    else if nat_lt longest_list (length (before ++ run ends.first ends.last)) then Err TooMuchData
-    else others (before ++ run ends.first ends.last)
+    else if nat_lt longest_list (length (before ++ channel_range ends.first ends.last)) then Err TooMuchData
+    else others (before ++ channel_range ends.first ends.last)
 
 -- the channels so far and those of all items, or the first error
-abbrev pub listed : List ℕ → List (List ℕ) → Result (List ℕ) Code
-listed before [] = Ok before
-listed before (item ∷ items) = next (span item) before (λ so_far. listed so_far items)
+abbrev pub list_channels : List ℕ → List (List ℕ) → Result (List ℕ) Code
+list_channels before [] = Ok before
+list_channels before (item ∷ items) = next (span item) before (λ so_far. list_channels so_far items)
 
 -- the channels of all items, or the first error
 abbrev pub read_items : List ℕ → Result (List ℕ) Code
-read_items text = if list_all (λ item. is_some (span item)) (cut_at 44 text) then listed [] (cut_at 44 text) else Err InvalidExpression
+read_items text = if list_all (λ item. is_some (span item)) (cut_at 44 text) then list_channels []
+    (cut_at 44 text) else Err InvalidExpression
 
 -- the channels of a list, or its first error
 abbrev pub read_list : List ℕ → Result (List ℕ) Code

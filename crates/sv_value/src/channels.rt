@@ -6,7 +6,7 @@ ghost use Rattle.std.specs.Char.{is_ascii_digit};
 ghost use Rattle.std.specs.List.{list_all};
 ghost use Rattle.sv_errors.specs.declared.code.Code.{Code as ErrorCode};
 ghost use Rattle.sv_text.specs.Cut.{cut_at};
-ghost use Rattle.sv_value.specs.Channels.{inner as inner_of, listed as listed_behind, next, read_list, run, span as ends, span_of};
+ghost use Rattle.sv_value.specs.Channels.{inner as inner_of, list_channels as listed_behind, next, read_list, channel_range, span as ends, span_of};
 ghost use Rattle.sv_value.specs.Plain.{ends_up_to, number_up_to};
 
 use crate::digits::value_after;
@@ -97,7 +97,7 @@ fn add(list: &mut ArrayVec<u8, LONGEST_LIST>, item: &[u8]) -> Result<(), Code>
 /// Pushes the channels from one end to the other, upwards or downwards.
 fn push_run(list: &mut ArrayVec<u8, LONGEST_LIST>, first: u8, last: u8)
     requires { length list.old.items + (first - last) + (last - first) < longest_list }
-    ensures { list.new.items ≡ list.old.items ++ run first last }
+    ensures { list.new.items ≡ list.old.items ++ channel_range first last }
 {
     let mut channel = first;
     while channel != last {

@@ -103,16 +103,16 @@ link (OnLink lid call) = Some lid
 link _ = None
 
 -- what flags and a timeout, in milliseconds, say of the lock: bit 0 is waitlock
-abbrev pub flagged : ℕ → ℕ → Option LockWait
-flagged flags timeout = Some (record { waits = bit_at flags 0 == 1; timeout = timeout })
+abbrev pub lock_wait_of : ℕ → ℕ → Option LockWait
+lock_wait_of flags timeout = Some (record { waits = bit_at flags 0 == 1; timeout = timeout })
 
 -- what a call does while another link holds the lock (section B.4.4); `None` if it is executed all the same
 abbrev pub lock_wait : LinkCall → Option LockWait
-lock_wait (DeviceWrite io_timeout lock_timeout flags bytes) = flagged flags lock_timeout
-lock_wait (DeviceRead request_size io_timeout lock_timeout flags term_char) = flagged flags lock_timeout
-lock_wait (Generic call flags lock_timeout io_timeout) = flagged flags lock_timeout
-lock_wait (DeviceLock flags lock_timeout) = flagged flags lock_timeout
-lock_wait (DeviceDocmd flags io_timeout lock_timeout cmd network_order datasize bytes) = flagged flags lock_timeout
+lock_wait (DeviceWrite io_timeout lock_timeout flags bytes) = lock_wait_of flags lock_timeout
+lock_wait (DeviceRead request_size io_timeout lock_timeout flags term_char) = lock_wait_of flags lock_timeout
+lock_wait (Generic call flags lock_timeout io_timeout) = lock_wait_of flags lock_timeout
+lock_wait (DeviceLock flags lock_timeout) = lock_wait_of flags lock_timeout
+lock_wait (DeviceDocmd flags io_timeout lock_timeout cmd network_order datasize bytes) = lock_wait_of flags lock_timeout
 lock_wait _ = None
 
 -- whether the call is create_link

@@ -2,7 +2,7 @@
 //! them.
 
 ghost use Rattle.std.specs.Prelude.{◌≡◌};
-ghost use Rattle.sv_vxi.specs.Arguments.{link as link_by, lock_wait as lock_wait_by, flagged as flagged_by, is_create_link as makes_link};
+ghost use Rattle.sv_vxi.specs.Arguments.{link as link_by, lock_wait as lock_wait_by, lock_wait_of as flagged_by, is_create_link as makes_link};
 ghost use Rattle.sv_vxi.specs.Reading.{plain_call, plain_arguments};
 
 use crate::flags::Flags;

@@ -8,11 +8,11 @@ use Rattle.sv_command.specs.Unit.{IsReadAs}
 use Rattle.sv_layers.specs.declared.change.Awaited.{Awaited}
 use Rattle.sv_layers.specs.Act.{Act, exchange_acts}
 use Rattle.sv_layers.specs.Inside.Representation.{LayerState, StandsFor as Layers, max_count}
-use Rattle.sv_instrument.specs.HeldUnit.{held}
+use Rattle.sv_instrument.specs.HeldUnit.{held_unit}
 use Rattle.sv_instrument.specs.Path.{IsPath, units_begun}
 use Rattle.sv_instrument.specs.RequestCount.{Raises}
 use Rattle.sv_instrument.specs.Step.{Does, Starts, IsStep}
-use Rattle.sv_instrument.specs.Representation.{Kept, StandsFor, unheld, instrument_measure, IsHeldRight}
+use Rattle.sv_instrument.specs.Representation.{Kept, StandsFor, one_if_unheld, instrument_measure, IsHeldRight}
 
 -- The layers stand for the log, and have counted the requests for service that were raised from another log on.
 pub record Counts (start : List Act) (layers : LayerState) (log : List Act) : Type 0 where
@@ -28,7 +28,7 @@ IsCountable start log = length log ≤ length start + max_count
 -- What is kept stands for the log, and the requests that were raised from another log on are counted.
 pub record Runs (start : List Act) (kept : Kept) (log : List Act) : Type 0 where
   pub layers : Counts start kept.layers log
-  pub held : kept.held ≡ held log
+  pub held : kept.held ≡ held_unit log
   pub path : IsPath log kept.path
 
 -- The exchange saw nothing between.
@@ -46,7 +46,7 @@ pub record Behaves (Makes : List Act → Type 0) (start : List Act) (layers : La
   pub new : List Act
   pub makes : Makes new
   pub counts : Counts start layers new
-  pub held : awaited ≡ held new
+  pub held : awaited ≡ held_unit new
   pub begins : BeginsOne log new
 
 -- A unit was read behind a path, and left another, and this came of it.
@@ -54,9 +54,9 @@ abbrev pub Follows : List ℕ → List (List ℕ) → List (List ℕ) → List A
 Follows unit front behind log new = (outcome : Result Order Code) × IsReadAs front unit outcome behind × Does outcome log new
 
 -- Less is left to be done, and where a unit is held, it is the one that is due.
-pub record Advances (before after : LayerState) (held : Option Awaited) : Type 0 where
-  pub less : 2 * exchange_measure after.exchange + unheld held < 2 * exchange_measure before.exchange + 1
-  pub right : IsHeldRight held after
+pub record Advances (before after : LayerState) (held_unit : Option Awaited) : Type 0 where
+  pub less : 2 * exchange_measure after.exchange + one_if_unheld held_unit < 2 * exchange_measure before.exchange + 1
+  pub right : IsHeldRight held_unit after
 
 -- The next unit of a log started.
 pub record StartsUnit (start log : List Act) (kept : Kept) : Type 0 where

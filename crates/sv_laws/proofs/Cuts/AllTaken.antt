@@ -8,7 +8,7 @@ use Rattle.sv_rpc.specs.Stream.{records_of, tail_of}
 use Rattle.sv_history.specs.declared.event.Config.{Config}
 use Rattle.sv_history.specs.Event.{PlainEvent}
 use Rattle.sv_history.specs.Act.{Act, ConnAct, Opened, Piece, CallTaken, Faulted, Replied, BytesTaken, PortClosed, of}
-use Rattle.sv_history.specs.Connection.{open_role, stream, completed, took_no_call, unanswered}
+use Rattle.sv_history.specs.Connection.{open_role, stream, records_ended, took_no_call, pending_call}
 use Rattle.sv_laws.specs.Cuts.{without_pieces}
 use Rattle.sv_laws.proofs.Cuts.ReadsOn.{resumed_at, records_more}
 use Rattle.sv_laws.proofs.Cuts.BytesBehind.{GoesOn, behind_bare, behind_stream}
@@ -22,7 +22,7 @@ role_bare (Opened role ∷ acts) = refl
 role_bare (PortClosed ∷ acts) = refl
 role_bare (_ ∷ acts) = role_bare acts
 
-pub call_bare : (acts : List ConnAct) → unanswered acts ≡ unanswered (without_pieces acts)
+pub call_bare : (acts : List ConnAct) → pending_call acts ≡ pending_call (without_pieces acts)
 call_bare [] = refl
 call_bare (Piece bytes ∷ acts) = call_bare acts
 call_bare (BytesTaken count ∷ acts) = call_bare acts
@@ -35,7 +35,7 @@ no_call_bare (PortClosed ∷ acts) = refl
 no_call_bare (Faulted ∷ acts) = refl
 no_call_bare (_ ∷ acts) = no_call_bare acts
 
-completed_bare : (acts : List ConnAct) → completed acts ≡ completed (without_pieces acts)
+completed_bare : (acts : List ConnAct) → records_ended acts ≡ records_ended (without_pieces acts)
 completed_bare [] = refl
 completed_bare (Opened role ∷ acts) = refl
 completed_bare (PortClosed ∷ acts) = refl
@@ -81,21 +81,21 @@ module _ (c : ℕ) (config : Config) (past : List PlainEvent) (log : List Act) (
   pub fed_bare : without_pieces (of c log) ≡ Replied reply ∷ CallTaken call ∷ without_pieces (of c fed.base)
   fed_bare = behind_bare c fed.last log fed.came ∙ fed.acts
 
-  fed_count : completed (of c log) ≡ suc (completed (of c fed.base))
-  fed_count = completed_bare (of c log) ∙ ap completed fed_bare ∙ ap suc (sym (completed_bare (of c fed.base)))
+  fed_count : records_ended (of c log) ≡ suc (records_ended (of c fed.base))
+  fed_count = completed_bare (of c log) ∙ ap records_ended fed_bare ∙ ap suc (sym (completed_bare (of c fed.base)))
 
-  fed_within : completed (of c fed.base) < length (records_of (stream (of c fed.base)))
-  fed_within = slice_get_within (records_of (stream (of c fed.base))) (completed (of c fed.base)) call
-      (by_test (took_no_call (of c fed.base) || is_some (unanswered (of c fed.base))) fed.taking.next)
+  fed_within : records_ended (of c fed.base) < length (records_of (stream (of c fed.base)))
+  fed_within = slice_get_within (records_of (stream (of c fed.base))) (records_ended (of c fed.base)) call
+      (by_test (took_no_call (of c fed.base) || is_some (pending_call (of c fed.base))) fed.taking.next)
     where
-      by_test : (t : Bool) → cond t None (slice_get (records_of (stream (of c fed.base))) (completed (of c fed.base))) ≡ Some call
-          → slice_get (records_of (stream (of c fed.base))) (completed (of c fed.base)) ≡ Some call
+      by_test : (t : Bool) → cond t None (slice_get (records_of (stream (of c fed.base))) (records_ended (of c fed.base))) ≡ Some call
+          → slice_get (records_of (stream (of c fed.base))) (records_ended (of c fed.base)) ≡ Some call
       by_test true is = absurd cc
       by_test false is = is
 
   -- where none is left, each of its records came to its end
-  pub fed_all : drop (completed (of c log)) (records_of (stream (of c log))) ≡ []
-      → length (records_of (stream (of c log))) ≡ completed (of c log)
+  pub fed_all : drop (records_ended (of c log)) (records_of (stream (of c log))) ≡ []
+      → length (records_of (stream (of c log))) ≡ records_ended (of c log)
   fed_all none =
       let records = records_of (stream (of c log)) in
       let before = records_of (stream (of c fed.base)) in
@@ -104,5 +104,5 @@ module _ (c : ℕ) (config : Config) (past : List PlainEvent) (log : List Act) (
       let all : length records ≡ length (before ++ more) =
       ap (λ (l : List ℕ). length (records_of l)) grown.1
       ∙ ap (λ (l : List (List ℕ)). length l) (records_more (stream (of c fed.base)) grown.0) in
-      let left : length (drop (completed (of c log)) records) ≡ 0 = ap (λ (l : List (List ℕ)). length l) none in
-      omega (arith, all, left, length-append before more, length-drop (completed (of c log)) records, fed_count, fed_within)
+      let left : length (drop (records_ended (of c log)) records) ≡ 0 = ap (λ (l : List (List ℕ)). length l) none in
+      omega (arith, all, left, length-append before more, length-drop (records_ended (of c log)) records, fed_count, fed_within)

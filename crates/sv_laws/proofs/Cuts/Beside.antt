@@ -6,7 +6,7 @@ use Rattle.sv_errors.specs.declared.code.Code.TheVariants.{InputBufferOverrun}
 use Rattle.sv_exchange.specs.Exchange.{Overran}
 use Rattle.sv_layers.specs.Act.{Act as InstrumentAct, Exchanged, Reported, exchange_acts as exchanged}
 use Rattle.sv_history.specs.Act.{Act, ConnAct, DeviceAct, CallTaken, Replied, Applied, On, OnDevice, of, device_acts, instrument_acts}
-use Rattle.sv_history.specs.Connection.{unanswered}
+use Rattle.sv_history.specs.Connection.{pending_call}
 use Rattle.sv_history.proofs.Projections.{of_mine, of_other}
 use Rattle.sv_laws.proofs.Cuts.SameExchange.{text_cut}
 use Rattle.sv_laws.proofs.Cuts.SameStatus.{SameStatus, status_same, status_act, status_accepted, status_back}
@@ -111,7 +111,7 @@ shared_moved acts other a b x y v =
 -- beside the one connection, whose calls were others
 pub record Beside (c : ℕ) (log other : List Act) : Type 0 where
   pub shared : SameShared (device_acts log) (device_acts other)
-  pub calls : (d : ℕ) → unanswered (of d log) ≡ unanswered (of d other)
+  pub calls : (d : ℕ) → pending_call (of d log) ≡ pending_call (of d other)
   pub others : (d : ℕ) → d ≢ c → of d log ≡ of d other
 
 beside_more : (c : ℕ) (adds log other : List Act) → Beside c log other → Beside c (adds ++ log) (adds ++ other)
@@ -133,10 +133,10 @@ beside_kept c = record {
 
 -- ---- more bytes come on the connection
 
-calls_came : (c d : ℕ) (base log : List Act) → CameBehind c base log → unanswered (of d log) ≡ unanswered (of d base)
+calls_came : (c d : ℕ) (base log : List Act) → CameBehind c base log → pending_call (of d log) ≡ pending_call (of d base)
 calls_came c d base log came = elim (cases_eq d c) [
-  | inl e ↦ subst (λ (n : ℕ). unanswered (of n log) ≡ unanswered (of n base)) (sym e) (behind_call c base log came)
-  | inr ne ↦ ap unanswered (behind_others c d base log came ne)
+  | inl e ↦ subst (λ (n : ℕ). pending_call (of n log) ≡ pending_call (of n base)) (sym e) (behind_call c base log came)
+  | inr ne ↦ ap pending_call (behind_others c d base log came ne)
 ]
 
 pub beside_came : (c : ℕ) (one two log other : List Act) → CameBehind c one log → CameBehind c two other → Beside c one two
@@ -157,10 +157,10 @@ of_wrote c d call reply bytes ended base ne =
     ∙ of_other c d (CallTaken call) base ne
 
 wrote_calls : (c d : ℕ) (call reply bytes : List ℕ) (ended : Bool) (base : List Act) → d ≡ c
-    → unanswered (of d (wrote c call reply bytes ended base)) ≡ None
+    → pending_call (of d (wrote c call reply bytes ended base)) ≡ None
 wrote_calls c d call reply bytes ended base same =
-    subst (λ (n : ℕ). unanswered (of n (wrote c call reply bytes ended base)) ≡ None) (sym same)
-    (ap unanswered (of_mine c (Replied reply) (OnDevice (accepts bytes ended) ∷ On c (CallTaken call) ∷ base)))
+    subst (λ (n : ℕ). pending_call (of n (wrote c call reply bytes ended base)) ≡ None) (sym same)
+    (ap pending_call (of_mine c (Replied reply) (OnDevice (accepts bytes ended) ∷ On c (CallTaken call) ∷ base)))
 
 -- the two logs' writes, over one log
 pub beside_wrote : (c : ℕ) (log other : List Act) (call reply x : List ℕ) (first : Bool) (one : List Act) (also answer y : List ℕ)
@@ -174,9 +174,9 @@ beside_wrote c log other call reply x first one also answer y last two acts both
     record {
       shared = shared_moved acts both (device_acts log) (device_acts other) p q v;
       calls = λ d. elim (cases_eq d c) [
-        | inl e ↦ ap unanswered (here d) ∙ wrote_calls c d call reply x first one e ∙ sym (wrote_calls c d also answer y last two e)
-            ∙ sym (ap unanswered (there d))
-        | inr ne ↦ ap unanswered (apart d ne)
+        | inl e ↦ ap pending_call (here d) ∙ wrote_calls c d call reply x first one e ∙ sym (wrote_calls c d also answer y last two e)
+            ∙ sym (ap pending_call (there d))
+        | inr ne ↦ ap pending_call (apart d ne)
       ];
       others = apart;
     }

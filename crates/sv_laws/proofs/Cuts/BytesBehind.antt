@@ -2,7 +2,7 @@
 use Rattle.std.proofs.Common.{◌≡◌, ◌≢◌, ℕ, List, [], ◌∷◌, ◌++◌, refl, sym, ap, subst, ◌∙◌}
 use Rattle.std.specs.Prelude.{map}
 use Rattle.sv_history.specs.Act.{Act, ConnAct, Piece, On, of, device_acts}
-use Rattle.sv_history.specs.Connection.{joined, stream, unanswered}
+use Rattle.sv_history.specs.Connection.{join_pieces, stream, pending_call}
 use Rattle.sv_laws.specs.Cuts.{without_pieces}
 use Rattle.sv_history.proofs.Projections.{of_effect, others_effect, device_effect}
 use Rattle.sv_laws.proofs.Cuts.SameView.{came, only_own, came_on}
@@ -43,8 +43,8 @@ pieces_bare (piece ∷ pieces) acts = pieces_bare pieces acts
 pub behind_bare : (c : ℕ) (base log : List Act) → CameBehind c base log → without_pieces (of c log) ≡ without_pieces (of c base)
 behind_bare c base log (pieces, is) = ap without_pieces (behind_own c base log pieces is) ∙ pieces_bare pieces (of c base)
 
-pub behind_call : (c : ℕ) (base log : List Act) → CameBehind c base log → unanswered (of c log) ≡ unanswered (of c base)
-behind_call c base log (pieces, is) = ap unanswered (behind_own c base log pieces is) ∙ (came pieces (of c base)).call
+pub behind_call : (c : ℕ) (base log : List Act) → CameBehind c base log → pending_call (of c log) ≡ pending_call (of c base)
+behind_call c base log (pieces, is) = ap pending_call (behind_own c base log pieces is) ∙ (came pieces (of c base)).call
 
 -- The stream goes on.
 abbrev pub GoesOn : ℕ → List Act → List Act → Type 0
@@ -52,4 +52,4 @@ GoesOn c base log = (more : List ℕ) × (stream (of c log) ≡ stream (of c bas
 
 pub behind_stream : (c : ℕ) (base log : List Act) → CameBehind c base log → GoesOn c base log
 behind_stream c base log (pieces, is) =
-    (joined pieces, ap stream (behind_own c base log pieces is) ∙ (came pieces (of c base)).streams)
+    (join_pieces pieces, ap stream (behind_own c base log pieces is) ∙ (came pieces (of c base)).streams)

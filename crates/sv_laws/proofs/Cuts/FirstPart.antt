@@ -13,16 +13,16 @@ use Rattle.sv_links.specs.Links.{LinkAct, holder}
 use Rattle.sv_links.specs.Waiting.{WaitAct, waits, link, arrival, is_there, IsExpired, IsOldest}
 use Rattle.sv_scan.specs.declared.acts.ScanAct.{ScanAct}
 use Rattle.sv_scan.specs.declared.acts.ScanAct.TheVariants.{Trigger}
-use Rattle.sv_scan.specs.Counted.{kept, trigger_fault}
+use Rattle.sv_scan.specs.Counted.{effective, trigger_fault}
 use Rattle.sv_exchange.specs.Exchange.{ExchangeAct, Accepted, Overran, Answered, AnswersDropped, UnitDone, answers, fits_response, has_ended, is_long, has_overrun, current, due, Due, NothingDue, OverrunDue}
 use Rattle.sv_layers.specs.declared.change.Awaited.{Awaited}
 use Rattle.sv_layers.specs.declared.change.Awaited.TheVariants as awaited
 use Rattle.sv_layers.specs.Act.{Act as InstrumentAct, Exchanged, Scanned, Reported, scan_acts, exchange_acts as exchanged}
 use Rattle.sv_layers.specs.Condition.{is_idle}
-use Rattle.sv_instrument.specs.HeldUnit.{held}
-use Rattle.sv_instrument.specs.CommandEffect.{answered}
+use Rattle.sv_instrument.specs.HeldUnit.{held_unit}
+use Rattle.sv_instrument.specs.CommandEffect.{after_answering}
 use Rattle.sv_instrument.specs.Stimulus.{IsFired}
-use Rattle.sv_instrument.specs.Step.{released, StepOf, IsStep, is_answerable}
+use Rattle.sv_instrument.specs.Step.{after_release, StepOf, IsStep, is_answerable}
 use Rattle.sv_history.specs.declared.event.Config.{Config}
 use Rattle.sv_history.specs.Act.{Act, DeviceAct, Applied, OnDevice, device_acts, link_acts, wait_acts, instrument_acts, exchange_acts, ticks}
 use Rattle.sv_history.specs.PolledStatus.{IsPolled}
@@ -74,7 +74,7 @@ no_fire : (config : Config) (log base new : List Act) → Rested config base →
 no_fire config log base new rest v (adds, fired, is) =
     rest.fires (map OnDevice (map Applied (Scanned (Trigger Immediate) ∷ [])) ++ base) (
       Scanned (Trigger Immediate) ∷ [],
-      (ap (λ (l : List ScanAct). trigger_fault (kept l) Immediate) (sym v.scans) ∙ fired.0, refl),
+      (ap (λ (l : List ScanAct). trigger_fault (effective l) Immediate) (sym v.scans) ∙ fired.0, refl),
       refl,
     )
 
@@ -125,24 +125,24 @@ calm_next config log base new rest v step =
 
 -- ---- a unit that is held
 
-answered_adds : (bytes : List ℕ) (log : List InstrumentAct) → (adds : List InstrumentAct) × (answered bytes log ≡ adds ++ log)
+answered_adds : (bytes : List ℕ) (log : List InstrumentAct) → (adds : List InstrumentAct) × (after_answering bytes log ≡ adds ++ log)
 answered_adds bytes log = elim (cases_Bool (fits_response (answers (exchanged log)) bytes)) [
   | inl e ↦ (Exchanged (Answered bytes) ∷ [], rw e refl)
   | inr e ↦ (Reported QueryDeadlocked ∷ Exchanged AnswersDropped ∷ [], rw e refl)
 ]
 
 answered_more : (act : InstrumentAct) (bytes : List ℕ) (log : List InstrumentAct)
-    → (adds : List InstrumentAct) × (answered bytes (act ∷ log) ≡ adds ++ log)
+    → (adds : List InstrumentAct) × (after_answering bytes (act ∷ log) ≡ adds ++ log)
 answered_more act bytes log = let so = answered_adds bytes (act ∷ log) in (so.0 ++ act ∷ [], so.1 ∙ (simp append_assoc))
 
-released_adds : (what : Awaited) (log : List InstrumentAct) → (adds : List InstrumentAct) × (released what log ≡ adds ++ log)
+released_adds : (what : Awaited) (log : List InstrumentAct) → (adds : List InstrumentAct) × (after_release what log ≡ adds ++ log)
 released_adds awaited.Nothing log = (Exchanged UnitDone ∷ [], refl)
 released_adds awaited.One log = answered_more (Exchanged UnitDone) _ log
 released_adds awaited.Readings log = answered_more (Exchanged UnitDone) _ log
 
 -- would be released if the instrument were idle
 held_waits : (config : Config) (base : List Act) (what : Awaited) → Rested config base
-    → held (instrument_acts (device_acts base)) ≡ Some what
+    → held_unit (instrument_acts (device_acts base)) ≡ Some what
     → is_idle (instrument_acts (device_acts base)) ≡ true → ⊥
 held_waits config base what rest holds idle =
     let log = instrument_acts (device_acts base) in
@@ -165,7 +165,7 @@ due_none acts unended short = rw (short, unended) refl
 due_long : (acts : List ExchangeAct) → is_overlong acts ≡ true → due acts ≡ OverrunDue
 due_long acts long = rw long refl
 
-step_long : (log new : List InstrumentAct) → has_ended (exchanged log) ≡ false → held log ≡ None → IsStep log new
+step_long : (log new : List InstrumentAct) → has_ended (exchanged log) ≡ false → held_unit log ≡ None → IsStep log new
     → (is_overlong (exchanged log) ≡ true) × (new ≡ Reported InputBufferOverrun ∷ Exchanged Overran ∷ log)
 step_long log new unended none step =
     let free : StepOf None (due (exchanged log)) log new =
@@ -183,7 +183,7 @@ reported log = OnDevice (Applied (Reported InputBufferOverrun)) ∷ OnDevice (Ap
 
 -- No unit is held, and with these bytes the message becomes too long.
 abbrev pub BecomesLong : List ℕ → List DeviceAct → Type 0
-BecomesLong bytes acts = (held (instrument_acts acts) ≡ None) × (is_overlong (Accepted bytes false ∷ exchange_acts acts) ≡ true)
+BecomesLong bytes acts = (held_unit (instrument_acts acts) ≡ None) × (is_overlong (Accepted bytes false ∷ exchange_acts acts) ≡ true)
 
 never_both : (b : Bool) → (b && false) ≡ true → ⊥
 never_both true e = cc
@@ -192,7 +192,7 @@ never_both false e = cc
 -- that is due once
 reported_once : (config : Config) (c : ℕ) (call reply bytes : List ℕ) (base log : List Act) (steps : ℕ) → Resting config base
     → AllByRecursion (λ b. b ≢ 10) bytes → has_ended (exchange_acts (device_acts base)) ≡ false
-    → held (instrument_acts (device_acts base)) ≡ None
+    → held_unit (instrument_acts (device_acts base)) ≡ None
     → SettlesIn steps config (reported (wrote c call reply bytes false base)) log → log ≡ reported (wrote c call reply bytes false base)
 reported_once config c call reply bytes base log zero rest line unended none settles = settles.1
 reported_once config c call reply bytes base log (suc steps) rest line unended none (mid, next, more) =
@@ -209,7 +209,7 @@ FirstPart c call reply bytes base log = (log ≡ wrote c call reply bytes false 
 
 first_step : (config : Config) (c : ℕ) (call reply bytes : List ℕ) (base mid log : List Act) (steps : ℕ) (holds : Option Awaited)
     → Resting config base → AllByRecursion (λ b. b ≢ 10) bytes → has_ended (exchange_acts (device_acts base)) ≡ false
-    → held (instrument_acts (device_acts base)) ≡ holds → InstrumentDoes IsStep (wrote c call reply bytes false base) mid
+    → held_unit (instrument_acts (device_acts base)) ≡ holds → InstrumentDoes IsStep (wrote c call reply bytes false base) mid
     → SettlesIn steps config mid log → FirstPart c call reply bytes base log
 first_step config c call reply bytes base mid log steps (Some what) rest line unended holds (adds, step, is) more =
     let acts = instrument_acts (device_acts (wrote c call reply bytes false base)) in
@@ -233,7 +233,7 @@ pub first_part : (config : Config) (c : ℕ) (call reply bytes : List ℕ) (base
     → SettlesIn steps config (wrote c call reply bytes false base) log → FirstPart c call reply bytes base log
 first_part config c call reply bytes base log zero rest line unended settles = inl settles.1
 first_part config c call reply bytes base log (suc steps) rest line unended (mid, next, more) =
-    first_step config c call reply bytes base mid log steps (held (instrument_acts (device_acts base))) rest line unended refl
+    first_step config c call reply bytes base mid log steps (held_unit (instrument_acts (device_acts base))) rest line unended refl
     (calm_step config (wrote c call reply bytes false base) base mid rest
     (record { links = refl; calls = refl; clock = refl; scans = refl }) next) more
 

@@ -4,7 +4,7 @@ use Rattle.std.specs.Prelude.{slice_index_or, nat_lt, ◌==◌}
 use Rattle.std.specs.List.{AllByRecursion}
 use Rattle.std.proofs.lemmas.Bool.{ltb-true, ne_eqb}
 use Rattle.std.specs.List.{onto_first as onto}
-use Rattle.sv_exchange.specs.Exchange.{ExchangeAct, Accepted, Symbol, Byte, End, end_mark, text, messages, finished, message, has_ended, is_long}
+use Rattle.sv_exchange.specs.Exchange.{ExchangeAct, Accepted, Symbol, Byte, End, end_mark, text, messages, messages_finished, message, has_ended, is_long}
 use Rattle.sv_exchange.specs.Limits.{max_message}
 use Rattle.sv_laws.proofs.Cuts.SameExchange.{text_cut}
 
@@ -85,14 +85,15 @@ as_many bytes (Byte b ∷ old) none = at (b == 10) (as_many bytes old none)
 
 pub ends_none : (bytes : List ℕ) (acts : List ExchangeAct) → NoLine bytes → has_ended (Accepted bytes false ∷ acts) ≡ has_ended acts
 ends_none bytes acts none =
-    ap (λ (l : List Symbol). nat_lt (finished acts + 1) (length (messages (text acts ++ l)))) (append-nil (map Byte bytes))
-    ∙ ap (λ (n : ℕ). nat_lt (finished acts + 1) n) (as_many bytes (text acts) none)
+    ap (λ (l : List Symbol). nat_lt (messages_finished acts + 1) (length (messages (text acts ++ l)))) (append-nil (map Byte bytes))
+    ∙ ap (λ (n : ℕ). nat_lt (messages_finished acts + 1) n) (as_many bytes (text acts) none)
 
 longer : (x y : List ℕ) (ended : Bool) (acts : List ExchangeAct)
     → length (message (Accepted x false ∷ acts)) ≤ length (message (Accepted (x ++ y) ended ∷ acts))
 longer x y ended acts =
-    subst (λ (l : List Symbol). length (message (Accepted x false ∷ acts)) ≤ size_at (messages l) (finished acts)) (text_cut x y ended acts)
-    (none_longer (text (Accepted x false ∷ acts)) (map Byte y ++ end_mark ended) (finished acts))
+    subst (λ (l : List Symbol). length (message (Accepted x false ∷ acts)) ≤ size_at (messages l) (messages_finished acts))
+    (text_cut x y ended acts)
+    (none_longer (text (Accepted x false ∷ acts)) (map Byte y ++ end_mark ended) (messages_finished acts))
 
 -- where the first part is too long, the whole is
 pub long_too : (x y : List ℕ) (ended : Bool) (acts : List ExchangeAct) → is_long (Accepted x false ∷ acts) ≡ true

@@ -10,14 +10,14 @@ use Rattle.sv_vxi.specs.Arguments.{Arguments}
 use Rattle.sv_vxi.specs.Results.{Outcome}
 use Rattle.sv_history.specs.declared.event.Config.{Config}
 use Rattle.sv_history.specs.Act.{Act, ConnAct, DeviceAct, Opened, Piece, CallTaken, Faulted, Replied, BytesTaken, PortClosed, Applied, On, OnDevice, of, device_acts}
-use Rattle.sv_history.specs.Connection.{unanswered}
+use Rattle.sv_history.specs.Connection.{pending_call}
 use Rattle.sv_history.specs.CallOutcome.{CallOutcome, only}
 use Rattle.sv_history.specs.CoreCall.{CoreCall, failure}
 use Rattle.sv_history.specs.Request.{Request, NoCall, Decided, CoreRequest, AbortRequest, PortRequest, core_call_in}
 use Rattle.sv_history.specs.Effect.{Effect, acts_of, replies}
-use Rattle.sv_history.specs.Admission.{stop_of, admitted}
+use Rattle.sv_history.specs.Admission.{stop_of, admission}
 use Rattle.sv_history.specs.Execution.{request_effect}
-use Rattle.sv_history.specs.Resuming.{effect_of, leaving, continued, next_wait, resumed, failed, late}
+use Rattle.sv_history.specs.Resuming.{effect_of, leaving, resume_outcome, next_wait, resume_effect, failure_effect, late}
 use Rattle.sv_history.specs.Settling.{IsNext, SettlesIn}
 use Rattle.sv_history.specs.History.{abort_acts, taken_acts}
 use Rattle.sv_laws.specs.Cuts.{is_piece, without_pieces}
@@ -57,10 +57,10 @@ none_ended c does (Some call) = none_replies call.xid (does call.arguments).resu
 none_ended c does None = tt
 
 none_failed : (error : ErrorCode) (d : ℕ) (log : List Act)
-    → AllByRecursion IsNoCall (acts_of d (failed error d (core_call_in (unanswered (of d log)))))
+    → AllByRecursion IsNoCall (acts_of d (failure_effect error d (core_call_in (pending_call (of d log)))))
 none_failed error d log =
-    let call = core_call_in (unanswered (of d log)) in
-    none_effect d (failed error d call) (none_ended d (λ arguments. leaving d (only (failure arguments error))) call)
+    let call = core_call_in (pending_call (of d log)) in
+    none_effect d (failure_effect error d call) (none_ended d (λ arguments. leaving d (only (failure arguments error))) call)
 
 none_aborted : (d : Option ℕ) (log : List Act) → AllByRecursion IsNoCall (abort_acts d log)
 none_aborted None log = tt
@@ -82,17 +82,17 @@ adds_then log mid new one other = (
 next_none : (config : Config) (log new : List Act) → IsNext config log new → AddsNoCall log new
 next_none config log new (inl fires) = (map OnDevice (map Applied fires.0), fires.2, none_shared (map Applied fires.0))
 next_none config log new (inr (none, inl (c, wait, polled, oldest, for, said, is))) =
-    let call = core_call_in (unanswered (of c log)) in
+    let call = core_call_in (pending_call (of c log)) in
     let acts = device_acts log in
-    let effect = resumed config polled c wait call acts in (
+    let effect = resume_effect config polled c wait call acts in (
       acts_of c effect,
       is,
-      none_effect c effect (none_ended c (λ arguments. continued config polled c arguments (next_wait wait arguments acts) acts) call),
+      none_effect c effect (none_ended c (λ arguments. resume_outcome config polled c arguments (next_wait wait arguments acts) acts) call),
     )
 next_none config log new (inr (none, inr (still, inl step))) =
     (map OnDevice (map Applied step.0), step.2, none_shared (map Applied step.0))
 next_none config log new (inr (none, inr (still, inr (idle, (c, wait, oldest, for, is))))) =
-    (acts_of c (failed (late wait) c (core_call_in (unanswered (of c log)))), is, none_failed (late wait) c log)
+    (acts_of c (failure_effect (late wait) c (core_call_in (pending_call (of c log)))), is, none_failed (late wait) c log)
 
 pub settles_none : (n : ℕ) (config : Config) (log new : List Act) → SettlesIn n config log new → AddsNoCall log new
 settles_none zero config log new (none, same) = ([], same, tt)
@@ -106,7 +106,7 @@ none_request : (config : Config) (polled c : ℕ) (request : Request) (acts : Li
 none_request config polled c NoCall acts = (tt, tt)
 none_request config polled c (Decided xid reply) acts = (tt, tt)
 none_request config polled c (CoreRequest call) acts =
-    none_replies call.xid (admitted config polled c call.arguments (stop_of c call.arguments acts) acts).result
+    none_replies call.xid (admission config polled c call.arguments (stop_of c call.arguments acts) acts).result
 none_request config polled c (AbortRequest xid lid) acts = (tt, tt)
 none_request config polled c (PortRequest xid args) acts = (tt, tt)
 

@@ -9,7 +9,7 @@ use Rattle.sv_history.specs.declared.event.Port.{Port}
 use Rattle.sv_history.specs.declared.event.Port.TheVariants.{Conn, Intr}
 use Rattle.sv_history.specs.Event.{PlainEvent, Bytes}
 use Rattle.sv_history.specs.Act.{Act, DeviceAct, Piece, On, of, device_acts}
-use Rattle.sv_history.specs.Connection.{joined, stream}
+use Rattle.sv_history.specs.Connection.{join_pieces, stream}
 use Rattle.sv_history.specs.Requests.{HearsOf}
 use Rattle.sv_history.specs.History.{IsLogOf}
 use Rattle.sv_laws.specs.Adding.{all_sent, Sends}
@@ -26,7 +26,7 @@ use Rattle.sv_laws.proofs.Cuts.SameEvents.{event_alike}
 record CameOn (c : ℕ) (config : Config) (pieces : List (List ℕ)) (past : List PlainEvent) (log : List Act) : Type 0 where
   base : List Act
   was : IsLogOf config past base
-  fits : IsBytes (joined pieces)
+  fits : IsBytes (join_pieces pieces)
   is : log ≡ came_on c pieces ++ base
 
 piece_more : (c : ℕ) (config : Config) (piece : List ℕ) (pieces : List (List ℕ)) (past : List PlainEvent) (before log : List Act)
@@ -34,7 +34,7 @@ piece_more : (c : ℕ) (config : Config) (piece : List ℕ) (pieces : List (List
 piece_more c config piece pieces past before log fits is so = record {
   base = so.base;
   was = so.was;
-  fits = bytes_join (joined pieces) piece so.fits fits;
+  fits = bytes_join (join_pieces pieces) piece so.fits fits;
   is = is ∙ ap (λ (l : List Act). On c (Piece piece) ∷ l) so.is;
 }
 
@@ -51,7 +51,7 @@ came_of c config (piece ∷ pieces) past log (before, polled, channel_log, is_ev
 
 came_alike : (c : ℕ) (config : Config) (pieces others : List (List ℕ)) (past other : List PlainEvent) (log also : List Act)
     (one : CameOn c config pieces past log) (two : CameOn c config others other also)
-    → SameRecords (stream (of c one.base) ++ joined pieces) (stream (of c two.base) ++ joined others) → Alike one.base two.base
+    → SameRecords (stream (of c one.base) ++ join_pieces pieces) (stream (of c two.base) ++ join_pieces others) → Alike one.base two.base
     → Alike log also
 came_alike c config pieces others past other log also one two streams alike =
     alike_moved (came_on c pieces ++ one.base) (came_on c others ++ two.base) log also one.is two.is
@@ -66,11 +66,11 @@ logs_alike config (Pieces {past} {other} c pieces others base is_log same recut)
     let one = came_of c config pieces past log x in
     let two = came_of c config others other also y in
     let alike = logs_alike config recut one.base two.base one.was two.was in
-    let reads : reading (stream (of c one.base) ++ joined pieces) ≡ reading (stream (of c one.base) ++ joined others) =
-    subst (λ (l : List Act). reading (stream (of c l) ++ joined pieces) ≡ reading (stream (of c l) ++ joined others))
+    let reads : reading (stream (of c one.base) ++ join_pieces pieces) ≡ reading (stream (of c one.base) ++ join_pieces others) =
+    subst (λ (l : List Act). reading (stream (of c l) ++ join_pieces pieces) ≡ reading (stream (of c l) ++ join_pieces others))
     (one_log config past base one.base is_log one.was) same in
     came_alike c config pieces others past other log also one two
-    (same_recut (stream (of c one.base)) (stream (of c two.base)) (joined pieces) (joined others) one.fits two.fits reads
+    (same_recut (stream (of c one.base)) (stream (of c two.base)) (join_pieces pieces) (join_pieces others) one.fits two.fits reads
     (alike.each c).streams) alike
 
 -- ---- what they send

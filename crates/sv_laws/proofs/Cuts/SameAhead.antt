@@ -5,17 +5,17 @@ use Rattle.std.proofs.lemmas.Bool.{cases_Bool}
 use Rattle.sv_rpc.specs.Stream.{records_of}
 use Rattle.sv_history.specs.declared.event.Role.{Role}
 use Rattle.sv_history.specs.Act.{Act, ConnAct, Opened, Piece, CallTaken, Faulted, Replied, BytesTaken, PortClosed, On, OnDevice, of}
-use Rattle.sv_history.specs.Connection.{next_call, open_role, unanswered, completed, took_no_call, stream}
+use Rattle.sv_history.specs.Connection.{next_call, open_role, pending_call, records_ended, took_no_call, stream}
 use Rattle.sv_history.specs.Request.{request_for, next_request}
 use Rattle.sv_laws.specs.Adding.{all_replies}
 
 -- Behind these bytes of replies both sent the same.
 pub record SameAhead (first second : List ℕ) (acts others : List ConnAct) : Type 0 where
   pub role : open_role acts ≡ open_role others
-  pub call : unanswered acts ≡ unanswered others
+  pub call : pending_call acts ≡ pending_call others
   pub no_call : took_no_call acts ≡ took_no_call others
   pub ahead : (more : List ℕ)
-      → drop (completed acts) (records_of (stream acts ++ more)) ≡ drop (completed others) (records_of (stream others ++ more))
+      → drop (records_ended acts) (records_of (stream acts ++ more)) ≡ drop (records_ended others) (records_of (stream others ++ more))
   pub sent : List ℕ
   pub one : all_replies acts ≡ first ++ sent
   pub two : all_replies others ≡ second ++ sent
@@ -66,9 +66,9 @@ ahead_act first second (Piece bytes) acts others v = record {
   role = v.role;
   call = v.call;
   no_call = v.no_call;
-  ahead = λ more. ap (λ (l : List ℕ). drop (completed acts) (records_of l)) (append_assoc (stream acts) bytes more)
+  ahead = λ more. ap (λ (l : List ℕ). drop (records_ended acts) (records_of l)) (append_assoc (stream acts) bytes more)
       ∙ v.ahead (bytes ++ more)
-      ∙ ap (λ (l : List ℕ). drop (completed others) (records_of l)) (sym (append_assoc (stream others) bytes more));
+      ∙ ap (λ (l : List ℕ). drop (records_ended others) (records_of l)) (sym (append_assoc (stream others) bytes more));
   sent = v.sent;
   one = v.one;
   two = v.two;
@@ -86,7 +86,8 @@ ahead_act first second Faulted acts others v = record {
   role = v.role;
   call = refl;
   no_call = refl;
-  ahead = λ more. one_fewer (completed acts) (completed others) (records_of (stream acts ++ more)) (records_of (stream others ++ more))
+  ahead = λ more. one_fewer (records_ended acts) (records_ended others) (records_of (stream acts ++ more))
+      (records_of (stream others ++ more))
       (v.ahead more);
   sent = v.sent;
   one = v.one;
@@ -96,7 +97,8 @@ ahead_act first second (Replied bytes) acts others v = record {
   role = v.role;
   call = refl;
   no_call = v.no_call;
-  ahead = λ more. one_fewer (completed acts) (completed others) (records_of (stream acts ++ more)) (records_of (stream others ++ more))
+  ahead = λ more. one_fewer (records_ended acts) (records_ended others) (records_of (stream acts ++ more))
+      (records_of (stream others ++ more))
       (v.ahead more);
   sent = v.sent ++ bytes;
   one = ap (λ (l : List ℕ). l ++ bytes) v.one ∙ append_assoc first v.sent bytes;
@@ -124,20 +126,20 @@ abbrev next_among : Bool → Option (List ℕ) → Option (List ℕ) → Option 
 next_among no_call call found = if no_call || is_some call then None else found
 
 front_same : (first second : List ℕ) (acts others : List ConnAct) → SameAhead first second acts others
-    → slice_get (records_of (stream acts)) (completed acts) ≡ slice_get (records_of (stream others)) (completed others)
+    → slice_get (records_of (stream acts)) (records_ended acts) ≡ slice_get (records_of (stream others)) (records_ended others)
 front_same first second acts others v =
-    at_front (completed acts) (records_of (stream acts))
-    ∙ ap (λ (l : List ℕ). slice_get (drop (completed acts) (records_of l)) 0) (sym (append-nil (stream acts)))
+    at_front (records_ended acts) (records_of (stream acts))
+    ∙ ap (λ (l : List ℕ). slice_get (drop (records_ended acts) (records_of l)) 0) (sym (append-nil (stream acts)))
     ∙ ap (λ (l : List (List ℕ)). slice_get l 0) (v.ahead [])
-    ∙ ap (λ (l : List ℕ). slice_get (drop (completed others) (records_of l)) 0) (append-nil (stream others))
-    ∙ sym (at_front (completed others) (records_of (stream others)))
+    ∙ ap (λ (l : List ℕ). slice_get (drop (records_ended others) (records_of l)) 0) (append-nil (stream others))
+    ∙ sym (at_front (records_ended others) (records_of (stream others)))
 
 pub next_call_ahead : (first second : List ℕ) (acts others : List ConnAct) → SameAhead first second acts others
     → next_call acts ≡ next_call others
 next_call_ahead first second acts others v =
-    ap (λ (b : Bool). next_among b (unanswered acts) (slice_get (records_of (stream acts)) (completed acts))) v.no_call
-    ∙ ap (λ (o : Option (List ℕ)). next_among (took_no_call others) o (slice_get (records_of (stream acts)) (completed acts))) v.call
-    ∙ ap (λ (o : Option (List ℕ)). next_among (took_no_call others) (unanswered others) o) (front_same first second acts others v)
+    ap (λ (b : Bool). next_among b (pending_call acts) (slice_get (records_of (stream acts)) (records_ended acts))) v.no_call
+    ∙ ap (λ (o : Option (List ℕ)). next_among (took_no_call others) o (slice_get (records_of (stream acts)) (records_ended acts))) v.call
+    ∙ ap (λ (o : Option (List ℕ)). next_among (took_no_call others) (pending_call others) o) (front_same first second acts others v)
 
 pub next_request_ahead : (first second : List ℕ) (acts others : List ConnAct) → SameAhead first second acts others
     → next_request acts ≡ next_request others

@@ -9,7 +9,7 @@ use Rattle.sv_links.specs.Channels.{ChannelAct}
 use Rattle.sv_exchange.specs.Exchange.{Accepted, has_ended, response, is_something}
 use Rattle.sv_layers.specs.Act.{Act as InstrumentAct, Exchanged, exchange_acts}
 use Rattle.sv_layers.specs.StatusByte.{IsRaised}
-use Rattle.sv_instrument.specs.HeldUnit.{held}
+use Rattle.sv_instrument.specs.HeldUnit.{held_unit}
 use Rattle.sv_instrument.specs.Step.{is_held, is_answerable}
 use Rattle.sv_layers.specs.declared.change.Awaited.{Awaited}
 use Rattle.sv_history.specs.declared.event.Config.{Config}
@@ -134,12 +134,12 @@ answerable_by found holding ended = is_something found || (not (is_held holding)
 pub answerable_alike : (acts other : List DeviceAct) → SameDevice acts other
     → is_answerable (instrument_acts acts) ≡ is_answerable (instrument_acts other)
 answerable_alike acts other v =
-    ap (λ (l : List ℕ). answerable_by l (held (instrument_acts acts)) (has_ended (exchange_acts (instrument_acts acts))))
+    ap (λ (l : List ℕ). answerable_by l (held_unit (instrument_acts acts)) (has_ended (exchange_acts (instrument_acts acts))))
     (response_alike acts other v)
     ∙ ap (λ (o : Option Awaited).
     answerable_by (response (exchange_acts (instrument_acts other))) o (has_ended (exchange_acts (instrument_acts acts))))
     v.instrument.holds
-    ∙ ap (λ (b : Bool). answerable_by (response (exchange_acts (instrument_acts other))) (held (instrument_acts other)) b)
+    ∙ ap (λ (b : Bool). answerable_by (response (exchange_acts (instrument_acts other))) (held_unit (instrument_acts other)) b)
     (ended_alike acts other v)
 
 pub polled_alike : (polled : ℕ) (acts other : List DeviceAct) → SameDevice acts other → IsPolled polled acts → IsPolled polled other

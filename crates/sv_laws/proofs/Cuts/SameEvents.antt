@@ -16,15 +16,15 @@ use Rattle.sv_history.specs.declared.event.Port.TheVariants.{Conn, Intr}
 use Rattle.sv_history.specs.declared.event.Config.{Config}
 use Rattle.sv_history.specs.Event.{IsEvent, PlainEvent, Open, Bytes, Turn, Refuse, Took, Close, Dialed, Input, External, Tick}
 use Rattle.sv_history.specs.Act.{Act, DeviceAct, Opened, Piece, CallTaken, Replied, BytesTaken, PortClosed, Linked, Waited, Channel, Applied, Ticked, On, OnDevice, of, device_acts, link_acts, instrument_acts}
-use Rattle.sv_history.specs.Connection.{next_call, unanswered}
+use Rattle.sv_history.specs.Connection.{next_call, pending_call}
 use Rattle.sv_history.specs.CoreCall.{CoreCall}
 use Rattle.sv_history.specs.Request.{Request, NoCall, Decided, CoreRequest, AbortRequest, PortRequest, core_call_in, next_request}
 use Rattle.sv_history.specs.Refusing.{refusable, refused_reply}
 use Rattle.sv_history.specs.Effect.{Effect, acts_of}
-use Rattle.sv_history.specs.Interrupts.{dialed}
-use Rattle.sv_history.specs.Admission.{stop_of, admitted}
+use Rattle.sv_history.specs.Interrupts.{connect_outcome}
+use Rattle.sv_history.specs.Admission.{stop_of, admission}
 use Rattle.sv_history.specs.Execution.{request_effect, aborts}
-use Rattle.sv_history.specs.Resuming.{failed, connected}
+use Rattle.sv_history.specs.Resuming.{failure_effect, connect_effect}
 use Rattle.sv_history.specs.PolledStatus.{IsPolled}
 use Rattle.sv_history.specs.Settling.{Settles}
 use Rattle.sv_history.specs.History.{abort_acts, taken_acts, turn_acts, refuse_acts, own_acts, IsLogOf}
@@ -38,13 +38,13 @@ request_fits : (config : Config) (polled c : ℕ) (request : Request) (acts : Li
 request_fits config polled c NoCall acts = (tt, tt)
 request_fits config polled c (Decided xid reply) acts = (tt, tt)
 request_fits config polled c (CoreRequest call) acts =
-    replies_fit call.xid (admitted config polled c call.arguments (stop_of c call.arguments acts) acts).result
+    replies_fit call.xid (admission config polled c call.arguments (stop_of c call.arguments acts) acts).result
 request_fits config polled c (AbortRequest xid lid) acts = (tt, tt)
 request_fits config polled c (PortRequest xid args) acts = (tt, tt)
 
-connected_fits : (c : ℕ) (ok : Bool) (call : Option CoreCall) → AllByRecursion HasBytes (connected c ok call).own
+connected_fits : (c : ℕ) (ok : Bool) (call : Option CoreCall) → AllByRecursion HasBytes (connect_effect c ok call).own
 connected_fits c ok None = tt
-connected_fits c ok (Some call) = replies_fit call.xid (dialed c ok call.arguments).result
+connected_fits c ok (Some call) = replies_fit call.xid (connect_outcome c ok call.arguments).result
 
 -- ---- a Turn
 
@@ -52,10 +52,10 @@ abort_alike : (found : Option ℕ) (log other : List Act) → Alike log other
     → Alike (abort_acts found log ++ log) (abort_acts found other ++ other)
 abort_alike None log other alike = alike
 abort_alike (Some d) log other alike =
-    let effect = failed Abort d (core_call_in (unanswered (of d log))) in
+    let effect = failure_effect Abort d (core_call_in (pending_call (of d log))) in
     alike_moved (acts_of d effect ++ log) (acts_of d effect ++ other) _ _ refl
-    (ap (λ (o : Option (List ℕ)). acts_of d (failed Abort d (core_call_in o)) ++ other) (sym (alike.each d).call))
-    (alike_effect d effect log other (failed_fits Abort d (core_call_in (unanswered (of d log)))) alike)
+    (ap (λ (o : Option (List ℕ)). acts_of d (failure_effect Abort d (core_call_in o)) ++ other) (sym (alike.each d).call))
+    (alike_effect d effect log other (failed_fits Abort d (core_call_in (pending_call (of d log)))) alike)
 
 taken_alike : (c : ℕ) (bytes : List ℕ) (effect : Effect) (found : Option ℕ) (log other : List Act)
     → AllByRecursion HasBytes effect.own → Alike log other
@@ -154,10 +154,10 @@ own_alike config polled (Took (Intr c) count) log other is alike = alike_shared 
 own_alike config polled (Close (Conn c)) log other is alike = close_alike c log other alike
 own_alike config polled (Close (Intr c)) log other is alike = alike_shared (Channel (ChannelClosed c) ∷ []) log other alike
 own_alike config polled (Dialed c ok) log other is alike =
-    let effect = connected c ok (core_call_in (unanswered (of c log))) in
+    let effect = connect_effect c ok (core_call_in (pending_call (of c log))) in
     alike_moved (acts_of c effect ++ log) (acts_of c effect ++ other) _ _ refl
-    (ap (λ (o : Option (List ℕ)). acts_of c (connected c ok (core_call_in o)) ++ other) (sym (alike.each c).call))
-    (alike_effect c effect log other (connected_fits c ok (core_call_in (unanswered (of c log)))) alike)
+    (ap (λ (o : Option (List ℕ)). acts_of c (connect_effect c ok (core_call_in o)) ++ other) (sym (alike.each c).call))
+    (alike_effect c effect log other (connected_fits c ok (core_call_in (pending_call (of c log)))) alike)
 own_alike config polled (Input channel microvolts) log other is alike =
     alike_shared (Applied (Scanned (InputTo channel microvolts)) ∷ []) log other alike
 own_alike config polled External log other is alike =

@@ -3,24 +3,24 @@ use Rattle.std.proofs.Common.{◌≡◌, ℕ, suc, ◌+◌, Bool, false, cond, L
 use Rattle.std.specs.Prelude.{slice_index_or, slice_get, nat_lt, not, ◌&&◌, ◌==◌, None, if◌then◌else◌}
 use Rattle.std.proofs.lemmas.Bool.{cases_Bool}
 use Rattle.std.proofs.lemmas.List.{map-append}
-use Rattle.sv_exchange.specs.Exchange.{ExchangeAct, Accepted, TextDropped, Overran, UnitDone, Answered, AnswersDropped, Finished, Interrupted, ResponseRead, Symbol, Byte, end_mark, text, messages, finished, current, units_done, has_overrun, has_dropped, answered, answers, message, has_ended, joined, renews, renewed, bytes_read, response, is_something, units, next_unit, Due, OverrunDue, due_unit, due}
+use Rattle.sv_exchange.specs.Exchange.{ExchangeAct, Accepted, TextDropped, Overran, UnitDone, Answered, AnswersDropped, Finished, Interrupted, ResponseRead, Symbol, Byte, end_mark, text, messages, messages_finished, current, units_done, has_overrun, has_dropped, all_answers, answers, message, has_ended, joined_answers, renews, new_response, bytes_read, response, is_something, units, next_unit, Due, OverrunDue, due_unit, due}
 use Rattle.sv_exchange.specs.Limits.{max_message}
 use Rattle.sv_logs.specs.Since.{since, newest}
 
 -- the response as it was when it began, and how many bytes were read since
 abbrev whole_response : List ExchangeAct → List ℕ
-whole_response acts = renewed (newest renews acts)
+whole_response acts = new_response (newest renews acts)
 
 abbrev read_since : List ExchangeAct → ℕ
 read_since acts = bytes_read (since renews acts)
 
 -- what is found without a look at the text
 pub record SameExchange (acts other : List ExchangeAct) : Type 0 where
-  pub count : finished acts ≡ finished other
+  pub count : messages_finished acts ≡ messages_finished other
   pub done : units_done (current acts) ≡ units_done (current other)
   pub overrun : has_overrun (current acts) ≡ has_overrun (current other)
   pub dropped : has_dropped (current acts) ≡ has_dropped (current other)
-  pub given : answered (current acts) ≡ answered (current other)
+  pub given : all_answers (current acts) ≡ all_answers (current other)
   pub whole : whole_response acts ≡ whole_response other
   pub read : read_since acts ≡ read_since other
 
@@ -42,12 +42,12 @@ exchange_accepted bytes ended acts other v = record {
 }
 
 pub answers_same : (acts other : List ExchangeAct) → SameExchange acts other → answers acts ≡ answers other
-answers_same acts other v = ap (λ (b : Bool). cond b [] (answered (current acts))) v.dropped
+answers_same acts other v = ap (λ (b : Bool). cond b [] (all_answers (current acts))) v.dropped
     ∙ ap (λ (l : List (List ℕ)). cond (has_dropped (current other)) [] l) v.given
 
 -- a message is finished: its answers become the response, if it had any
 whole_finished : (acts : List ExchangeAct)
-    → whole_response (Finished ∷ acts) ≡ cond (is_something (answers acts)) (joined (answers acts) ++ 10 ∷ []) (whole_response acts)
+    → whole_response (Finished ∷ acts) ≡ cond (is_something (answers acts)) (joined_answers (answers acts) ++ 10 ∷ []) (whole_response acts)
 whole_finished acts = elim (cases_Bool (is_something (answers acts))) [ inl e ↦ rw e refl | inr e ↦ rw e refl ]
 
 read_finished : (acts : List ExchangeAct) → read_since (Finished ∷ acts) ≡ cond (is_something (answers acts)) 0 (read_since acts)
@@ -63,8 +63,8 @@ exchange_finished acts other v =
       dropped = refl;
       given = refl;
       whole = whole_finished acts
-          ∙ ap (λ (l : List (List ℕ)). cond (is_something l) (joined l ++ 10 ∷ []) (whole_response acts)) same
-          ∙ ap (λ (l : List ℕ). cond (is_something (answers other)) (joined (answers other) ++ 10 ∷ []) l) v.whole
+          ∙ ap (λ (l : List (List ℕ)). cond (is_something l) (joined_answers l ++ 10 ∷ []) (whole_response acts)) same
+          ∙ ap (λ (l : List ℕ). cond (is_something (answers other)) (joined_answers (answers other) ++ 10 ∷ []) l) v.whole
           ∙ sym (whole_finished other);
       read = read_finished acts ∙ ap (λ (l : List (List ℕ)). cond (is_something l) 0 (read_since acts)) same
           ∙ ap (λ (n : ℕ). cond (is_something (answers other)) 0 n) v.read ∙ sym (read_finished other);
@@ -170,13 +170,13 @@ pub text_cut : (x y : List ℕ) (ended : Bool) (acts : List ExchangeAct)
 text_cut x y ended acts = cut_symbols (text acts) x y (end_mark ended)
 
 pub message_same : (acts other : List ExchangeAct) → SameExchange acts other → text acts ≡ text other → message acts ≡ message other
-message_same acts other v same = ap (λ (l : List Symbol). slice_index_or (messages l) (finished acts) []) same
+message_same acts other v same = ap (λ (l : List Symbol). slice_index_or (messages l) (messages_finished acts) []) same
     ∙ ap (λ (n : ℕ). slice_index_or (messages (text other)) n []) v.count
 
 -- ---- what is due
 
 pub ended_same : (acts other : List ExchangeAct) → SameExchange acts other → text acts ≡ text other → has_ended acts ≡ has_ended other
-ended_same acts other v same = ap (λ (l : List Symbol). nat_lt (finished acts + 1) (length (messages l))) same
+ended_same acts other v same = ap (λ (l : List Symbol). nat_lt (messages_finished acts + 1) (length (messages l))) same
     ∙ ap (λ (n : ℕ). nat_lt (n + 1) (length (messages (text other)))) v.count
 
 abbrev unit_by : Bool → Bool → List ℕ → ℕ → Option (List ℕ)

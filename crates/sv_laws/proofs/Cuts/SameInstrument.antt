@@ -9,7 +9,7 @@ use Rattle.sv_errors.specs.ErrorQueue.{entries, oldest}
 use Rattle.sv_scan.specs.declared.acts.ScanAct.{ScanAct}
 use Rattle.sv_scan.specs.declared.acts.ScanAct.TheVariants as scan
 use Rattle.sv_scan.specs.declared.setting.Setting.TheVariants as setting
-use Rattle.sv_scan.specs.Counted.{kept, setting_fault, init_fault, trigger_fault, read_fault}
+use Rattle.sv_scan.specs.Counted.{effective, setting_fault, init_fault, trigger_fault, read_fault}
 use Rattle.sv_scan.specs.Scan.{readings}
 use Rattle.sv_exchange.specs.Exchange.{Overran, UnitDone, TextDropped, Answered, AnswersDropped, Finished, Interrupted, text, units, message, units_done, current, answers, fits_response, due, Due, NothingDue, OverrunDue, InterruptDue, UnitDue, FinishDue}
 use Rattle.sv_command.specs.declared.order.Order.{Order}
@@ -23,12 +23,12 @@ use Rattle.sv_header.specs.declared.command.SettingName.TheVariants as name
 use Rattle.sv_layers.specs.declared.change.Awaited.{Awaited}
 use Rattle.sv_layers.specs.declared.change.Awaited.TheVariants as awaited
 use Rattle.sv_layers.specs.Act.{Act, Exchanged, Purged, Scanned, Held, Reported, EntryTaken, Cleared, Preset, OpcAsked, StandardRead, StandardEnabled, EventRead, Enabled, RiseSet, FallSet, ServiceEnabled, exchange_acts}
-use Rattle.sv_layers.specs.Condition.{counted}
-use Rattle.sv_instrument.specs.HeldUnit.{held}
+use Rattle.sv_layers.specs.Condition.{effective_acts}
+use Rattle.sv_instrument.specs.HeldUnit.{held_unit}
 use Rattle.sv_instrument.specs.Path.{Leaves, one_if_held, units_begun, IsPath}
 use Rattle.sv_instrument.specs.QueryResponse.{IsWord, readings_text, oldest_text, value_text, Says}
-use Rattle.sv_instrument.specs.CommandEffect.{answered, unless, configured, taken, question_fault, Replies, acted, Performs}
-use Rattle.sv_instrument.specs.Step.{released, Does, Starts, StepOf, IsStep}
+use Rattle.sv_instrument.specs.CommandEffect.{after_answering, unless, after_configure, after_query, question_fault, Replies, after_action, Performs}
+use Rattle.sv_instrument.specs.Step.{after_release, Does, Starts, StepOf, IsStep}
 use Rattle.sv_laws.proofs.Cuts.SameExchange.{text_act, answers_same, message_same, next_unit_same, due_same}
 use Rattle.sv_laws.proofs.Cuts.SameStatus.{SameStatus, status_act, status_back, status_condition, idle_same, master_same}
 
@@ -37,7 +37,7 @@ use Rattle.sv_laws.proofs.Cuts.SameStatus.{SameStatus, status_act, status_back, 
 pub record SameInstrument (log other : List Act) : Type 0 where
   pub status : SameStatus log other
   pub texts : text (exchange_acts log) ≡ text (exchange_acts other)
-  pub holds : held log ≡ held other
+  pub holds : held_unit log ≡ held_unit other
 
 texts_act : (act : Act) (log other : List Act) → text (exchange_acts log) ≡ text (exchange_acts other)
     → text (exchange_acts (act ∷ log)) ≡ text (exchange_acts (act ∷ other))
@@ -45,7 +45,7 @@ texts_act (Exchanged act) log other same = text_act act (exchange_acts log) (exc
 texts_act Purged log other same = refl
 texts_act _ log other same = same
 
-holds_act : (act : Act) (log other : List Act) → held log ≡ held other → held (act ∷ log) ≡ held (act ∷ other)
+holds_act : (act : Act) (log other : List Act) → held_unit log ≡ held_unit other → held_unit (act ∷ log) ≡ held_unit (act ∷ other)
 holds_act (Held awaits) log other same = refl
 holds_act (Exchanged UnitDone) log other same = refl
 holds_act (Exchanged TextDropped) log other same = refl
@@ -91,8 +91,8 @@ abbrev answered_if : Bool → List ℕ → List Act → List Act
 answered_if fits bytes log = if fits then Exchanged (Answered bytes) ∷ log
     else Reported QueryDeadlocked ∷ Exchanged AnswersDropped ∷ log
 
-answered_alike : (bytes : List ℕ) (log other new : List Act) → SameInstrument log other → new ≡ answered bytes log
-    → AddsAlike log other new (λ there. there ≡ answered bytes other)
+answered_alike : (bytes : List ℕ) (log other new : List Act) → SameInstrument log other → new ≡ after_answering bytes log
+    → AddsAlike log other new (λ there. there ≡ after_answering bytes other)
 answered_alike bytes log other new v is =
     subst (λ (b : Bool). AddsAlike log other new (λ there. there ≡ answered_if b bytes other))
     (ap (λ (l : List (List ℕ)). fits_response l bytes) (answers_same (exchange_acts log) (exchange_acts other) v.status.exchange))
@@ -152,7 +152,7 @@ taken_acts question.Error = EntryTaken ∷ []
 taken_acts (question.Events name) = EventRead name ∷ []
 taken_acts asked = []
 
-taken_is : (asked : Question) (log : List Act) → taken asked log ≡ taken_acts asked ++ log
+taken_is : (asked : Question) (log : List Act) → after_query asked log ≡ taken_acts asked ++ log
 taken_is question.StandardEvents log = refl
 taken_is question.Error log = refl
 taken_is (question.Events name) log = refl
@@ -163,9 +163,9 @@ replies_alike : (fault : Option Code) (asked : Question) (log other new : List A
 replies_alike (Some code) asked log other new v is = (Exchanged UnitDone ∷ Reported code ∷ [], is, refl)
 replies_alike None asked log other new v (bytes, says, is) =
     let acts = Exchanged UnitDone ∷ taken_acts asked in
-    let here = ap (λ (l : List Act). answered bytes (Exchanged UnitDone ∷ l)) (taken_is asked log) in
-    let there = ap (λ (l : List Act). answered bytes (Exchanged UnitDone ∷ l)) (taken_is asked other) in
-    let so = behind_alike acts log other new (λ l. l ≡ answered bytes (acts ++ other))
+    let here = ap (λ (l : List Act). after_answering bytes (Exchanged UnitDone ∷ l)) (taken_is asked log) in
+    let there = ap (λ (l : List Act). after_answering bytes (Exchanged UnitDone ∷ l)) (taken_is asked other) in
+    let so = behind_alike acts log other new (λ l. l ≡ after_answering bytes (acts ++ other))
     (answered_alike bytes (acts ++ log) (acts ++ other) new (instrument_more acts log other v) (is ∙ here)) in
     (so.0, so.1, (bytes, says_same asked log other v.status bytes says, so.2 ∙ sym there))
 
@@ -179,23 +179,23 @@ abbrev configured_acts : Option (List ℕ) → List Act
 configured_acts None = default_acts
 configured_acts (Some channels) = Scanned (scan.Configure (setting.List channels)) ∷ default_acts
 
-configured_is : (list : Option (List ℕ)) (log : List Act) → configured list log ≡ configured_acts list ++ log
+configured_is : (list : Option (List ℕ)) (log : List Act) → after_configure list log ≡ configured_acts list ++ log
 configured_is None log = refl
 configured_is (Some channels) log = refl
 
-configures_alike : (front : List Act) (list : Option (List ℕ)) (log other new : List Act) → new ≡ front ++ configured list log
-    → AddsAlike log other new (λ there. there ≡ front ++ configured list other)
+configures_alike : (front : List Act) (list : Option (List ℕ)) (log other new : List Act) → new ≡ front ++ after_configure list log
+    → AddsAlike log other new (λ there. there ≡ front ++ after_configure list other)
 configures_alike front list log other new is = (
   front ++ configured_acts list,
   is ∙ ap (λ (l : List Act). front ++ l) (configured_is list log) ∙ sym (append_assoc front (configured_acts list) log),
   append_assoc front (configured_acts list) other ∙ ap (λ (l : List Act). front ++ l) (sym (configured_is list other)),
 )
 
-counted_same : (log other : List Act) → SameInstrument log other → counted log ≡ counted other
-counted_same log other v = ap (λ (l : List ScanAct). kept l) v.status.scanned
+counted_same : (log other : List Act) → SameInstrument log other → effective_acts log ≡ effective_acts other
+counted_same log other v = ap (λ (l : List ScanAct). effective l) v.status.scanned
 
-acts_alike : (what : Action) (log other new : List Act) → SameInstrument log other → new ≡ acted what log
-    → AddsAlike log other new (λ there. there ≡ acted what other)
+acts_alike : (what : Action) (log other new : List Act) → SameInstrument log other → new ≡ after_action what log
+    → AddsAlike log other new (λ there. there ≡ after_action what other)
 acts_alike action.ClearStatus log other new v is = (Exchanged UnitDone ∷ Cleared ∷ [], is, refl)
 acts_alike action.Reset log other new v is = (Exchanged UnitDone ∷ Scanned scan.Reset ∷ [], is, refl)
 acts_alike action.TellComplete log other new v is = (Exchanged UnitDone ∷ OpcAsked ∷ [], is, refl)
@@ -233,7 +233,7 @@ performs_alike (order.Measure list) log other new v is =
 
 path_same : (log other : List Act) (path : List (List ℕ)) → SameInstrument log other → IsPath log path → IsPath other path
 path_same log other path v h =
-    let begun = ap (λ (n : ℕ). n + one_if_held (held log)) v.status.exchange.done
+    let begun = ap (λ (n : ℕ). n + one_if_held (held_unit log)) v.status.exchange.done
     ∙ ap (λ (o : Option Awaited). units_done (current (exchange_acts other)) + one_if_held o) v.holds in
     let found = message_same (exchange_acts log) (exchange_acts other) v.status.exchange v.texts in
     subst (λ (n : ℕ). Leaves (reverse (take n (units (message (exchange_acts other))))) path) begun
@@ -252,20 +252,20 @@ starts_alike unit log other new v (path, behind, outcome, is_path, is_read, does
 
 -- ---- a step
 
-released_alike : (what : Awaited) (log other new : List Act) → SameInstrument log other → new ≡ released what log
-    → AddsAlike log other new (λ there. there ≡ released what other)
+released_alike : (what : Awaited) (log other new : List Act) → SameInstrument log other → new ≡ after_release what log
+    → AddsAlike log other new (λ there. there ≡ after_release what other)
 released_alike awaited.Nothing log other new v is = (Exchanged UnitDone ∷ [], is, refl)
 released_alike awaited.One log other new v is =
-    behind_alike (Exchanged UnitDone ∷ []) log other new (λ l. l ≡ answered (codes "1") (Exchanged UnitDone ∷ other))
+    behind_alike (Exchanged UnitDone ∷ []) log other new (λ l. l ≡ after_answering (codes "1") (Exchanged UnitDone ∷ other))
     (answered_alike (codes "1") (Exchanged UnitDone ∷ log) (Exchanged UnitDone ∷ other) new
     (instrument_act (Exchanged UnitDone) log other v) is)
 released_alike awaited.Readings log other new v is =
     let same = ap (λ (l : List ScanAct). readings_text (readings l)) (counted_same log other v) in
     let so = behind_alike (Exchanged UnitDone ∷ []) log other new
-    (λ l. l ≡ answered (readings_text (readings (counted log))) (Exchanged UnitDone ∷ other))
-    (answered_alike (readings_text (readings (counted log))) (Exchanged UnitDone ∷ log) (Exchanged UnitDone ∷ other) new
+    (λ l. l ≡ after_answering (readings_text (readings (effective_acts log))) (Exchanged UnitDone ∷ other))
+    (answered_alike (readings_text (readings (effective_acts log))) (Exchanged UnitDone ∷ log) (Exchanged UnitDone ∷ other) new
     (instrument_act (Exchanged UnitDone) log other v) is) in
-    (so.0, so.1, so.2 ∙ ap (λ (bytes : List ℕ). answered bytes (Exchanged UnitDone ∷ other)) same)
+    (so.0, so.1, so.2 ∙ ap (λ (bytes : List ℕ). after_answering bytes (Exchanged UnitDone ∷ other)) same)
 
 step_of_alike : (holding : Option Awaited) (next : Due) (log other new : List Act) → SameInstrument log other
     → StepOf holding next log new → AddsAlike log other new (StepOf holding next other)
@@ -288,11 +288,11 @@ step_of_alike None FinishDue log other new v is = (Exchanged Finished ∷ [], is
 pub instrument_step : (log other new : List Act) → SameInstrument log other → IsStep log new
     → (adds : List Act) × (new ≡ adds ++ log) × IsStep other (adds ++ other)
 instrument_step log other new v step =
-    let so = step_of_alike (held log) (due (exchange_acts log)) log other new v step in (
+    let so = step_of_alike (held_unit log) (due (exchange_acts log)) log other new v step in (
       so.0,
       so.1,
       subst (λ (o : Option Awaited). StepOf o (due (exchange_acts other)) other (so.0 ++ other)) v.holds
-          (subst (λ (d : Due). StepOf (held log) d other (so.0 ++ other))
+          (subst (λ (d : Due). StepOf (held_unit log) d other (so.0 ++ other))
           (due_same (exchange_acts log) (exchange_acts other) v.status.exchange v.texts) so.2),
     )
 

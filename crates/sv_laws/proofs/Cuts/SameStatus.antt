@@ -11,11 +11,11 @@ use Rattle.sv_logs.proofs.Since.{since_empty, since_alike, since_over, then_same
 use Rattle.sv_status.specs.declared.register_name.RegisterName.{RegisterName}
 use Rattle.sv_status.specs.declared.register_name.RegisterName.TheVariants.{Operation, Questionable}
 use Rattle.sv_scan.specs.declared.acts.ScanAct.{ScanAct}
-use Rattle.sv_scan.specs.Counted.{kept}
+use Rattle.sv_scan.specs.Counted.{effective}
 use Rattle.sv_exchange.specs.Exchange.{Accepted, TextDropped, Interrupted, response, is_something}
 use Rattle.sv_layers.specs.Act.{Act, Exchanged, Purged, Scanned, Reported, EntryTaken, Cleared, Preset, OpcAsked, StandardRead, StandardEnabled, EventRead, Enabled, RiseSet, FallSet, ServiceEnabled, Polled, exchange_acts, scan_acts, queue_acts}
 use Rattle.sv_layers.specs.Filter.{is_same, mask_for, rise, fall, enable, has_bit, passes, leaves}
-use Rattle.sv_layers.specs.Condition.{word, summary, condition, counted, is_idle}
+use Rattle.sv_layers.specs.Condition.{word, summary, condition, effective_acts, is_idle}
 use Rattle.sv_layers.specs.Event.{EventStands, Summary}
 use Rattle.sv_layers.specs.Standard as standard
 use Rattle.sv_layers.specs.StatusByte.{SummaryBit, service, ServiceRequested, Master, Reason, Lasts, Request, IsRaised, PolledBit, MasterBit}
@@ -58,7 +58,7 @@ nested_same name log other mask same = some_same (range_with_len 0 16) _ _ (λ k
 
 pub status_condition : (name : RegisterName) (log other : List Act) → SameStatus log other → condition name log ≡ condition name other
 status_condition name log other v =
-    condition_same name log other (ap kept v.scanned) (λ below. nested_same below log other (v.enables below) (v.since below))
+    condition_same name log other (ap effective v.scanned) (λ below. nested_same below log other (v.enables below) (v.since below))
 
 pub idle_same : (log other : List Act) → scan_acts log ≡ scan_acts other → is_idle log ≡ is_idle other
 idle_same log other same = rw same refl
@@ -125,8 +125,8 @@ leaves_act : (name : RegisterName) (act : Act) (log other : List Act) → leaves
 leaves_act name (EventRead which) log other = refl
 leaves_act name act log other = refl
 
-stood_act : (name : RegisterName) (k : ℕ) (act : Act) (log other : List Act) → counted (act ∷ log) ≡ counted (act ∷ other)
-    → counted log ≡ counted other → rise name log ≡ rise name other → fall name log ≡ fall name other
+stood_act : (name : RegisterName) (k : ℕ) (act : Act) (log other : List Act) → effective_acts (act ∷ log) ≡ effective_acts (act ∷ other)
+    → effective_acts log ≡ effective_acts other → rise name log ≡ rise name other → fall name log ≡ fall name other
     → stood name k log ≡ stood name k other → stood name k (act ∷ log) ≡ stood name k (act ∷ other)
 stood_act name k act log other now was up down same = rw (now, was, up, down, same, leaves_act name act log other) refl
 
@@ -260,9 +260,10 @@ request_act act log other now was before =
 pub status_act : (act : Act) (log other : List Act) → SameStatus log other → SameStatus (act ∷ log) (act ∷ other)
 status_act act log other v =
     let scanned = scan_act act log other v.scanned in
-    let since = λ (name : RegisterName) (k : ℕ). stood_act name k act log other (ap kept scanned) (ap kept v.scanned) (v.rises name)
+    let since = λ (name : RegisterName) (k : ℕ). stood_act name k act log other (ap effective scanned) (ap effective v.scanned)
+    (v.rises name)
     (v.falls name) (v.since name k) in
-    let now_is = λ (name : RegisterName). condition_same name (act ∷ log) (act ∷ other) (ap kept scanned)
+    let now_is = λ (name : RegisterName). condition_same name (act ∷ log) (act ∷ other) (ap effective scanned)
     (λ below. nested_same below (act ∷ log) (act ∷ other) (enable_act below act log other (v.enables below)) (since below)) in
     let events = λ (name : RegisterName) (k : ℕ). since_alike (Passes name k) (NotCleared name) act log other
     (passes_act name k act log other (now_is name) (status_condition name log other v) v)

@@ -11,12 +11,12 @@ use Rattle.sv_instrument.specs.Stimulus.{IsFired}
 use Rattle.sv_instrument.specs.Step.{IsStep}
 use Rattle.sv_history.specs.declared.event.Config.{Config}
 use Rattle.sv_history.specs.Act.{Act, DeviceAct, Applied, OnDevice, of, device_acts, wait_acts, instrument_acts, ticks}
-use Rattle.sv_history.specs.Connection.{unanswered}
+use Rattle.sv_history.specs.Connection.{pending_call}
 use Rattle.sv_history.specs.CoreCall.{CoreCall}
 use Rattle.sv_history.specs.Request.{core_call_in}
 use Rattle.sv_history.specs.PolledStatus.{IsPolled}
 use Rattle.sv_history.specs.Effect.{Effect, acts_of, replies}
-use Rattle.sv_history.specs.Resuming.{next_wait, continued, resumed, failed, late}
+use Rattle.sv_history.specs.Resuming.{next_wait, resume_outcome, resume_effect, failure_effect, late}
 use Rattle.sv_history.specs.Settling.{First, InstrumentDoes, CanResume, Resumes, TimesOut, IsNext, SettlesIn}
 use Rattle.sv_history.proofs.OneStep.{next_once}
 use Rattle.sv_laws.proofs.Cuts.SameView.{HasBytes, Alike, alike_back, alike_moved, alike_shared, alike_effect}
@@ -28,12 +28,12 @@ replies_fit xid None = tt
 replies_fit xid (Some result) = (tt, tt)
 
 resumed_fits : (config : Config) (polled c : ℕ) (wait : Wait) (call : Option CoreCall) (acts : List DeviceAct)
-    → AllByRecursion HasBytes (resumed config polled c wait call acts).own
+    → AllByRecursion HasBytes (resume_effect config polled c wait call acts).own
 resumed_fits config polled c wait None acts = tt
 resumed_fits config polled c wait (Some call) acts =
-    replies_fit call.xid (continued config polled c call.arguments (next_wait wait call.arguments acts) acts).result
+    replies_fit call.xid (resume_outcome config polled c call.arguments (next_wait wait call.arguments acts) acts).result
 
-pub failed_fits : (error : ErrorCode) (c : ℕ) (call : Option CoreCall) → AllByRecursion HasBytes (failed error c call).own
+pub failed_fits : (error : ErrorCode) (c : ℕ) (call : Option CoreCall) → AllByRecursion HasBytes (failure_effect error c call).own
 failed_fits error c None = tt
 failed_fits error c (Some call) = (tt, tt)
 
@@ -70,11 +70,11 @@ does_alike IsSuch log other alike new (adds, such, is) =
 
 resumes_alike : (config : Config) (log other : List Act) → Alike log other → Follow (Resumes config log) (Resumes config other)
 resumes_alike config log other alike new (c, wait, polled, oldest, for, said, is) =
-    let call = core_call_in (unanswered (of c log)) in
-    let effect = resumed config polled c wait call (device_acts log) in
-    let same : effect ≡ resumed config polled c wait (core_call_in (unanswered (of c other))) (device_acts other) =
-    ap (λ (o : Option (List ℕ)). resumed config polled c wait (core_call_in o) (device_acts log)) (alike.each c).call
-    ∙ ap (λ (l : List DeviceAct). resumed config polled c wait (core_call_in (unanswered (of c other))) l) alike.device in (
+    let call = core_call_in (pending_call (of c log)) in
+    let effect = resume_effect config polled c wait call (device_acts log) in
+    let same : effect ≡ resume_effect config polled c wait (core_call_in (pending_call (of c other))) (device_acts other) =
+    ap (λ (o : Option (List ℕ)). resume_effect config polled c wait (core_call_in o) (device_acts log)) (alike.each c).call
+    ∙ ap (λ (l : List DeviceAct). resume_effect config polled c wait (core_call_in (pending_call (of c other))) l) alike.device in (
       acts_of c effect ++ other,
       (
         c,
@@ -91,8 +91,8 @@ resumes_alike config log other alike new (c, wait, polled, oldest, for, said, is
 
 times_alike : (config : Config) (log other : List Act) → Alike log other → Follow (TimesOut config log) (TimesOut config other)
 times_alike config log other alike new (c, wait, oldest, for, is) =
-    let call = core_call_in (unanswered (of c log)) in
-    let effect = failed (late wait) c call in (
+    let call = core_call_in (pending_call (of c log)) in
+    let effect = failure_effect (late wait) c call in (
       acts_of c effect ++ other,
       (
         c,
@@ -100,7 +100,7 @@ times_alike config log other alike new (c, wait, oldest, for, is) =
         subst (λ (l : List DeviceAct). IsOldest (wait_acts l) (IsExpired (config.clock + ticks l) (wait_acts l)) (Some c))
             alike.device oldest,
         subst (λ (l : List DeviceAct). waits c (wait_acts l) ≡ Some wait) alike.device for,
-        ap (λ (o : Option (List ℕ)). acts_of c (failed (late wait) c (core_call_in o)) ++ other) (alike.each c).call,
+        ap (λ (o : Option (List ℕ)). acts_of c (failure_effect (late wait) c (core_call_in o)) ++ other) (alike.each c).call,
       ),
       subst (λ (l : List Act). Alike l (acts_of c effect ++ other)) (sym is)
           (alike_effect c effect log other (failed_fits (late wait) c call) alike),

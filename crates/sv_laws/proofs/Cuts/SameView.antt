@@ -8,7 +8,7 @@ use Rattle.sv_xdr.proofs.Fields.{IsBytes}
 use Rattle.sv_rpc.specs.Stream.{records_of}
 use Rattle.sv_history.specs.declared.event.Role.{Role}
 use Rattle.sv_history.specs.Act.{Act, ConnAct, DeviceAct, Opened, Piece, CallTaken, Faulted, Replied, BytesTaken, PortClosed, On, OnDevice, of, device_acts}
-use Rattle.sv_history.specs.Connection.{joined, next_call, open_role, unanswered, completed, took_no_call, stream}
+use Rattle.sv_history.specs.Connection.{join_pieces, next_call, open_role, pending_call, records_ended, took_no_call, stream}
 use Rattle.sv_history.specs.Request.{Request, request_for, next_request}
 use Rattle.sv_history.specs.Refusing.{refusable_call, refusable}
 use Rattle.sv_history.specs.Effect.{Effect, acts_of}
@@ -21,8 +21,8 @@ use Rattle.sv_laws.proofs.Cuts.SameRecords.{SameRecords, same_stream, same_back,
 
 pub record SameConnection (acts others : List ConnAct) : Type 0 where
   pub role : open_role acts ≡ open_role others
-  pub call : unanswered acts ≡ unanswered others
-  pub count : completed acts ≡ completed others
+  pub call : pending_call acts ≡ pending_call others
+  pub count : records_ended acts ≡ records_ended others
   pub no_call : took_no_call acts ≡ took_no_call others
   pub replies : all_replies acts ≡ all_replies others
   pub streams : SameRecords (stream acts) (stream others)
@@ -93,13 +93,13 @@ same_acts (act ∷ new) acts others fits v = same_act act (new ++ acts) (new ++ 
 -- pieces change nothing but the stream
 pub record Came (acts base : List ConnAct) (bytes : List ℕ) : Type 0 where
   pub role : open_role acts ≡ open_role base
-  pub call : unanswered acts ≡ unanswered base
-  pub count : completed acts ≡ completed base
+  pub call : pending_call acts ≡ pending_call base
+  pub count : records_ended acts ≡ records_ended base
   pub no_call : took_no_call acts ≡ took_no_call base
   pub replies : all_replies acts ≡ all_replies base
   pub streams : stream acts ≡ stream base ++ bytes
 
-pub came : (pieces : List (List ℕ)) (base : List ConnAct) → Came (map Piece pieces ++ base) base (joined pieces)
+pub came : (pieces : List (List ℕ)) (base : List ConnAct) → Came (map Piece pieces ++ base) base (join_pieces pieces)
 came [] base =
     record { role = refl; call = refl; count = refl; no_call = refl; replies = refl; streams = sym (append-nil (stream base)) }
 came (piece ∷ pieces) base =
@@ -110,11 +110,11 @@ came (piece ∷ pieces) base =
       count = so.count;
       no_call = so.no_call;
       replies = so.replies;
-      streams = ap (λ (l : List ℕ). l ++ piece) so.streams ∙ append_assoc (stream base) (joined pieces) piece;
+      streams = ap (λ (l : List ℕ). l ++ piece) so.streams ∙ append_assoc (stream base) (join_pieces pieces) piece;
     }
 
 same_pieces : (pieces others : List (List ℕ)) (acts also : List ConnAct)
-    → SameRecords (stream acts ++ joined pieces) (stream also ++ joined others)
+    → SameRecords (stream acts ++ join_pieces pieces) (stream also ++ join_pieces others)
     → SameConnection acts also → SameConnection (map Piece pieces ++ acts) (map Piece others ++ also)
 same_pieces pieces others acts also streams v =
     let one = came pieces acts in
@@ -135,11 +135,11 @@ next_by no_call call records n = if no_call || is_some call then None else slice
 
 pub next_call_same : (acts others : List ConnAct) → SameConnection acts others → next_call acts ≡ next_call others
 next_call_same acts others v =
-    ap (λ (b : Bool). next_by b (unanswered acts) (records_of (stream acts)) (completed acts)) v.no_call
-    ∙ ap (λ (o : Option (List ℕ)). next_by (took_no_call others) o (records_of (stream acts)) (completed acts)) v.call
-    ∙ ap (λ (l : List (List ℕ)). next_by (took_no_call others) (unanswered others) l (completed acts))
+    ap (λ (b : Bool). next_by b (pending_call acts) (records_of (stream acts)) (records_ended acts)) v.no_call
+    ∙ ap (λ (o : Option (List ℕ)). next_by (took_no_call others) o (records_of (stream acts)) (records_ended acts)) v.call
+    ∙ ap (λ (l : List (List ℕ)). next_by (took_no_call others) (pending_call others) l (records_ended acts))
     (same_reading (stream acts) (stream others) v.streams).0
-    ∙ ap (λ (n : ℕ). next_by (took_no_call others) (unanswered others) (records_of (stream others)) n) v.count
+    ∙ ap (λ (n : ℕ). next_by (took_no_call others) (pending_call others) (records_of (stream others)) n) v.count
 
 pub next_request_same : (acts others : List ConnAct) → SameConnection acts others → next_request acts ≡ next_request others
 next_request_same acts others v =
@@ -202,7 +202,7 @@ abbrev pub came_on : ℕ → List (List ℕ) → List Act
 came_on c pieces = acts_of c (only_own (map Piece pieces))
 
 pub alike_came : (c : ℕ) (pieces others : List (List ℕ)) (log other : List Act)
-    → SameRecords (stream (of c log) ++ joined pieces) (stream (of c other) ++ joined others) → Alike log other
+    → SameRecords (stream (of c log) ++ join_pieces pieces) (stream (of c other) ++ join_pieces others) → Alike log other
     → Alike (came_on c pieces ++ log) (came_on c others ++ other)
 alike_came c pieces others log other streams alike =
     let one = only_own (map Piece pieces) in

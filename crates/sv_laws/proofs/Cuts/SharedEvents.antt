@@ -6,7 +6,7 @@ use Rattle.sv_links.specs.Links.{LinkAct, closing}
 use Rattle.sv_links.specs.Waiting.{Left}
 use Rattle.sv_links.specs.Channels.{ChannelClosed}
 use Rattle.sv_scan.specs.declared.acts.ScanAct.{ScanAct}
-use Rattle.sv_scan.specs.Counted.{kept, trigger_fault}
+use Rattle.sv_scan.specs.Counted.{effective, trigger_fault}
 use Rattle.sv_scan.specs.Scan.{state}
 use Rattle.sv_errors.specs.declared.source.Source.TheVariants.{External as ByInput}
 use Rattle.sv_instrument.specs.Stimulus.{or_nothing, where_scanning}
@@ -14,12 +14,12 @@ use Rattle.sv_history.specs.declared.event.Port.TheVariants.{Conn, Intr}
 use Rattle.sv_history.specs.declared.event.Config.{Config}
 use Rattle.sv_history.specs.Event.{PlainEvent, Open, Bytes, Turn, Refuse, Took, Close, Dialed, Input, External, Tick}
 use Rattle.sv_history.specs.Act.{Act, ConnAct, Opened, Piece, CallTaken, Faulted, Replied, BytesTaken, PortClosed, Linked, Waited, Channel, Applied, Ticked, On, OnDevice, of, device_acts}
-use Rattle.sv_history.specs.Connection.{next_call, unanswered}
+use Rattle.sv_history.specs.Connection.{next_call, pending_call}
 use Rattle.sv_history.specs.Request.{Request, core_call_in, next_request}
 use Rattle.sv_history.specs.Refusing.{refusable_call}
 use Rattle.sv_history.specs.Effect.{Effect, acts_of}
 use Rattle.sv_history.specs.Execution.{request_effect, aborts}
-use Rattle.sv_history.specs.Resuming.{failed, connected}
+use Rattle.sv_history.specs.Resuming.{failure_effect, connect_effect}
 use Rattle.sv_history.specs.History.{abort_acts, taken_acts, turn_acts, refuse_acts, own_acts}
 use Rattle.sv_laws.proofs.Cuts.SharedSteps.{SameCalls, request_alike, aborts_alike}
 
@@ -30,21 +30,21 @@ pub record SameNext (log other : List Act) : Type 0 where
   pub requests : (d : ℕ) → next_request (of d log) ≡ next_request (of d other)
 
 -- the call that another one's call ends
-ended_shared : (found : Option ℕ) (log other : List Act) → ((d : ℕ) → unanswered (of d log) ≡ unanswered (of d other))
+ended_shared : (found : Option ℕ) (log other : List Act) → ((d : ℕ) → pending_call (of d log) ≡ pending_call (of d other))
     → abort_acts found log ≡ abort_acts found other
 ended_shared None log other same = refl
-ended_shared (Some d) log other same = ap (λ (o : Option (List ℕ)). acts_of d (failed Abort d (core_call_in o))) (same d)
+ended_shared (Some d) log other same = ap (λ (o : Option (List ℕ)). acts_of d (failure_effect Abort d (core_call_in o))) (same d)
 
 -- the same acts in front leave the same calls without an answer
-pub calls_behind : (adds log other : List Act) → ((d : ℕ) → unanswered (of d log) ≡ unanswered (of d other))
-    → (d : ℕ) → unanswered (of d (adds ++ log)) ≡ unanswered (of d (adds ++ other))
+pub calls_behind : (adds log other : List Act) → ((d : ℕ) → pending_call (of d log) ≡ pending_call (of d other))
+    → (d : ℕ) → pending_call (of d (adds ++ log)) ≡ pending_call (of d (adds ++ other))
 calls_behind [] log other same d = same d
 calls_behind (OnDevice act ∷ adds) log other same d = calls_behind adds log other same d
 calls_behind (On c act ∷ adds) log other same d =
     on_one act (c == d) (of d (adds ++ log)) (of d (adds ++ other)) (calls_behind adds log other same d)
   where
-    on_one : (act : ConnAct) (b : Bool) (mine also : List ConnAct) → unanswered mine ≡ unanswered also
-        → unanswered (if b then act ∷ mine else mine) ≡ unanswered (if b then act ∷ also else also)
+    on_one : (act : ConnAct) (b : Bool) (mine also : List ConnAct) → pending_call mine ≡ pending_call also
+        → pending_call (if b then act ∷ mine else mine) ≡ pending_call (if b then act ∷ also else also)
     on_one act false mine also same = same
     on_one (Opened role) true mine also same = refl
     on_one PortClosed true mine also same = refl
@@ -87,11 +87,11 @@ own_shared config polled (Took (Intr c) count) log other v = refl
 own_shared config polled (Close (Conn c)) log other v = ap (λ (l : List LinkAct). shuts_by c l) v.now.device.links
 own_shared config polled (Close (Intr c)) log other v = refl
 own_shared config polled (Dialed c ok) log other v =
-    ap (λ (o : Option (List ℕ)). acts_of c (connected c ok (core_call_in o))) (v.now.calls c)
+    ap (λ (o : Option (List ℕ)). acts_of c (connect_effect c ok (core_call_in o))) (v.now.calls c)
 own_shared config polled (Input channel microvolts) log other v = refl
 own_shared config polled External log other v =
-    ap (λ (l : List ScanAct). map OnDevice (map Applied (or_nothing (trigger_fault (kept l) ByInput))))
+    ap (λ (l : List ScanAct). map OnDevice (map Applied (or_nothing (trigger_fault (effective l) ByInput))))
     v.now.device.instrument.status.scanned
 own_shared config polled Tick log other v =
-    ap (λ (l : List ScanAct). map OnDevice (map Applied (where_scanning (state (kept l)))) ++ OnDevice Ticked ∷ [])
+    ap (λ (l : List ScanAct). map OnDevice (map Applied (where_scanning (state (effective l)))) ++ OnDevice Ticked ∷ [])
     v.now.device.instrument.status.scanned

@@ -10,22 +10,22 @@ use Rattle.sv_links.specs.Links.{LinkAct, owner, holder}
 use Rattle.sv_links.specs.Waiting.{WaitAct, Entered, Again, Left, waits, IsAble, IsExpired, IsOldest}
 use Rattle.sv_scan.specs.declared.acts.ScanAct.{ScanAct}
 use Rattle.sv_scan.specs.declared.acts.ScanAct.TheVariants.{Trigger}
-use Rattle.sv_scan.specs.Counted.{kept, trigger_fault}
+use Rattle.sv_scan.specs.Counted.{effective, trigger_fault}
 use Rattle.sv_exchange.specs.Exchange.{has_ended}
 use Rattle.sv_layers.specs.Act.{Act as InstrumentAct, Scanned}
 use Rattle.sv_instrument.specs.Stimulus.{IsFired}
 use Rattle.sv_instrument.specs.Step.{IsStep, is_answerable}
 use Rattle.sv_history.specs.declared.event.Config.{Config}
 use Rattle.sv_history.specs.Act.{Act, DeviceAct, Waited, Applied, OnDevice, of, device_acts, link_acts, wait_acts, instrument_acts, exchange_acts, ticks}
-use Rattle.sv_history.specs.Connection.{unanswered}
-use Rattle.sv_history.specs.CallOutcome.{CallOutcome, suspended}
+use Rattle.sv_history.specs.Connection.{pending_call}
+use Rattle.sv_history.specs.CallOutcome.{CallOutcome, suspend_by}
 use Rattle.sv_history.specs.CoreCall.{CoreCall, lid_of}
 use Rattle.sv_history.specs.Request.{Request, NoCall, Decided, CoreRequest, AbortRequest, PortRequest, core_call_in}
 use Rattle.sv_history.specs.Effect.{Effect, acts_of, call_effect}
-use Rattle.sv_history.specs.Admission.{Stop, Fails, Awaits, deadline, admitted, stop_of}
+use Rattle.sv_history.specs.Admission.{Stop, Fails, Awaits, deadline, admission, stop_of}
 use Rattle.sv_history.specs.AbortChannel.{owner_of, if_waiting}
 use Rattle.sv_history.specs.Execution.{request_effect, aborts}
-use Rattle.sv_history.specs.Resuming.{leaving, next_wait, continued, resumed, failed, late}
+use Rattle.sv_history.specs.Resuming.{leaving, next_wait, resume_outcome, resume_effect, failure_effect, late}
 use Rattle.sv_history.specs.Settling.{First, InstrumentDoes, CanResume, Resumes, TimesOut, IsNext}
 use Rattle.sv_laws.proofs.Cuts.SameInstrument.{SameInstrument, instrument_step}
 use Rattle.sv_laws.proofs.Cuts.SameDevice.{SameDevice, device_act, device_back, ended_alike, answerable_alike, polled_alike, wait_alike, call_alike, stop_alike}
@@ -38,16 +38,16 @@ deadline_alike config timeout acts other v =
     ap (λ (n : ℕ). option_map (λ milliseconds. config.clock + n + milliseconds) timeout) v.clock
 
 admitted_alike : (config : Config) (polled c : ℕ) (arguments : Arguments) (stop : Option Stop) (acts other : List DeviceAct)
-    → SameDevice acts other → admitted config polled c arguments stop acts ≡ admitted config polled c arguments stop other
+    → SameDevice acts other → admission config polled c arguments stop acts ≡ admission config polled c arguments stop other
 admitted_alike config polled c arguments None acts other v = call_alike config polled c arguments acts other v
 admitted_alike config polled c arguments (Some (Fails error)) acts other v = refl
 admitted_alike config polled c arguments (Some (Awaits wait timeout)) acts other v =
-    ap (λ (d : Option ℕ). suspended (Entered c (lid_of (link arguments)) wait d)) (deadline_alike config timeout acts other v)
+    ap (λ (d : Option ℕ). suspend_by (Entered c (lid_of (link arguments)) wait d)) (deadline_alike config timeout acts other v)
 
 pub request_alike : (config : Config) (polled c : ℕ) (request : Request) (acts other : List DeviceAct) → SameDevice acts other
     → request_effect config polled c request acts ≡ request_effect config polled c request other
 request_alike config polled c (CoreRequest call) acts other v =
-    ap (λ (o : Option Stop). call_effect call.xid (admitted config polled c call.arguments o acts))
+    ap (λ (o : Option Stop). call_effect call.xid (admission config polled c call.arguments o acts))
     (stop_alike c call.arguments acts other v)
     ∙ ap (λ (o : CallOutcome). call_effect call.xid o)
     (admitted_alike config polled c call.arguments (stop_of c call.arguments other) acts other v)
@@ -78,18 +78,18 @@ next_wait_alike Response arguments acts other v = refl
 next_wait_alike Dial arguments acts other v = refl
 
 continued_alike : (config : Config) (polled c : ℕ) (arguments : Arguments) (next : Option (Wait × ℕ)) (acts other : List DeviceAct)
-    → SameDevice acts other → continued config polled c arguments next acts ≡ continued config polled c arguments next other
+    → SameDevice acts other → resume_outcome config polled c arguments next acts ≡ resume_outcome config polled c arguments next other
 continued_alike config polled c arguments (Some wait) acts other v =
-    ap (λ (d : Option ℕ). suspended (Again c wait.0 d)) (deadline_alike config (Some wait.1) acts other v)
+    ap (λ (d : Option ℕ). suspend_by (Again c wait.0 d)) (deadline_alike config (Some wait.1) acts other v)
 continued_alike config polled c arguments None acts other v =
     ap (λ (o : CallOutcome). leaving c o) (call_alike config polled c arguments (Waited (Left c) ∷ acts) (Waited (Left c) ∷ other)
     (device_act (Waited (Left c)) acts other v))
 
 pub resumed_alike : (config : Config) (polled c : ℕ) (wait : Wait) (call : Option CoreCall) (acts other : List DeviceAct)
-    → SameDevice acts other → resumed config polled c wait call acts ≡ resumed config polled c wait call other
+    → SameDevice acts other → resume_effect config polled c wait call acts ≡ resume_effect config polled c wait call other
 resumed_alike config polled c wait None acts other v = refl
 resumed_alike config polled c wait (Some call) acts other v =
-    ap (λ (next : Option (Wait × ℕ)). call_effect call.xid (continued config polled c call.arguments next acts))
+    ap (λ (next : Option (Wait × ℕ)). call_effect call.xid (resume_outcome config polled c call.arguments next acts))
     (next_wait_alike wait call.arguments acts other v)
     ∙ ap (λ (o : CallOutcome). call_effect call.xid o)
     (continued_alike config polled c call.arguments (next_wait wait call.arguments other) acts other v)
@@ -99,7 +99,7 @@ resumed_alike config polled c wait (Some call) acts other v =
 -- The devices are the same, and so is each connection's call without an answer.
 pub record SameCalls (log other : List Act) : Type 0 where
   pub device : SameDevice (device_acts log) (device_acts other)
-  pub calls : (d : ℕ) → unanswered (of d log) ≡ unanswered (of d other)
+  pub calls : (d : ℕ) → pending_call (of d log) ≡ pending_call (of d other)
 
 pub calls_back : (log other : List Act) → SameCalls log other → SameCalls other log
 calls_back log other v =
@@ -134,7 +134,7 @@ fires_shared : (log other : List InstrumentAct) → SameInstrument log other →
 fires_shared log other v new (none, is) = (
   Scanned (Trigger Immediate) ∷ [],
   is,
-  (ap (λ (l : List ScanAct). trigger_fault (kept l) Immediate) (sym v.status.scanned) ∙ none, refl),
+  (ap (λ (l : List ScanAct). trigger_fault (effective l) Immediate) (sym v.status.scanned) ∙ none, refl),
 )
 
 able_alike : (acts other : List DeviceAct) (found : Option ℕ) → SameDevice acts other → IsOldest (wait_acts acts) (CanResume acts) found
@@ -152,11 +152,11 @@ able_alike acts other found v h =
 resumes_shared : (config : Config) (log other : List Act) → SameCalls log other
     → Shared log other (Resumes config log) (Resumes config other)
 resumes_shared config log other v new (c, wait, polled, oldest, for, said, is) =
-    let call = core_call_in (unanswered (of c log)) in
-    let effect = resumed config polled c wait call (device_acts log) in
-    let same : effect ≡ resumed config polled c wait (core_call_in (unanswered (of c other))) (device_acts other) =
+    let call = core_call_in (pending_call (of c log)) in
+    let effect = resume_effect config polled c wait call (device_acts log) in
+    let same : effect ≡ resume_effect config polled c wait (core_call_in (pending_call (of c other))) (device_acts other) =
     resumed_alike config polled c wait call (device_acts log) (device_acts other) v.device
-    ∙ ap (λ (o : Option (List ℕ)). resumed config polled c wait (core_call_in o) (device_acts other)) (v.calls c) in (
+    ∙ ap (λ (o : Option (List ℕ)). resume_effect config polled c wait (core_call_in o) (device_acts other)) (v.calls c) in (
       acts_of c effect,
       is,
       (
@@ -173,7 +173,7 @@ resumes_shared config log other v new (c, wait, polled, oldest, for, said, is) =
 times_shared : (config : Config) (log other : List Act) → SameCalls log other
     → Shared log other (TimesOut config log) (TimesOut config other)
 times_shared config log other v new (c, wait, oldest, for, is) =
-    let acts = acts_of c (failed (late wait) c (core_call_in (unanswered (of c log)))) in (
+    let acts = acts_of c (failure_effect (late wait) c (core_call_in (pending_call (of c log)))) in (
       acts,
       is,
       (
@@ -184,7 +184,7 @@ times_shared config log other v new (c, wait, oldest, for, is) =
             (subst (λ (l : List WaitAct). IsOldest l (IsExpired (config.clock + ticks (device_acts log)) l) (Some c)) v.device.waits
             oldest),
         subst (λ (l : List WaitAct). waits c l ≡ Some wait) v.device.waits for,
-        ap (λ (o : Option (List ℕ)). acts_of c (failed (late wait) c (core_call_in o)) ++ other) (v.calls c),
+        ap (λ (o : Option (List ℕ)). acts_of c (failure_effect (late wait) c (core_call_in o)) ++ other) (v.calls c),
       ),
     )
 

@@ -26,12 +26,12 @@ use Rattle.sv_history.specs.declared.event.Config.{Config}
 use Rattle.sv_history.specs.declared.event.Role.{Role}
 use Rattle.sv_history.specs.declared.event.Role.TheVariants.{Core, Abort, Portmap}
 use Rattle.sv_history.specs.Act.{DeviceAct, Applied, link_acts, instrument_acts, exchange_acts}
-use Rattle.sv_history.specs.CallOutcome.{CallOutcome, answered, only, suspended}
+use Rattle.sv_history.specs.CallOutcome.{CallOutcome, answer_with, only, suspend_by}
 use Rattle.sv_history.specs.CoreCall.{CoreCall}
 use Rattle.sv_history.specs.Request.{Request, NoCall, Decided, CoreRequest, AbortRequest, PortRequest, program_of, request_of, core_call_of, core_call, request_for}
 use Rattle.sv_history.proofs.Deciding.{header_reply, unless_decided, request_is}
 use Rattle.sv_history.specs.CoreChannel.{device_write}
-use Rattle.sv_history.specs.Admission.{stop_of, admitted}
+use Rattle.sv_history.specs.Admission.{stop_of, admission}
 use Rattle.sv_history.specs.Resuming.{late}
 
 -- ---- what a core call is on a connection of another program
@@ -86,20 +86,20 @@ WriteCase c lid flags bytes acts outcome =
     ⊎ (((wait : Wait) × (last : Option ℕ) × (error_number (late wait) ≢ 0)
     × (is_there (holder (link_acts acts)) (not (has_ended (exchange_acts acts))) (is_answerable (instrument_acts acts)) (Some lid)
     (Some wait) ≡ false)
-    × (outcome ≡ suspended (Entered c (Some lid) wait last)))
+    × (outcome ≡ suspend_by (Entered c (Some lid) wait last)))
     ⊎ ((has_ended (exchange_acts acts) ≡ false)
-    × (outcome ≡ answered (Applied (Exchanged (Accepted bytes (bit_at flags 3 == 1))) ∷ []) (Size NoError (length bytes)))))
+    × (outcome ≡ answer_with (Applied (Exchanged (Accepted bytes (bit_at flags 3 == 1))) ∷ []) (Size NoError (length bytes)))))
 
 some_error : (error : ErrorCode) (n : ℕ) → error_number error ≡ suc n → error_number error ≢ 0
 some_error error n is none = omega (arith, is, none)
 
 accepts_write : (flags : ℕ) (bytes : List ℕ) (acts : List DeviceAct) → nat_lt max_message (length bytes) ≡ false
     → has_ended (exchange_acts acts) ≡ false → device_write flags bytes acts
-    ≡ answered (Applied (Exchanged (Accepted bytes (bit_at flags 3 == 1))) ∷ []) (Size NoError (length bytes))
+    ≡ answer_with (Applied (Exchanged (Accepted bytes (bit_at flags 3 == 1))) ∷ []) (Size NoError (length bytes))
 accepts_write flags bytes acts short free = rw (short, free) refl
 
 pub write_case : (config : Config) (polled c lid io_timeout lock_timeout flags : ℕ) (bytes : List ℕ) (acts : List DeviceAct)
-    → WriteCase c lid flags bytes acts (admitted config polled c (OnLink (pos lid) (DeviceWrite io_timeout lock_timeout flags bytes))
+    → WriteCase c lid flags bytes acts (admission config polled c (OnLink (pos lid) (DeviceWrite io_timeout lock_timeout flags bytes))
     (stop_of c (OnLink (pos lid) (DeviceWrite io_timeout lock_timeout flags bytes)) acts) acts)
 write_case config polled c lid io_timeout lock_timeout flags bytes acts = elim (cases_Bool (is_of c (owner lid (link_acts acts)))) [
   | inr e ↦ rw e (inl (InvalidLink, some_error InvalidLink 3 refl, refl))

@@ -13,7 +13,7 @@ use Rattle.sv_history.specs.declared.event.Port.{Port}
 use Rattle.sv_history.specs.declared.event.Port.TheVariants.{Conn, Intr}
 use Rattle.sv_history.specs.Event.{PlainEvent}
 use Rattle.sv_history.specs.Act.{Act, ConnAct, DeviceAct, CallTaken, Replied, of, device_acts, wait_acts}
-use Rattle.sv_history.specs.Connection.{open_role, unanswered, completed, took_no_call, stream}
+use Rattle.sv_history.specs.Connection.{open_role, pending_call, records_ended, took_no_call, stream}
 use Rattle.sv_history.specs.Request.{core_call}
 use Rattle.sv_history.specs.Effect.{result_reply}
 use Rattle.sv_history.specs.PolledStatus.{IsPolled}
@@ -238,9 +238,9 @@ module _ (c lid : ℕ) (x y : List ℕ) (ended : Bool) (config : Config) (past o
       Replied (result_reply h.writes_second.0 (Size NoError (length y))) ∷ CallTaken h.writes_second.4 ∷ l) h.writes_first.7 in
       record {
         role = role_bare acts ∙ ap open_role one_bare ∙ sym (role_bare others ∙ ap open_role two_bare);
-        call = call_bare acts ∙ ap unanswered one_bare ∙ sym (call_bare others ∙ ap unanswered two_bare);
+        call = call_bare acts ∙ ap pending_call one_bare ∙ sym (call_bare others ∙ ap pending_call two_bare);
         no_call = no_call_bare acts ∙ ap took_no_call one_bare ∙ sym (no_call_bare others ∙ ap took_no_call two_bare);
-        ahead = same_behind (stream acts) (stream others) (completed acts) (completed others)
+        ahead = same_behind (stream acts) (stream others) (records_ended acts) (records_ended others)
             (fed_all c config past h.whole _ _ rest fed_both h.one_feeds.none_left)
             (fed_all c config past h.cut _ _ h.middle fed_other h.two_feeds.none_left) h.same_tail;
         sent = [];

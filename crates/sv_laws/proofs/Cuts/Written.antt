@@ -14,15 +14,15 @@ use Rattle.sv_links.specs.Waiting.{Left, waits}
 use Rattle.sv_exchange.specs.Exchange.{has_ended}
 use Rattle.sv_history.specs.declared.event.Config.{Config}
 use Rattle.sv_history.specs.Act.{Act, ConnAct, CallTaken, Replied, Waited, On, OnDevice, of, device_acts, wait_acts, exchange_acts}
-use Rattle.sv_history.specs.Connection.{next_call, open_role, unanswered}
+use Rattle.sv_history.specs.Connection.{next_call, open_role, pending_call}
 use Rattle.sv_history.specs.CallOutcome.{CallOutcome}
 use Rattle.sv_history.specs.CoreCall.{CoreCall}
 use Rattle.sv_history.specs.Request.{Request, core_call, core_call_in, request_for}
 use Rattle.sv_history.specs.Reply.{reply_record}
 use Rattle.sv_history.specs.Effect.{result_reply, acts_of, call_effect}
-use Rattle.sv_history.specs.Admission.{stop_of, admitted}
+use Rattle.sv_history.specs.Admission.{stop_of, admission}
 use Rattle.sv_history.specs.Execution.{request_effect, aborts}
-use Rattle.sv_history.specs.Resuming.{failed, late}
+use Rattle.sv_history.specs.Resuming.{failure_effect, late}
 use Rattle.sv_history.specs.PolledStatus.{IsPolled}
 use Rattle.sv_history.specs.Settling.{SettlesIn, IsSettled}
 use Rattle.sv_history.specs.History.{taken_acts}
@@ -106,11 +106,11 @@ module _ (c lid : ℕ) (bytes : List ℕ) (ended : Bool) (config : Config) (base
       let now = suspends c call (Some lid) wait last base in
       let told = result_reply xid (Size (late wait) 0) in
       let mine : of c now ≡ CallTaken call ∷ of c base = of_mine c (CallTaken call) base in
-      let found : core_call_in (unanswered (of c now)) ≡ Some (record { xid = xid; arguments = arguments }) =
-      ap (λ (l : List ConnAct). core_call_in (unanswered l)) mine ∙ is in
+      let found : core_call_in (pending_call (of c now)) ≡ Some (record { xid = xid; arguments = arguments }) =
+      ap (λ (l : List ConnAct). core_call_in (pending_call l)) mine ∙ is in
       let gave : mid ≡ On c (Replied told) ∷ OnDevice (Waited (Left c)) ∷ now =
       only_late config c call (Some lid) wait last base mid settled none there next
-      ∙ ap (λ (o : Option CoreCall). acts_of c (failed (late wait) c o) ++ now) found in
+      ∙ ap (λ (o : Option CoreCall). acts_of c (failure_effect (late wait) c o) ++ now) found in
       let was : bare c mid ≡ Replied told ∷ CallTaken call ∷ bare c base =
       ap (λ (l : List Act). bare c l) gave ∙ ap without_pieces (of_mine c (Replied told) (OnDevice (Waited (Left c)) ∷ now))
       ∙ ap (λ (l : List ConnAct). Replied told ∷ without_pieces l) mine in
@@ -148,7 +148,7 @@ module _ (c lid : ℕ) (bytes : List ℕ) (ended : Bool) (config : Config) (base
       let asks = ap (request_for role) (sym taking.next) ∙ taking.asks in
       elim (core_asked role call taking.request (record { xid = xid; arguments = arguments }) asks is) [
         | inl core ↦ by_case taking.polled taking.steps
-            (admitted config taking.polled c arguments (stop_of c arguments (device_acts base)) (device_acts base)) taking.next taking.said
+            (admission config taking.polled c arguments (stop_of c arguments (device_acts base)) (device_acts base)) taking.next taking.said
             (as_request taking core) (write_case config taking.polled c lid io_timeout lock_timeout flags bytes (device_acts base))
         | inr (other, decided) ↦ absurd (is_served xid other (length bytes)
             (at_once (reply_record other ProgUnavail []) taking.steps (as_request taking decided)))

@@ -23,18 +23,18 @@ use Rattle.sv_history.specs.declared.event.Config.{Config}
 use Rattle.sv_history.specs.declared.event.Port.TheVariants.{Conn, Intr}
 use Rattle.sv_history.specs.Event.{PlainEvent, Open, Bytes, Turn, Refuse, Took, Close, Dialed, Input, External, Tick}
 use Rattle.sv_history.specs.Act.{Act, ConnAct, DeviceAct, Opened, Piece, CallTaken, Replied, BytesTaken, PortClosed, Waited, Channel, Applied, Ticked, On, OnDevice, of, device_acts, link_acts, wait_acts, instrument_acts, exchange_acts}
-use Rattle.sv_history.specs.Connection.{next_call, unanswered}
+use Rattle.sv_history.specs.Connection.{next_call, pending_call}
 use Rattle.sv_history.specs.CallOutcome.{CallOutcome, only}
 use Rattle.sv_history.specs.CoreCall.{CoreCall, lid_of, failure}
 use Rattle.sv_history.specs.CoreChannel.{own_call}
 use Rattle.sv_history.specs.Effect.{Effect, acts_of, replies, call_effect}
 use Rattle.sv_history.specs.Request.{Request, NoCall, Decided, CoreRequest, AbortRequest, PortRequest, core_call_in, next_request}
-use Rattle.sv_history.specs.Interrupts.{has_channel, dialed}
+use Rattle.sv_history.specs.Interrupts.{has_channel, connect_outcome}
 use Rattle.sv_history.proofs.Dialing.{peer_by, dialed_to, dialed_is}
-use Rattle.sv_history.specs.Admission.{Stop, Fails, Awaits, stop_of, admitted, deadline}
+use Rattle.sv_history.specs.Admission.{Stop, Fails, Awaits, stop_of, admission, deadline}
 use Rattle.sv_history.specs.Execution.{request_effect, aborts}
 use Rattle.sv_history.specs.Refusing.{refusable, refused_reply}
-use Rattle.sv_history.specs.Resuming.{effect_of, leaving, next_wait, continued, failed, late}
+use Rattle.sv_history.specs.Resuming.{effect_of, leaving, next_wait, resume_outcome, failure_effect, late}
 use Rattle.sv_history.specs.Settling.{IsNext}
 use Rattle.sv_history.specs.History.{abort_acts, turn_acts, refuse_acts, own_acts, refusal, IsLogOf}
 use Rattle.sv_history.proofs.Projections.{of_mine, of_other, of_shared, of_effect, others_effect, device_shared, device_effect, wait_acts-links, wait_acts-happened}
@@ -45,7 +45,7 @@ use Rattle.sv_laws.proofs.EveryLog.EachEvent.{each_log, done_waits, turn_parts, 
 
 -- If no call of a connection waits, none is without an answer.
 abbrev HasWait : ℕ → List Act → Type 0
-HasWait c log = waits c (wait_acts (device_acts log)) ≡ None → unanswered (of c log) ≡ None
+HasWait c log = waits c (wait_acts (device_acts log)) ≡ None → pending_call (of c log) ≡ None
 
 abbrev AllWait : List Act → Type 0
 AllWait log = (c : ℕ) → HasWait c log
@@ -91,7 +91,7 @@ own_told config polled c (OnLink (pos n) (DeviceDocmd flags io_timeout lock_time
 own_told config polled c (CreateIntrChan host_addr host_port prog_num prog_vers prog_family) acts = refl
 
 replies_free : (xid : ℕ) (result : Option Outcome) (acts : List ConnAct) → is_some result ≡ true
-    → unanswered (replies xid result ++ acts) ≡ None
+    → pending_call (replies xid result ++ acts) ≡ None
 replies_free xid (Some result) acts channel_log = refl
 replies_free xid None acts channel_log = absurd cc
 
@@ -106,21 +106,21 @@ abbrev LeavesOthers : ℕ → List DeviceAct → List DeviceAct → Type 0
 LeavesOthers c adds acts = (d : ℕ) → d ≢ c → waits d (wait_acts (adds ++ acts)) ≡ waits d (wait_acts acts)
 
 all_effect : (c : ℕ) (effect : Effect) (log : List Act) → ((d : ℕ) → d ≢ c → HasWait d log) → LeavesOthers c effect.adds (device_acts log)
-    → (waits c (wait_acts (effect.adds ++ device_acts log)) ≡ None → unanswered (effect.own ++ of c log) ≡ None)
+    → (waits c (wait_acts (effect.adds ++ device_acts log)) ≡ None → pending_call (effect.own ++ of c log) ≡ None)
     → AllWait (acts_of c effect ++ log)
 all_effect c effect log all others mine d none =
     let here : waits d (wait_acts (effect.adds ++ device_acts log)) ≡ None =
     ap (λ (l : List DeviceAct). waits d (wait_acts l)) (sym (device_effect c effect log)) ∙ none in
     elim (cases_eq d c) [
-      | inl e ↦ subst (λ (n : ℕ). unanswered (of n (acts_of c effect ++ log)) ≡ None) (sym e)
-          (ap unanswered (of_effect c effect log)
+      | inl e ↦ subst (λ (n : ℕ). pending_call (of n (acts_of c effect ++ log)) ≡ None) (sym e)
+          (ap pending_call (of_effect c effect log)
           ∙ mine (ap (λ (n : ℕ). waits n (wait_acts (effect.adds ++ device_acts log))) (sym e) ∙ here))
-      | inr ne ↦ ap unanswered (others_effect c d effect log ne) ∙ all d ne (sym (others d ne) ∙ here)
+      | inr ne ↦ ap pending_call (others_effect c d effect log ne) ∙ all d ne (sym (others d ne) ∙ here)
     ]
 
 all_shared : (adds : List DeviceAct) (log : List Act) → AllWait log → wait_acts (adds ++ device_acts log) ≡ wait_acts (device_acts log)
     → AllWait (map OnDevice adds ++ log)
-all_shared adds log all same d none = ap unanswered (of_shared d adds log)
+all_shared adds log all same d none = ap pending_call (of_shared d adds log)
     ∙ all d (ap (waits d) (sym same ∙ ap wait_acts (sym (device_shared adds log))) ∙ none)
 
 all_happened : (adds : List InstrumentAct) (log : List Act) → AllWait log → AllWait (map OnDevice (map Applied adds) ++ log)
@@ -143,30 +143,31 @@ all_left c xid outcome log all channel_log left =
 -- one that isn't of the core channel doesn't wait
 all_ended : (c : ℕ) (does : Arguments → CallOutcome) (log : List Act) → Fit log → AllWait log
     → ((call : CoreCall) → AllWait (acts_of c (call_effect call.xid (does call.arguments)) ++ log))
-    → AllWait (acts_of c (effect_of c does (core_call_in (unanswered (of c log)))) ++ log)
-all_ended c does log fit all ends = by (core_call_in (unanswered (of c log))) refl
+    → AllWait (acts_of c (effect_of c does (core_call_in (pending_call (of c log)))) ++ log)
+all_ended c does log fit all ends = by (core_call_in (pending_call (of c log))) refl
   where
-    free_by : (found : Option Wait) → waits c (wait_acts (device_acts log)) ≡ found → core_call_in (unanswered (of c log)) ≡ None
-        → unanswered (of c log) ≡ None
+    free_by : (found : Option Wait) → waits c (wait_acts (device_acts log)) ≡ found → core_call_in (pending_call (of c log)) ≡ None
+        → pending_call (of c log) ≡ None
     free_by None is none = all c is
     free_by (Some wait) is none =
         let known = (fit.held c wait is).1 in
         absurd (let z : None ≡ Some known.0 = sym none ∙ known.1 in cc)
 
-    by : (call : Option CoreCall) → core_call_in (unanswered (of c log)) ≡ call → AllWait (acts_of c (effect_of c does call) ++ log)
+    by : (call : Option CoreCall) → core_call_in (pending_call (of c log)) ≡ call → AllWait (acts_of c (effect_of c does call) ++ log)
     by (Some call) e = ends call
     by None e = all_effect c (effect_of c does None) log (λ d ne. all d)
         (λ d ne. wait_other c d (Left c) (wait_acts (device_acts log)) refl ne)
         (λ none. free_by (waits c (wait_acts (device_acts log))) refl e)
 
 all_failed : (error : ErrorCode) (c : ℕ) (log : List Act) → Fit log → AllWait log
-    → AllWait (acts_of c (failed error c (core_call_in (unanswered (of c log)))) ++ log)
+    → AllWait (acts_of c (failure_effect error c (core_call_in (pending_call (of c log)))) ++ log)
 all_failed error c log fit all = all_ended c (λ arguments. leaving c (only (failure arguments error))) log fit all
     (λ call. all_left c call.xid (only (failure call.arguments error)) log all refl refl)
 
 all_dialed : (c : ℕ) (ok : Bool) (log : List Act) → Fit log → AllWait log
-    → AllWait (acts_of c (effect_of c (λ arguments. leaving c (dialed c ok arguments)) (core_call_in (unanswered (of c log)))) ++ log)
-all_dialed c ok log fit all = all_ended c (λ arguments. leaving c (dialed c ok arguments)) log fit all
+    → AllWait (acts_of c (effect_of c (λ arguments. leaving c (connect_outcome c ok arguments)) (core_call_in (pending_call (of c log))))
+    ++ log)
+all_dialed c ok log fit all = all_ended c (λ arguments. leaving c (connect_outcome c ok arguments)) log fit all
     (λ call. rw (dialed_is c ok call.arguments) (by ok call (peer_by call.arguments)))
   where
     by : (ok : Bool) (call : CoreCall) (peer : Option Peer)
@@ -188,11 +189,11 @@ not_waits {A} found wait some none = absurd (let z : None ≡ Some wait = sym no
 
 all_continued : (config : Config) (polled c : ℕ) (wait : Wait) (call : CoreCall) (next : Option (Wait × ℕ)) (log : List Act) → AllWait log
     → waits c (wait_acts (device_acts log)) ≡ Some wait
-    → AllWait (acts_of c (call_effect call.xid (continued config polled c call.arguments next (device_acts log))) ++ log)
+    → AllWait (acts_of c (call_effect call.xid (resume_outcome config polled c call.arguments next (device_acts log))) ++ log)
 all_continued config polled c wait call (Some next) log all for =
     let acts = device_acts log in
     let last = deadline config (Some next.1) acts in
-    all_effect c (call_effect call.xid (continued config polled c call.arguments (Some next) acts)) log (λ d ne. all d)
+    all_effect c (call_effect call.xid (resume_outcome config polled c call.arguments (Some next) acts)) log (λ d ne. all d)
     (λ d ne. wait_other c d (Again c next.0 last) (wait_acts acts) refl ne)
     (λ none. not_waits _ next.0 (again_waits c next.0 wait last (wait_acts acts) for) none)
 all_continued config polled c wait call None log all for =
@@ -204,7 +205,7 @@ all_continued config polled c wait call None log all for =
 all_step : (config : Config) (log new : List Act) → Fit log → AllWait log → IsNext config log new → AllWait new
 all_step config log new fit all (inl fires) = subst AllWait (sym fires.2) (all_happened fires.0 log all)
 all_step config log new fit all (inr (none, inl (c, wait, polled, oldest, for, said, is))) =
-    subst AllWait (sym is) (all_ended c (λ arguments. continued config polled c arguments (next_wait wait arguments (device_acts log))
+    subst AllWait (sym is) (all_ended c (λ arguments. resume_outcome config polled c arguments (next_wait wait arguments (device_acts log))
     (device_acts log)) log fit all
     (λ call. all_continued config polled c wait call (next_wait wait call.arguments (device_acts log)) log all for))
 all_step config log new fit all (inr (none, inr (still, inl step))) = subst AllWait (sym step.2) (all_happened step.0 log all)
@@ -216,7 +217,7 @@ all_step config log new fit all (inr (none, inr (still, inr (idle, (c, wait, old
 -- a record that was taken: its call has an answer, or waits
 all_admitted : (config : Config) (polled c : ℕ) (call : CoreCall) (stop : Option Stop) (log : List Act)
     → ((d : ℕ) → d ≢ c → HasWait d log)
-    → AllWait (acts_of c (call_effect call.xid (admitted config polled c call.arguments stop (device_acts log))) ++ log)
+    → AllWait (acts_of c (call_effect call.xid (admission config polled c call.arguments stop (device_acts log))) ++ log)
 all_admitted config polled c call None log all =
     let acts = device_acts log in
     let outcome = own_call config polled c call.arguments acts in
@@ -228,7 +229,7 @@ all_admitted config polled c call (Some (Fails error)) log all =
 all_admitted config polled c call (Some (Awaits wait until)) log all =
     let acts = device_acts log in
     let last = deadline config until acts in
-    all_effect c (call_effect call.xid (admitted config polled c call.arguments (Some (Awaits wait until)) acts)) log all
+    all_effect c (call_effect call.xid (admission config polled c call.arguments (Some (Awaits wait until)) acts)) log all
     (λ d ne. wait_other c d (Entered c (lid_of (link call.arguments)) wait last) (wait_acts acts) refl ne)
     (λ none. not_waits _ wait (entered_waits c (lid_of (link call.arguments)) wait last (wait_acts acts)) none)
 
@@ -258,7 +259,7 @@ all_turn config polled c (Some bytes) (Some request) log fit all lt next asks =
     subst AllWait (sym (turn_parts c bytes effect (aborts request (device_acts log)) log))
     (all_abort (aborts request (device_acts log)) (acts_of c effect ++ taken)
     (fit_request config polled c bytes request log fit lt next asks)
-    (all_request config polled c request taken (λ d ne none. ap unanswered (of_other c d (CallTaken bytes) log ne) ∙ all d none)))
+    (all_request config polled c request taken (λ d ne none. ap pending_call (of_other c d (CallTaken bytes) log ne) ∙ all d none)))
 all_turn config polled c (Some bytes) None log fit all lt next asks = all
 all_turn config polled c None (Some request) log fit all lt next asks = all
 all_turn config polled c None None log fit all lt next asks = all
@@ -279,9 +280,9 @@ all_close c log all d none =
     let calls : wait_acts (device_acts (map OnDevice (close_adds c acts) ++ On c PortClosed ∷ log)) ≡ Left c ∷ wait_acts acts =
     ap wait_acts (device_closed c log) ∙ wait_acts-links links (Waited (Left c) ∷ acts) in
     elim (cases_eq d c) [
-      | inl e ↦ subst (λ (n : ℕ). unanswered (of n (map OnDevice (close_adds c acts) ++ On c PortClosed ∷ log)) ≡ None) (sym e)
-          (ap unanswered (of_shared c (close_adds c acts) (On c PortClosed ∷ log) ∙ of_mine c PortClosed log))
-      | inr ne ↦ ap unanswered (of_closed c d log ne)
+      | inl e ↦ subst (λ (n : ℕ). pending_call (of n (map OnDevice (close_adds c acts) ++ On c PortClosed ∷ log)) ≡ None) (sym e)
+          (ap pending_call (of_shared c (close_adds c acts) (On c PortClosed ∷ log) ∙ of_mine c PortClosed log))
+      | inr ne ↦ ap pending_call (of_closed c d log ne)
           ∙ all d (sym (ap (waits d) calls ∙ wait_other c d (Left c) (wait_acts acts) refl ne) ∙ none)
     ]
 
@@ -311,7 +312,7 @@ all_event config Tick polled channel_log log free fit all =
 
 -- in every log of a history
 pub busy_waits : (config : Config) (history : List PlainEvent) (log : List Act) → IsLogOf config history log → (c : ℕ)
-    → waits c (wait_acts (device_acts log)) ≡ None → unanswered (of c log) ≡ None
+    → waits c (wait_acts (device_acts log)) ≡ None → pending_call (of c log) ≡ None
 busy_waits config history log was =
     (each_log config (λ now. Fit now × AllWait now) (fit_none, (λ c none. refl))
     (λ event polled channel_log now is free so. (

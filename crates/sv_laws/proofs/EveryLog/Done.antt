@@ -8,7 +8,7 @@ use Rattle.sv_vxi.specs.declared.arguments.GenericCall.TheVariants.{Readstb, Tri
 use Rattle.sv_vxi.specs.Arguments.{DeviceAbort, DeviceWrite, DeviceRead, Generic, DeviceLock, DeviceUnlock, DeviceEnableSrq, DeviceDocmd, DestroyLink, Arguments, CreateLink, OnLink, CreateIntrChan, DestroyIntrChan, link, max_handle, is_create_link}
 use Rattle.sv_links.specs.declared.waiting.Wait.{Wait}
 use Rattle.sv_links.specs.declared.waiting.Wait.TheVariants.{Lock}
-use Rattle.sv_links.specs.Links.{Made, made, owner, is_of, holder, is_this, is_locked_out, lids_left}
+use Rattle.sv_links.specs.Links.{Made, links_made, owner, is_of, holder, is_this, is_locked_out, lids_left}
 use Rattle.sv_links.specs.Channels.{SrqEnabled}
 use Rattle.sv_laws.proofs.LinksAlike.{owner_is_of}
 use Rattle.sv_exchange.specs.Exchange.{has_ended, response, is_something}
@@ -24,7 +24,7 @@ use Rattle.sv_history.specs.Admission.{Stop, Fails, Awaits, stop_of}
 -- An act that a call of a connection, with these arguments, adds where it is done: only a create_link makes a link, and its number is the
 -- next; a link that begins to ask is the connection's; and no call begins or ends to wait.
 abbrev pub IsDone : ℕ → Arguments → List DeviceAct → DeviceAct → Type 0
-IsDone c arguments acts (Linked (Made lid conn)) = (lid ≡ made (link_acts acts) + 1) × (conn ≡ c) × (is_create_link arguments ≡ true)
+IsDone c arguments acts (Linked (Made lid conn)) = (lid ≡ links_made (link_acts acts) + 1) × (conn ≡ c) × (is_create_link arguments ≡ true)
 IsDone c arguments acts (Linked act) = ⊤
 IsDone c arguments acts (Waited act) = ⊥
 IsDone c arguments acts (Channel (SrqEnabled lid conn handle)) = (conn ≡ c) × (owner lid (link_acts acts) ≡ Some conn)

@@ -29,7 +29,7 @@ use Rattle.sv_history.specs.declared.event.Role.TheVariants.{Core, Abort, Portma
 use Rattle.sv_history.specs.declared.event.Port.TheVariants.{Conn, Intr}
 use Rattle.sv_history.specs.Event.{PlainEvent, Open, Bytes, Turn, Refuse, Took, Close, Dialed, Input, External, Tick, IsEvent}
 use Rattle.sv_history.specs.Act.{Act, ConnAct, DeviceAct, Opened, Piece, CallTaken, Faulted, Replied, BytesTaken, PortClosed, Linked, Waited, Channel, Applied, Ticked, On, OnDevice, of, device_acts, link_acts, instrument_acts}
-use Rattle.sv_history.specs.Connection.{is_open, next_call, open_role, unanswered}
+use Rattle.sv_history.specs.Connection.{is_open, next_call, open_role, pending_call}
 use Rattle.sv_history.specs.CallOutcome.{CallOutcome, only}
 use Rattle.sv_history.specs.CoreCall.{CoreCall, lid_of, failure}
 use Rattle.sv_history.specs.Reply.{reply_record}
@@ -38,8 +38,8 @@ use Rattle.sv_history.specs.Request.{Request, NoCall, Decided, CoreRequest, Abor
 use Rattle.sv_history.proofs.Deciding.{unless_decided, header_reply, request_is}
 use Rattle.sv_history.specs.AbortChannel.{abort_result}
 use Rattle.sv_history.specs.Execution.{port_reply, request_effect, aborts}
-use Rattle.sv_history.specs.Interrupts.{dialed}
-use Rattle.sv_history.specs.Resuming.{effect_of, leaving, next_wait, continued, late}
+use Rattle.sv_history.specs.Interrupts.{connect_outcome}
+use Rattle.sv_history.specs.Resuming.{effect_of, leaving, next_wait, resume_outcome, late}
 use Rattle.sv_history.specs.Refusing.{takes_memory, refusable_call, refusable, refused_reply}
 use Rattle.sv_history.specs.Settling.{IsNext}
 use Rattle.sv_history.specs.History.{abort_acts, turn_acts, refuse_acts, own_acts, unless_shut, refusal, IsLogOf}
@@ -65,8 +65,8 @@ abbrev pub CanCome : ConnAct → List ConnAct → Type 0
 CanCome (Opened role) acts = ⊤
 CanCome (Piece bytes) acts = (is_open acts ≡ true) × IsBytes bytes
 CanCome (CallTaken call) acts = (is_open acts ≡ true) × (next_call acts ≡ Some call)
-CanCome Faulted acts = (call : List ℕ) × (unanswered acts ≡ Some call) × (call_at call ≡ Err BadHeader)
-CanCome (Replied reply) acts = (call : List ℕ) × (unanswered acts ≡ Some call) × IsReplyTo call reply
+CanCome Faulted acts = (call : List ℕ) × (pending_call acts ≡ Some call) × (call_at call ≡ Err BadHeader)
+CanCome (Replied reply) acts = (call : List ℕ) × (pending_call acts ≡ Some call) × IsReplyTo call reply
 CanCome (BytesTaken count) acts = is_open acts ≡ true
 CanCome PortClosed acts = ⊤
 
@@ -166,15 +166,16 @@ all_shared adds log all d = subst AllCame (sym (of_shared d adds log)) (all d)
 told_result : (call : List ℕ) (xid : ℕ) (result : Outcome) → xid_of (call_at call) ≡ Some xid → IsReplyTo call (result_reply xid result)
 told_result call xid result is = (xid, Success, result_fields result, is, refl)
 
-came_replies : (xid : ℕ) (result : Option Outcome) (acts : List ConnAct) (call : List ℕ) → unanswered acts ≡ Some call
+came_replies : (xid : ℕ) (result : Option Outcome) (acts : List ConnAct) (call : List ℕ) → pending_call acts ≡ Some call
     → xid_of (call_at call) ≡ Some xid → AllCame acts → AllCame (replies xid result ++ acts)
 came_replies xid (Some result) acts call busy is all = ((call, busy, told_result call xid result is), all)
 came_replies xid None acts call busy is all = all
 
-all_ended : (c : ℕ) (does : Arguments → CallOutcome) (call : Option CoreCall) (log : List Act) → core_call_in (unanswered (of c log)) ≡ call
+all_ended : (c : ℕ) (does : Arguments → CallOutcome) (call : Option CoreCall) (log : List Act)
+    → core_call_in (pending_call (of c log)) ≡ call
     → Everywhere log → Everywhere (acts_of c (effect_of c does call) ++ log)
 all_ended c does (Some call) log e all =
-    let known = core_known (unanswered (of c log)) call e in
+    let known = core_known (pending_call (of c log)) call e in
     all_effect c (effect_of c does (Some call)) log all
     (came_replies call.xid (does call.arguments).result (of c log) known.0 known.1 known.2 (all c))
 all_ended c does None log e all = all_effect c (effect_of c does None) log all (all c)
@@ -182,19 +183,20 @@ all_ended c does None log e all = all_effect c (effect_of c does None) log all (
 all_step : (config : Config) (log new : List Act) → Everywhere log → IsNext config log new → Everywhere new
 all_step config log new all (inl fires) = subst Everywhere (sym fires.2) (all_shared (map Applied fires.0) log all)
 all_step config log new all (inr (none, inl (c, wait, polled, oldest, for, said, is))) =
-    subst Everywhere (sym is) (all_ended c (λ arguments. continued config polled c arguments (next_wait wait arguments (device_acts log))
-    (device_acts log)) (core_call_in (unanswered (of c log))) log refl all)
+    subst Everywhere (sym is) (all_ended c
+    (λ arguments. resume_outcome config polled c arguments (next_wait wait arguments (device_acts log))
+    (device_acts log)) (core_call_in (pending_call (of c log))) log refl all)
 all_step config log new all (inr (none, inr (still, inl step))) =
     subst Everywhere (sym step.2) (all_shared (map Applied step.0) log all)
 all_step config log new all (inr (none, inr (still, inr (idle, (c, wait, oldest, for, is))))) =
     subst Everywhere (sym is) (all_ended c (λ arguments. leaving c (only (failure arguments (late wait))))
-    (core_call_in (unanswered (of c log))) log refl all)
+    (core_call_in (pending_call (of c log))) log refl all)
 
 -- ---- an event's own acts
 
 all_abort : (aborts : Option ℕ) (log : List Act) → Everywhere log → Everywhere (abort_acts aborts log ++ log)
 all_abort (Some d) log all =
-    all_ended d (λ arguments. leaving d (only (failure arguments Aborted))) (core_call_in (unanswered (of d log))) log refl all
+    all_ended d (λ arguments. leaving d (only (failure arguments Aborted))) (core_call_in (pending_call (of d log))) log refl all
 all_abort None log all = all
 
 port_replied : (call : List ℕ) (xid : ℕ) (port : Result ℕ Garbage) → xid_of (call_at call) ≡ Some xid
@@ -280,7 +282,7 @@ all_event config (Close (Conn c)) polled channel_log log is free all =
     (all_shared adds (On c PortClosed ∷ log) (all_on c PortClosed log all tt))
 all_event config (Close (Intr c)) polled channel_log log is free all = all_shared (Channel (ChannelClosed c) ∷ []) log all
 all_event config (Dialed c ok) polled channel_log log is free all =
-    all_ended c (λ arguments. leaving c (dialed c ok arguments)) (core_call_in (unanswered (of c log))) log refl all
+    all_ended c (λ arguments. leaving c (connect_outcome c ok arguments)) (core_call_in (pending_call (of c log))) log refl all
 all_event config (Input channel microvolts) polled channel_log log is free all =
     all_shared (Applied (Scanned (InputTo channel microvolts)) ∷ []) log all
 all_event config External polled channel_log log is free all =

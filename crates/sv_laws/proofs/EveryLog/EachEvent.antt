@@ -26,15 +26,15 @@ use Rattle.sv_history.specs.declared.event.Role.{Role}
 use Rattle.sv_history.specs.declared.event.Role.TheVariants.{Core}
 use Rattle.sv_history.specs.Event.{PlainEvent, Open, Bytes, Turn, Refuse, Took, Close, Dialed, Input, External, Tick, IsEvent}
 use Rattle.sv_history.specs.Act.{Act, ConnAct, DeviceAct, Opened, Piece, CallTaken, Replied, BytesTaken, PortClosed, Linked, Waited, Channel, Applied, Ticked, On, OnDevice, of, device_acts, link_acts, wait_acts, instrument_acts}
-use Rattle.sv_history.specs.Connection.{next_call, open_role, unanswered}
+use Rattle.sv_history.specs.Connection.{next_call, open_role, pending_call}
 use Rattle.sv_history.specs.CoreCall.{CoreCall, lid_of}
 use Rattle.sv_history.specs.CoreChannel.{own_call}
 use Rattle.sv_history.specs.Effect.{Effect, acts_of, replies, call_effect}
 use Rattle.sv_history.specs.Request.{Request, NoCall, Decided, CoreRequest, AbortRequest, PortRequest, core_call_in, next_request}
 use Rattle.sv_history.proofs.Dialing.{peer_by, dialed_to, dialed_is}
-use Rattle.sv_history.specs.Admission.{Stop, Fails, Awaits, stop_of, admitted}
+use Rattle.sv_history.specs.Admission.{Stop, Fails, Awaits, stop_of, admission}
 use Rattle.sv_history.specs.Execution.{request_effect, aborts}
-use Rattle.sv_history.specs.Resuming.{leaving, next_wait, continued, resumed, failed, connected, late}
+use Rattle.sv_history.specs.Resuming.{leaving, next_wait, resume_outcome, resume_effect, failure_effect, connect_effect, late}
 use Rattle.sv_history.specs.Refusing.{refusable}
 use Rattle.sv_history.specs.Settling.{IsNext, SettlesIn, InstrumentDoes}
 use Rattle.sv_history.specs.History.{abort_acts, taken_acts, turn_acts, refuse_acts, own_acts, refusal, IsLogOf}
@@ -98,10 +98,10 @@ replies_role xid None own = refl
 
 -- it ends with an error, or with what is left to do once a peer was called
 pub fit_failed : (error : ErrorCode) (c : ℕ) (call : Option CoreCall) (log : List Act) → Fit log
-    → Fit (acts_of c (failed error c call) ++ log)
-fit_failed error c (Some call) log fit = fit_free c (failed error c (Some call)) log fit (refl, tt) refl
+    → Fit (acts_of c (failure_effect error c call) ++ log)
+fit_failed error c (Some call) log fit = fit_free c (failure_effect error c (Some call)) log fit (refl, tt) refl
     (left_none c (wait_acts (device_acts log)))
-fit_failed error c None log fit = fit_free c (failed error c None) log fit (refl, tt) refl
+fit_failed error c None log fit = fit_free c (failure_effect error c None) log fit (refl, tt) refl
     (left_none c (wait_acts (device_acts log)))
 
 fit_dialed : (c : ℕ) (ok : Bool) (call : CoreCall) (peer : Option Peer) (log : List Act) → Fit log
@@ -116,9 +116,9 @@ fit_dialed c ok call None log fit =
     fit_free c (call_effect call.xid (leaving c (dialed_to c ok call.arguments None))) log fit (refl, tt) refl
     (left_none c (wait_acts (device_acts log)))
 
-fit_connected : (c : ℕ) (ok : Bool) (call : Option CoreCall) (log : List Act) → Fit log → Fit (acts_of c (connected c ok call) ++ log)
+fit_connected : (c : ℕ) (ok : Bool) (call : Option CoreCall) (log : List Act) → Fit log → Fit (acts_of c (connect_effect c ok call) ++ log)
 fit_connected c ok (Some call) log fit = rw (dialed_is c ok call.arguments) (fit_dialed c ok call (peer_by call.arguments) log fit)
-fit_connected c ok None log fit = fit_free c (connected c ok None) log fit (refl, tt) refl
+fit_connected c ok None log fit = fit_free c (connect_effect c ok None) log fit (refl, tt) refl
     (left_none c (wait_acts (device_acts log)))
 
 -- ---- a call that resumes
@@ -136,12 +136,12 @@ no_next Response arguments acts next is e = cc
 no_next Dial arguments acts next is e = cc
 
 fit_continued : (config : Config) (polled c : ℕ) (wait : Wait) (call : CoreCall) (next : Option (Wait × ℕ)) (log : List Act) → Fit log
-    → waits c (wait_acts (device_acts log)) ≡ Some wait → core_call_in (unanswered (of c log)) ≡ Some call
+    → waits c (wait_acts (device_acts log)) ≡ Some wait → core_call_in (pending_call (of c log)) ≡ Some call
     → next_wait wait call.arguments (device_acts log) ≡ next
-    → Fit (acts_of c (call_effect call.xid (continued config polled c call.arguments next (device_acts log))) ++ log)
+    → Fit (acts_of c (call_effect call.xid (resume_outcome config polled c call.arguments next (device_acts log))) ++ log)
 fit_continued config polled c wait call (Some next) log fit for known e =
     let acts = device_acts log in
-    fit_effect c (call_effect call.xid (continued config polled c call.arguments (Some next) acts)) log fit (refl, tt) refl
+    fit_effect c (call_effect call.xid (resume_outcome config polled c call.arguments (Some next) acts)) log fit (refl, tt) refl
     (λ other is. (
       (fit.held c wait for).0,
       (
@@ -162,10 +162,10 @@ fit_continued config polled c wait call None log fit for known e =
     ∙ ap (waits c) (done_waits c call.arguments what.adds before done) ∙ left_none c (wait_acts (device_acts log)))
 
 fit_resumed : (config : Config) (polled c : ℕ) (wait : Wait) (log : List Act) → Fit log → waits c (wait_acts (device_acts log)) ≡ Some wait
-    → Fit (acts_of c (resumed config polled c wait (core_call_in (unanswered (of c log))) (device_acts log)) ++ log)
+    → Fit (acts_of c (resume_effect config polled c wait (core_call_in (pending_call (of c log))) (device_acts log)) ++ log)
 fit_resumed config polled c wait log fit for =
     let held = fit.held c wait for in
-    subst (λ (call : Option CoreCall). Fit (acts_of c (resumed config polled c wait call (device_acts log)) ++ log)) (sym held.1.1)
+    subst (λ (call : Option CoreCall). Fit (acts_of c (resume_effect config polled c wait call (device_acts log)) ++ log)) (sym held.1.1)
     (fit_continued config polled c wait held.1.0 (next_wait wait held.1.0.arguments (device_acts log)) log fit for held.1.1 refl)
 
 -- ---- what happens to the instrument
@@ -190,12 +190,12 @@ fit_step config log new fit (inr (none, inl (c, wait, polled, oldest, for, said,
     subst Fit (sym is) (fit_resumed config polled c wait log fit for)
 fit_step config log new fit (inr (none, inr (still, inl step))) = fit_does IsStep log new fit step
 fit_step config log new fit (inr (none, inr (still, inr (idle, (c, wait, oldest, for, is))))) =
-    subst Fit (sym is) (fit_failed (late wait) c (core_call_in (unanswered (of c log))) log fit)
+    subst Fit (sym is) (fit_failed (late wait) c (core_call_in (pending_call (of c log))) log fit)
 
 -- ---- an event's own acts
 
 -- no call of a connection waits that has none without an answer
-waits_free : (c : ℕ) (log : List Act) (found : Option Wait) → Fit log → unanswered (of c log) ≡ None
+waits_free : (c : ℕ) (log : List Act) (found : Option Wait) → Fit log → pending_call (of c log) ≡ None
     → waits c (wait_acts (device_acts log)) ≡ found → waits c (wait_acts (device_acts log)) ≡ None
 waits_free c log None fit free is = is
 waits_free c log (Some wait) fit free is =
@@ -217,8 +217,8 @@ entered_waits c named wait last acts = rw (eq-eqb c c refl) (refl, refl)
 fit_admitted : (config : Config) (polled c : ℕ) (bytes : List ℕ) (call : CoreCall) (stop : Option Stop) (log : List Act)
     → let taken = On c (CallTaken bytes) ∷ log in
     Fit taken → c < 16 → waits c (wait_acts (device_acts log)) ≡ None → IsCore c taken
-    → core_call_in (unanswered (of c taken)) ≡ Some call → stop_of c call.arguments (device_acts log) ≡ stop
-    → Fit (acts_of c (call_effect call.xid (admitted config polled c call.arguments stop (device_acts log))) ++ taken)
+    → core_call_in (pending_call (of c taken)) ≡ Some call → stop_of c call.arguments (device_acts log) ≡ stop
+    → Fit (acts_of c (call_effect call.xid (admission config polled c call.arguments stop (device_acts log))) ++ taken)
 fit_admitted config polled c bytes call None log fit lt none core known e =
     let taken = On c (CallTaken bytes) ∷ log in
     let what = own_call config polled c call.arguments (device_acts log) in
@@ -229,11 +229,11 @@ fit_admitted config polled c bytes call None log fit lt none core known e =
     (ap (waits c) (done_waits c call.arguments what.adds (device_acts log) done) ∙ none)
 fit_admitted config polled c bytes call (Some (Fails error)) log fit lt none core known e =
     let taken = On c (CallTaken bytes) ∷ log in
-    fit_free c (call_effect call.xid (admitted config polled c call.arguments (Some (Fails error)) (device_acts log))) taken fit tt refl
+    fit_free c (call_effect call.xid (admission config polled c call.arguments (Some (Fails error)) (device_acts log))) taken fit tt refl
     none
 fit_admitted config polled c bytes call (Some (Awaits wait until)) log fit lt none core known e =
     let taken = On c (CallTaken bytes) ∷ log in
-    fit_effect c (call_effect call.xid (admitted config polled c call.arguments (Some (Awaits wait until)) (device_acts log))) taken fit
+    fit_effect c (call_effect call.xid (admission config polled c call.arguments (Some (Awaits wait until)) (device_acts log))) taken fit
     ((refl, lt, (λ n is. waits_own c call.arguments (device_acts log) wait until n e is)), tt) refl
     (λ other is.
     let now = entered_waits c (lid_of (link call.arguments)) wait _ (wait_acts (device_acts log)) in
@@ -262,7 +262,7 @@ fit_request config polled c bytes request log fit lt next asks =
         let known = core_taken (of c log) bytes call next asks in
         let own = of_mine c (CallTaken bytes) log in
         fit_admitted config polled c bytes call (stop_of c call.arguments (device_acts log)) log taken lt none
-        (ap open_role own ∙ known.0) (ap (λ (l : List ConnAct). core_call_in (unanswered l)) own ∙ known.1) refl
+        (ap open_role own ∙ known.0) (ap (λ (l : List ConnAct). core_call_in (pending_call l)) own ∙ known.1) refl
     by NoCall taken none asks = fit_free c (request_effect config polled c NoCall (device_acts log)) (On c (CallTaken bytes) ∷ log)
         taken tt refl none
     by (Decided xid reply) taken none asks =
@@ -276,7 +276,7 @@ fit_request config polled c bytes request log fit lt next asks =
         none
 
 fit_abort : (aborts : Option ℕ) (log : List Act) → Fit log → Fit (abort_acts aborts log ++ log)
-fit_abort (Some d) log fit = fit_failed Abort d (core_call_in (unanswered (of d log))) log fit
+fit_abort (Some d) log fit = fit_failed Abort d (core_call_in (pending_call (of d log))) log fit
 fit_abort None log fit = fit
 
 -- the acts of a Turn in their order
@@ -397,7 +397,7 @@ fit_event config (Close (Conn c)) polled channel_log log free fit =
     subst Fit (sym (append_assoc (map OnDevice (close_adds c (device_acts log))) (On c PortClosed ∷ []) log)) (fit_close c log fit)
 fit_event config (Close (Intr c)) polled channel_log log free fit =
     fit_shared (Channel (ChannelClosed c) ∷ []) log fit (tt, fit.suits) refl refl
-fit_event config (Dialed c ok) polled channel_log log free fit = fit_connected c ok (core_call_in (unanswered (of c log))) log fit
+fit_event config (Dialed c ok) polled channel_log log free fit = fit_connected c ok (core_call_in (pending_call (of c log))) log fit
 fit_event config (Input channel microvolts) polled channel_log log free fit = fit_happened (_ ∷ []) log fit
 fit_event config External polled channel_log log free fit = fit_happened (external_acts (instrument_acts (device_acts log))) log fit
 fit_event config Tick polled channel_log log free fit =

@@ -6,14 +6,14 @@ use Rattle.sv_logs.proofs.Each.{Each}
 use Rattle.sv_vxi.specs.Arguments.{is_create_link}
 use Rattle.sv_links.specs.declared.waiting.Wait.{Wait}
 use Rattle.sv_links.specs.declared.waiting.Wait.TheVariants.{Lock}
-use Rattle.sv_links.specs.Links.{Made, Destroyed, Locked, Unlocked, made, owner}
+use Rattle.sv_links.specs.Links.{Made, Destroyed, Locked, Unlocked, links_made, owner}
 use Rattle.sv_links.specs.Waiting.{WaitAct, Entered, Again, Left, waits, link}
 use Rattle.sv_links.specs.Channels.{SrqEnabled}
 use Rattle.sv_laws.proofs.LinksAlike.{owner_before, owner_of_made}
 use Rattle.sv_laws.proofs.CallsAlike.{SameCall, conn_of, call_foreign}
 use Rattle.sv_history.specs.declared.event.Role.TheVariants.{Core}
 use Rattle.sv_history.specs.Act.{Act, ConnAct, DeviceAct, Linked, Waited, Channel, Applied, Ticked, On, OnDevice, of, device_acts, link_acts, wait_acts}
-use Rattle.sv_history.specs.Connection.{open_role, unanswered}
+use Rattle.sv_history.specs.Connection.{open_role, pending_call}
 use Rattle.sv_history.specs.CoreCall.{CoreCall}
 use Rattle.sv_history.specs.Request.{core_call_in}
 use Rattle.sv_history.specs.Effect.{Effect, acts_of}
@@ -22,7 +22,7 @@ use Rattle.sv_history.proofs.Projections.{of_mine, of_other, of_shared, device_s
 -- An act suits those before it: a link that is made has the next number; a call that begins to wait is of one of sixteen connections, and
 -- the link that it names is that connection's; so is a link that begins to ask for service requests.
 abbrev pub Suits : List DeviceAct → DeviceAct → Type 0
-Suits acts (Linked (Made lid conn)) = lid ≡ made (link_acts acts) + 1
+Suits acts (Linked (Made lid conn)) = lid ≡ links_made (link_acts acts) + 1
 Suits acts (Waited (Entered conn named wait last)) = (conn < 16) × ((n : ℕ) → named ≡ Some n → owner n (link_acts acts) ≡ Some conn)
 Suits acts (Channel (SrqEnabled lid conn handle)) = owner lid (link_acts acts) ≡ Some conn
 Suits acts _ = ⊤
@@ -35,7 +35,7 @@ AllSuit (act ∷ acts) = Suits acts act × AllSuit acts
 -- it
 -- waits for the lock, and names no link.
 abbrev pub IsCall : Wait → Option ℕ → List ConnAct → Type 0
-IsCall wait named acts = (call : CoreCall) × (core_call_in (unanswered acts) ≡ Some call)
+IsCall wait named acts = (call : CoreCall) × (core_call_in (pending_call acts) ≡ Some call)
     × (is_create_link call.arguments ≡ true → (wait ≡ Lock) × (named ≡ None))
 
 abbrev pub IsHeld : ℕ → List ConnAct → List WaitAct → Type 0
@@ -58,7 +58,7 @@ held_none c own acts none = λ wait is. absurd (let z : None ≡ Some wait = sym
 
 -- An act that suits, of this connection where it makes a link, for which this has to hold, or where a call of its begins or ends to wait.
 abbrev pub IsBy : ℕ → Type 0 → List DeviceAct → DeviceAct → Type 0
-IsBy c May acts (Linked (Made lid conn)) = (lid ≡ made (link_acts acts) + 1) × (conn ≡ c) × May
+IsBy c May acts (Linked (Made lid conn)) = (lid ≡ links_made (link_acts acts) + 1) × (conn ≡ c) × May
 IsBy c May acts (Waited (Entered conn named wait last)) =
     (conn ≡ c) × (conn < 16) × ((n : ℕ) → named ≡ Some n → owner n (link_acts acts) ≡ Some conn)
 IsBy c May acts (Waited act) = conn_of act ≡ c
@@ -124,7 +124,7 @@ held_same c own now acts after same call held = λ wait is.
       ap open_role same ∙ was.0,
       (
         was.1.0,
-        ap (λ (l : List ConnAct). core_call_in (unanswered l)) same ∙ was.1.1,
+        ap (λ (l : List ConnAct). core_call_in (pending_call l)) same ∙ was.1.1,
         (λ makes. ((was.1.2 makes).0, call.named ∙ (was.1.2 makes).1)),
       ),
     )

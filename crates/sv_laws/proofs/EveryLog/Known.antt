@@ -6,7 +6,7 @@ use Rattle.sv_links.specs.declared.links.Link.{Link}
 use Rattle.sv_links.specs.declared.enabled.Enabled.{Enabled}
 use Rattle.sv_links.specs.declared.waiting.Wait.{Wait}
 use Rattle.sv_links.specs.declared.waiting.Wait.TheVariants.{Lock, Input as ForInput, Response, Dial}
-use Rattle.sv_links.specs.Links.{LinkAct, Made, Destroyed, Locked, Unlocked, made, live, owner, is_of, holder}
+use Rattle.sv_links.specs.Links.{LinkAct, Made, Destroyed, Locked, Unlocked, links_made, live, owner, is_of, holder}
 use Rattle.sv_links.specs.Table.{IsRising}
 use Rattle.sv_links.specs.Waiting.{Entered, Again, Left, waits, link, is_there}
 use Rattle.sv_links.specs.Channels.{ChannelAct, SrqEnabled, SrqDisabled, ChannelOpened, ChannelClosed, Requested, ChannelTaken, srq_enabled}
@@ -24,12 +24,12 @@ some_number a b e = cc
 
 -- ---- numbers of links rise
 
-pub rises : (acts : List DeviceAct) → AllSuit acts → IsRising (live (link_acts acts)) (made (link_acts acts))
+pub rises : (acts : List DeviceAct) → AllSuit acts → IsRising (live (link_acts acts)) (links_made (link_acts acts))
 rises [] all = tt
 rises (Linked (Made lid conn) ∷ acts) all =
-    rw all.0 (rising-push (live (link_acts acts)) (made (link_acts acts)) conn (rises acts all.1))
+    rw all.0 (rising-push (live (link_acts acts)) (links_made (link_acts acts)) conn (rises acts all.1))
 rises (Linked (Destroyed lid) ∷ acts) all =
-    rising-filter (other_than lid) (live (link_acts acts)) (made (link_acts acts)) (rises acts all.1)
+    rising-filter (other_than lid) (live (link_acts acts)) (links_made (link_acts acts)) (rises acts all.1)
 rises (Linked (Locked lid) ∷ acts) all = rises acts all.1
 rises (Linked (Unlocked lid) ∷ acts) all = rises acts all.1
 rises (Waited act ∷ acts) all = rises acts all.1
@@ -47,16 +47,16 @@ rising_owner n c last (x ∷ xs) rising h = elim (cases_Bool (eqb x.lid n)) [
 ]
 
 -- a live link's number is at most as high as links were made
-pub owner_within : (n c : ℕ) (acts : List DeviceAct) → AllSuit acts → owner n (link_acts acts) ≡ Some c → n ≤ made (link_acts acts)
-owner_within n c acts all h = rising_owner n c (made (link_acts acts)) (live (link_acts acts)) (rises acts all) h
+pub owner_within : (n c : ℕ) (acts : List DeviceAct) → AllSuit acts → owner n (link_acts acts) ≡ Some c → n ≤ links_made (link_acts acts)
+owner_within n c acts all h = rising_owner n c (links_made (link_acts acts)) (live (link_acts acts)) (rises acts all) h
 
 -- ---- the link that a waiting call names
 
 -- It is none to come, and if it lives it is this connection's.
 abbrev pub IsNamed : ℕ → ℕ → List LinkAct → Type 0
-IsNamed d n acts = (n ≤ made acts) × ((e : ℕ) → owner n acts ≡ Some e → e ≡ d)
+IsNamed d n acts = (n ≤ links_made acts) × ((e : ℕ) → owner n acts ≡ Some e → e ≡ d)
 
-named_made : (d n lid conn : ℕ) (acts : List LinkAct) → lid ≡ made acts + 1 → IsNamed d n acts → IsNamed d n (Made lid conn ∷ acts)
+named_made : (d n lid conn : ℕ) (acts : List LinkAct) → lid ≡ links_made acts + 1 → IsNamed d n acts → IsNamed d n (Made lid conn ∷ acts)
 named_made d n lid conn acts next h =
     let le = h.0 in
     let ne : lid ≢ n = λ e. absurd (omega (arith, e, next, le)) in

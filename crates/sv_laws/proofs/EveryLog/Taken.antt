@@ -15,7 +15,7 @@ use Rattle.sv_history.specs.declared.event.Role.TheVariants.{Core, Abort, Portma
 use Rattle.sv_history.specs.declared.event.Refused.{Refused}
 use Rattle.sv_history.specs.declared.event.Refused.TheVariants.{NoConn}
 use Rattle.sv_history.specs.Act.{Act, ConnAct}
-use Rattle.sv_history.specs.Connection.{next_call, open_role, unanswered, took_no_call, stream, completed}
+use Rattle.sv_history.specs.Connection.{next_call, open_role, pending_call, took_no_call, stream, records_ended}
 use Rattle.sv_history.specs.CoreCall.{CoreCall}
 use Rattle.sv_history.specs.Request.{Request, CoreRequest, AbortRequest, core_request, abort_request, request_of, core_call_of, core_call, request_for, next_request}
 use Rattle.sv_history.proofs.Deciding.{unless_decided, header_reply, request_is}
@@ -28,9 +28,9 @@ free_by t None rest bytes e = refl
 free_by true (Some call) rest bytes e = absurd cc
 free_by false (Some call) rest bytes e = absurd cc
 
-pub free_call : (acts : List ConnAct) (bytes : List ℕ) → next_call acts ≡ Some bytes → unanswered acts ≡ None
+pub free_call : (acts : List ConnAct) (bytes : List ℕ) → next_call acts ≡ Some bytes → pending_call acts ≡ None
 free_call acts bytes e =
-    free_by (took_no_call acts) (unanswered acts) (slice_get (records_of (stream acts)) (completed acts)) bytes e
+    free_by (took_no_call acts) (pending_call acts) (slice_get (records_of (stream acts)) (records_ended acts)) bytes e
 
 -- ---- a call of the core channel is taken on a core channel, and is what its bytes are
 

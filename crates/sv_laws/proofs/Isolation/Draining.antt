@@ -13,12 +13,12 @@ use Rattle.sv_instrument.specs.Stimulus.{IsFired}
 use Rattle.sv_instrument.specs.Step.{IsStep}
 use Rattle.sv_history.specs.declared.event.Config.{Config}
 use Rattle.sv_history.specs.Act.{Act, DeviceAct, Waited, Applied, OnDevice, of, device_acts, wait_acts, instrument_acts, ticks}
-use Rattle.sv_history.specs.Connection.{unanswered}
+use Rattle.sv_history.specs.Connection.{pending_call}
 use Rattle.sv_history.specs.CoreCall.{CoreCall}
 use Rattle.sv_history.specs.Request.{core_call_in}
 use Rattle.sv_history.specs.Effect.{acts_of}
 use Rattle.sv_history.specs.PolledStatus.{IsPolled}
-use Rattle.sv_history.specs.Resuming.{resumed, failed, late}
+use Rattle.sv_history.specs.Resuming.{resume_effect, failure_effect, late}
 use Rattle.sv_history.specs.Settling.{InstrumentDoes, CanResume, Resumes, IsNext}
 use Rattle.sv_history.proofs.Projections.{device_effect}
 use Rattle.sv_laws.proofs.EveryLog.Fit.{Fit}
@@ -74,7 +74,7 @@ resumes_as : (config : Config) (c : ℕ) (log other new : List Act) → ((d : �
     → Resumes config log new → (there : List Act) × Resumes config other there
 resumes_as config c log other new none also able wait instrument (d, for, polled, oldest, waits_for, said, is) = elim (cases_eq d c) [
   | inl e ↦ (
-    acts_of c (resumed config polled c for (core_call_in (unanswered (of c other))) (device_acts other)) ++ other,
+    acts_of c (resume_effect config polled c for (core_call_in (pending_call (of c other))) (device_acts other)) ++ other,
     (
       c,
       for,
@@ -134,15 +134,15 @@ pub record Drained (config : Config) (c lid : ℕ) (log other : List Act) : Type
   pub is_own : (found ≡ None) ⊎ (found ≡ Some c)
 
 abbrev gave : ErrorCode → ℕ → List Act → List Act
-gave error d log = acts_of d (failed error d (core_call_in (unanswered (of d log)))) ++ log
+gave error d log = acts_of d (failure_effect error d (core_call_in (pending_call (of d log)))) ++ log
 
 failed_device : (error : ErrorCode) (d : ℕ) (call : Option CoreCall) (log : List Act)
-    → device_acts (acts_of d (failed error d call) ++ log) ≡ Waited (Left d) ∷ device_acts log
-failed_device error d (Some call) log = device_effect d (failed error d (Some call)) log
-failed_device error d None log = device_effect d (failed error d None) log
+    → device_acts (acts_of d (failure_effect error d call) ++ log) ≡ Waited (Left d) ∷ device_acts log
+failed_device error d (Some call) log = device_effect d (failure_effect error d (Some call)) log
+failed_device error d None log = device_effect d (failure_effect error d None) log
 
 leaving_failed : (c d : ℕ) (error : ErrorCode) (call : Option CoreCall) (log : List Act) → d ≢ c
-    → Each (IsLeaving c) (acts_of d (failed error d call)) log
+    → Each (IsLeaving c) (acts_of d (failure_effect error d call)) log
 leaving_failed c d error (Some call) log ne = (ne, (ne, tt))
 leaving_failed c d error None log ne = (ne, tt)
 
@@ -155,14 +155,14 @@ fewer_wait : (d : ℕ) (log : List Act) (wait : Wait) (error : ErrorCode) → Fi
     → count (wait_acts (device_acts (gave error d log))) 16 < count (wait_acts (device_acts log)) 16
 fewer_wait d log wait error fit for lt =
     subst (λ (acts : List DeviceAct). count (wait_acts acts) 16 < count (wait_acts (device_acts log)) 16)
-    (sym (failed_device error d (core_call_in (unanswered (of d log))) log))
+    (sym (failed_device error d (core_call_in (pending_call (of d log))) log))
     (left_fewer d 16 (wait_acts (device_acts log)) wait lt for)
 
 -- it is given up here
 gives_pair : (c lid d : ℕ) (log other : List Act) (error : ErrorCode) → d ≢ c → Pair c lid log other → Pair c lid log (gave error d other)
 gives_pair c lid d log other error ne pair =
-    pair_left c lid (acts_of d (failed error d (core_call_in (unanswered (of d other))))) log other
-    (leaving_failed c d error (core_call_in (unanswered (of d other))) other ne) pair
+    pair_left c lid (acts_of d (failure_effect error d (core_call_in (pending_call (of d other))))) log other
+    (leaving_failed c d error (core_call_in (pending_call (of d other))) other ne) pair
 
 -- nothing more is
 here : (config : Config) (c lid : ℕ) (log other : List Act) (found : Option ℕ) → Fit other → Pair c lid log other → IsDue config other found

@@ -14,7 +14,7 @@ use Rattle.sv_history.specs.declared.event.Config.{Config}
 use Rattle.sv_history.specs.declared.event.Port.TheVariants.{Conn, Intr}
 use Rattle.sv_history.specs.Event.{PlainEvent, Open, Bytes, Turn, Refuse, Took, Close, Dialed, Input, External, Tick}
 use Rattle.sv_history.specs.Act.{Act, ConnAct, DeviceAct, CallTaken, PortClosed, Linked, Waited, On, OnDevice, of, device_acts, link_acts, wait_acts}
-use Rattle.sv_history.specs.Connection.{next_call, unanswered}
+use Rattle.sv_history.specs.Connection.{next_call, pending_call}
 use Rattle.sv_history.specs.CoreCall.{CoreCall, lid_of}
 use Rattle.sv_history.specs.Effect.{Effect, acts_of, call_effect}
 use Rattle.sv_history.specs.Request.{Request, NoCall, Decided, CoreRequest, AbortRequest, PortRequest, core_call_in, next_request}
@@ -22,7 +22,7 @@ use Rattle.sv_history.proofs.Dialing.{peer_by, dialed_to, dialed_is}
 use Rattle.sv_history.specs.AbortChannel.{owner_of, if_waiting}
 use Rattle.sv_history.specs.Execution.{request_effect, aborts}
 use Rattle.sv_history.specs.Refusing.{refusable}
-use Rattle.sv_history.specs.Resuming.{leaving, failed, connected}
+use Rattle.sv_history.specs.Resuming.{leaving, failure_effect, connect_effect}
 use Rattle.sv_history.specs.History.{abort_acts, turn_acts, refuse_acts, own_acts}
 use Rattle.sv_laws.specs.Isolation.{is_foreign, aborted_link, LeavesLinksAlone}
 use Rattle.sv_history.proofs.Projections.{device_shared, link_acts-links}
@@ -50,9 +50,9 @@ foreign_effect c d effect log ne h = each_join (IsForeignAct c) (map (On d) effe
     (foreign_own c d effect.own (map OnDevice effect.adds ++ log) ne) (foreign_shared c effect.adds log h)
 
 pub foreign_failed : (c d : ℕ) (error : ErrorCode) (call : Option CoreCall) (log : List Act) → d ≢ c
-    → Each (IsForeignAct c) (acts_of d (failed error d call)) log
-foreign_failed c d error (Some call) log ne = foreign_effect c d (failed error d (Some call)) log ne (ne, tt)
-foreign_failed c d error None log ne = foreign_effect c d (failed error d None) log ne (ne, tt)
+    → Each (IsForeignAct c) (acts_of d (failure_effect error d call)) log
+foreign_failed c d error (Some call) log ne = foreign_effect c d (failure_effect error d (Some call)) log ne (ne, tt)
+foreign_failed c d error None log ne = foreign_effect c d (failure_effect error d None) log ne (ne, tt)
 
 foreign_dialed : (c d : ℕ) (ok : Bool) (call : CoreCall) (peer : Option Peer) (log : List Act) → d ≢ c
     → Each (IsForeignAct c) (acts_of d (call_effect call.xid (leaving d (dialed_to d ok call.arguments peer)))) log
@@ -64,10 +64,10 @@ foreign_dialed c d ok call None log ne =
     foreign_effect c d (call_effect call.xid (leaving d (dialed_to d ok call.arguments None))) log ne (ne, tt)
 
 foreign_connected : (c d : ℕ) (ok : Bool) (call : Option CoreCall) (log : List Act) → d ≢ c
-    → Each (IsForeignAct c) (acts_of d (connected d ok call)) log
+    → Each (IsForeignAct c) (acts_of d (connect_effect d ok call)) log
 foreign_connected c d ok (Some call) log ne =
     rw (dialed_is d ok call.arguments) (foreign_dialed c d ok call (peer_by call.arguments) log ne)
-foreign_connected c d ok None log ne = foreign_effect c d (connected d ok None) log ne (ne, tt)
+foreign_connected c d ok None log ne = foreign_effect c d (connect_effect d ok None) log ne (ne, tt)
 
 -- ---- a Turn
 
@@ -89,7 +89,7 @@ aborts_owner (PortRequest xid args) acts e h = absurd cc
 
 foreign_abort : (c : ℕ) (found : Option ℕ) (log : List Act) → found ≢ Some c → Each (IsForeignAct c) (abort_acts found log) log
 foreign_abort c (Some e) log ne =
-    foreign_failed c e Abort (core_call_in (unanswered (of e log))) log (λ same. ne (ap (λ (n : ℕ). Some n) same))
+    foreign_failed c e Abort (core_call_in (pending_call (of e log))) log (λ same. ne (ap (λ (n : ℕ). Some n) same))
 foreign_abort c None log ne = tt
 
 foreign_request : (config : Config) (polled c d lid : ℕ) (request : Request) (acts : List DeviceAct)
@@ -167,7 +167,7 @@ foreign_event config polled c lid (Took (Intr d) count) log fit held mine other 
 foreign_event config polled c lid (Close (Conn d)) log fit held mine other left_alone = foreign_close c d log fit (other_number d c other)
 foreign_event config polled c lid (Close (Intr d)) log fit held mine other left_alone = (other_number d c other, tt)
 foreign_event config polled c lid (Dialed d ok) log fit held mine other left_alone =
-    foreign_connected c d ok (core_call_in (unanswered (of d log))) log (other_number d c other)
+    foreign_connected c d ok (core_call_in (pending_call (of d log))) log (other_number d c other)
 foreign_event config polled c lid (Input channel microvolts) log fit held mine other left_alone = absurd cc
 foreign_event config polled c lid External log fit held mine other left_alone = absurd cc
 foreign_event config polled c lid Tick log fit held mine other left_alone = absurd cc

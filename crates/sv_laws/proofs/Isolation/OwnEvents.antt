@@ -19,15 +19,15 @@ use Rattle.sv_history.specs.declared.event.Port.TheVariants.{Conn, Intr}
 use Rattle.sv_history.specs.declared.event.Role.TheVariants.{Core}
 use Rattle.sv_history.specs.Event.{PlainEvent, Open, Bytes, Turn, Refuse, Took, Close, Dialed, Input, External, Tick}
 use Rattle.sv_history.specs.Act.{Act, ConnAct, DeviceAct, CallTaken, PortClosed, Waited, Applied, Ticked, On, OnDevice, of, device_acts, link_acts, instrument_acts}
-use Rattle.sv_history.specs.Connection.{next_call, open_role, unanswered}
+use Rattle.sv_history.specs.Connection.{next_call, open_role, pending_call}
 use Rattle.sv_history.specs.CallOutcome.{CallOutcome}
 use Rattle.sv_history.specs.CoreCall.{CoreCall}
 use Rattle.sv_history.specs.Effect.{Effect, acts_of, call_effect}
 use Rattle.sv_history.specs.Request.{Request, NoCall, Decided, CoreRequest, AbortRequest, PortRequest, core_call_in, next_request}
 use Rattle.sv_history.proofs.Dialing.{peer_by, dialed_to, dialed_is}
-use Rattle.sv_history.specs.Admission.{Stop, Fails, Awaits, stop_of, admitted}
+use Rattle.sv_history.specs.Admission.{Stop, Fails, Awaits, stop_of, admission}
 use Rattle.sv_history.specs.Refusing.{refusable}
-use Rattle.sv_history.specs.Resuming.{leaving, failed, connected}
+use Rattle.sv_history.specs.Resuming.{leaving, failure_effect, connect_effect}
 use Rattle.sv_history.specs.History.{turn_acts, refuse_acts, own_acts, refusal, taken_acts}
 use Rattle.sv_laws.specs.Isolation.{is_foreign, makes_link, LeavesLinksAlone}
 use Rattle.sv_history.proofs.Projections.{link_acts-links}
@@ -98,9 +98,9 @@ own_effect c effect acts log h = each_join (IsOwnAct c) (map (On c) effect.own) 
     (own_conn c effect.own (map OnDevice effect.adds ++ log)) (own_shared c effect.adds acts log h)
 
 pub own_failed : (c : ℕ) (error : ErrorCode) (call : Option CoreCall) (log : List Act)
-    → Each (IsOwnAct c) (acts_of c (failed error c call)) log
-own_failed c error (Some call) log = own_effect c (failed error c (Some call)) [] log (refl, tt)
-own_failed c error None log = own_effect c (failed error c None) [] log (refl, tt)
+    → Each (IsOwnAct c) (acts_of c (failure_effect error c call)) log
+own_failed c error (Some call) log = own_effect c (failure_effect error c (Some call)) [] log (refl, tt)
+own_failed c error None log = own_effect c (failure_effect error c None) [] log (refl, tt)
 
 own_dialed : (c : ℕ) (ok : Bool) (call : CoreCall) (peer : Option Peer) (log : List Act)
     → Each (IsOwnAct c) (acts_of c (call_effect call.xid (leaving c (dialed_to c ok call.arguments peer)))) log
@@ -111,9 +111,9 @@ own_dialed c false call (Some peer) log =
 own_dialed c ok call None log =
     own_effect c (call_effect call.xid (leaving c (dialed_to c ok call.arguments None))) [] log (refl, tt)
 
-own_connected : (c : ℕ) (ok : Bool) (call : Option CoreCall) (log : List Act) → Each (IsOwnAct c) (acts_of c (connected c ok call)) log
+own_connected : (c : ℕ) (ok : Bool) (call : Option CoreCall) (log : List Act) → Each (IsOwnAct c) (acts_of c (connect_effect c ok call)) log
 own_connected c ok (Some call) log = rw (dialed_is c ok call.arguments) (own_dialed c ok call (peer_by call.arguments) log)
-own_connected c ok None log = own_effect c (connected c ok None) [] log (refl, tt)
+own_connected c ok None log = own_effect c (connect_effect c ok None) [] log (refl, tt)
 
 pub own_happened : (c : ℕ) (adds : List InstrumentAct) (log : List Act) → Each (IsOwnAct c) (map OnDevice (map Applied adds)) log
 own_happened c [] log = tt
@@ -126,7 +126,7 @@ OwnActs config polled c log other event = (own_acts config polled event log ≡ 
     × Each (IsOwnAct c) (own_acts config polled event log) log
 
 own_admitted : (config : Config) (polled c : ℕ) (arguments : Arguments) (stop : Option Stop) (acts : List DeviceAct)
-    → is_create_link arguments ≡ false → Each (λ before act. IsOwn c act) (admitted config polled c arguments stop acts).adds acts
+    → is_create_link arguments ≡ false → Each (λ before act. IsOwn c act) (admission config polled c arguments stop acts).adds acts
 own_admitted config polled c arguments None acts makes =
     done_own c arguments _ acts makes (each_done config polled c arguments acts)
 own_admitted config polled c arguments (Some (Fails error)) acts makes = tt
@@ -142,7 +142,7 @@ own_turn_by : (config : Config) (polled c lid : ℕ) (found : Option (List ℕ))
     → OwnTurn config polled c found request log other
 own_turn_by config polled c lid (Some bytes) (Some (CoreRequest call)) log other pair makes aborts =
     let stop = stop_of c call.arguments (device_acts log) in
-    let what = admitted config polled c call.arguments stop (device_acts log) in
+    let what = admission config polled c call.arguments stop (device_acts log) in
     let same = admitted_same config polled c lid call.arguments (device_acts log) (device_acts other) makes pair.view in (
       ap (λ (outcome : CallOutcome). taken_acts c bytes (call_effect call.xid outcome) None log) same,
       each_join (IsOwnAct c) (acts_of c (call_effect call.xid what)) (On c (CallTaken bytes) ∷ []) log
@@ -210,8 +210,8 @@ own_event config polled c lid log other (Close (Conn d)) fit pair own left_alone
 own_event config polled c lid log other (Close (Intr d)) fit pair own left_alone locks = (refl, (tt, tt))
 own_event config polled c lid log other (Dialed d ok) fit pair own left_alone locks =
     subst (λ (n : ℕ). OwnActs config polled c log other (Dialed n ok)) (sym (own_number d c own)) (
-      ap (λ (l : List ConnAct). acts_of c (connected c ok (core_call_in (unanswered l)))) pair.own,
-      own_connected c ok (core_call_in (unanswered (of c log))) log,
+      ap (λ (l : List ConnAct). acts_of c (connect_effect c ok (core_call_in (pending_call l)))) pair.own,
+      own_connected c ok (core_call_in (pending_call (of c log))) log,
     )
 own_event config polled c lid log other (Input channel microvolts) fit pair own left_alone locks = (refl, (tt, tt))
 own_event config polled c lid log other External fit pair own left_alone locks = (

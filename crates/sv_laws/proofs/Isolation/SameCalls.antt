@@ -13,8 +13,8 @@ use Rattle.sv_history.specs.Act.{DeviceAct, Linked, Waited, Channel, Applied, Ti
 use Rattle.sv_history.specs.CallOutcome.{CallOutcome}
 use Rattle.sv_history.specs.CoreCall.{CoreCall, lid_of}
 use Rattle.sv_history.specs.CoreChannel.{owns, link_call, own_call}
-use Rattle.sv_history.specs.Admission.{Stop, Fails, Awaits, device_wait, stop_of, admitted}
-use Rattle.sv_history.specs.Resuming.{next_wait, continued, resumed}
+use Rattle.sv_history.specs.Admission.{Stop, Fails, Awaits, device_wait, stop_of, admission}
+use Rattle.sv_history.specs.Resuming.{next_wait, resume_outcome, resume_effect}
 use Rattle.sv_history.specs.Effect.{call_effect}
 use Rattle.sv_laws.proofs.Isolation.Alike.{View, IsOwn, view_same}
 use Rattle.sv_laws.proofs.EveryLog.Done.{IsDone}
@@ -66,19 +66,19 @@ done_same config polled c lid (CreateIntrChan host_addr host_port prog_num prog_
 
 admitted_by : (config : Config) (polled c lid : ℕ) (arguments : Arguments) (stop : Option Stop) (acts other : List DeviceAct)
     → is_create_link arguments ≡ false → View c lid acts other
-    → admitted config polled c arguments stop acts ≡ admitted config polled c arguments stop other
+    → admission config polled c arguments stop acts ≡ admission config polled c arguments stop other
 admitted_by config polled c lid arguments None acts other makes view = done_same config polled c lid arguments acts other makes view
 admitted_by config polled c lid arguments (Some (Fails error)) acts other makes view = refl
 admitted_by config polled c lid arguments (Some (Awaits wait timeout)) acts other makes view = rw view.clock refl
 
 abbrev pub start_of : Config → ℕ → ℕ → Arguments → List DeviceAct → CallOutcome
-start_of config polled c arguments acts = admitted config polled c arguments (stop_of c arguments acts) acts
+start_of config polled c arguments acts = admission config polled c arguments (stop_of c arguments acts) acts
 
 pub admitted_same : (config : Config) (polled c lid : ℕ) (arguments : Arguments) (acts other : List DeviceAct)
     → is_create_link arguments ≡ false → View c lid acts other
     → start_of config polled c arguments acts ≡ start_of config polled c arguments other
 admitted_same config polled c lid arguments acts other makes view =
-    ap (λ (stop : Option Stop). admitted config polled c arguments stop acts) (stop_same c lid arguments acts other makes view)
+    ap (λ (stop : Option Stop). admission config polled c arguments stop acts) (stop_same c lid arguments acts other makes view)
     ∙ admitted_by config polled c lid arguments (stop_of c arguments other) acts other makes view
 
 -- ---- where it resumes
@@ -93,7 +93,7 @@ next_same c lid Dial arguments acts other view = refl
 
 continued_by : (config : Config) (polled c lid : ℕ) (arguments : Arguments) (next : Option (Wait × ℕ)) (acts other : List DeviceAct)
     → is_create_link arguments ≡ false → View c lid acts other
-    → continued config polled c arguments next acts ≡ continued config polled c arguments next other
+    → resume_outcome config polled c arguments next acts ≡ resume_outcome config polled c arguments next other
 continued_by config polled c lid arguments (Some wait) acts other makes view = rw view.clock refl
 continued_by config polled c lid arguments None acts other makes view =
     let behind = view_same c lid (Waited (Left c)) acts other refl view.held view in
@@ -102,9 +102,9 @@ continued_by config polled c lid arguments None acts other makes view =
 
 pub resumed_same : (config : Config) (polled c lid : ℕ) (wait : Wait) (call : CoreCall) (acts other : List DeviceAct)
     → is_create_link call.arguments ≡ false → View c lid acts other
-    → resumed config polled c wait (Some call) acts ≡ resumed config polled c wait (Some call) other
+    → resume_effect config polled c wait (Some call) acts ≡ resume_effect config polled c wait (Some call) other
 resumed_same config polled c lid wait call acts other makes view = ap (call_effect call.xid)
-    (ap (λ (next : Option (Wait × ℕ)). continued config polled c call.arguments next acts)
+    (ap (λ (next : Option (Wait × ℕ)). resume_outcome config polled c call.arguments next acts)
     (next_same c lid wait call.arguments acts other view)
     ∙ continued_by config polled c lid call.arguments (next_wait wait call.arguments other) acts other makes view)
 

@@ -13,13 +13,13 @@ use Rattle.sv_instrument.specs.Stimulus.{IsFired}
 use Rattle.sv_instrument.specs.Step.{IsStep}
 use Rattle.sv_history.specs.declared.event.Config.{Config}
 use Rattle.sv_history.specs.Act.{Act, ConnAct, DeviceAct, Waited, Applied, OnDevice, of, device_acts, link_acts, wait_acts, ticks}
-use Rattle.sv_history.specs.Connection.{unanswered}
+use Rattle.sv_history.specs.Connection.{pending_call}
 use Rattle.sv_history.specs.CoreCall.{CoreCall}
 use Rattle.sv_history.specs.CoreChannel.{own_call}
 use Rattle.sv_history.specs.Request.{core_call_in}
 use Rattle.sv_history.specs.PolledStatus.{IsPolled}
 use Rattle.sv_history.specs.Effect.{Effect, acts_of, call_effect}
-use Rattle.sv_history.specs.Resuming.{next_wait, continued, resumed, failed, late}
+use Rattle.sv_history.specs.Resuming.{next_wait, resume_outcome, resume_effect, failure_effect, late}
 use Rattle.sv_history.specs.Settling.{InstrumentDoes, CanResume, Resumes, IsNext, IsSettled, SettlesIn}
 use Rattle.sv_laws.proofs.EveryLog.Fit.{Fit}
 use Rattle.sv_laws.proofs.EveryLog.Done.{each_done}
@@ -76,13 +76,13 @@ makes_none c lid log wait call true held for makes able is =
 
 own_continued : (config : Config) (polled c : ℕ) (call : CoreCall) (next : Option (Wait × ℕ)) (acts : List DeviceAct) (log : List Act)
     → is_create_link call.arguments ≡ false
-    → Each (IsOwnAct c) (acts_of c (call_effect call.xid (continued config polled c call.arguments next acts))) log
+    → Each (IsOwnAct c) (acts_of c (call_effect call.xid (resume_outcome config polled c call.arguments next acts))) log
 own_continued config polled c call (Some wait) acts log makes =
-    own_effect c (call_effect call.xid (continued config polled c call.arguments (Some wait) acts)) acts log (refl, tt)
+    own_effect c (call_effect call.xid (resume_outcome config polled c call.arguments (Some wait) acts)) acts log (refl, tt)
 own_continued config polled c call None acts log makes =
     let before = Waited (Left c) ∷ acts in
     let what = own_call config polled c call.arguments before in
-    own_effect c (call_effect call.xid (continued config polled c call.arguments None acts)) acts log
+    own_effect c (call_effect call.xid (resume_outcome config polled c call.arguments None acts)) acts log
     (each_join (λ before act. IsOwn c act) what.adds (Waited (Left c) ∷ []) acts
     (done_own c call.arguments what.adds before makes (each_done config polled c call.arguments before)) (refl, tt))
 
@@ -90,23 +90,23 @@ resumes_alike : (config : Config) (c lid polled : ℕ) (wait : Wait) (log middle
     → Pair c lid log other → LocksOver lid log middle
     → ((new : List Act) → InstrumentDoes IsFired log new → ⊥) → CanResume (device_acts log) c
     → waits c (wait_acts (device_acts log)) ≡ Some wait → IsPolled polled (device_acts log)
-    → middle ≡ acts_of c (resumed config polled c wait (core_call_in (unanswered (of c log))) (device_acts log)) ++ log
+    → middle ≡ acts_of c (resume_effect config polled c wait (core_call_in (pending_call (of c log))) (device_acts log)) ++ log
     → Advanced config c lid middle other
 resumes_alike config c lid polled wait log middle other fit also pair locks fire able for said is =
     let held = fit.held c wait for in
     let call = held.1.0 in
     let known = held.1.1 in
-    let there : core_call_in (unanswered (of c other)) ≡ Some call =
-    ap (λ (l : List ConnAct). core_call_in (unanswered l)) (sym pair.own) ∙ known in
+    let there : core_call_in (pending_call (of c other)) ≡ Some call =
+    ap (λ (l : List ConnAct). core_call_in (pending_call l)) (sym pair.own) ∙ known in
     let makes = makes_none c lid log wait call _ pair.view.held for held.1.2 able refl in
-    let effect = resumed config polled c wait (Some call) (device_acts log) in
+    let effect = resume_effect config polled c wait (Some call) (device_acts log) in
     let now : middle ≡ acts_of c effect ++ log =
-    is ∙ ap (λ (o : Option CoreCall). acts_of c (resumed config polled c wait o (device_acts log)) ++ log) known in
+    is ∙ ap (λ (o : Option CoreCall). acts_of c (resume_effect config polled c wait o (device_acts log)) ++ log) known in
     let same : acts_of c effect ++ other
-    ≡ acts_of c (resumed config polled c wait (core_call_in (unanswered (of c other))) (device_acts other)) ++ other =
+    ≡ acts_of c (resume_effect config polled c wait (core_call_in (pending_call (of c other))) (device_acts other)) ++ other =
     ap (λ (e : Effect). acts_of c e ++ other)
     (resumed_same config polled c lid wait call (device_acts log) (device_acts other) makes pair.view)
-    ∙ ap (λ (o : Option CoreCall). acts_of c (resumed config polled c wait o (device_acts other)) ++ other) (sym there) in
+    ∙ ap (λ (o : Option CoreCall). acts_of c (resume_effect config polled c wait o (device_acts other)) ++ other) (sym there) in
     let next : IsNext config other (acts_of c effect ++ other) = inr (
       no_fire c lid log other pair fire,
       inl (
@@ -151,15 +151,15 @@ first_is config c log found due (inr own) expired = subst (λ (o : Option ℕ). 
 
 times_alike : (config : Config) (c lid : ℕ) (wait : Wait) (log middle other : List Act) → Fit log → Fit other → Pair c lid log other
     → LocksOver lid log middle → NothingElse config log → IsDue config log (Some c) → waits c (wait_acts (device_acts log)) ≡ Some wait
-    → middle ≡ acts_of c (failed (late wait) c (core_call_in (unanswered (of c log)))) ++ log → Advanced config c lid middle other
+    → middle ≡ acts_of c (failure_effect (late wait) c (core_call_in (pending_call (of c log)))) ++ log → Advanced config c lid middle other
 times_alike config c lid wait log middle other fit also pair locks none due for is =
     let drained = drain config c lid log other none fit also pair in
     let last = drained.last in
     let first = first_is config c last drained.found drained.due drained.is_own (expired_to config c lid log last drained.pair due.0) in
     let nothing = nothing_to config c lid log last fit drained.fit drained.pair none in
-    let acts = acts_of c (failed (late wait) c (core_call_in (unanswered (of c log)))) in
-    let same : acts ++ last ≡ acts_of c (failed (late wait) c (core_call_in (unanswered (of c last)))) ++ last =
-    ap (λ (l : List ConnAct). acts_of c (failed (late wait) c (core_call_in (unanswered l))) ++ last) drained.pair.own in
+    let acts = acts_of c (failure_effect (late wait) c (core_call_in (pending_call (of c log)))) in
+    let same : acts ++ last ≡ acts_of c (failure_effect (late wait) c (core_call_in (pending_call (of c last)))) ++ last =
+    ap (λ (l : List ConnAct). acts_of c (failure_effect (late wait) c (core_call_in (pending_call l))) ++ last) drained.pair.own in
     let next : IsNext config last (acts ++ last) = inr (
       nothing.0,
       inr (
@@ -174,7 +174,7 @@ times_alike config c lid wait log middle other fit also pair locks none due for 
       after = acts ++ last;
       reaches = reaches_then config other last (acts ++ last) drained.reaches (reaches_next config last (acts ++ last) next);
       pair = subst (λ (l : List Act). Pair c lid l (acts ++ last)) (sym is)
-          (pair_same c lid acts log last (own_failed c (late wait) (core_call_in (unanswered (of c log))) log) (locks acts is)
+          (pair_same c lid acts log last (own_failed c (late wait) (core_call_in (pending_call (of c log))) log) (locks acts is)
           drained.pair);
       fit = fit_step config last (acts ++ last) drained.fit next;
     }
@@ -189,7 +189,7 @@ advance config c lid log middle other fit also pair locks (inr (fire, inl (d, wa
           (subst (λ (n : ℕ). CanResume (device_acts log) n) e oldest.0)
           (subst (λ (n : ℕ). waits n (wait_acts (device_acts log)) ≡ Some wait) e for) said
           (subst (λ (n : ℕ).
-          middle ≡ acts_of n (resumed config polled n wait (core_call_in (unanswered (of n log))) (device_acts log)) ++ log) e is)
+          middle ≡ acts_of n (resume_effect config polled n wait (core_call_in (pending_call (of n log))) (device_acts log)) ++ log) e is)
       | inr ne ↦ absurd (none_able c lid log other fit pair d ne oldest.0)
     ]
 advance config c lid log middle other fit also pair locks (inr (fire, inr (resume, inl step))) =
@@ -199,16 +199,16 @@ advance config c lid log middle other fit also pair locks (inr (fire, inr (resum
     elim (cases_eq d c) [
       | inl e ↦ times_alike config c lid wait log middle other fit also pair locks (fire, resume, step)
           (subst (λ (n : ℕ). IsDue config log (Some n)) e due) (subst (λ (n : ℕ). waits n (wait_acts (device_acts log)) ≡ Some wait) e for)
-          (subst (λ (n : ℕ). middle ≡ acts_of n (failed (late wait) n (core_call_in (unanswered (of n log)))) ++ log) e is)
+          (subst (λ (n : ℕ). middle ≡ acts_of n (failure_effect (late wait) n (core_call_in (pending_call (of n log)))) ++ log) e is)
       | inr ne ↦
-          let acts = acts_of d (failed (late wait) d (core_call_in (unanswered (of d log)))) in
+          let acts = acts_of d (failure_effect (late wait) d (core_call_in (pending_call (of d log)))) in
           let next : IsNext config log middle = inr (fire, inr (resume, inr (step, (d, wait, due, for, is)))) in
           let behind : Fit (acts ++ log) = subst Fit is (fit_step config log middle fit next) in
           record {
             after = other;
             reaches = reaches_none config other;
             pair = subst (λ (l : List Act). Pair c lid l other) (sym is)
-                (pair_foreign c lid acts log other (foreign_failed c d (late wait) (core_call_in (unanswered (of d log))) log ne)
+                (pair_foreign c lid acts log other (foreign_failed c d (late wait) (core_call_in (pending_call (of d log))) log ne)
                 (locks acts is) behind.suits pair);
             fit = also;
           }

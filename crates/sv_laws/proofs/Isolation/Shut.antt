@@ -13,7 +13,7 @@ use Rattle.sv_history.specs.Act.{DeviceAct, link_acts}
 use Rattle.sv_history.specs.CoreCall.{lid_of, is_too_long}
 use Rattle.sv_history.specs.CoreChannel.{owns}
 use Rattle.sv_history.specs.Interrupts.{has_channel, is_peer}
-use Rattle.sv_history.specs.Admission.{Stop, lock_stop, channel_stop, may_make_more, stop_of, admitted}
+use Rattle.sv_history.specs.Admission.{Stop, lock_stop, channel_stop, may_make_more, stop_of, admission}
 use Rattle.sv_laws.proofs.Isolation.Alike.{IsForeign}
 use Rattle.sv_laws.proofs.EveryLog.Done.{named_own}
 
@@ -22,7 +22,7 @@ some_number a b e = cc
 
 -- the acts of a call that comes to this are of others
 abbrev AreForeign : Config → ℕ → ℕ → ℕ → Arguments → List DeviceAct → Option Stop → Type 0
-AreForeign config polled c d arguments acts stop = Each (IsForeign c) (admitted config polled d arguments stop acts).adds acts
+AreForeign config polled c d arguments acts stop = Each (IsForeign c) (admission config polled d arguments stop acts).adds acts
 
 -- another link holds the lock
 kept_out : (c d lid : ℕ) (named : Option ℕ) (acts : List DeviceAct) → holder (link_acts acts) ≡ Some lid

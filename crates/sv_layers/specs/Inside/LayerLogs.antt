@@ -16,7 +16,7 @@ use Rattle.sv_status.specs.Register.{rise, fall}
 use Rattle.sv_scan.specs.declared.acts.ScanAct.{ScanAct}
 use Rattle.sv_scan.specs.declared.acts.ScanAct.TheVariants as scan
 use Rattle.sv_scan.specs.Scan.{state}
-use Rattle.sv_scan.specs.Counted.{kept, is_idle}
+use Rattle.sv_scan.specs.Counted.{effective, is_idle}
 use Rattle.sv_scan.specs.Condition.{bit}
 use Rattle.sv_exchange.specs.Exchange.{ExchangeAct, TextDropped, Interrupted}
 use Rattle.sv_layers.specs.Act.{Act, Exchanged, Purged, Scanned, Reported, EntryTaken, Cleared, Preset, OpcAsked, StandardRead, StandardEnabled, EventRead, Enabled, RiseSet, FallSet, ServiceEnabled}
@@ -41,27 +41,27 @@ abbrev pub report_bits : Code → Bool → List StandardAct → List StandardAct
 report_bits code overflow acts = standard.Occur (bit 3 overflow) ∷ standard.Occur (standard_event_of code) ∷ acts
 
 -- what an act does to its own layer
-abbrev pub begun : Act → LayerLogs → LayerLogs
-begun (Exchanged act) at = record at { exchange = act ∷ at.exchange }
-begun Purged at = record at { exchange = Interrupted ∷ TextDropped ∷ at.exchange; waits = false }
-begun (Scanned act) at = record at { scanner = act ∷ at.scanner; waits = at.waits && not (resets act) }
-begun (Reported code) at = record at {
+abbrev pub after_begin : Act → LayerLogs → LayerLogs
+after_begin (Exchanged act) at = record at { exchange = act ∷ at.exchange }
+after_begin Purged at = record at { exchange = Interrupted ∷ TextDropped ∷ at.exchange; waits = false }
+after_begin (Scanned act) at = record at { scanner = act ∷ at.scanner; waits = at.waits && not (resets act) }
+after_begin (Reported code) at = record at {
   errors = queue.Report code ∷ at.errors;
   standard = report_bits code (is_full at.errors) at.standard;
 }
-begun EntryTaken at = record at { errors = queue.Take ∷ at.errors }
-begun Cleared at = record at { errors = queue.Clear ∷ at.errors; waits = false }
-begun OpcAsked at = record at { waits = true }
-begun (ServiceEnabled mask) at = record at { service = mask }
-begun _ at = at
+after_begin EntryTaken at = record at { errors = queue.Take ∷ at.errors }
+after_begin Cleared at = record at { errors = queue.Clear ∷ at.errors; waits = false }
+after_begin OpcAsked at = record at { waits = true }
+after_begin (ServiceEnabled mask) at = record at { service = mask }
+after_begin _ at = at
 
 -- no measurement is under way
 abbrev pub idles : LayerLogs → Bool
-idles at = is_idle (state (kept at.scanner))
+idles at = is_idle (state (effective at.scanner))
 
 -- An `*OPC` completes where no measurement is under way.
-abbrev pub completed : LayerLogs → LayerLogs
-completed at = record at {
+abbrev pub after_complete : LayerLogs → LayerLogs
+after_complete at = record at {
   standard = standard.Occur (bit 0 (at.waits && idles at)) ∷ at.standard;
   waits = at.waits && not (idles at);
 }
@@ -93,18 +93,18 @@ EndsAs other act = ((name : RegisterName) (acts : List RegisterAct) → own name
     × ((acts : List StandardAct) → own_standard other acts ≡ own_standard act acts)
 
 -- an act ends behind those before it: each register is told its condition, and ends the act itself
-abbrev pub ended : Act → List Act → LayerLogs → LayerLogs
-ended act log at = record (completed at) {
+abbrev pub after_end : Act → List Act → LayerLogs → LayerLogs
+after_end act log at = record (after_complete at) {
   registers = λ name. own name act (register.Condition (condition name (act ∷ log)) ∷ at.registers name);
-  standard = own_standard act (completed at).standard;
+  standard = own_standard act (after_complete at).standard;
 }
 
 abbrev pub register_acts : RegisterName → LayerLogs → List RegisterAct
 register_acts name at = at.registers name
 
 -- what all layers see of the acts
-abbrev pub seen : List Act → LayerLogs
-seen [] = record {
+abbrev pub layer_logs : List Act → LayerLogs
+layer_logs [] = record {
   exchange = [];
   errors = [];
   registers = λ name. [];
@@ -113,7 +113,7 @@ seen [] = record {
   service = 0;
   waits = false;
 }
-seen (act ∷ log) = ended act log (begun act (seen log))
+layer_logs (act ∷ log) = after_end act log (after_begin act (layer_logs log))
 
 -- whether an act does nothing to a register itself
 abbrev pub is_plain : Act → Bool

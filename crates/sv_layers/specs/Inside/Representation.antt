@@ -18,7 +18,7 @@ use Rattle.sv_exchange.specs.Contents.{Contents, StandsFor as Exchanges}
 use Rattle.sv_layers.specs.Act.{Act, Polled}
 use Rattle.sv_layers.specs.Filter.{start}
 use Rattle.sv_layers.specs.StatusByte.{IsRaised}
-use Rattle.sv_layers.specs.Inside.LayerLogs.{LayerLogs, begun, seen}
+use Rattle.sv_layers.specs.Inside.LayerLogs.{LayerLogs, after_begin, layer_logs}
 
 -- the registers, each under its name
 pub record ByName : Type 0 where
@@ -26,10 +26,10 @@ pub record ByName : Type 0 where
   pub questionable : RegisterLatches
   pub limit : RegisterLatches
 
-abbrev pub kept : RegisterName → ByName → RegisterLatches
-kept Operation all = all.operation
-kept Questionable all = all.questionable
-kept Limit all = all.limit
+abbrev pub latches_of : RegisterName → ByName → RegisterLatches
+latches_of Operation all = all.operation
+latches_of Questionable all = all.questionable
+latches_of Limit all = all.limit
 
 pub record LayerState : Type 0 where
   pub exchange : Contents
@@ -61,8 +61,8 @@ own_status _ acts = acts
 -- The status byte sees these acts: behind each act it is told the summary bits and the enable.
 abbrev pub IsStatus : List Act → List StatusAct → Type 0
 IsStatus [] acts = acts ≡ []
-IsStatus (act ∷ log) acts = (word : ℕ) × (before : List StatusAct) × IsSummary word (seen (act ∷ log)) × IsStatus log before
-    × (acts ≡ Update word (seen (act ∷ log)).service ∷ own_status act before)
+IsStatus (act ∷ log) acts = (word : ℕ) × (before : List StatusAct) × IsSummary word (layer_logs (act ∷ log)) × IsStatus log before
+    × (acts ≡ Update word (layer_logs (act ∷ log)).service ∷ own_status act before)
 
 -- A request is raised at the newest act, as the status byte sees it.
 abbrev pub RaisedAt : List Act → Type 0
@@ -72,7 +72,7 @@ RaisedAt log = (acts : List StatusAct) × IsStatus log acts × IsRaisedAsTold ac
 pub record Represents (layered : LayerState) (at : LayerLogs) (status_log : List StatusAct) : Type 0 where
   pub exchange : Exchanges layered.exchange at.exchange
   pub errors : Queues layered.errors at.errors
-  pub registers : (name : RegisterName) → Registers (start name) (kept name layered.registers) (at.registers name)
+  pub registers : (name : RegisterName) → Registers (start name) (latches_of name layered.registers) (at.registers name)
   pub standard : Standards layered.standard at.standard
   pub status : Statuses layered.status status_log
   pub scanner : Scans layered.scanner at.scanner
@@ -83,13 +83,13 @@ pub record Represents (layered : LayerState) (at : LayerLogs) (status_log : List
 pub record StandsFor (layered : LayerState) (log : List Act) : Type 0 where
   pub status_log : List StatusAct
   pub are : IsStatus log status_log
-  pub joined : Represents layered (seen log) status_log
+  pub joined : Represents layered (layer_logs log) status_log
 
 -- The newest act has happened to its own layer, and to nothing else yet.
 pub record Begun (layered : LayerState) (act : Act) (log : List Act) : Type 0 where
   pub status_log : List StatusAct
   pub are : IsStatus log status_log
-  pub joined : Represents layered (begun act (seen log)) (own_status act status_log)
+  pub joined : Represents layered (after_begin act (layer_logs log)) (own_status act status_log)
 
 -- What is kept stands for the log, and each request that was counted is read.
 pub record AllRead (layered : LayerState) (log : List Act) : Type 0 where

@@ -40,8 +40,8 @@ data_end_in ProgramData size before = size
 data_end_in _ size before = before
 
 -- the unit ends in this, with one byte more
-abbrev pub moved : Stage → Progress → Progress
-moved stage p = record {
+abbrev pub progress_to : Stage → Progress → Progress
+progress_to stage p = record {
   stage = stage;
   size = one_more p.size;
   header_start = header_start_in stage (one_more p.size) p.header_start;

@@ -21,14 +21,14 @@ behind_space Misspelled = Misspelled
 behind_space Illegal = Illegal
 
 -- a letter begins a mnemonic
-abbrev pub begun : Stage → ℕ → Stage
-begun mnemonic b = if is_letter b then mnemonic else Misspelled
+abbrev pub letter_stage : Stage → ℕ → Stage
+letter_stage mnemonic b = if is_letter b then mnemonic else Misspelled
 
 -- a graphic character more
 abbrev pub behind_graphic : Stage → ℕ → Stage
-behind_graphic WhiteSpace b = if b == 42 then Asterisk else if b == 58 then Colon else begun Mnemonic b
-behind_graphic Asterisk b = begun CommonMnemonic b
-behind_graphic Colon b = begun Mnemonic b
+behind_graphic WhiteSpace b = if b == 42 then Asterisk else if b == 58 then Colon else letter_stage Mnemonic b
+behind_graphic Asterisk b = letter_stage CommonMnemonic b
+behind_graphic Colon b = letter_stage Mnemonic b
 behind_graphic CommonMnemonic b = if is_word_byte b then CommonMnemonic else if b == 63 then QuerySign else Misspelled
 behind_graphic Mnemonic b = if is_word_byte b then Mnemonic else if b == 63 then QuerySign else if b == 58 then Colon else Misspelled
 behind_graphic QuerySign b = Misspelled

@@ -11,7 +11,7 @@ use Rattle.sv_rpc.specs.Stream.{records_of, tail_of}
 use Rattle.sv_rpc.proofs.OneReading.{read_alone}
 use Rattle.sv_rpc.specs.Limits.{capacity}
 use Rattle.sv_history.specs.Act.{ConnAct, CallTaken}
-use Rattle.sv_history.specs.Connection.{is_open, next_call, is_idle, is_overlong, is_faulted, room, stream, completed, took_no_call, is_busy}
+use Rattle.sv_history.specs.Connection.{is_open, next_call, is_idle, is_overlong, is_faulted, room, stream, records_ended, took_no_call, is_busy}
 use Rattle.sv_server.specs.Connection.Representation.{Connection, IsConnection}
 use Rattle.sv_server.specs.Connection.Inside.NextCall.{kept_next}
 
@@ -54,14 +54,14 @@ some_stay (x ∷ xs) ys zs e some = λ none. absurd (let z = sym none ∙ e in c
 -- ---- the input
 
 pub records_are : (kept : Connection) (acts : List ConnAct) → IsConnection kept acts
-    → kept.input.records ≡ drop (completed acts) (records_of (stream acts))
-records_are kept acts is = is.input.kept ∙ ap (drop (completed acts))
+    → kept.input.records ≡ drop (records_ended acts) (records_of (stream acts))
+records_are kept acts is = is.input.kept ∙ ap (drop (records_ended acts))
     (read_alone (stream acts) is.input.all kept.input.tail is.input.splits).0
 
 pub tail_is : (kept : Connection) (acts : List ConnAct) → IsConnection kept acts → kept.input.tail ≡ tail_of (stream acts)
 tail_is kept acts is = (read_alone (stream acts) is.input.all kept.input.tail is.input.splits).1
 
-few_ended : (kept : Connection) (acts : List ConnAct) → IsConnection kept acts → completed acts ≤ length (records_of (stream acts))
+few_ended : (kept : Connection) (acts : List ConnAct) → IsConnection kept acts → records_ended acts ≤ length (records_of (stream acts))
 few_ended kept acts is =
     omega (arith, is.input.bounded, ap length (read_alone (stream acts) is.input.all kept.input.tail is.input.splits).0)
 
@@ -71,7 +71,7 @@ next_is kept acts is =
     ap (λ (b : Bool). cond (b || kept.busy) None (slice_get kept.input.records 0)) is.faulted
     ∙ ap (λ (b : Bool). cond (took_no_call acts || b) None (slice_get kept.input.records 0)) is.busy
     ∙ ap (cond (took_no_call acts || is_busy acts) None)
-    (ap (λ (rs : List (List ℕ)). slice_get rs 0) (records_are kept acts is) ∙ first_left (records_of (stream acts)) (completed acts))
+    (ap (λ (rs : List (List ℕ)). slice_get rs 0) (records_are kept acts is) ∙ first_left (records_of (stream acts)) (records_ended acts))
 
 -- a fault that the buffer tells
 abbrev pub is_fault : Result (Option (List ℕ)) RpcFault → Bool
@@ -96,13 +96,13 @@ turned false false = refl
 pub faulted_is : (kept : Connection) (acts : List ConnAct) → IsConnection kept acts
     → (is_fault (next_among kept.input.records kept.input.tail) || kept.faulted) ≡ is_faulted acts
 faulted_is kept acts is =
-    let left : none_left kept.input.records ≡ eqb (completed acts) (length (records_of (stream acts))) =
-    ap none_left (records_are kept acts is) ∙ all_dropped (records_of (stream acts)) (completed acts) (few_ended kept acts is) in
+    let left : none_left kept.input.records ≡ eqb (records_ended acts) (length (records_of (stream acts))) =
+    ap none_left (records_are kept acts is) ∙ all_dropped (records_of (stream acts)) (records_ended acts) (few_ended kept acts is) in
     turned (is_fault (next_among kept.input.records kept.input.tail)) kept.faulted
     ∙ ap (λ (b : Bool). b || is_fault (next_among kept.input.records kept.input.tail)) is.faulted
     ∙ ap (λ (b : Bool). took_no_call acts || b) (fault_among kept.input.records kept.input.tail
     ∙ ap (λ (b : Bool). ends_overlong kept.input.tail && b) left
-    ∙ ap (λ (t : Tail). ends_overlong t && eqb (completed acts) (length (records_of (stream acts)))) (tail_is kept acts is))
+    ∙ ap (λ (t : Tail). ends_overlong t && eqb (records_ended acts) (length (records_of (stream acts)))) (tail_is kept acts is))
 
 -- the one fault there is
 one_fault : (fault : RpcFault) (answer : Result (Option (List ℕ)) RpcFault) → answer ≡ Err fault → is_fault answer ≡ true
@@ -122,7 +122,7 @@ pub room_is : (kept : Connection) (acts : List ConnAct) → IsConnection kept ac
 room_is kept acts is opened =
     let open_now : is_open acts ≡ true = ap is_some (sym is.role) ∙ opened in
     rw open_now (ap (λ (rs : List (List ℕ)). capacity - used_by rs kept.input.tail) (records_are kept acts is)
-    ∙ ap (λ (t : Tail). capacity - used_by (drop (completed acts) (records_of (stream acts))) t) (tail_is kept acts is))
+    ∙ ap (λ (t : Tail). capacity - used_by (drop (records_ended acts) (records_of (stream acts))) t) (tail_is kept acts is))
 
 pub no_room : (kept : Connection) (acts : List ConnAct) → IsConnection kept acts → kept.role ≡ None → 0 ≡ room acts
 no_room kept acts is shut =

@@ -4,13 +4,13 @@ use Rattle.std.specs.Prelude.{◌||◌, is_some, nat_lt}
 use Rattle.std.specs.List.{concat}
 use Rattle.std.proofs.lemmas.Bool.{lt-ltb, le-ltb, ne_eqb, cases_lt}
 use Rattle.sv_links.specs.declared.request.Peer.{Peer}
-use Rattle.sv_links.specs.Channels.{ChannelAct, ChannelTaken, is_channel_open, taken, calls, untaken, waiting as channel_waiting}
+use Rattle.sv_links.specs.Channels.{ChannelAct, ChannelTaken, is_channel_open, bytes_taken, calls, calls_left, waiting as channel_waiting}
 use Rattle.sv_links.specs.ChannelRepresentation.{AreChannels}
 use Rattle.sv_history.specs.declared.event.Config.{Config}
 use Rattle.sv_history.specs.Act.{Act, DeviceAct, of, device_acts, wait_acts}
 use Rattle.sv_history.specs.Requests.{HearsOf}
 use Rattle.sv_history.specs.Interrupts.{has_channel, is_dial, is_dialing, dial_of, dial_in}
-use Rattle.sv_history.specs.Connection.{unanswered}
+use Rattle.sv_history.specs.Connection.{pending_call}
 use Rattle.sv_history.specs.CoreCall.{CoreCall}
 use Rattle.sv_history.specs.Request.{core_call_in}
 use Rattle.sv_history.specs.declared.event.Refused.TheVariants.{NotSent}
@@ -36,7 +36,7 @@ waits_nowhere open_now bytes shut = ap (λ (b : Bool). cond b bytes []) shut
 pub channel_open : (c : ℕ) (channel_log : List ChannelAct) → 0 < length (channel_waiting c channel_log)
     → is_channel_open c channel_log ≡ true
 channel_open c channel_log some = waits_where (is_channel_open c channel_log)
-    (concat (untaken (taken c channel_log) (calls c channel_log))) some
+    (concat (calls_left (bytes_taken c channel_log) (calls c channel_log))) some
 
 -- and none is open whose number is above 15
 beyond_shut : (kept : KeptDevice) (config : Config) (acts : List DeviceAct) (channel_log : List ChannelAct) (c : ℕ)
@@ -49,7 +49,7 @@ pub none_beyond : (kept : KeptDevice) (config : Config) (acts : List DeviceAct) 
     → IsDevice kept config acts
     → HearsOf acts channel_log → 16 ≤ c → channel_waiting c channel_log ≡ []
 none_beyond kept config acts channel_log c is tells above =
-    waits_nowhere (is_channel_open c channel_log) (concat (untaken (taken c channel_log) (calls c channel_log)))
+    waits_nowhere (is_channel_open c channel_log) (concat (calls_left (bytes_taken c channel_log) (calls c channel_log)))
     (beyond_shut kept config acts channel_log c is tells above)
 
 pub channel_within : (kept : KeptDevice) (config : Config) (acts : List DeviceAct) (channel_log : List ChannelAct) (c : ℕ)
@@ -92,7 +92,7 @@ dialing_waits c acts e none = absurd (let z : false ≡ true = sym (ap is_dial n
 
 -- whom it asks to be called
 pub dial_is : (c : ℕ) (log : List Act) (call : Option CoreCall) → is_dialing c (wait_acts (device_acts log)) ≡ true
-    → core_call_in (unanswered (of c log)) ≡ call → dial_of c log ≡ dial_in call
+    → core_call_in (pending_call (of c log)) ≡ call → dial_of c log ≡ dial_in call
 dial_is c log call dialing known = rw dialing (ap dial_in known)
 
 pub no_dial : (c : ℕ) (log : List Act) → is_dialing c (wait_acts (device_acts log)) ≡ false → dial_of c log ≡ None

@@ -17,7 +17,7 @@ use Rattle.sv_history.specs.CallOutcome.{only}
 use Rattle.sv_history.specs.CoreCall.{lid_of, is_too_long, failure}
 use Rattle.sv_history.specs.Interrupts.{is_peer, dialing, has_channel}
 use Rattle.sv_history.specs.CoreChannel.{owns, make_link, link_call, own_call}
-use Rattle.sv_history.specs.Admission.{Stop, Fails, Awaits, lock_stop, device_wait, may_make_more, channel_stop, stop_of, admitted}
+use Rattle.sv_history.specs.Admission.{Stop, Fails, Awaits, lock_stop, device_wait, may_make_more, channel_stop, stop_of, admission}
 use Rattle.sv_history.specs.History.{wants_memory}
 use Rattle.sv_server.specs.Device.Representation.{Device, IsDevice, HasPlace}
 use Rattle.sv_server.specs.Device.Inside.Outcome.{IsGranted, MayMake, Admits, AdmitsAt}
@@ -257,7 +257,7 @@ made_wants config c true acts left = rw left refl
 made_wants config c false acts left = rw left refl
 
 pub start_wants : (config : Config) (polled c : ℕ) (arguments : Arguments) (acts : List DeviceAct) → stop_of c arguments acts ≡ None
-    → is_create_link arguments ≡ true → wants_memory (admitted config polled c arguments None acts).adds ≡ true
+    → is_create_link arguments ≡ true → wants_memory (admission config polled c arguments None acts).adds ≡ true
 start_wants config polled c (CreateLink client_id lock_device lock_timeout device) acts free makes =
     made_wants config c lock_device acts (both_true _ (lids_left (link_acts acts))
     (link_free _ (may_make_more acts) lock_device _ lock_timeout

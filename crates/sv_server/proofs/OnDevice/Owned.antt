@@ -9,7 +9,7 @@ use Rattle.sv_links.specs.declared.enabled.Enabled.{Enabled}
 use Rattle.sv_links.specs.Links.{LinkAct, Made, Destroyed, live, owner, is_of, links_of, closing}
 use Rattle.sv_links.specs.Table.{IsRising}
 use Rattle.sv_links.specs.Channels.{ChannelAct, SrqDisabled}
-use Rattle.sv_links.specs.ChannelRepresentation.{IsSorted, disabled, of_others}
+use Rattle.sv_links.specs.ChannelRepresentation.{IsSorted, without_links, of_others}
 use Rattle.sv_links.proofs.Asking.{below, above, sorted-filter}
 use Rattle.sv_links.proofs.Tables.{Below, above-filter, other_than}
 use Rattle.sv_links.specs.Limits.{max_links}
@@ -146,14 +146,14 @@ filter_more number numbers (link ∷ links) = elim (cases_eq number link.lid) [
 ]
 
 disabled_named : (numbers behind : List ℕ) (links : List Enabled)
-    → disabled (reverse_aux numbers behind) links ≡ filter (λ link. not (named link.lid numbers)) (disabled behind links)
-disabled_named [] behind links = sym (filter_all (disabled behind links))
+    → without_links (reverse_aux numbers behind) links ≡ filter (λ link. not (named link.lid numbers)) (without_links behind links)
+disabled_named [] behind links = sym (filter_all (without_links behind links))
 disabled_named (number ∷ numbers) behind links =
-    disabled_named numbers (number ∷ behind) links ∙ filter_more number numbers (disabled behind links)
+    disabled_named numbers (number ∷ behind) links ∙ filter_more number numbers (without_links behind links)
 
 -- without the numbers of a connection's links, those of the others are left
 pub closed_disabled : (links : List Enabled) (acts : List LinkAct) (c last : ℕ) → IsRising (live acts) last → AreOwned links acts
-    → disabled (reverse (links_of c acts)) links ≡ of_others c links
+    → without_links (reverse (links_of c acts)) links ≡ of_others c links
 closed_disabled links acts c last rising owned = disabled_named (links_of c acts) [] links
     ∙ filter_agree (λ link. not (named link.lid (links_of c acts))) (λ link. not (eqb link.conn c)) links
     (all_of (λ link. owner link.lid acts ≡ Some link.conn)
@@ -170,10 +170,10 @@ closing_numbers : (c : ℕ) (acts : List LinkAct) → closing c acts ≡ map Des
 closing_numbers c acts = destroyed_reverse (links_of c acts) []
 
 owned_gone : (numbers : List ℕ) (links : List Enabled) (acts : List LinkAct) → AreOwned links acts
-    → AreOwned (disabled numbers links) (map Destroyed numbers ++ acts)
+    → AreOwned (without_links numbers links) (map Destroyed numbers ++ acts)
 owned_gone [] links acts owned = owned
 owned_gone (number ∷ numbers) links acts owned =
-    owned_destroyed (disabled numbers links) (map Destroyed numbers ++ acts) number (owned_gone numbers links acts owned)
+    owned_destroyed (without_links numbers links) (map Destroyed numbers ++ acts) number (owned_gone numbers links acts owned)
 
 -- the closing of a connection leaves the owners of the others' links
 pub owned_closed : (links : List Enabled) (acts : List LinkAct) (c last : ℕ) → IsRising (live acts) last → AreOwned links acts

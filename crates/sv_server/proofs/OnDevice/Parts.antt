@@ -8,13 +8,13 @@ use Rattle.sv_links.specs.declared.waiting.Wait.{Wait}
 use Rattle.sv_vxi.specs.declared.error_code.ErrorCode.TheVariants.{NoError, NoLock}
 use Rattle.sv_vxi.specs.declared.error_code.ErrorCode.TheVariants.{Locked as DeviceLocked}
 use Rattle.sv_vxi.specs.Results.{Outcome, Link, Plain}
-use Rattle.sv_links.specs.Links.{LinkAct, Made, Destroyed, Locked, Unlocked, live, links_of, closing, made, lids_left, may_make, holder, is_locked_out, is_this}
+use Rattle.sv_links.specs.Links.{LinkAct, Made, Destroyed, Locked, Unlocked, live, links_of, closing, links_made, lids_left, may_make, holder, is_locked_out, is_this}
 use Rattle.sv_links.specs.declared.links.CreateRefused.{CreateRefused}
 use Rattle.sv_links.specs.declared.links.CreateRefused.TheVariants.{OutOfResources}
 use Rattle.sv_links.specs.Table.{Table, IsTable, IsRising}
 use Rattle.sv_links.specs.declared.enabled.Enabled.{Enabled}
 use Rattle.sv_links.specs.Channels.{ChannelAct, SrqDisabled}
-use Rattle.sv_links.specs.ChannelRepresentation.{Channels, Channel, AreChannels, IsReady, is_prepared, disabled, of_others}
+use Rattle.sv_links.specs.ChannelRepresentation.{Channels, Channel, AreChannels, IsReady, is_prepared, without_links, of_others}
 use Rattle.sv_links.proofs.Rising.{enabled-disabled}
 use Rattle.sv_links.specs.Waiting.{WaitAct, Entered, Again, Left, waits}
 use Rattle.sv_links.specs.Queue.{IsQueue, creates, creations, without}
@@ -142,7 +142,7 @@ told_as_before intr acts act (channel_log, tells, are, was) same owned =
 -- those that ask are others where links are destroyed
 told_closed : (old intr : Channels) (acts : List DeviceAct) (c last : ℕ) → AreTold old acts → IsRising (live (link_acts acts)) last
     → ((lids : List ℕ)
-    (channel_log : List ChannelAct) → AreChannels old channel_log → disabled lids old.enabled ≡ of_others c old.enabled
+    (channel_log : List ChannelAct) → AreChannels old channel_log → without_links lids old.enabled ≡ of_others c old.enabled
     → AreChannels intr (map SrqDisabled lids ++ channel_log)) → intr.enabled ≡ of_others c old.enabled
     → AreTold intr (map Linked (closing c (link_acts acts)) ++ acts)
 told_closed old intr acts c last (channel_log, tells, are, owned) rising disables without = (
@@ -155,7 +155,8 @@ told_closed old intr acts c last (channel_log, tells, are, owned) rising disable
 pub device_closed : (kept : Device) (links : Table) (intr : Channels) (config : Config) (acts : List DeviceAct) (c : ℕ)
     → IsDevice kept config acts → IsTable links (closing c (link_acts acts) ++ link_acts acts) → links.spare ≡ kept.links.spare
     → ((lids : List ℕ)
-    (channel_log : List ChannelAct) → AreChannels kept.intr channel_log → disabled lids kept.intr.enabled ≡ of_others c kept.intr.enabled
+    (channel_log : List ChannelAct) → AreChannels kept.intr channel_log
+    → without_links lids kept.intr.enabled ≡ of_others c kept.intr.enabled
     → AreChannels intr (map SrqDisabled lids ++ channel_log)) → intr.enabled ≡ of_others c kept.intr.enabled
     → intr.channels ≡ kept.intr.channels
     → IsDevice (record kept { links = links; intr = intr }) config (map Linked (closing c (link_acts acts)) ++ acts)
@@ -267,26 +268,26 @@ told_as config kept channel_log lid n set_up number is =
     ∙ sym is
 
 pub made_ends : (kept : Device) (links : Table) (config : Config) (acts : List DeviceAct) (c lid : ℕ) (channel_log : Outcome)
-    → IsDevice kept config acts → HasPlace kept acts → lids_left (link_acts acts) ≡ true → lid ≡ made (link_acts acts) + 1
+    → IsDevice kept config acts → HasPlace kept acts → lids_left (link_acts acts) ≡ true → lid ≡ links_made (link_acts acts) + 1
     → IsTable links (Made lid c ∷ link_acts acts) → kept.links.spare ≤ links.spare + 1
     → channel_log ≡ Link NoError (pos lid) kept.config.abort max_message
     → IsResult (make_link config c false acts).result channel_log
     × IsDevice (record kept { links = links }) config ((make_link config c false acts).adds ++ acts)
 made_ends kept links config acts c lid channel_log is place left number table spare tells = rw left (
-  told_as config kept channel_log lid (made (link_acts acts) + 1) is.2 number tells,
+  told_as config kept channel_log lid (links_made (link_acts acts) + 1) is.2 number tells,
   subst (λ (n : ℕ). IsDevice (record kept { links = links }) config (Linked (Made n c) ∷ acts)) number
       (device_made kept links config acts lid c is place table spare),
 )
 
 pub locked_ends : (kept : Device) (mid links : Table) (config : Config) (acts : List DeviceAct) (c lid : ℕ) (channel_log : Outcome)
-    → IsDevice kept config acts → HasPlace kept acts → lids_left (link_acts acts) ≡ true → lid ≡ made (link_acts acts) + 1
+    → IsDevice kept config acts → HasPlace kept acts → lids_left (link_acts acts) ≡ true → lid ≡ links_made (link_acts acts) + 1
     → IsTable mid (Made lid c ∷ link_acts acts) → IsTable links (Locked lid ∷ Made lid c ∷ link_acts acts)
     → kept.links.spare ≤ mid.spare + 1 → links.spare ≡ mid.spare
     → channel_log ≡ Link NoError (pos lid) kept.config.abort max_message
     → IsResult (make_link config c true acts).result channel_log
     × IsDevice (record kept { links = links }) config ((make_link config c true acts).adds ++ acts)
 locked_ends kept mid links config acts c lid channel_log is place left number table locked spare same tells = rw left (
-  told_as config kept channel_log lid (made (link_acts acts) + 1) is.2 number tells,
+  told_as config kept channel_log lid (links_made (link_acts acts) + 1) is.2 number tells,
   subst (λ (n : ℕ). IsDevice (record kept { links = links }) config (Linked (Locked n) ∷ Linked (Made n c) ∷ acts)) number
       (device_locked (record kept { links = mid }) links config (Linked (Made lid c) ∷ acts) lid
       (device_made kept mid config acts lid c is place table spare) locked same),

@@ -18,7 +18,7 @@ use Rattle.sv_history.proofs.StillSettled.{still_settled, channel_settled}
 use Rattle.sv_server.proofs.OnServer.Steps.{polled_now}
 use Rattle.sv_history.proofs.Telling.{has_channel_told}
 use Rattle.sv_server.proofs.OnDevice.Channels.{channel_open, channel_within, channel_shut_is}
-use Rattle.sv_history.specs.Connection.{is_open, untaken, waiting, waiting_on}
+use Rattle.sv_history.specs.Connection.{is_open, bytes_left, waiting, waiting_on}
 use Rattle.sv_history.specs.History.{refusal, took_refusal, own_acts, wants_memory, is_shut, is_channel_shut}
 use Rattle.sv_server.specs.Server.State.{State, Represents}
 use Rattle.sv_server.specs.Server.Inside.Acting.{Acts, IsRefusal}
@@ -38,7 +38,7 @@ opened_by true bytes some = refl
 opened_by false bytes some = absurd (omega arith)
 
 pub waits_open : (c : ℕ) (log : List Act) → 0 < length (waiting (of c log)) → is_open (of c log) ≡ true
-waits_open c log some = opened_by (is_open (of c log)) (untaken (of c log)) some
+waits_open c log some = opened_by (is_open (of c log)) (bytes_left (of c log)) some
 
 -- whose number is at most 15
 pub waits_within : (c : ℕ) (state : State) (config : Config) (log : List Act) → Represents state config log → is_open (of c log) ≡ true

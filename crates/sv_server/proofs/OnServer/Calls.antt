@@ -19,8 +19,8 @@ use Rattle.sv_links.specs.declared.waiting.Entry.{Entry}
 use Rattle.sv_links.specs.Waiting.{Left}
 use Rattle.sv_history.specs.Act.{ConnAct, Waited}
 use Rattle.sv_history.specs.CoreCall.{CoreCall, creates_link, failure}
-use Rattle.sv_history.specs.Interrupts.{dialed}
-use Rattle.sv_history.specs.Resuming.{leaving, continued, next_wait}
+use Rattle.sv_history.specs.Interrupts.{connect_outcome}
+use Rattle.sv_history.specs.Resuming.{leaving, resume_outcome, next_wait}
 use Rattle.sv_server.specs.declared.device.resuming.Cause.{Cause}
 use Rattle.sv_server.specs.declared.device.resuming.Cause.TheVariants as causes
 use Rattle.sv_server.specs.Connection.Representation.{Connection, IsConnection}
@@ -55,9 +55,9 @@ resumed_concludes : (next : Option (Wait × ℕ)) (outcome : Outcome) (device : 
     → ResumedAs next outcome device config polled c arguments before
     → ((log : List DeviceAct) (effect : Effect) → CallEndsAs outcome xid device config log effect
     → Concludes effect config acts log connection new)
-    → Concludes (call_effect xid (continued config polled c arguments next before)) config acts before connection new
+    → Concludes (call_effect xid (resume_outcome config polled c arguments next before)) config acts before connection new
 resumed_concludes (Some wait) outcome device config polled c xid arguments acts before connection new so ends =
-    ends before _ (outcome_ends outcome xid device config before (continued config polled c arguments (Some wait) before) so)
+    ends before _ (outcome_ends outcome xid device config before (resume_outcome config polled c arguments (Some wait) before) so)
 resumed_concludes None outcome device config polled c xid arguments acts before connection new so ends =
     let log = Waited (Left c) ∷ before in
     let what = own_call config polled c arguments log in
@@ -68,7 +68,8 @@ waits_on : (next : Option (Wait × ℕ)) (outcome : Outcome) (device : Device) (
     (before : List DeviceAct) (old new : List Entry)
     → ResumedAs next outcome device config polled c call.arguments before
     → MayWaitAnew (outcome ≡ outcomes.Suspended) c (is_create_link call.arguments) old new
-    → MayWaitAnew ((call_effect xid (continued config polled c call.arguments next before)).own ≡ []) c (creates_link (Some call)) old new
+    → MayWaitAnew ((call_effect xid (resume_outcome config polled c call.arguments next before)).own ≡ []) c
+    (creates_link (Some call)) old new
 waits_on next outcome device config polled c xid call before old new so (inl left) = inl left
 waits_on (Some for) outcome device config polled c xid call before old new so (inr (waits, wait, deadline, anew, other)) =
     inr (refl, wait, deadline, anew, other)
@@ -94,7 +95,7 @@ goes_concludes (causes.Able wait) outcome device config polled c call acts befor
     new so ends
 goes_concludes (causes.Dialed ok) outcome device config polled c call acts before connection new so ends =
     let log = Waited (Left c) ∷ before in
-    let what = dialed c ok call.arguments in
+    let what = connect_outcome c ok call.arguments in
     left_concludes config c call.xid acts before what connection new
     (ends log (call_effect call.xid what) (outcome_ends outcome call.xid device config log what so))
 goes_concludes (causes.Failed error) outcome device config polled c call acts before connection new so ends =

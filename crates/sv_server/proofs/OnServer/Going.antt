@@ -12,7 +12,7 @@ use Rattle.sv_links.specs.Queue.{IsEntry, entry_of, creates, creations, without}
 use Rattle.sv_layers.specs.Act.{Act as InstrumentAct}
 use Rattle.sv_history.specs.declared.event.Config.{Config}
 use Rattle.sv_history.specs.Act.{Act, Applied, OnDevice, of, device_acts, link_acts, wait_acts, instrument_acts}
-use Rattle.sv_history.specs.Connection.{unanswered}
+use Rattle.sv_history.specs.Connection.{pending_call}
 use Rattle.sv_history.specs.Request.{core_call}
 use Rattle.sv_history.specs.Effect.{Effect, acts_of}
 use Rattle.sv_history.specs.Settling.{CanResume, InstrumentDoes}
@@ -50,18 +50,18 @@ entry_there c acts None all does = absurd (does all)
 entry_there c acts (Some entry) all does = (entry, refl)
 
 pub taken_of : (state : State) (config : Config) (log : List Act) (c : ℕ) → Represents state config log
-    → (waits c (wait_acts (device_acts log)) ≡ None → ⊥) → (call : List ℕ) × (unanswered (of c log) ≡ Some call)
+    → (waits c (wait_acts (device_acts log)) ≡ None → ⊥) → (call : List ℕ) × (pending_call (of c log) ≡ Some call)
 taken_of state config log c rep does =
     let (entry, found) = entry_there c (wait_acts (device_acts log)) (entry_of c state.device.waiting) (rep.device.4.all c) does in
     let (call, known, makes) = taken_one (IsTaken log) c state.device.waiting entry rep.taken found in
-    (call, subst (λ (d : ℕ). unanswered (of d log) ≡ Some call) (entry_conn c state.device.waiting entry found) known)
+    (call, subst (λ (d : ℕ). pending_call (of d log) ≡ Some call) (entry_conn c state.device.waiting entry found) known)
 
 -- it is on a connection that there may be
 pub within_of : (state : State) (config : Config) (log : List Act) (c : ℕ) → Represents state config log
     → (waits c (wait_acts (device_acts log)) ≡ None → ⊥) → 16 ≤ c → ⊥
 within_of state config log c rep does above =
     let (call, known) = taken_of state config log c rep does in
-    let none : unanswered (of c log) ≡ None = ap unanswered (rep.beyond c above) in
+    let none : pending_call (of c log) ≡ None = ap pending_call (rep.beyond c above) in
     let z : Some call ≡ None = sym known ∙ none in cc
 
 -- ---- it is given up
@@ -69,7 +69,7 @@ within_of state config log c rep does above =
 pub gave_up_stands : (state : State) (config : Config) (log : List Act) (c : ℕ) (effect : Effect) (kept : Connection) (device : KeptDevice)
     → Represents state config log → length state.connections ≡ 16 → c < 16
     → Concludes effect config (of c log) (device_acts log) kept device → device.waiting ≡ without c state.device.waiting
-    → (call : List ℕ) → unanswered (of c log) ≡ Some call
+    → (call : List ℕ) → pending_call (of c log) ≡ Some call
     → Represents (record state { connections = set state.connections c kept; device = device }) config (acts_of c effect ++ log)
 gave_up_stands state config log c effect kept device rep sixteen lt done left call known =
     resumed state config log c effect kept device rep sixteen lt done
@@ -78,7 +78,7 @@ gave_up_stands state config log c effect kept device rep sixteen lt done left ca
 
 -- ---- it goes on
 
-went_taken : (c : ℕ) (log : List Act) (call : List ℕ) (effect : Effect) (old new : List Entry) → unanswered (of c log) ≡ Some call
+went_taken : (c : ℕ) (log : List Act) (call : List ℕ) (effect : Effect) (old new : List Entry) → pending_call (of c log) ≡ Some call
     → MayWaitAnew (effect.own ≡ []) c (creates_link (core_call call)) old new → AllByRecursion (IsTaken log) old
     → AllByRecursion (IsTaken (acts_of c effect ++ log)) new
 went_taken c log call effect old new known (inl left) taken =
@@ -93,7 +93,7 @@ went_taken c log call effect old new known (inr (none, wait, deadline, is, other
 
 pub went_on_stands : (state : State) (config : Config) (log : List Act) (c : ℕ) (call : List ℕ) (effect : Effect) (kept : Connection)
     (device : KeptDevice)
-    → Represents state config log → length state.connections ≡ 16 → c < 16 → unanswered (of c log) ≡ Some call
+    → Represents state config log → length state.connections ≡ 16 → c < 16 → pending_call (of c log) ≡ Some call
     → ConcludesResumed effect c (core_call call) config (of c log) (device_acts log) state.device.waiting kept device
     → Represents (record state { connections = set state.connections c kept; device = device }) config (acts_of c effect ++ log)
 went_on_stands state config log c call effect kept device rep sixteen lt known (done, waits) =

@@ -13,7 +13,7 @@ use Rattle.sv_history.specs.declared.event.Config.{Config}
 use Rattle.sv_server.specs.Device.Inside.Outcome.{MayWait}
 use Rattle.sv_server.specs.Server.Inside.Ending.{Concludes}
 use Rattle.sv_history.specs.Act.{Act, ConnAct, DeviceAct, CallTaken, PortClosed, Linked, Waited, Channel, Ticked, On, OnDevice, of, device_acts, link_acts}
-use Rattle.sv_history.specs.Connection.{is_open, is_busy, unanswered}
+use Rattle.sv_history.specs.Connection.{is_open, is_busy, pending_call}
 use Rattle.sv_history.specs.CoreCall.{creates_link}
 use Rattle.sv_history.specs.Request.{core_call}
 use Rattle.sv_history.specs.Effect.{Effect, acts_of}
@@ -80,18 +80,18 @@ acted state config log new c kept device rep sixteen lt mine all others taken n 
 pub one_act : (state : State) (config : Config) (log : List Act) (c : ℕ) (old new : Connection) (act : ConnAct)
     → Represents state config log → length state.connections ≡ 16 → c < 16 → old ≡ get_or state.connections c old
     → (IsConnection old (of c log) → IsConnection new (act ∷ of c log))
-    → ((call : List ℕ) → unanswered (of c log) ≡ Some call → unanswered (act ∷ of c log) ≡ Some call)
+    → ((call : List ℕ) → pending_call (of c log) ≡ Some call → pending_call (act ∷ of c log) ≡ Some call)
     → (n : ℕ) → IsUsed n (On c act ∷ log)
     → Represents (record state { connections = set state.connections c new; connections_used = n }) config (On c act ∷ log)
 one_act state config log c old new act rep sixteen lt e goes known n connections_used =
     acted state config log (On c act ∷ log) c new state.device rep sixteen lt
     (rw of_mine (goes (connection_of state config log c old rep lt e))) rep.device (λ d ne. of_other c d act log ne)
     (taken_acted c log (On c act ∷ log) state.device.waiting (λ d ne. of_other c d act log ne)
-    (λ call h. ap unanswered (of_mine c act log) ∙ known call h) rep.taken) n connections_used
+    (λ call h. ap pending_call (of_mine c act log) ∙ known call h) rep.taken) n connections_used
 
 -- no call of a connection that is shut waits
 pub none_taken : (kept : Connection) (acts : List ConnAct) (call : List ℕ) → IsConnection kept acts → kept.busy ≡ false
-    → unanswered acts ≡ Some call → ⊥
+    → pending_call acts ≡ Some call → ⊥
 none_taken kept acts call is idle known = let z : false ≡ true = sym idle ∙ is.busy ∙ ap is_some known in absurd cc
 
 -- what all connections share acts
@@ -104,7 +104,7 @@ shared_acts state config log device adds rep all same = record {
   connections_used = used_same state.connections_used log (map OnDevice adds ++ log) rep.connections_used (λ c. of_shared c adds log);
   device = rw (device_shared adds log) all;
   taken = rw same (taken_acted 0 log (map OnDevice adds ++ log) state.device.waiting (λ d ne. of_shared d adds log)
-      (λ call known. ap unanswered (of_shared 0 adds log) ∙ known) rep.taken);
+      (λ call known. ap pending_call (of_shared 0 adds log) ∙ known) rep.taken);
 }
 
 -- a millisecond passes, and what it brings
@@ -159,7 +159,7 @@ closes_named state config log c named old new device same rep sixteen lt e goes 
     (closed_acts n log ++ log)) same (closes state config log c old new device rep sixteen lt e goes freed left there)
 
 -- a call that is busy isn't idle
-pub busy_idle : (acts : List ConnAct) (call : List ℕ) → unanswered acts ≡ Some call → is_busy acts ≡ false → ⊥
+pub busy_idle : (acts : List ConnAct) (call : List ℕ) → pending_call acts ≡ Some call → is_busy acts ≡ false → ⊥
 busy_idle acts call known idle = let z : true ≡ false = sym (ap is_some known) ∙ idle in cc
 
 -- what is known of the calls that wait, behind a Turn
@@ -174,7 +174,7 @@ held_taken c log call effect old new idle taken (inr (none, (entry, mine, is, ma
     let here : of c after ≡ CallTaken call ∷ of c log =
     of_taken c effect call log ∙ ap (λ (own : List ConnAct). own ++ CallTaken call ∷ of c log) none in
     rw is (taken_push after (without c old) entry (taken_without c log after old (λ d ne. others_taken c d effect call log ne) taken)
-    (call, ap unanswered (ap (λ (d : ℕ). of d after) mine ∙ here), makes))
+    (call, ap pending_call (ap (λ (d : ℕ). of d after) mine ∙ here), makes))
 
 -- a Turn of an open connection
 pub turned : (state : State) (config : Config) (log : List Act) (c : ℕ) (call : List ℕ) (effect : Effect) (kept : Connection)

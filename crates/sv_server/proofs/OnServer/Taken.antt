@@ -7,24 +7,24 @@ use Rattle.sv_links.specs.declared.waiting.Entry.{Entry}
 use Rattle.sv_links.specs.declared.waiting.Wait.{Wait}
 use Rattle.sv_links.specs.Queue.{without, anew, entry_of}
 use Rattle.sv_history.specs.Act.{Act, of}
-use Rattle.sv_history.specs.Connection.{unanswered}
+use Rattle.sv_history.specs.Connection.{pending_call}
 use Rattle.sv_history.specs.Request.{core_call}
 use Rattle.sv_history.specs.CoreCall.{creates_link}
 use Rattle.sv_server.specs.Server.State.{IsTaken}
 
 -- an entry of another connection
 taken_other : (log new : List Act) (entry : Entry) → of entry.conn new ≡ of entry.conn log → IsTaken log entry → IsTaken new entry
-taken_other log new entry same (call, known, makes) = (call, ap unanswered same ∙ known, makes)
+taken_other log new entry same (call, known, makes) = (call, ap pending_call same ∙ known, makes)
 
 -- where the call of one connection stays as it was
 pub taken_acted : (c : ℕ) (log new : List Act) (entries : List Entry) → ((d : ℕ) → d ≢ c → of d new ≡ of d log)
-    → ((call : List ℕ) → unanswered (of c log) ≡ Some call → unanswered (of c new) ≡ Some call)
+    → ((call : List ℕ) → pending_call (of c log) ≡ Some call → pending_call (of c new) ≡ Some call)
     → AllByRecursion (IsTaken log) entries → AllByRecursion (IsTaken new) entries
 taken_acted c log new [] others mine all = tt
 taken_acted c log new (entry ∷ entries) others mine all = (
   elim (cases_eq entry.conn c) [
-    | inl e ↦ let known : unanswered (of c log) ≡ Some all.0.0 = subst (λ d. unanswered (of d log) ≡ Some all.0.0) e all.0.1 in
-        (all.0.0, subst (λ d. unanswered (of d new) ≡ Some all.0.0) (sym e) (mine all.0.0 known), all.0.2)
+    | inl e ↦ let known : pending_call (of c log) ≡ Some all.0.0 = subst (λ d. pending_call (of d log) ≡ Some all.0.0) e all.0.1 in
+        (all.0.0, subst (λ d. pending_call (of d new) ≡ Some all.0.0) (sym e) (mine all.0.0 known), all.0.2)
     | inr ne ↦ taken_other log new entry (others entry.conn ne) all.0
   ],
   taken_acted c log new entries others mine all.1,
@@ -49,15 +49,15 @@ taken_push log (first ∷ entries) entry all one = (all.0, taken_push log entrie
 -- where one waits anew that makes no link
 pub taken_anew : (c : ℕ) (wait : Wait) (deadline : Option ℕ) (log new : List Act) (entries : List Entry)
     → ((d : ℕ) → of d new ≡ of d log)
-    → ((call : List ℕ) → unanswered (of c log) ≡ Some call → creates_link (core_call call) ≡ false)
+    → ((call : List ℕ) → pending_call (of c log) ≡ Some call → creates_link (core_call call) ≡ false)
     → AllByRecursion (IsTaken log) entries → AllByRecursion (IsTaken new) (map (anew c wait deadline) entries)
 taken_anew c wait deadline log new [] same other all = tt
 taken_anew c wait deadline log new (entry ∷ entries) same other all = (
   elim (cases_Bool (eqb entry.conn c)) [
     | inl e ↦
-        let known : unanswered (of c log) ≡ Some all.0.0 =
-        subst (λ d. unanswered (of d log) ≡ Some all.0.0) (eqb-true entry.conn c e) all.0.1 in
-        rw e (all.0.0, ap unanswered (same entry.conn) ∙ all.0.1, λ makes. absurd (let z = sym makes ∙ other all.0.0 known in cc))
+        let known : pending_call (of c log) ≡ Some all.0.0 =
+        subst (λ d. pending_call (of d log) ≡ Some all.0.0) (eqb-true entry.conn c e) all.0.1 in
+        rw e (all.0.0, ap pending_call (same entry.conn) ∙ all.0.1, λ makes. absurd (let z = sym makes ∙ other all.0.0 known in cc))
     | inr e ↦ rw e (taken_other log new entry (same entry.conn) all.0)
   ],
   taken_anew c wait deadline log new entries same other all.1,

@@ -3,7 +3,7 @@ use Rattle.std.proofs.Common.{◌≡◌, ◌≢◌, ℕ, suc, ◌+◌, ◌<◌, 
 use Rattle.std.specs.Prelude.{◌||◌, not, max, nat_lt}
 use Rattle.std.proofs.lemmas.Bool.{cases_eq}
 use Rattle.sv_history.specs.Act.{Act, ConnAct, On, of}
-use Rattle.sv_history.specs.Connection.{is_open, unanswered}
+use Rattle.sv_history.specs.Connection.{is_open, pending_call}
 use Rattle.sv_history.specs.History.{is_shut}
 use Rattle.sv_history.specs.Queries.{IsUsed}
 use Rattle.sv_history.proofs.Projections.{of_mine, of_other}
@@ -14,7 +14,7 @@ open_used [] opened none = absurd cc
 open_used (act ∷ acts) opened none = absurd cc
 
 -- and of one with a call that isn't answered
-pub unanswered_used : (acts : List ConnAct) (call : List ℕ) → unanswered acts ≡ Some call → acts ≢ []
+pub unanswered_used : (acts : List ConnAct) (call : List ℕ) → pending_call acts ≡ Some call → acts ≢ []
 unanswered_used [] call known none = absurd cc
 unanswered_used (act ∷ acts) call known none = absurd cc
 

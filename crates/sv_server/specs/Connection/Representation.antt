@@ -3,7 +3,7 @@ use Rattle.std.specs.Prelude.{◌≡◌, ℕ, ◌≤◌, Bool, true, List, lengt
 use Rattle.sv_rpc.specs.RecordBuf.{Records, StandsFor}
 use Rattle.sv_history.specs.declared.event.Role.{Role}
 use Rattle.sv_history.specs.Act.{ConnAct}
-use Rattle.sv_history.specs.Connection.{untaken, completed, given, open_role, sent, stream, took_no_call, is_busy, unanswered}
+use Rattle.sv_history.specs.Connection.{bytes_left, records_ended, bytes_taken, open_role, bytes_sent, stream, took_no_call, is_busy, pending_call}
 
 -- what is kept: its role; the records that came and aren't done; the bytes that wait to be sent; whether a record was taken that is no
 -- call; whether its first record is a call that was taken
@@ -17,9 +17,9 @@ pub record Connection : Type 0 where
 -- The connection keeps what its acts say.
 pub record IsConnection (kept : Connection) (acts : List ConnAct) : Type 0 where
   pub role : kept.role ≡ open_role acts
-  pub input : StandsFor kept.input (stream acts) (completed acts)
-  pub output : kept.output ≡ untaken acts
-  pub bounded : given acts ≤ length (sent acts)
+  pub input : StandsFor kept.input (stream acts) (records_ended acts)
+  pub output : kept.output ≡ bytes_left acts
+  pub bounded : bytes_taken acts ≤ length (bytes_sent acts)
   pub faulted : kept.faulted ≡ took_no_call acts
   pub busy : kept.busy ≡ is_busy acts
-  pub call : kept.busy ≡ true → slice_get kept.input.records 0 ≡ unanswered acts
+  pub call : kept.busy ≡ true → slice_get kept.input.records 0 ≡ pending_call acts

@@ -6,7 +6,7 @@ use Rattle.std.specs.List.{AllByRecursion}
 use Rattle.sv_links.specs.declared.waiting.Entry.{Entry}
 use Rattle.sv_links.specs.Queue.{creates}
 use Rattle.sv_history.specs.Act.{Act, of, device_acts}
-use Rattle.sv_history.specs.Connection.{unanswered}
+use Rattle.sv_history.specs.Connection.{pending_call}
 use Rattle.sv_history.specs.CoreCall.{creates_link}
 use Rattle.sv_history.specs.Request.{core_call}
 use Rattle.sv_server.specs.Connection.Representation.{Connection, IsConnection}
@@ -23,7 +23,7 @@ pub record State : Type 0 where
 
 -- The call of a suspended entry was taken and has no reply; if it is create_link, it waits for the lock.
 abbrev pub IsTaken : List Act → Entry → Type 0
-IsTaken log entry = (call : List ℕ) × (unanswered (of entry.conn log) ≡ Some call)
+IsTaken log entry = (call : List ℕ) × (pending_call (of entry.conn log) ≡ Some call)
     × (creates_link (core_call call) ≡ true → creates entry ≡ true)
 
 -- The state keeps what the log says, under a configuration.

@@ -14,7 +14,7 @@ ghost use Rattle.sv_history.specs.declared.event.Config.{Config as Configured};
 ghost use Rattle.sv_links.specs.Links.{Destroyed, holder, is_locked_out};
 ghost use Rattle.sv_exchange.specs.Limits.{max_message, max_read};
 ghost use Rattle.sv_history.specs.Act.{DeviceAct, Linked, Applied, link_acts, instrument_acts, exchange_acts};
-ghost use Rattle.sv_history.specs.CallOutcome.{answered};
+ghost use Rattle.sv_history.specs.CallOutcome.{answer_with};
 ghost use Rattle.sv_server.specs.Device.Representation.{IsDevice, HasPlace};
 ghost use Rattle.sv_history.specs.CoreChannel.{owns, make_link, device_lock, device_unlock, device_write, device_read, link_call, own_call};
 ghost use Rattle.sv_server.specs.Device.Inside.Outcome.{IsDeviceAt, IsGranted, OutcomeIs, IsBrief};
@@ -104,7 +104,7 @@ impl<A: Allocator> Device<A> {
     fn destroy_link(&mut self, lid: u32) -> CallOutcome
         ensures ends { (config : Configured) (acts : List DeviceAct) → IsDevice self.old config acts
             → OutcomeIs result self.new config acts
-            (answered (Linked (Destroyed lid) ∷ []) (Plain NoError)) }
+            (answer_with (Linked (Destroyed lid) ∷ []) (Plain NoError)) }
         ensures short { IsBrief result }
         ensures waiting { self.new.waiting ≡ self.old.waiting }
     {
@@ -205,7 +205,7 @@ impl<A: Allocator> Device<A> {
         ensures ends { (config : Configured) (polled : ℕ) (acts : List DeviceAct)
             → IsDeviceAt self.old config polled acts
             → OutcomeIs result self.new config acts
-            (answered (Applied Polled ∷ []) (Status NoError polled)) }
+            (answer_with (Applied Polled ∷ []) (Status NoError polled)) }
         ensures short { IsBrief result }
         ensures waiting { self.new.waiting ≡ self.old.waiting }
     {
@@ -219,7 +219,7 @@ impl<A: Allocator> Device<A> {
     fn device_trigger(&mut self) -> CallOutcome
         ensures ends { (config : Configured) (acts : List DeviceAct) → IsDevice self.old config acts
             → OutcomeIs result self.new config acts
-            (answered (map Applied (trigger_acts (instrument_acts acts))) (Plain NoError)) }
+            (answer_with (map Applied (trigger_acts (instrument_acts acts))) (Plain NoError)) }
         ensures short { IsBrief result }
         ensures waiting { self.new.waiting ≡ self.old.waiting }
     {
@@ -232,7 +232,7 @@ impl<A: Allocator> Device<A> {
     fn device_clear(&mut self) -> CallOutcome
         ensures ends { (config : Configured) (acts : List DeviceAct) → IsDevice self.old config acts
             → OutcomeIs result self.new config acts
-            (answered (Applied Purged ∷ []) (Plain NoError)) }
+            (answer_with (Applied Purged ∷ []) (Plain NoError)) }
         ensures short { IsBrief result }
         ensures waiting { self.new.waiting ≡ self.old.waiting }
     {

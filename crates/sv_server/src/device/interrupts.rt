@@ -9,9 +9,9 @@ ghost use Rattle.sv_links.specs.Queue.{without};
 ghost use Rattle.sv_links.specs.Channels.{ChannelOpened};
 ghost use Rattle.sv_history.specs.declared.event.Config.{Config as Configured};
 ghost use Rattle.sv_history.specs.Act.{DeviceAct, Waited, Channel, wait_acts};
-ghost use Rattle.sv_history.specs.CallOutcome.{answered, only};
+ghost use Rattle.sv_history.specs.CallOutcome.{answer_with, only};
 ghost use Rattle.sv_server.specs.Device.Representation.{IsDevice};
-ghost use Rattle.sv_history.specs.Interrupts.{has_channel as channel_there, enable_srq as enabled_srq, is_peer as may_call, is_dialing, dialed};
+ghost use Rattle.sv_history.specs.Interrupts.{has_channel as channel_there, enable_srq as enabled_srq, is_peer as may_call, is_dialing, connect_outcome};
 ghost use Rattle.sv_vxi.specs.Arguments.{CreateIntrChan};
 ghost use Rattle.sv_vxi.specs.Reading.{plain_arguments};
 ghost use Rattle.sv_links.specs.Channels.{ChannelAct, ChannelClosed, ChannelTaken, waiting as channel_bytes};
@@ -91,7 +91,7 @@ impl<A: Allocator> Device<A> {
     pub(super) fn destroy_channel(&mut self, conn: Conn) -> CallOutcome
         ensures ends { (config : Configured) (acts : List DeviceAct) → IsDevice self.old config acts
             → OutcomeIs result self.new config acts (if channel_there conn.number acts
-            then answered (Channel (ChannelClosed conn.number) ∷ []) (Plain NoError)
+            then answer_with (Channel (ChannelClosed conn.number) ∷ []) (Plain NoError)
             else only (Plain NotEstablished)) }
         ensures short { IsBrief result }
         ensures waiting { self.new.waiting ≡ self.old.waiting }
@@ -117,7 +117,7 @@ impl<A: Allocator> Device<A> {
         ensures ends { (config : Configured) (acts : List DeviceAct)
             → IsDevice self.old config acts → is_dialing conn.number (wait_acts acts) ≡ true
             → OutcomeIs result self.new config (Waited (Left conn.number) ∷ acts)
-            (dialed conn.number ok (plain_arguments args.now)) }
+            (connect_outcome conn.number ok (plain_arguments args.now)) }
         ensures short { IsBrief result }
         ensures waiting { self.new.waiting ≡ without conn.number self.old.waiting }
     {
@@ -147,7 +147,7 @@ impl<A: Allocator> Device<A> {
             → IsDevice self.old config acts → is_dialing conn.number (wait_acts acts) ≡ true
             → (addr port family : ℕ) → OutcomeIs result self.new config
             (Waited (Left conn.number) ∷ acts)
-            (dialed conn.number ok (CreateIntrChan addr port peer.prog peer.vers family)) }
+            (connect_outcome conn.number ok (CreateIntrChan addr port peer.prog peer.vers family)) }
         ensures short { IsBrief result }
         ensures waiting { self.new.waiting ≡ without conn.number self.old.waiting }
     {

@@ -4,7 +4,7 @@ ghost use Rattle.std.specs.Prelude.{◌≡◌, ◌<◌, ℕ, List, true, false, 
 ghost use Rattle.sv_links.specs.Queue.{without, queue_measure};
 ghost use Rattle.sv_history.specs.declared.event.Config.{Config};
 ghost use Rattle.sv_history.specs.Act.{ConnAct, DeviceAct};
-ghost use Rattle.sv_history.specs.Connection.{unanswered, is_busy};
+ghost use Rattle.sv_history.specs.Connection.{pending_call, is_busy};
 ghost use Rattle.sv_history.specs.Request.{core_call_in};
 ghost use Rattle.sv_server.specs.Connection.Representation.{IsConnection};
 ghost use Rattle.sv_server.specs.Device.Inside.Outcome.{IsDeviceAt, IsNearer, MayResume, is_able};
@@ -29,10 +29,10 @@ pub fn take_up<A: Allocator>(
     ensures concludes { (config : Config) (polled : ℕ) (acts : List ConnAct)
         (before : List DeviceAct) → IsConnection connection.old acts → is_busy acts ≡ true
         → IsDeviceAt device.old config polled before
-        → MayResume cause conn.number (HasPlaceOfLink (core_call_in (unanswered acts))
+        → MayResume cause conn.number (HasPlaceOfLink (core_call_in (pending_call acts))
         conn.number device.old before) before
         → ConcludesResumed (taken_up cause config polled conn.number
-        (core_call_in (unanswered acts)) before) conn.number (core_call_in (unanswered acts))
+        (core_call_in (pending_call acts)) before) conn.number (core_call_in (pending_call acts))
         config acts before device.old.waiting connection.new device.new }
     ensures left { is_able cause ≡ false
         → device.new.waiting ≡ without conn.number device.old.waiting }

@@ -9,11 +9,11 @@ ghost use Rattle.sv_instrument.specs.Representation.{instrument_measure};
 ghost use Rattle.sv_history.specs.declared.event.Config.{Config};
 ghost use Rattle.sv_history.specs.Event.{plain};
 ghost use Rattle.sv_history.specs.Act.{Act, of, device_acts, wait_acts};
-ghost use Rattle.sv_history.specs.Connection.{unanswered};
+ghost use Rattle.sv_history.specs.Connection.{pending_call};
 ghost use Rattle.sv_history.specs.Request.{core_call_in};
 ghost use Rattle.sv_history.specs.PolledStatus.{IsPolled};
 ghost use Rattle.sv_history.specs.Effect.{acts_of};
-ghost use Rattle.sv_history.specs.Resuming.{resumed, failed, late as late_error};
+ghost use Rattle.sv_history.specs.Resuming.{resume_effect, failure_effect, late as late_error};
 ghost use Rattle.sv_history.specs.Settling.{CanResume, InstrumentDoes, Resumes, TimesOut, IsSettled};
 ghost use Rattle.sv_server.specs.Server.State.{Represents};
 ghost use Rattle.sv_server.specs.Device.Inside.WaitingCall.{IsKept};
@@ -69,8 +69,8 @@ impl<A: Allocator> Server<A> {
             → CanResume (device_acts log) entry.conn → IsEntry (wait_acts (device_acts log)) entry
             → (creates entry ≡ true → creations (without entry.conn self.old.device.waiting)
             < creations self.old.device.waiting)
-            → Represents self.new config (acts_of entry.conn (resumed config polled entry.conn
-            entry.wait (core_call_in (unanswered (of entry.conn log)))
+            → Represents self.new config (acts_of entry.conn (resume_effect config polled entry.conn
+            entry.wait (core_call_in (pending_call (of entry.conn log)))
             (device_acts log)) ++ log) }
         ensures measure { queue_measure self.new.device.waiting
             < queue_measure self.old.device.waiting }
@@ -85,7 +85,8 @@ impl<A: Allocator> Server<A> {
         ensures stands { (config : Config) (log : List Act) → Represents self.old config log
             → (waits conn.number (wait_acts (device_acts log)) ≡ None → ⊥)
             → Represents self.new config (acts_of conn.number
-            (failed error conn.number (core_call_in (unanswered (of conn.number log)))) ++ log) }
+            (failure_effect error conn.number
+            (core_call_in (pending_call (of conn.number log)))) ++ log) }
         ensures waiting { self.new.device.waiting ≡ without conn.number self.old.device.waiting }
     {
         let connection = &mut self.connections[conn.index()];

@@ -3,7 +3,7 @@ use Rattle.sv_layers.specs.Act.{Act}
 use Rattle.sv_status.specs.declared.register_name.RegisterName.{RegisterName}
 use Rattle.sv_header.specs.declared.command.Question.{Question}
 use Rattle.sv_header.specs.declared.command.Question.TheVariants.{StandardEvents, Error, Events}
-use Rattle.sv_instrument.specs.CommandEffect.{taken}
+use Rattle.sv_instrument.specs.CommandEffect.{after_query}
 use Rattle.sv_instrument.proofs.Counting.{counts}
 use Rattle.sv_instrument.proofs.queries.take.Goals as goal
 
@@ -27,7 +27,7 @@ returns-in-Events-clause-exchange g c = c.apply-in-Events.ensures.exchange
 
 -- no other query takes anything
 untaken : (asked : Question) (log : List Act) → (asked ≡ StandardEvents → ⊥) → (asked ≡ Error → ⊥)
-    → ((name : RegisterName) → asked ≡ Events name → ⊥) → taken asked log ≡ log
+    → ((name : RegisterName) → asked ≡ Events name → ⊥) → after_query asked log ≡ log
 untaken StandardEvents log other _ _ = absurd (other refl)
 untaken Error log _ other _ = absurd (other refl)
 untaken (Events name) log _ _ other = absurd (other name refl)

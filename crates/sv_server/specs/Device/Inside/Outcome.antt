@@ -13,10 +13,10 @@ use Rattle.sv_history.specs.declared.event.Config.{Config}
 use Rattle.sv_history.specs.Act.{DeviceAct, Waited, Applied, link_acts, wait_acts, instrument_acts, exchange_acts}
 use Rattle.sv_history.specs.CallOutcome.{CallOutcome, only}
 use Rattle.sv_history.specs.CoreCall.{failure}
-use Rattle.sv_history.specs.Interrupts.{is_dialing, dialed}
+use Rattle.sv_history.specs.Interrupts.{is_dialing, connect_outcome}
 use Rattle.sv_history.specs.CoreChannel.{reads, own_call}
-use Rattle.sv_history.specs.Admission.{Stop, Fails, Awaits, stop_of, admitted}
-use Rattle.sv_history.specs.Resuming.{continued, next_wait}
+use Rattle.sv_history.specs.Admission.{Stop, Fails, Awaits, stop_of, admission}
+use Rattle.sv_history.specs.Resuming.{resume_outcome, next_wait}
 use Rattle.sv_history.specs.PolledStatus.{IsPolled}
 use Rattle.sv_history.specs.History.{wants_memory}
 use Rattle.sv_server.specs.declared.device.call_outcome.CallOutcome.{CallOutcome as Outcome}
@@ -87,9 +87,9 @@ pub record Does {O : Type 0} (IsSo : Config → ℕ → List DeviceAct → O →
 abbrev pub Begins : (List DeviceAct → Type 0) → {E : Type 0} → Result Outcome E → ℕ → Arguments → Device → Device → Type 0
 Begins IsAt result c arguments old new =
     Does (λ config polled acts outcome. IsAt acts
-    → OutcomeIs outcome new config acts (admitted config polled c arguments (stop_of c arguments acts) acts)
+    → OutcomeIs outcome new config acts (admission config polled c arguments (stop_of c arguments acts) acts)
     × MayWait (outcome ≡ outcomes.Suspended) c (is_create_link arguments) old.waiting new.waiting)
-    (λ config polled acts. IsAt acts → wants_memory (admitted config polled c arguments (stop_of c arguments acts) acts).adds ≡ true)
+    (λ config polled acts. IsAt acts → wants_memory (admission config polled c arguments (stop_of c arguments acts) acts).adds ≡ true)
     IsBrief result old new
 
 abbrev pub Admits : {E : Type 0} → Result Outcome E → ℕ → Arguments → Device → Device → Type 0
@@ -109,7 +109,7 @@ MayMake _ c kept acts = ⊤
 -- It is suspended anew for this; or it is executed, and not suspended any more.
 abbrev pub ResumedAs : Option (Wait × ℕ) → Outcome → Device → Config → ℕ → ℕ → Arguments → List DeviceAct → Type 0
 ResumedAs (Some wait) outcome device config polled c arguments acts =
-    OutcomeIs outcome device config acts (continued config polled c arguments (Some wait) acts)
+    OutcomeIs outcome device config acts (resume_outcome config polled c arguments (Some wait) acts)
 ResumedAs None outcome device config polled c arguments acts =
     OutcomeIs outcome device config (Waited (Left c) ∷ acts) (own_call config polled c arguments (Waited (Left c) ∷ acts))
 
@@ -138,7 +138,7 @@ abbrev pub GoesOnAs : Cause → Outcome → Device → Config → ℕ → ℕ �
 GoesOnAs (causes.Able wait) outcome device config polled c arguments acts =
     ResumedAs (next_wait wait arguments acts) outcome device config polled c arguments acts
 GoesOnAs (causes.Dialed ok) outcome device config polled c arguments acts =
-    OutcomeIs outcome device config (Waited (Left c) ∷ acts) (dialed c ok arguments)
+    OutcomeIs outcome device config (Waited (Left c) ∷ acts) (connect_outcome c ok arguments)
 GoesOnAs (causes.Failed error) outcome device config polled c arguments acts =
     OutcomeIs outcome device config (Waited (Left c) ∷ acts) (only (failure arguments error))
 

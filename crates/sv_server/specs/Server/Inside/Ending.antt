@@ -16,7 +16,7 @@ use Rattle.sv_history.specs.Request.{Request, CoreRequest}
 use Rattle.sv_history.specs.CoreChannel.{reads}
 use Rattle.sv_history.specs.Execution.{request_effect, aborts}
 use Rattle.sv_history.specs.Interrupts.{is_dialing}
-use Rattle.sv_history.specs.Resuming.{resumed, failed, connected}
+use Rattle.sv_history.specs.Resuming.{resume_effect, failure_effect, connect_effect}
 use Rattle.sv_history.specs.History.{wants_memory}
 use Rattle.sv_server.specs.declared.connection.reply.Answer.TheVariants.{Result as Told}
 use Rattle.sv_server.specs.declared.device.call_outcome.CallOutcome.{CallOutcome as Outcome}
@@ -95,9 +95,9 @@ HasPlaceOfLink call c kept acts = creates_link call ≡ true
 
 -- What comes of it.
 abbrev pub taken_up : Cause → Config → ℕ → ℕ → Option CoreCall → List DeviceAct → Effect
-taken_up (causes.Able wait) config polled c call acts = resumed config polled c wait call acts
-taken_up (causes.Dialed ok) config polled c call acts = connected c ok call
-taken_up (causes.Failed error) config polled c call acts = failed error c call
+taken_up (causes.Able wait) config polled c call acts = resume_effect config polled c wait call acts
+taken_up (causes.Dialed ok) config polled c call acts = connect_effect c ok call
+taken_up (causes.Failed error) config polled c call acts = failure_effect error c call
 
 -- A suspended call that was taken up ends so, or waits anew.
 abbrev pub ConcludesResumed : Effect → ℕ → Option CoreCall → Config → List ConnAct → List DeviceAct → List Entry → Connection → Device

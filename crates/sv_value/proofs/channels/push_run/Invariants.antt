@@ -1,12 +1,12 @@
 use Rattle.std.proofs.Common.{◌≡◌, ◌<◌, ◌+◌, ◌-◌, ◌++◌, length}
 use Rattle.sv_errors.specs.Limits.{longest_list}
-use Rattle.sv_value.specs.Channels.{run}
+use Rattle.sv_value.specs.Channels.{channel_range}
 use Rattle.sv_value.proofs.channels.push_run.Given as goal
 
 -- what is pushed, and the channels from here on
 abbrev pub invariant-loop-channel : goal.invariant-loop-channel
 invariant-loop-channel l = record {
-  same : l.list.items ++ run l.channel l.last ≡ l.fn.list.items ++ run l.first l.last;
+  same : l.list.items ++ channel_range l.channel l.last ≡ l.fn.list.items ++ channel_range l.first l.last;
   fits : length l.list.items + (l.channel - l.last) + (l.last - l.channel) < longest_list;
 }
 

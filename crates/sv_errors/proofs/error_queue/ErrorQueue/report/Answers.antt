@@ -8,7 +8,7 @@ use Rattle.sv_errors.specs.declared.code.Code.{Code}
 use Rattle.sv_errors.specs.declared.code.Code.TheVariants.{QueueOverflow}
 use Rattle.sv_errors.specs.declared.error_queue.QueueAct.{QueueAct}
 use Rattle.sv_errors.specs.declared.error_queue.QueueAct.TheVariants.{Report}
-use Rattle.sv_errors.specs.ErrorQueue.{StandsFor, entries, shown, most}
+use Rattle.sv_errors.specs.ErrorQueue.{StandsFor, entries, entry_code, most}
 use Rattle.sv_errors.proofs.Queue.{StandsFor-reported, StandsFor-overflowed}
 use Rattle.sv_errors.proofs.error_queue.ErrorQueue.report.Goals as goal
 
@@ -51,4 +51,4 @@ returns-then-full-clause-full g c = search rules
 pub returns-then-full-clause-answer : goal.returns-then-full-clause-answer
 returns-then-full-clause-answer g c =
     let full : nat_le most c.len-full.result ≡ (length c.args.self.now == most) = search rules in
-    λ acts stands. full ∙ ap (λ (n : ℕ). n == most) (ap length stands ∙ length-map (entries acts) (shown acts))
+    λ acts stands. full ∙ ap (λ (n : ℕ). n == most) (ap length stands ∙ length-map (entries acts) (entry_code acts))

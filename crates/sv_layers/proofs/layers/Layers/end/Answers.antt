@@ -6,8 +6,8 @@ use Rattle.sv_scan.specs.Condition as scan
 use Rattle.sv_logs.proofs.Since.{then_same}
 use Rattle.sv_layers.specs.Act.{scan_acts}
 use Rattle.sv_layers.specs.Change.{act_of}
-use Rattle.sv_layers.specs.Condition.{counted, summary}
-use Rattle.sv_layers.specs.Inside.LayerLogs.{begun, register_acts, seen}
+use Rattle.sv_layers.specs.Condition.{effective_acts, summary}
+use Rattle.sv_layers.specs.Inside.LayerLogs.{after_begin, register_acts, layer_logs}
 use Rattle.sv_layers.proofs.Booleans.{same_bool, neither}
 use Rattle.sv_layers.proofs.SameWords.{same_words}
 use Rattle.sv_layers.proofs.SameSummaries.{same_summary}
@@ -34,16 +34,16 @@ returns-clause-stands g c = λ log act status_log same h.
     (then_same (summary_is Limit (λ place. refl) log) (let is = same_summary Limit log in (is.1, is.0))) in
     let stands : c.summary-stands.result ≡ summary Limit (act ∷ log) = same_bool _ _ (c.summary-stands.ensures _ _ limit)
     (then_same (summary_is Limit (λ place. refl) (act ∷ log)) (let is = same_summary Limit (act ∷ log) in (is.1, is.0))) in
-    let word = questionable_is _ _ (counted (act ∷ log)) (summary Limit (act ∷ log)) questions
+    let word = questionable_is _ _ (effective_acts (act ∷ log)) (summary Limit (act ∷ log)) questions
     (c.summary_bit.ensures ∙ ap (scan.bit 9) stands) in
     let questionable = ended_stands Questionable other act log _ _ word (same.0 Questionable) (c.change_register-3.ensures _ _
     (c.compare-3.ensures _ _ (begun_stands Questionable act log _ (j.registers Questionable)) (λ no.
     let both = neither c.touched-touched.result.questionable c.differ.result no in
     let moved = sym stands ∙ sym (c.differ.ensures both.1) ∙ stood in
     word ∙ ap (λ (w : ℕ). w + scan.bit 9 (summary Limit (act ∷ log))) (left.1 both.0)
-    ∙ ap (λ (b : Bool). scan.questionable (counted log) + scan.bit 9 b) moved ∙ sym (same_words Questionable log).0))) in
-    let k = rw (← c.self-2.view_is) at (c.complete.ensures.stands (record (begun act (seen log)) {
-      registers = λ name. register_acts name (seen (act ∷ log));
+    ∙ ap (λ (b : Bool). scan.questionable (effective_acts log) + scan.bit 9 b) moved ∙ sym (same_words Questionable log).0))) in
+    let k = rw (← c.self-2.view_is) at (c.complete.ensures.stands (record (after_begin act (layer_logs log)) {
+      registers = λ name. register_acts name (layer_logs (act ∷ log));
     }) status_log (record {
       exchange = j.exchange;
       errors = j.errors;

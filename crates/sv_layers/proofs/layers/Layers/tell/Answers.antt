@@ -3,7 +3,7 @@ use Rattle.std.specs.Prelude.{◌↔◌}
 use Rattle.sv_status.specs.declared.status_byte.StatusAct.{StatusAct}
 use Rattle.sv_status.specs.declared.status_byte.StatusAct.TheVariants.{Update}
 use Rattle.sv_status.specs.StatusByte.{StandsFor as Statuses, IsRaised}
-use Rattle.sv_layers.specs.Inside.LayerLogs.{seen}
+use Rattle.sv_layers.specs.Inside.LayerLogs.{layer_logs}
 use Rattle.sv_layers.specs.Inside.Representation.{IsStatus, max_count, own_status}
 use Rattle.sv_logs.proofs.Since.{then_same}
 use Rattle.sv_layers.proofs.Booleans.{byte_is}
@@ -13,7 +13,7 @@ use Rattle.sv_layers.proofs.layers.Layers.tell.Goals as goal
 pub returns-clause-applied : goal.returns-clause-applied
 returns-clause-applied g c = λ log act before is h.
     let j = rw (← c.self.view_is) at h in
-    let status_log : List StatusAct = Update c.summary-bits.result (seen (act ∷ log)).service ∷ own_status act before in
+    let status_log : List StatusAct = Update c.summary-bits.result (layer_logs (act ∷ log)).service ∷ own_status act before in
     let are : IsStatus (act ∷ log) status_log = (c.summary-bits.result, before, c.summary-bits.ensures _ _ h, is, refl) in
     let status : Statuses c.update-raised.new.self status_log =
     subst (λ (n : ℕ). Statuses c.update-raised.new.self (Update c.summary-bits.result n ∷ own_status act before)) j.service

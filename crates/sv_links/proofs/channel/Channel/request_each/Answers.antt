@@ -4,7 +4,7 @@ use Rattle.std.specs.List.{fold}
 use Rattle.std.proofs.lemmas.List.{take_all}
 use Rattle.sv_links.specs.declared.request.Peer.{Peer}
 use Rattle.sv_links.specs.declared.enabled.Enabled.{Enabled}
-use Rattle.sv_links.specs.Channels.{called, handles_of}
+use Rattle.sv_links.specs.Channels.{add_call, handles_of}
 use Rattle.sv_links.specs.ChannelRepresentation.{Channel, IsQueued}
 use Rattle.sv_links.proofs.Calling.{called_for, called_own, called_other, open_for}
 use Rattle.sv_links.proofs.channel.Channel.request_each.Goals as goal
@@ -42,7 +42,7 @@ returns-clause-queued g c count calls peer there is =
     let stage = sym (ap (λ (kept : Channel). kept.stage) c.self.view_is) ∙ c.in-Open.is in
     let same = open_for c.args.self.now.stage c.in-Open.peer peer stage there in
     let all = take_all i links c.loop-link-test.false in
-    subst (λ (called : List (List ℕ)). IsQueued c.loop-link.self count called)
+    subst (λ (add_call : List (List ℕ)). IsQueued c.loop-link.self count add_call)
     (ap (λ (p : Peer). called_for p count c.args.conn links i calls) (sym same)
-    ∙ ap (λ (links : List Enabled). fold (called (Some peer) count) calls (handles_of c.args.conn links)) all)
+    ∙ ap (λ (links : List Enabled). fold (add_call (Some peer) count) calls (handles_of c.args.conn links)) all)
     (c.loop-link.invariant.queued count calls is)

@@ -1,18 +1,18 @@
 use Rattle.std.proofs.Common.{rules}
 use Rattle.sv_scan.specs.declared.acts.ScanAct.TheVariants.{Init}
-use Rattle.sv_scan.specs.Counted.{kept, init_fault}
+use Rattle.sv_scan.specs.Counted.{effective, init_fault}
 use Rattle.sv_scan.proofs.Stands.{StandsFor-counted, StandsFor-dropped, is_accepted, is_refused}
 use Rattle.sv_scan.proofs.scanner.Scanner.init.Goals as goal
 
 pub returns-in-Ok-clause-stands : goal.returns-in-Ok-clause-stands
 returns-in-Ok-clause-stands g c acts is =
     StandsFor-counted _ Init acts
-    (is_accepted (init_fault (kept acts)) (c.in-Ok.ensures acts is)) (search rules)
+    (is_accepted (init_fault (effective acts)) (c.in-Ok.ensures acts is)) (search rules)
 
 pub returns-in-Err-clause-stands : goal.returns-in-Err-clause-stands
 returns-in-Err-clause-stands g c acts is =
     StandsFor-dropped _ Init acts
-    (is_refused (init_fault (kept acts)) _ (c.in-Err.ensures acts is)) is
+    (is_refused (init_fault (effective acts)) _ (c.in-Err.ensures acts is)) is
 
 pub returns-in-Err-clause-answer : goal.returns-in-Err-clause-answer
 returns-in-Err-clause-answer g c = c.in-Err.ensures

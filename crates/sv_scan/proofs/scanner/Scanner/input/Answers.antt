@@ -3,7 +3,7 @@ use Rattle.std.proofs.lemmas.Bool.{ne_eqb}
 use Rattle.std.proofs.lemmas.Int.{to_z-of_z}
 use Rattle.sv_scan.specs.declared.touched.Touched.{Touched}
 use Rattle.sv_scan.specs.declared.acts.ScanAct.TheVariants.{Input}
-use Rattle.sv_scan.specs.Counted.{kept}
+use Rattle.sv_scan.specs.Counted.{effective}
 use Rattle.sv_errors.specs.Limits.{is_channel}
 use Rattle.sv_scan.proofs.Stands.{StandsFor-counted, Holds-input}
 use Rattle.sv_scan.proofs.scanner.Scanner.input.Goals as goal
@@ -14,7 +14,7 @@ returns-then-is_channel-clause-stands g c acts is =
     let legal : is_channel c.args.channel ≡ true =
     ap is_channel (sym c.from.ensures) ∙ (sym c.is_channel.ensures ∙ c.if-is_channel.true) in
     rw (c.from-then-is_channel.ensures, same) (StandsFor-counted _ (Input c.args.channel c.args.microvolts) acts legal
-    (Holds-input _ (kept acts) c.args.channel c.args.microvolts c.self.invariant.inputs legal (rw (← c.self.view_is) at is)))
+    (Holds-input _ (effective acts) c.args.channel c.args.microvolts c.self.invariant.inputs legal (rw (← c.self.view_is) at is)))
 
 pub returns-then-is_channel-clause-untouched : goal.returns-then-is_channel-clause-untouched
 returns-then-is_channel-clause-untouched g c differs =

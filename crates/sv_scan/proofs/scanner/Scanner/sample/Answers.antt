@@ -3,7 +3,7 @@ use Rattle.std.proofs.lemmas.Int.{to_z-of_z}
 use mir.Val.{SFits}
 use Rattle.sv_scan.specs.declared.acts.ScanAct.TheVariants.{Sample}
 use Rattle.sv_scan.specs.Scan.{channel_at, reading_in}
-use Rattle.sv_scan.specs.Counted.{kept, is_scanning}
+use Rattle.sv_scan.specs.Counted.{effective, is_scanning}
 use Rattle.sv_scan.proofs.Runs.{has_room, turn_is, IsValid-sample}
 use Rattle.sv_scan.proofs.Stands.{StandsFor-counted, Holds-sample}
 use Rattle.sv_scan.proofs.scanner.Scanner.sample.Goals as goal
@@ -41,4 +41,4 @@ returns-clause-stands g c acts is =
     (to_z-of_z w64 c.self.inside.settings.range fits)
     ∙ ap (reading_in c.self.inside.settings.range) (to_z-of_z w64 c.voltage.result heard ∙ voltage) in
     rw (c.push_reserved.ensures.items, reading) (StandsFor-counted _ Sample acts counted
-    (Holds-sample _ (kept acts) c.in-Some.run' c.in-Some.is known h))
+    (Holds-sample _ (effective acts) c.in-Some.run' c.in-Some.is known h))

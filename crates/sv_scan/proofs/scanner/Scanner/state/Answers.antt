@@ -1,5 +1,5 @@
 use Rattle.std.proofs.Common.{◌∙◌, ap}
-use Rattle.sv_scan.specs.Counted.{kept}
+use Rattle.sv_scan.specs.Counted.{effective}
 use Rattle.sv_scan.specs.Representation.{run_state}
 use Rattle.sv_scan.proofs.Searches.{state_is}
 use Rattle.sv_scan.proofs.scanner.Scanner.state.Goals as goal
@@ -11,4 +11,4 @@ returns-clause-value g c =
 pub returns-clause-answer : goal.returns-clause-answer
 returns-clause-answer g c acts is =
     c.state_in.ensures ∙ ap (run_state c.self.inside.run) (c.len.ensures ∙ c.self.inside.readings.ok.0)
-    ∙ state_is _ (kept acts) (rw (← c.self.view_is) at is)
+    ∙ state_is _ (effective acts) (rw (← c.self.view_is) at is)

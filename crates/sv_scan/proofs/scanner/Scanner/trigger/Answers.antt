@@ -1,18 +1,18 @@
 use Rattle.std.proofs.Common.{rules}
 use Rattle.sv_scan.specs.declared.acts.ScanAct.TheVariants.{Trigger}
-use Rattle.sv_scan.specs.Counted.{kept, trigger_fault}
+use Rattle.sv_scan.specs.Counted.{effective, trigger_fault}
 use Rattle.sv_scan.proofs.Stands.{StandsFor-counted, StandsFor-dropped, is_accepted, is_refused}
 use Rattle.sv_scan.proofs.scanner.Scanner.trigger.Goals as goal
 
 pub returns-in-Some-clause-stands : goal.returns-in-Some-clause-stands
 returns-in-Some-clause-stands g c acts is =
     StandsFor-counted _ (Trigger c.args.source) acts
-    (is_accepted (trigger_fault (kept acts) c.args.source) (c.in-Ok.ensures.answer acts is)) (search rules)
+    (is_accepted (trigger_fault (effective acts) c.args.source) (c.in-Ok.ensures.answer acts is)) (search rules)
 
 pub returns-in-Err-clause-stands : goal.returns-in-Err-clause-stands
 returns-in-Err-clause-stands g c acts is =
     StandsFor-dropped _ (Trigger c.args.source) acts
-    (is_refused (trigger_fault (kept acts) c.args.source) _ (c.in-Err.ensures.answer acts is)) is
+    (is_refused (trigger_fault (effective acts) c.args.source) _ (c.in-Err.ensures.answer acts is)) is
 
 pub returns-in-Err-clause-answer : goal.returns-in-Err-clause-answer
 returns-in-Err-clause-answer g c = c.in-Err.ensures.answer

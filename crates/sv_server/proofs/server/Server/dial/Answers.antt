@@ -1,6 +1,6 @@
 use Rattle.std.proofs.Common.{None, sym, ap, ◌∙◌}
 use Rattle.sv_history.specs.Act.{of, device_acts}
-use Rattle.sv_history.specs.Connection.{unanswered}
+use Rattle.sv_history.specs.Connection.{pending_call}
 use Rattle.sv_history.specs.Request.{core_call_in}
 use Rattle.std.specs.Prelude.{List}
 use Rattle.sv_history.specs.Act.{ConnAct}
@@ -16,7 +16,7 @@ pub returns-in_err-connection : goal.returns-in_err-connection
 returns-in_err-connection g c = λ config history s.
     let state = rw (← c.self.view_is) at s.represents in
     let dialing = sym (c.if-not-is_dialing.ensures config (device_acts s.log) state.device) in
-    let none = ap (λ (acts : List ConnAct). core_call_in (unanswered acts)) (c.in_err-connection.ensures config s.log s.represents) in
+    let none = ap (λ (acts : List ConnAct). core_call_in (pending_call acts)) (c.in_err-connection.ensures config s.log s.represents) in
     (s.log, s.is_log, c.from_residual.ensures ∙ sym (dial_is c.args.conn s.log None dialing none))
 
 pub returns-in_err-call : goal.returns-in_err-call

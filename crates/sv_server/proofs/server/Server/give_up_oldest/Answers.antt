@@ -1,10 +1,10 @@
 use Rattle.std.proofs.Common.{refl, sym, ap, ◌∙◌, ◌≡◌, ◌++◌, Some, None}
 use Rattle.sv_vxi.specs.declared.error_code.ErrorCode.{ErrorCode}
 use Rattle.sv_history.specs.Act.{of, device_acts}
-use Rattle.sv_history.specs.Connection.{unanswered}
+use Rattle.sv_history.specs.Connection.{pending_call}
 use Rattle.sv_history.specs.Request.{core_call_in}
 use Rattle.sv_history.specs.Effect.{acts_of}
-use Rattle.sv_history.specs.Resuming.{failed}
+use Rattle.sv_history.specs.Resuming.{failure_effect}
 use Rattle.sv_server.proofs.server.Server.give_up_oldest.Goals as goal
 
 pub returns-in-Some-clause-steps : goal.returns-in-Some-clause-steps
@@ -19,7 +19,7 @@ returns-in-Some-clause-steps g c = λ config log rep.
         entry.wait,
         oldest,
         is.0,
-        ap (λ (e : ErrorCode). acts_of entry.conn (failed e entry.conn (core_call_in (unanswered (of entry.conn log)))) ++ log)
+        ap (λ (e : ErrorCode). acts_of entry.conn (failure_effect e entry.conn (core_call_in (pending_call (of entry.conn log)))) ++ log)
             c.late.ensures,
       ),
       c.give_up.ensures.stands config log rep (λ none. let z : Some entry.wait ≡ None = sym is.0 ∙ none in cc),
