@@ -77,7 +77,7 @@ impl Served {
         })
     }
 
-    /// Waits until something comes, at most so long where there is a limit, and gives back what
+    /// Waits until something comes, at most so long if there is a limit, and gives back what
     /// came; whether anything did.
     fn spin(&mut self, limit: Option<Duration>) -> io::Result<bool> {
         self.poll.poll(&mut self.events, limit)?;

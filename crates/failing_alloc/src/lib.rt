@@ -38,7 +38,7 @@ mod tests;
 /// do, so each time counts as one allocation and may be the one that is refused.
 pub struct FailingAllocator<B: Allocator> {
     inner: B,
-    // How many allocations are left up to the refused one, which is among them; 0 where none is to
+    // How many allocations are left up to the refused one, which is among them; 0 if none is to
     // be refused.
     left: Cell<u64>,
 }

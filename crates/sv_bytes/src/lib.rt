@@ -1,4 +1,4 @@
-//! Bytes: pieces put behind others, and bytes dropped from the front.
+//! Bytes: pieces put after others, and bytes dropped from the front.
 //!
 //! Nothing allocates.
 #![tactic(auto)]

@@ -1,10 +1,10 @@
-//! Pieces put behind bytes, and bytes dropped from their front.
+//! Pieces put after bytes, and bytes dropped from their front.
 
 ghost use Rattle.std.specs.Prelude.{◌≡◌, ◌+◌, ◌≤◌, ◌++◌, drop, length, vec_len, vec_capacity};
 
 use std::alloc::Allocator;
 
-/// Puts a piece behind bytes that have room for it. It doesn't allocate.
+/// Puts a piece after bytes that have room for it. It doesn't allocate.
 pub fn append<A: Allocator>(bytes: &mut Vec<u8, A>, piece: &[u8])
     requires { vec_len bytes.old + length piece.now ≤ vec_capacity bytes.old }
     ensures items { bytes.new.items ≡ bytes.old.items ++ piece.now }

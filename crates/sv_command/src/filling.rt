@@ -14,7 +14,7 @@ use sv_value::{boolean, keyword, microvolts, whole};
 /// All bits of a mask but bit 6.
 const ALL_BUT_SIX: u8 = 191;
 
-/// What a command asks for.
+/// The order of a command with this parameter.
 pub(crate) fn order(command: CommandId, given: Option<Token<'_>>) -> Result<Order, Code>
     ensures { result ≡ order_of command (given_by given.entry) }
 {
@@ -30,7 +30,7 @@ pub(crate) fn order(command: CommandId, given: Option<Token<'_>>) -> Result<Orde
     }
 }
 
-/// What a setting is set to.
+/// The order that sets a setting to the value of a token.
 fn set(name: SettingName, token: &Token<'_>) -> Result<Order, Code>
     ensures { result ≡ set_order name token.now.kind token.now.text.now }
 {

@@ -7,7 +7,7 @@ use sv_status::RegisterName;
 /// What a unit asks for, with its values. A register's mask may have bit 15; the register drops it.
 #[derive(Drop)]
 pub enum Order {
-    /// A command, or a query that waits, without a value.
+    /// An action without a value: a command, or a query that waits.
     Do(Action),
     /// A query that is answered at once.
     Ask(Question),

@@ -34,7 +34,7 @@ pub fn read_unit<A: Allocator>(
     }
 }
 
-/// What a unit asks for whose header is spelled as one.
+/// The order of a unit whose header is well spelled.
 fn named<A: Allocator>(table: &Table<A>, path: &mut Path, unit: &Unit<'_>) -> Result<Order, Code>
     ensures { IsNamed path.old unit.now result path.new }
 {
@@ -48,7 +48,7 @@ fn named<A: Allocator>(table: &Table<A>, path: &mut Path, unit: &Unit<'_>) -> Re
     }
 }
 
-/// What a command asks for in a unit.
+/// The order of a command with the parameters of its unit.
 fn asked(command: CommandId, unit: &Unit<'_>) -> Result<Order, Code>
     ensures { result ≡ asked_by command unit.now }
 {

@@ -63,7 +63,7 @@ pub(crate) fn monitor(token: &Token<'_>) -> Result<u8, Code>
     }
 }
 
-/// The one channel of some; more are too many.
+/// The only channel of a list; -223 for more.
 fn only(channels: &[u8]) -> Result<u8, Code>
     ensures { result ≡ only_channel (Ok channels.now) }
 {

@@ -50,7 +50,7 @@ up_to place acts = drop (length acts - place) acts
 abbrev pub report_of : List QueueAct → Option Code
 report_of = elim [ Report code ∷ acts ↦ Some code | _ ↦ None ]
 
--- whether the act behind this place is another report
+-- whether the act after this place is another report
 abbrev pub is_overtaken : ℕ → List QueueAct → Bool
 is_overtaken place acts = nat_lt place (length acts) && is_some (report_of (up_to (place + 1) acts))
 

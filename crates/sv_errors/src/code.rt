@@ -17,21 +17,21 @@ const QUERY_ERROR: u8 = 1 << 2;
 pub enum Code {
     /// Nothing is wrong.
     NoError,
-    /// A byte that no command has.
+    /// A byte that no program message may have.
     InvalidCharacter,
-    /// A header or a parameter that is spelled like none.
+    /// A header or a parameter with a wrong spelling.
     SyntaxError,
     /// A parameter of another kind than the command takes.
     DataTypeError,
-    /// More parameters than the command takes.
+    /// More parameters than the command accepts.
     ParameterNotAllowed,
-    /// Fewer parameters than the command wants.
+    /// Fewer parameters than the command requires.
     MissingParameter,
     /// A mnemonic of more than 12 characters.
     ProgramMnemonicTooLong,
-    /// A header that is no command's.
+    /// A header that no command has.
     UndefinedHeader,
-    /// A byte in a number that no number has there.
+    /// A byte that can't stand at its place in a number.
     InvalidCharacterInNumber,
     /// An exponent whose magnitude is above 32,000.
     ExponentTooLarge,
@@ -39,37 +39,37 @@ pub enum Code {
     TooManyDigits,
     /// A suffix that is no unit of the parameter.
     InvalidSuffix,
-    /// A suffix where the parameter has no unit.
+    /// A suffix on a parameter that has no unit.
     SuffixNotAllowed,
-    /// Character data with a byte that it may not have.
+    /// Character data with a byte that isn't a letter, a digit or an underscore.
     InvalidCharacterData,
-    /// An expression that is spelled like none.
+    /// An expression with a wrong spelling.
     InvalidExpression,
     /// A trigger that nothing waited for.
     TriggerIgnored,
     /// An initiation while a measurement is under way.
     InitIgnored,
-    /// A reading that would wait for a trigger which can't come.
+    /// `READ?` with triggers from the bus, which couldn't come while it waits.
     TriggerDeadlock,
     /// A setting that can't be changed now.
     SettingsConflict,
-    /// A value that the parameter may not have.
+    /// A value outside the parameter's range.
     DataOutOfRange,
-    /// A list of more than the parameter may have.
+    /// A list of more channels than the parameter may have.
     TooMuchData,
-    /// A choice that the parameter doesn't offer.
+    /// A keyword that isn't a choice of the parameter.
     IllegalParameterValue,
-    /// Readings that aren't valid.
+    /// No complete measurement to fetch.
     DataCorruptOrStale,
-    /// Errors were lost for want of room.
+    /// The error queue was full, and errors were lost.
     QueueOverflow,
-    /// A message longer than the input may be.
+    /// A message longer than the input buffer.
     InputBufferOverrun,
     /// A message came before the response to the last one was read.
     QueryInterrupted,
-    /// A response was asked for that nothing gives.
+    /// A read when no query was asked.
     QueryUnterminated,
-    /// A response longer than the output may be.
+    /// A response longer than the output buffer.
     QueryDeadlocked,
 }
 

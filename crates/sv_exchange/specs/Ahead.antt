@@ -41,7 +41,7 @@ pub record IsBegun (ahead : Ahead) (text : List ℕ) : Type 0 where
   pub within : ahead.looked ≤ length text
   pub seen : IsAhead ahead (take ahead.looked text)
 
--- The text was looked at up to the semicolon behind the first unit, or to its end.
+-- The text was looked at up to the semicolon after the first unit, or to its end.
 pub record IsLooked (ahead : Ahead) (text : List ℕ) : Type 0 where
   pub begun : IsBegun ahead text
   pub all : ahead.closed ≡ false → ahead.looked ≡ length text

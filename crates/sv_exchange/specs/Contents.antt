@@ -5,7 +5,7 @@ use Rattle.sv_exchange.specs.declared.exchange.Next.TheVariants as next
 use Rattle.sv_exchange.specs.Exchange.{ExchangeAct, Symbol, Byte, end_mark, text, messages, messages_finished, current, units_done, has_overrun, has_dropped, answers, units, is_something, joined_answers, response, Due, NothingDue, OverrunDue, InterruptDue, UnitDue, FinishDue, due_unit}
 use Rattle.sv_exchange.specs.Limits.{max_message}
 
--- what is kept: the rest of the current message, and whether it has ended; the text behind it, and whether END follows that; what happened
+-- what is kept: the rest of the current message, and whether it has ended; the text after it, and whether END follows that; what happened
 -- to the message; and its answers, or else what can be read
 pub record Contents : Type 0 where
   pub rest : List ℕ
@@ -33,11 +33,11 @@ empty = record {
   output = [];
 }
 
--- bytes, and a mark behind them if END follows
+-- bytes, and a mark after them if END follows
 abbrev pub symbols : List ℕ → Bool → List Symbol
 symbols bytes end_pending = map Byte bytes ++ end_mark end_pending
 
--- the messages behind the current one, if that has ended
+-- the messages after the current one, if that has ended
 abbrev pub following : Bool → List ℕ → Bool → List (List ℕ)
 following true later end_pending = messages (symbols later end_pending)
 following false later end_pending = []

@@ -20,7 +20,7 @@ pub data ExchangeAct : Type 0 where
   Interrupted : ExchangeAct
   ResponseRead : (count : ℕ) → ExchangeAct
 
--- program text: bytes, and a mark behind the last byte of a write with END
+-- program text: bytes, and a mark after the last byte of a write with END
 pub data Symbol : Type 0 where
   Byte : ℕ → Symbol
   End : Symbol
@@ -151,6 +151,6 @@ due acts =
     if is_long acts && not (has_overrun (current acts)) then OverrunDue
     else due_unit (next_unit acts) ((units_done (current acts) == 0) && is_something (response acts)) (has_ended acts)
 
--- whether an answer fits the response, behind the answers before it and with the new line
+-- whether an answer fits the response, after the answers before it and with the new line
 abbrev pub fits_response : List (List ℕ) → List ℕ → Bool
 fits_response before answer = nat_lt (length (joined_answers (before ++ answer ∷ []))) max_response

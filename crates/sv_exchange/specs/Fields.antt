@@ -66,7 +66,7 @@ contents_of text cursor end next_start ended end_pending overlong overrun_report
   output = drop read response;
 }
 
--- While answers are collected, none of them was read, and a new line fits behind them.
+-- While answers are collected, none of them was read, and a new line fits after them.
 abbrev pub IsOut : Bool → ℕ → ℕ → Type 0
 IsOut true size read = (size < max_response) × (read ≡ 0)
 IsOut false size read = (size ≤ max_response) × (read ≤ size)

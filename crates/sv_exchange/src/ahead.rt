@@ -11,16 +11,16 @@ use sv_lexer::{Partial, Unit};
 use sv_text::is_space;
 
 /// The unit that comes next in a message (IEEE 488.2, 7.3.2 and 7.4.1). The message is looked at up
-/// to the semicolon behind it, each byte once. Places count from where the text begins.
+/// to the semicolon after it, each byte once. Places count from where the text begins.
 #[derive(Drop)]
 pub(crate) struct Ahead {
-    /// Where the unit begins, and where it ends without white space behind it. While it hasn't
+    /// Where the unit begins, and where it ends without white space after it. While it hasn't
     /// begun, both are how far the text was looked at.
     start: usize,
     end: usize,
-    /// How far the text was looked at.
+    /// How many bytes of the text were read.
     looked: usize,
-    /// Whether there was a semicolon behind the unit.
+    /// Whether there was a semicolon after the unit.
     closed: bool,
     /// The unit, read byte by byte.
     partial: Partial,
@@ -42,7 +42,7 @@ impl Ahead {
         ahead
     }
 
-    /// The text goes on, or is another one.
+    /// Reads on: the text grew, or it is another one.
     pub(crate) fn look_on(&mut self, text: &[u8], anew: bool)
         requires { anew ≡ false → IsBegun self.old text.now }
         ensures { IsLooked self.new text.now }
@@ -77,7 +77,7 @@ impl Ahead {
         self.partial.finish(&text[self.start..self.end])
     }
 
-    /// Looks at what wasn't looked at, up to the semicolon behind the unit.
+    /// Reads the bytes that weren't read yet, up to the semicolon after the unit.
     fn look(&mut self, text: &[u8])
         requires { IsBegun self.old text.now }
         ensures { IsLooked self.new text.now }
@@ -90,7 +90,7 @@ impl Ahead {
         }
     }
 
-    /// Looks at one byte.
+    /// Reads one byte.
     fn look_at(&mut self, text: &[u8])
         requires begun { IsBegun self.old text.now }
         requires within { self.old.looked < length text.now }
@@ -124,7 +124,7 @@ impl Ahead {
         }
     }
 
-    /// White space is stepped over where the unit hasn't begun.
+    /// White space before the unit is skipped.
     fn space(&mut self)
         requires { self.old.looked < 2 ^ 64 - 1 }
         ensures { self.new ≡ behind_space self.old }

@@ -21,7 +21,7 @@ use sv_lexer::Unit;
 /// What is due.
 #[derive(Clone, Copy)]
 pub enum Next<'a> {
-    /// Nothing, until more text comes.
+    /// Nothing is due until more text comes.
     Nothing,
     /// The current message is too long, which is to be reported.
     Overrun,
@@ -43,7 +43,7 @@ pub struct Exchange<A: Allocator = Global> {
     cursor: usize,
     /// Where the current message ends.
     end: usize,
-    /// The unit at `cursor`, as far as the current message was looked at.
+    /// The unit at `cursor`, as far as the current message was read.
     ahead: Ahead,
     /// Where the next message begins.
     next_start: usize,
@@ -51,7 +51,7 @@ pub struct Exchange<A: Allocator = Global> {
     ended: bool,
     /// Whether END came with the last byte of the later text.
     end_pending: bool,
-    /// Whether the current message is too long, whose bytes are dropped then.
+    /// Whether the current message is too long; its bytes are then dropped.
     overlong: bool,
     /// Whether that was reported.
     overrun_reported: bool,
@@ -248,7 +248,7 @@ impl<A: Allocator> Exchange<A> {
         self.answering = false;
     }
 
-    /// Adds an answer behind those of the units before, separated by a semicolon (IEEE 488.2,
+    /// Adds an answer after those of the units before, separated by a semicolon (IEEE 488.2,
     /// 8.4.1); a unit has to have been executed before. Returns whether it fits. If the response
     /// would exceed [`MAX_RESPONSE`] bytes, all answers of the message are dropped, and no further
     /// unit of it is executed.
@@ -338,7 +338,7 @@ impl<A: Allocator> Exchange<A> {
         self.read = 0;
     }
 
-    /// Drops all text, and what happened to its messages.
+    /// Drops all text and the state of its messages.
     fn drop_text(&mut self)
         ensures { self.new ≡ record empty {
           answering = self.old.answering;
@@ -370,7 +370,7 @@ impl<A: Allocator> Exchange<A> {
     }
 }
 
-/// Drops the bytes that are done. Where there are none, it costs nothing.
+/// Drops the bytes that were executed.
 fn drop_done<A: Allocator>(bytes: &mut Vec<u8, A>, count: usize)
     requires { count ≤ vec_len bytes.old }
     ensures items { bytes.new.items ≡ drop count bytes.old.items }
@@ -381,7 +381,7 @@ fn drop_done<A: Allocator>(bytes: &mut Vec<u8, A>, count: usize)
     }
 }
 
-/// Puts an answer behind those before it, with a semicolon between; or in the place of all bytes.
+/// Puts an answer after those before it, with a semicolon between; or in the place of all bytes.
 fn put_answer<A: Allocator>(bytes: &mut Vec<u8, A>, joins: bool, answer: &[u8])
     requires { length (with_answer joins bytes.old.items answer.now) ≤ vec_capacity bytes.old }
     ensures items { bytes.new.items ≡ with_answer joins bytes.old.items answer.now }
@@ -395,7 +395,7 @@ fn put_answer<A: Allocator>(bytes: &mut Vec<u8, A>, joins: bool, answer: &[u8])
     append(bytes, answer);
 }
 
-/// Ends answers by a new line, where there are any.
+/// Ends the answers by a new line, if there are any.
 fn end_response<A: Allocator>(bytes: &mut Vec<u8, A>, answers: bool)
     requires { IsTrue answers → vec_len bytes.old < vec_capacity bytes.old }
     ensures items { bytes.new.items

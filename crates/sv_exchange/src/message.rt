@@ -14,12 +14,12 @@ pub(crate) struct Cut {
     pub(crate) next_start: usize,
     /// Whether it has ended.
     pub(crate) ended: bool,
-    /// Whether END comes behind the bytes of the later messages.
+    /// Whether END comes after the bytes of the later messages.
     pub(crate) end_pending: bool,
 }
 
 /// Cuts the first message off. It ends at a new line, or at END, which comes with the last byte
-/// where there is a end_pending (IEEE 488.2, 7.5).
+/// if `end_pending` says so (IEEE 488.2, 7.5).
 pub(crate) fn first_message(bytes: &[u8], end_pending: bool) -> Cut
     ensures size { result.size ≡ first_size bytes.now }
     ensures next_start { result.next_start ≡ second_at bytes.now }

@@ -9,7 +9,7 @@ use crate::command::CommandId;
 use crate::left::Mnemonics;
 use crate::pattern::Node;
 
-/// A node at its place. The nodes below it stand right behind it, and behind these its next
+/// A node at its place. The nodes below it stand right after it, and after these its next
 /// sibling.
 #[derive(Clone, Copy, Debug)]
 pub(crate) struct Branch {
@@ -19,7 +19,7 @@ pub(crate) struct Branch {
     pub(crate) below: usize,
     /// The command of the headers that end here without the question mark.
     pub(crate) plain: Option<CommandId>,
-    /// The command of those that end here with it.
+    /// The command of the headers that end here with the question mark.
     pub(crate) query: Option<CommandId>,
 }
 
@@ -31,7 +31,7 @@ impl Branch {
         if query { self.query } else { self.plain }
     }
 
-    /// The same, where no mnemonic is left.
+    /// The command of the header that ends here; `None` if a mnemonic is left.
     pub(crate) fn ending(&self, left: &Mnemonics<'_>, query: bool) -> Option<CommandId>
         ensures { IsFound result
             (λ command. Ends (left_of left.now) (command_of query self.now) command) }
@@ -43,7 +43,7 @@ impl Branch {
     }
 }
 
-/// The first of siblings, the nodes below it, and its siblings behind these.
+/// The first of some siblings, the nodes below it, and the other siblings.
 pub(crate) fn parted(branches: &[Branch]) -> Option<(&Branch, &[Branch], &[Branch])>
     ensures { MatchOption result (branches.now ≡ [])
         (λ parts. IsParted branches.now parts.0.now parts.1.now parts.2.now) }

@@ -6,19 +6,19 @@ ghost use Rattle.sv_header.specs.Plain.{left_of, sent_of};
 use crate::path::Mnemonic;
 use sv_text::first_part;
 
-/// The mnemonics that are left: the first, and behind it some of a path, and those of a text.
+/// The mnemonics that are left: the first, and after it some of a path, and those of a text.
 #[derive(Clone, Copy, Debug)]
 pub(crate) struct Mnemonics<'a> {
-    /// The first, unless none is left.
+    /// The first; `None` if none is left.
     pub(crate) first: Option<&'a [u8]>,
-    /// What is left of the path behind it.
+    /// The mnemonics of the path that follow it.
     pub(crate) kept: &'a [Mnemonic],
-    /// The text behind that, where any mnemonic of it is left.
+    /// The text after that, where any mnemonic of it is left.
     pub(crate) sent: Option<&'a [u8]>,
 }
 
 impl<'a> Mnemonics<'a> {
-    /// Those of a path, and those of a text behind it.
+    /// The mnemonics of a path, followed by those of a text.
     pub(crate) fn new(kept: &'a [Mnemonic], sent: Option<&'a [u8]>) -> Mnemonics<'a>
         ensures { left_of result ≡ kept.now ++ sent_of sent.entry }
     {
@@ -44,7 +44,7 @@ impl<'a> Mnemonics<'a> {
         }
     }
 
-    /// Those behind the first.
+    /// All but the first.
     pub(crate) fn others(&self) -> Mnemonics<'a>
         ensures { left_of result ≡ self.now.kept.now ++ sent_of self.now.sent }
     {

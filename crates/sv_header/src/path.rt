@@ -99,7 +99,7 @@ impl Path {
         }
     }
 
-    /// The mnemonics but the last come behind the path.
+    /// Adds all mnemonics but the last to the path.
     fn walk(&mut self, body: &[u8])
         requires few { length self.old + length (cut_at 58 body.now) ≤ 5 }
         requires short { list_all is_short (cut_at 58 body.now) ≡ true }

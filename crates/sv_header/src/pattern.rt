@@ -26,7 +26,7 @@ impl Node {
         mnemonic.eq_ignore_ascii_case(self.short) || mnemonic.eq_ignore_ascii_case(self.long)
     }
 
-    /// What is left behind the first mnemonic, where that is a form of this one.
+    /// The other mnemonics, if the first is a form of this one.
     pub(crate) fn behind<'a>(&self, left: &Mnemonics<'a>) -> Option<Mnemonics<'a>>
         ensures { IsBehind (left_of left.now) (part self.now) result }
     {
@@ -38,7 +38,7 @@ impl Node {
         }
     }
 
-    /// All that is left, where this mnemonic may be absent.
+    /// All mnemonics, if this one may be absent.
     pub(crate) fn absent<'a>(&self, left: &Mnemonics<'a>) -> Option<Mnemonics<'a>>
         ensures { IsAllOf (left_of left.now) (part self.now) result }
     {

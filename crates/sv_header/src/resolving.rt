@@ -16,7 +16,7 @@ use std::alloc::{AllocError, Allocator, Global};
 use std::marker::Model;
 use sv_errors::Code;
 
-/// How many of them are of common commands; these stand in front.
+/// How many nodes are of common commands; these come first.
 const COMMON_NODES: usize = 11;
 
 /// The table of commands in memory: a tree of nodes, one for each mnemonic at its place.

@@ -9,7 +9,7 @@ use crate::left::Mnemonics;
 use crate::path::Path;
 use sv_text::{Lead, header_parts};
 
-/// A header with the path in front of it.
+/// A header and the path that it continues.
 #[derive(Clone, Copy, Debug)]
 pub(crate) struct Sent<'a> {
     /// Whether it is a common command.
@@ -17,12 +17,12 @@ pub(crate) struct Sent<'a> {
     /// Whether a question mark ends it.
     pub(crate) query: bool,
     /// Its mnemonics: those of the path, unless it starts at the root or is a common command, and
-    /// its own behind them.
+    /// its own after them.
     pub(crate) mnemonics: Mnemonics<'a>,
 }
 
 impl<'a> Sent<'a> {
-    /// A header behind a path.
+    /// A header that continues a path.
     pub(crate) fn new(path: &'a Path, header: &'a [u8]) -> Sent<'a>
         ensures common { result.common ≡ leads_common (lead_of header.now) }
         ensures query { result.query ≡ is_query header.now }

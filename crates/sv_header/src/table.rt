@@ -40,14 +40,14 @@ macro_rules! does {
     };
 }
 
-/// One that ends the header of a query.
+/// A node that ends the header of a query.
 macro_rules! asks {
     ($node:ident, $question:expr) => {
         ending!($node, 0, None, Some(CommandId::Ask($question)))
     };
 }
 
-/// One that ends the header of a setting, and of the query of its value.
+/// A node that ends the headers of a setting and of its query.
 macro_rules! sets {
     ($node:ident, $name:expr) => {
         ending!(
@@ -107,7 +107,7 @@ macro_rules! status_nodes {
     };
 }
 
-/// STATus with its registers; a nested one stands behind the nodes of the one above it.
+/// STATus with its registers; a nested one follows the nodes of the one above it.
 pub(crate) static STATUS_NODES: [Branch; 20] = status_nodes!(
     19,
     OPERATION, 5, Operation;

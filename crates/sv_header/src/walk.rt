@@ -29,7 +29,7 @@ pub(crate) fn walk(left: &Mnemonics<'_>, query: bool, branches: &[Branch]) -> Op
     walk(left, query, siblings)
 }
 
-/// The command to which what is left behind a node leads: that node's own where nothing is left, or
+/// The command to which what is left after a node leads: that node's own where nothing is left, or
 /// one below it.
 #[cycle(walk)]
 fn below(

@@ -13,19 +13,19 @@ use Rattle.sv_history.specs.declared.event.Port.TheVariants.{Conn, Intr}
 use Rattle.sv_history.specs.Act.{Act, ConnAct, Opened, Piece, CallTaken, Faulted, Replied, BytesTaken, PortClosed, of}
 use Rattle.sv_history.specs.Limits.{max_output}
 
--- what it is opened for; None where it is closed
+-- the role that an opening gives, and a closing takes away
 abbrev pub opening : ConnAct → Option (Option Role)
 opening = elim [ Opened role ↦ Some (Some role) | PortClosed ↦ Some None | _ ↦ None ]
 
--- what it is open for, if its newest opening or closing is an opening
+-- the role of the connection, if it is open: that of its newest opening, unless it was closed since
 abbrev pub open_role : List ConnAct → Option Role
 open_role = last_given opening None
 
--- the acts since then
+-- the acts since the newest opening or closing
 abbrev pub acts_since_opening : List ConnAct → List ConnAct
 acts_since_opening = since (elim [ Opened role ∷ older ↦ true | PortClosed ∷ older ↦ true | _ ↦ false ])
 
--- pieces of bytes, the newest first, as one list of bytes in the order in which they came
+-- the bytes of these pieces, oldest first; the newest piece stands first
 abbrev pub join_pieces : List (List ℕ) → List ℕ
 join_pieces [] = []
 join_pieces (piece ∷ pieces) = join_pieces pieces ++ piece
@@ -35,29 +35,31 @@ abbrev pub total : List ℕ → ℕ
 total [] = 0
 total (number ∷ numbers) = total numbers + number
 
--- all bytes that came on it
+-- all bytes that came on the connection since it opened
 abbrev pub stream : List ConnAct → List ℕ
 stream acts = join_pieces (filter_map (elim [ Piece bytes ↦ Some bytes | _ ↦ None ]) (acts_since_opening acts))
 
--- all bytes of its replies, and how many of these the peer took
+-- all bytes of its replies
 abbrev pub bytes_sent : List ConnAct → List ℕ
 bytes_sent acts = join_pieces (filter_map (elim [ Replied bytes ↦ Some bytes | _ ↦ None ]) (acts_since_opening acts))
 
+-- how many of these the peer took
 abbrev pub bytes_taken : List ConnAct → ℕ
 bytes_taken acts = total (filter_map (elim [ BytesTaken count ↦ Some count | _ ↦ None ]) (acts_since_opening acts))
 
--- what the newest record that was taken came to: it waits as a call, or came to its end by an answer, or since it is no call
+-- the pending call after an act that changes it: a call that is taken becomes pending; a reply, or a record that is no call, ends it
 abbrev pub taking : ConnAct → Option (Option (List ℕ))
 taking = elim [ CallTaken call ↦ Some (Some call) | Replied bytes ↦ Some None | Faulted ↦ Some None | _ ↦ None ]
 
--- the call that was taken and has no answer yet
+-- the call that was taken and isn't answered yet
 abbrev pub pending_call : List ConnAct → Option (List ℕ)
 pending_call acts = last_given taking None (acts_since_opening acts)
 
+-- whether there is one
 abbrev pub is_busy : List ConnAct → Bool
 is_busy acts = is_some (pending_call acts)
 
--- how many of its records came to their end
+-- how many records were answered, or are no call
 abbrev pub records_ended : List ConnAct → ℕ
 records_ended acts = length (filter (elim [ Replied bytes ↦ true | Faulted ↦ true | _ ↦ false ]) (acts_since_opening acts))
 
@@ -65,18 +67,19 @@ records_ended acts = length (filter (elim [ Replied bytes ↦ true | Faulted ↦
 abbrev pub took_no_call : List ConnAct → Bool
 took_no_call acts = list_any (elim [ Faulted ↦ true | _ ↦ false ]) (acts_since_opening acts)
 
+-- whether the connection is open
 abbrev pub is_open : List ConnAct → Bool
 is_open acts = is_some (open_role acts)
 
--- those that the peer didn't take
+-- the bytes of replies that the peer didn't take
 abbrev pub bytes_left : List ConnAct → List ℕ
 bytes_left acts = drop (bytes_taken acts) (bytes_sent acts)
 
--- the bytes that wait to be sent on it; none where it isn't open
+-- the bytes that wait to be sent; none if the connection isn't open
 abbrev pub waiting : List ConnAct → List ℕ
 waiting acts = if is_open acts then bytes_left acts else []
 
--- the bytes that wait on a port, where this was told to interrupt channels
+-- the bytes that wait on a port; `channel_log` is what interrupt channels were told
 abbrev pub waiting_on : List ChannelAct → Port → List Act → List ℕ
 waiting_on channel_log (Conn c) log = waiting (of c log)
 waiting_on channel_log (Intr c) log = channel_waiting c channel_log
@@ -86,27 +89,27 @@ abbrev pub sent_on : List ChannelAct → Port → List Act → List ℕ
 sent_on channel_log (Conn c) log = bytes_sent (of c log)
 sent_on channel_log (Intr c) log = concat (calls c channel_log)
 
--- The call to take next: the first record that didn't come to its end, unless it was taken already, or a record was no call.
+-- The call to take next: the first record that isn't answered; none while a call is pending, or once a record was no call.
 abbrev pub next_call : List ConnAct → Option (List ℕ)
 next_call acts = if took_no_call acts || is_busy acts then None else slice_get (records_of (stream acts)) (records_ended acts)
 
--- whether there is none
+-- whether there is no call to take
 abbrev pub is_idle : List ConnAct → Bool
 is_idle acts = is_none (next_call acts)
 
--- whether a record that came on it is too long: behind it nothing is taken in any more
+-- whether a record that came is too long: nothing after it is taken in
 abbrev pub is_overlong : List ConnAct → Bool
 is_overlong acts = ends_overlong (tail_of (stream acts))
 
--- whether a record that is no call was taken, or all records in front of one that is too long came to their end
+-- whether it only waits to be closed: a record that is no call was taken, or all records before one that is too long were answered
 abbrev pub is_faulted : List ConnAct → Bool
 is_faulted acts = took_no_call acts || (is_overlong acts && (records_ended acts == length (records_of (stream acts))))
 
--- how many bytes may come: a record counts until it comes to its end
+-- how many bytes may come: a record takes room until it is answered
 abbrev pub room : List ConnAct → ℕ
 room acts =
     if is_open acts then capacity - used_by (drop (records_ended acts) (records_of (stream acts))) (tail_of (stream acts)) else 0
 
--- how many outgoing bytes are free
+-- how many bytes of replies still find room
 abbrev pub free : List ConnAct → ℕ
 free acts = max_output - length (bytes_left acts)

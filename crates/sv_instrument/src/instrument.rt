@@ -14,7 +14,7 @@ use sv_layers::{Awaited, Layers};
 pub struct Instrument<A: Allocator = Global> {
     /// Which command a header names.
     pub(crate) table: Table<A>,
-    /// What stands in front of the header of the next unit.
+    /// What stands before the header of the next unit.
     pub(crate) path: Path,
     /// The layers.
     pub(crate) layers: Layers<A>,

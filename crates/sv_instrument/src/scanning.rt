@@ -21,7 +21,7 @@ use sv_scan::{ScanAct, ScanList, Setting};
 /// The range that a measurement is configured with, in microvolts.
 const RANGE: i64 = 10_000_000;
 
-/// A trigger from the controller; where none is waited for, that is reported.
+/// A trigger from the controller; if none is waited for, that is reported.
 pub(crate) fn trigger<A: Allocator>(layers: &mut Layers<A>) -> Option<Awaited>
     requires { IsUnitDue (next_of layers.old.exchange) }
     ensures behaves { (start log : List Act) → Counts start layers.old log
@@ -48,7 +48,7 @@ fn unless_refused(allowed: Result<(), Code>, act: ScanAct) -> Change
     }
 }
 
-/// A setting is changed; where it is refused, that is reported.
+/// A setting is changed; if it is refused, that is reported.
 pub(crate) fn set<A: Allocator>(layers: &mut Layers<A>, setting: Setting) -> Option<Awaited>
     requires { IsUnitDue (next_of layers.old.exchange) }
     ensures behaves { (start log : List Act) → Counts start layers.old log
@@ -59,7 +59,7 @@ pub(crate) fn set<A: Allocator>(layers: &mut Layers<A>, setting: Setting) -> Opt
     carry_out(layers, unless_refused(allowed, ScanAct::Configure(setting)))
 }
 
-/// A measurement begins; where one is under way, that is reported.
+/// A measurement begins; if one is under way, that is reported.
 pub(crate) fn initiate<A: Allocator>(layers: &mut Layers<A>) -> Option<Awaited>
     requires { IsUnitDue (next_of layers.old.exchange) }
     ensures behaves { (start log : List Act) → Counts start layers.old log

@@ -17,7 +17,7 @@ use sv_errors::Code;
 use sv_header::{Path, Table};
 use sv_layers::{Awaited, Change, Layers};
 
-/// The unit that is due starts, behind this path, which follows it: it does what it asks for, or
+/// The unit that is due starts, after this path, which follows it: it does what it asks for, or
 /// its fault is reported.
 pub(crate) fn start<A: Allocator>(
     table: &Table<A>,

@@ -70,7 +70,7 @@ IsPaid c log = calls_taken (of c log) ≡ records_ended (of c log) + one_if (is_
 abbrev pub EachAnswered : Type 0
 EachAnswered = (config : Config) (history : List PlainEvent) (log : List Act) (c : ℕ) → IsLogOf config history log → IsPaid c log
 
--- The reply has the call's xid: the four bytes behind its record mark are the first four of the call (RFC 5531, sections 9 and 11).
+-- The reply has the call's xid: the four bytes after its record mark are the first four of the call (RFC 5531, sections 9 and 11).
 abbrev pub HasXidOf : List ℕ → List ℕ → Type 0
 HasXidOf call reply = (4 ≤ length call) × (take 4 (drop 4 reply) ≡ take 4 call)
 

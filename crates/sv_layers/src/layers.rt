@@ -41,7 +41,7 @@ pub struct Layers<A: Allocator = Global> {
     pub(crate) service: u8,
     /// Whether an `*OPC` waits for the end of a measurement.
     pub(crate) waits: bool,
-    /// How many requests for service were raised that weren't read yet; 255 where there are more.
+    /// How many requests for service were raised that weren't read yet; 255 if there are more.
     pub(crate) requests: u8,
 }
 

@@ -74,7 +74,7 @@ impl<A: Allocator> Layers<A> {
         self.update_status();
     }
 
-    /// Adds an answer behind those of the units before, and returns whether it fits; if it doesn't,
+    /// Adds an answer after those of the units before, and returns whether it fits; if it doesn't,
     /// all answers of the message are dropped.
     pub fn respond(&mut self, answer: &[u8]) -> bool
         requires { IsTrue (may_respond self.old.exchange) }

@@ -7,7 +7,7 @@ use Rattle.sv_errors.specs.declared.code.Code.TheVariants.{InvalidExpression, Sy
 use Rattle.sv_text.specs.White.{trim}
 use Rattle.sv_lexer.specs.Unit.{rest, rest_place, white_size}
 
--- whether a parenthesis is open behind these bytes, which are read from the last one: the last parenthesis among them is an opening one
+-- whether a parenthesis is open after these bytes, which are read from the last one: the last parenthesis among them is an opening one
 abbrev pub is_open : List ℕ → Bool
 is_open [] = false
 is_open (b ∷ before) = if b == 40 then true else if b == 41 then false else is_open before
@@ -22,7 +22,7 @@ cut_outside before (b ∷ bytes) = if b == 44 && not (is_open before) then []
 abbrev pub parts : List ℕ → List (List ℕ)
 parts text = if is_empty text then [] else cut_outside [] text
 
--- where a part begins: behind the parts before it, and their commas
+-- where a part begins: after the parts before it, and their commas
 abbrev pub part_place : ℕ → List (List ℕ) → ℕ
 part_place index parts = sum_by (λ part. length part + 1) (take index parts)
 
@@ -53,7 +53,7 @@ parameters_fault unit =
     else if list_any is_blank (parts (rest unit)) then Some SyntaxError
     else None
 
--- whether a parenthesis is open behind a byte, given whether one was before it
+-- whether a parenthesis is open after a byte, given whether one was before it
 abbrev pub opens : Bool → ℕ → Bool
 opens inside b = if b == 40 then true else if b == 41 then false else inside
 

@@ -9,7 +9,7 @@ use Rattle.sv_lexer.specs.declared.stage.Stage.{Stage}
 use Rattle.sv_lexer.specs.declared.stage.Stage.TheVariants.{WhiteSpace, Asterisk, Colon, CommonMnemonic, Mnemonic, QuerySign, HeaderSeparator, ProgramData, DataSpace, Misspelled, Illegal}
 
 -- what the unit ends in, and how many bytes it has; where its header begins and ends; how many characters the last mnemonic has, and the
--- longest one before it; where its program data begin, and where they end, without white space behind them
+-- longest one before it; where its program data begin, and where they end, without white space after them
 pub record Progress : Type 0 where
   pub stage : Stage
   pub size : ℕ
@@ -67,7 +67,7 @@ pub record IsUnsigned (text : List ℕ) : Type 0 where
   pub unsigned : is_query text ≡ false
 
 -- What a header ends in so far (7.6.1): nothing, an asterisk, a place where a mnemonic must follow, a common command, another header, or
--- one of these with its question mark. Behind a header it is complete.
+-- one of these with its question mark. After a header it is complete.
 abbrev pub HeaderEnds : Stage → List ℕ → Type 0
 HeaderEnds WhiteSpace text = text ≡ []
 HeaderEnds Asterisk text = text ≡ 42 ∷ []
@@ -83,7 +83,7 @@ pub record HasData (p : Progress) (unit : List ℕ) : Type 0 where
   pub begins : p.data_start ≡ in_u64 (rest_place unit)
   pub ends : p.data_end ≡ in_u64 (rest_end unit)
 
--- What a unit ends in (7.3): its header, white space behind that, its program data, or white space behind these.
+-- What a unit ends in (7.3): its header, white space after that, its program data, or white space after these.
 abbrev pub UnitEnds : Stage → Progress → List ℕ → Type 0
 UnitEnds HeaderSeparator p unit = (rest unit ≡ []) × (header_end unit < length unit) × (p.data_start ≡ in_u64 (length unit))
 UnitEnds ProgramData p unit = HasData p unit × (rest_end unit ≡ length unit)

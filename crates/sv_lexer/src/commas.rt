@@ -7,7 +7,7 @@ ghost use Rattle.sv_lexer.specs.Parameters.{cut_outside, first_size, is_blank as
 
 use sv_text::trim;
 
-/// Whether a parenthesis has none behind it that closes it.
+/// Whether a parenthesis isn't closed.
 pub(crate) fn is_open(text: &[u8]) -> bool
     ensures { result ≡ is_open_behind (reverse text.now) }
 {
@@ -22,7 +22,7 @@ pub(crate) fn is_open(text: &[u8]) -> bool
     false
 }
 
-/// How many parts there are between commas; none where one of them is blank.
+/// How many parts there are between commas; `None` if one of them is blank.
 pub(crate) fn filled(text: &[u8]) -> Option<usize>
     ensures { MatchOption result (list_any is_blank_part (parts text.now) ≡ true)
         (λ count. (list_any is_blank_part (parts text.now) ≡ false)
@@ -43,7 +43,7 @@ pub(crate) fn filled(text: &[u8]) -> Option<usize>
     if is_blank(rest) { None } else { Some(count) }
 }
 
-/// The part at this place of their order, and where it stands; none where there are fewer.
+/// The part at this place of their order, and where it stands; none if there are fewer.
 pub(crate) fn part_at(text: &[u8], index: usize) -> Option<(&[u8], usize)>
     ensures { MatchOption result (length (cut_outside [] text.now) ≤ index)
         (λ found. (index < length (cut_outside [] text.now))
@@ -63,15 +63,15 @@ pub(crate) fn part_at(text: &[u8], index: usize) -> Option<(&[u8], usize)>
     Some((first_outside(rest).0, place))
 }
 
-/// Whether a part is nothing but white space.
+/// Whether a part is white space alone.
 fn is_blank(part: &[u8]) -> bool
     ensures { result ≡ is_blank_part part.now }
 {
     trim(part).is_empty()
 }
 
-/// The part in front of the first comma outside of parentheses, and what stands behind that; none
-/// where there is no such comma, and then the part is all of the text.
+/// The part before the first comma outside of parentheses, and what follows that; none
+/// if there is no such comma, and then the part is all of the text.
 fn first_outside(text: &[u8]) -> (&[u8], Option<&[u8]>)
     ensures parts { MatchOption result.1 (cut_outside [] text.now ≡ result.0.now ∷ [])
         (λ behind. cut_outside [] text.now ≡ result.0.now ∷ cut_outside [] behind.now) }
@@ -88,7 +88,7 @@ fn first_outside(text: &[u8]) -> (&[u8], Option<&[u8]>)
     }
 }
 
-/// Where the first comma outside of parentheses stands, or the length where there is none.
+/// Where the first comma outside of parentheses stands, or the length if there is none.
 fn comma_in(text: &[u8]) -> usize
     ensures value { result ≡ first_size false text.now }
     ensures within { result ≤ length text.now }
@@ -107,7 +107,7 @@ fn comma_in(text: &[u8]) -> usize
     place
 }
 
-/// Whether a parenthesis is open behind a byte, if one was in front of it.
+/// Whether a parenthesis is open after a byte, if one was before it.
 fn is_inside_behind(inside: bool, byte: u8) -> bool
     ensures { result ≡ opens inside byte }
 {

@@ -19,7 +19,7 @@ const MOST: usize = 12;
 /// read: what it ends in, and where its header and its program data stand.
 #[derive(Debug, Drop)]
 pub struct Partial {
-    /// What it ends in.
+    /// The stage in which it ends.
     stage: Stage,
     /// How many bytes it has.
     size: usize,
@@ -28,9 +28,9 @@ pub struct Partial {
     header_end: usize,
     /// How many characters the last mnemonic has.
     mnemonic: usize,
-    /// How many the longest one in front of that has.
+    /// How many characters the longest mnemonic before it has.
     longest: usize,
-    /// Where its program data begin, and where they end without white space behind them.
+    /// Where its program data begin, and where they end without white space after them.
     data_start: usize,
     data_end: usize,
 }
@@ -105,7 +105,7 @@ impl Partial {
         }
     }
 
-    /// It ends in this, with one byte more.
+    /// One more byte, which leads to this stage.
     fn move_to(&mut self, stage: Stage)
         ensures { self.new ≡ progress_to stage self.old }
     {
@@ -166,7 +166,7 @@ impl Partial {
         }
     }
 
-    /// Where its program data stand if it ends here; behind the header where there are none.
+    /// Where its program data stand if it ends here; after the header if it has none.
     fn data(&self) -> (usize, usize)
         ensures start { result.0 ≡ data_of self.now.stage self.now.header_end self.now.data_start }
         ensures end { result.1 ≡ data_of self.now.stage self.now.header_end self.now.data_end }

@@ -17,7 +17,7 @@ pub struct Unit<'a> {
     pub(crate) bytes: &'a [u8],
     /// The header.
     pub(crate) header: Token<'a>,
-    /// What stands behind the header, without white space around it.
+    /// What follows the header, without white space around it.
     pub(crate) rest: &'a [u8],
     /// Where that stands, in bytes.
     pub(crate) place: usize,
@@ -46,7 +46,7 @@ impl<'a> Unit<'a> {
         self.header
     }
 
-    /// The parameters behind the header.
+    /// The parameters after the header.
     ///
     /// # Errors
     /// [`Code::InvalidExpression`] if a parenthesis isn't closed; then [`Code::SyntaxError`] if a

@@ -25,7 +25,7 @@ pub fn unit(bytes: &[u8]) -> Result<Unit<'_>, Code>
     partial.finish(bytes)
 }
 
-/// What stands behind the white space in front, and how many bytes that has.
+/// The bytes after leading white space, and how many bytes this has.
 pub(crate) fn skip_space(bytes: &[u8]) -> (&[u8], usize)
     ensures rest { result.0.now ≡ trim_start bytes.now }
     ensures size { result.1 ≡ white_size bytes.now }

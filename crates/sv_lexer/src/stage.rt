@@ -6,10 +6,10 @@ ghost use Rattle.sv_lexer.specs.Inside.Stage.{behind_graphic as graphic, behind_
 
 use sv_text::is_space;
 
-/// What a unit ends in (IEEE 488.2, 7.3 and 7.6).
+/// The stage in which a unit ends, as far as it was read (IEEE 488.2, 7.3 and 7.6).
 #[derive(Clone, Copy, Debug)]
 pub(crate) enum Stage {
-    /// Nothing, or white space in front of the program header.
+    /// Nothing, or white space before the program header.
     WhiteSpace,
     /// The asterisk of a common command program header.
     Asterisk,
@@ -21,19 +21,19 @@ pub(crate) enum Stage {
     Mnemonic,
     /// The question mark at the end of the header.
     QuerySign,
-    /// White space behind the header: the program header separator.
+    /// White space after the header: the program header separator.
     HeaderSeparator,
     /// Program data.
     ProgramData,
-    /// White space behind program data.
+    /// White space after program data.
     DataSpace,
-    /// A header that isn't spelled as one, and what stands behind it.
+    /// A header that isn't spelled as one, and what follows it.
     Misspelled,
-    /// A byte that no unit has, and what stands behind it.
+    /// A byte that no unit has, and what follows it.
     Illegal,
 }
 
-/// What a unit ends in with one byte more.
+/// The stage after one more byte.
 pub(crate) fn next(stage: Stage, byte: u8) -> Stage
     ensures { result ≡ next_of stage byte }
 {
@@ -46,7 +46,7 @@ pub(crate) fn next(stage: Stage, byte: u8) -> Stage
     }
 }
 
-/// With white space more.
+/// The stage after white space.
 fn behind_space(stage: Stage) -> Stage
     ensures { result ≡ space stage }
 {
@@ -65,7 +65,7 @@ fn behind_space(stage: Stage) -> Stage
     }
 }
 
-/// With a graphic character more.
+/// The stage after a graphic character.
 fn behind_graphic(stage: Stage, byte: u8) -> Stage
     ensures { result ≡ graphic stage byte }
 {
@@ -84,7 +84,7 @@ fn behind_graphic(stage: Stage, byte: u8) -> Stage
     }
 }
 
-/// What begins a header.
+/// The stage after the first byte of a header.
 fn header_begun(byte: u8) -> Stage
     ensures { result ≡ graphic Stage.WhiteSpace byte }
 {
@@ -108,7 +108,7 @@ fn mnemonic_begun(mnemonic: Stage, byte: u8) -> Stage
     }
 }
 
-/// What goes on behind the mnemonic of a common command.
+/// The stage after a byte that follows the mnemonic of a common command.
 fn behind_common(byte: u8) -> Stage
     ensures { result ≡ graphic Stage.CommonMnemonic byte }
 {
@@ -121,7 +121,7 @@ fn behind_common(byte: u8) -> Stage
     }
 }
 
-/// What goes on behind another mnemonic.
+/// The stage after a byte that follows another mnemonic.
 fn behind_mnemonic(byte: u8) -> Stage
     ensures { result ≡ graphic Stage.Mnemonic byte }
 {

@@ -14,14 +14,14 @@ use std::alloc::{AllocError, Allocator};
 use std::marker::Model;
 use sv_bytes::drop_front;
 
-/// How far a channel is.
+/// The state of a channel.
 #[derive(Clone, Copy, Debug, PartialEq, Eq)]
 pub(crate) enum Stage {
-    /// There is none.
+    /// It is closed.
     Closed,
-    /// It has its memory, and may be opened.
+    /// Its memory is allocated, and it may be opened.
     Prepared,
-    /// It is open, and calls this peer.
+    /// It is open to this peer.
     Open(Peer),
 }
 
@@ -31,7 +31,7 @@ pub(crate) struct Channel<A: Allocator> {
     stage: Stage,
     /// How many calls were sent.
     made: u32,
-    /// How many bytes wait of each call that isn't taken to its end.
+    /// How many bytes wait of each call that the peer didn't take completely.
     sizes: ArrayVec<u8, MAX_CALLS>,
     /// The bytes that wait.
     bytes: Vec<u8, A>,
@@ -61,7 +61,7 @@ impl<A: Allocator> Model for Channel<A> {
 }
 
 impl<A: Allocator> Channel<A> {
-    /// No channel.
+    /// A closed channel.
     pub(crate) fn new(alloc: A) -> Channel<A>
         ensures { result.stage ≡ Stage.Closed }
     {
@@ -80,7 +80,7 @@ impl<A: Allocator> Channel<A> {
         matches!(self.stage, Stage::Open(_))
     }
 
-    /// Takes its memory, so that it may be opened; an open one stays as it is.
+    /// Allocates its memory, so that it may be opened; an open one stays as it is.
     pub(crate) fn prepare(&mut self) -> Result<(), AllocError>
         ensures open { OnOk result (opened_for self.new.stage ≡ opened_for self.old.stage) }
         ensures ready { OnOk result (opened_for self.old.stage ≡ None
@@ -121,7 +121,7 @@ impl<A: Allocator> Channel<A> {
         }
     }
 
-    /// Closes it where it is open; else it stays as it is.
+    /// Closes it, if it is open.
     pub(crate) fn close(&mut self)
         ensures closed { opened_for self.new.stage ≡ None }
         ensures ready { is_prepared self.new.stage ≡ is_prepared self.old.stage }
@@ -150,7 +150,7 @@ impl<A: Allocator> Channel<A> {
         self.bytes.as_slice()
     }
 
-    /// Lets bytes go that the peer took.
+    /// Drops bytes that the peer took.
     pub(crate) fn take(&mut self, count: usize)
         requires { count ≤ length self.old.bytes }
         ensures stage { self.new.stage ≡ self.old.stage }
@@ -161,7 +161,7 @@ impl<A: Allocator> Channel<A> {
         let_go(&mut self.sizes, count);
     }
 
-    /// Sends a call with this handle behind those that wait, while there are fewer than
+    /// Appends a call with this handle, if fewer calls wait than
     /// [`MAX_CALLS`] and a number is left.
     fn request(&mut self, peer: Peer, handle: &[u8])
         requires open { self.old.stage ≡ Stage.Open peer }
@@ -180,7 +180,7 @@ impl<A: Allocator> Channel<A> {
         self.made += 1;
     }
 
-    /// Where it is open, sends a call for each of these links that is one of its connection.
+    /// If it is open, appends a call for each of these links that is of its connection.
     pub(crate) fn request_each(&mut self, conn: u8, enabled: &[Enabled])
         ensures stage { self.new.stage ≡ self.old.stage }
         ensures queued { (count : ℕ) (calls : List (List ℕ)) (peer : Peer)
@@ -199,7 +199,7 @@ impl<A: Allocator> Channel<A> {
     }
 }
 
-/// Lets so many bytes of calls go, whose sizes these are.
+/// Drops so many bytes of calls with these sizes.
 fn let_go(sizes: &mut ArrayVec<u8, MAX_CALLS>, count: usize)
     ensures { sizes.new.items ≡ left_in count sizes.old.items }
 {

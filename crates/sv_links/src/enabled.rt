@@ -7,7 +7,7 @@ use crate::limits::MAX_HANDLE;
 use arrayvec::ArrayVec;
 use std::marker::Model;
 
-/// What a controller knows a link by that asks for service: at most [`MAX_HANDLE`] bytes.
+/// The handle by which a controller knows a link: at most [`MAX_HANDLE`] bytes.
 #[derive(Debug, Drop)]
 pub(crate) struct Handle {
     bytes: ArrayVec<u8, MAX_HANDLE>,
@@ -22,7 +22,7 @@ impl Model for Handle {
 }
 
 impl Handle {
-    /// The handle of these bytes; an empty one where they are too many.
+    /// The handle of these bytes; an empty one if they are too many.
     fn new(given: &[u8]) -> Handle
         ensures { length given.now ≤ max_handle → result ≡ given.now }
     {
@@ -49,7 +49,7 @@ pub(crate) struct Enabled {
     pub(crate) lid: u32,
     /// The connection that made it.
     pub(crate) conn: u8,
-    /// What its controller knows it by.
+    /// The handle that its controller gave.
     pub(crate) handle: Handle,
 }
 

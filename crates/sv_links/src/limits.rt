@@ -6,9 +6,9 @@ pub const MAX_CONNECTIONS: usize = 16;
 pub(crate) const MAX_WAITING: usize = MAX_CONNECTIONS;
 /// How many links may live.
 pub const MAX_LINKS: usize = 32;
-/// How many links may ask for service requests: each that lives.
+/// How many links may have service requests enabled: all that live.
 pub(crate) const MAX_ENABLED: usize = MAX_LINKS;
-/// How many calls of an interrupt channel may wait that its peer didn't take to their end.
+/// How many calls may wait on an interrupt channel that its peer didn't take completely.
 pub(crate) const MAX_CALLS: usize = 32;
 /// How long the handle of a service request may be, in bytes (VXI-11 revision 1.0, section B.6,
 /// device_enable_srq).

@@ -21,7 +21,7 @@ pub struct Peer {
     pub vers: u32,
 }
 
-/// Puts a call behind the outgoing bytes.
+/// Puts a call after the outgoing bytes.
 pub(crate) fn put_request<A: Allocator>(out: &mut Vec<u8, A>, xid: u32, peer: Peer, handle: &[u8])
     requires room { vec_len out.old + longest_call ≤ vec_capacity out.old }
     requires short { length handle.now ≤ max_handle }

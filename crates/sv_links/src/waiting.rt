@@ -129,7 +129,7 @@ impl<A: Allocator> Waiting<A> {
         })
     }
 
-    /// Suspends the call of a connection, below [`MAX_CONNECTIONS`](crate::MAX_CONNECTIONS), behind
+    /// Suspends the call of a connection, below [`MAX_CONNECTIONS`](crate::MAX_CONNECTIONS), after
     /// all others.
     pub fn enter(&mut self, entry: Entry)
         requires { entry.conn < max_connections }

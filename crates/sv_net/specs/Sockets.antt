@@ -22,7 +22,7 @@ abbrev pub Skips : {S : Type 0} → (S → Option (List ℕ)) → Bool → S →
 Skips left true old new = (dropped : Answer (List ℕ)) × Gives left dropped old new
 Skips left false old new = Keeps (left old) (left new)
 
--- A write puts as many of the bytes as it answers behind what the stream was sent; none if it takes none.
+-- A write puts as many of the bytes as it answers after what the stream was sent; none if it takes none.
 abbrev pub Takes : {S : Type 0} → (S → Option (List ℕ)) → List ℕ → Answer ℕ → S → S → Type 0
 Takes sent bytes (Got n) old new = Appends (sent old) (sent new) (take n bytes)
 Takes sent bytes answer old new = Keeps (sent old) (sent new)

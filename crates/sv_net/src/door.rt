@@ -31,12 +31,12 @@ impl Door {
         })
     }
 
-    /// Has it reported under this token.
+    /// Registers it for reports with this token.
     pub(crate) fn register(&mut self, registry: &Registry, token: Token) -> io::Result<()> {
         registry.register(&mut self.listener, token, Interest::READABLE)
     }
 
-    /// Keeps that it was reported.
+    /// Remembers that it was reported.
     pub(crate) fn report(&self) {
         self.knocked.set(true);
     }
@@ -52,7 +52,7 @@ impl Door {
     }
 
     /// How many milliseconds it may sleep before the next accept: twice as many after each one that
-    /// fails, at most 100; 100 where none is there.
+    /// fails, at most 100; 100 if none is there.
     pub(crate) fn patience(&self) -> u32
         ensures { result ≤ 100 }
     {
@@ -77,7 +77,7 @@ impl Door {
         }
     }
 
-    /// What an accept that failed answers.
+    /// The answer of an accept that failed.
     fn refused(&self, kind: ErrorKind) -> Answer<TcpStream> {
         match kind {
             ErrorKind::WouldBlock => {

@@ -15,10 +15,10 @@ pub(crate) trait Machine<S: Stream> {
     ghost use Rattle.sv_net.specs.Serving.{Doing, Waited, Told};
     ghost use Rattle.std.specs.Prelude.{List, Option, ⊤};
 
-    /// What a wait and its outcome lead to; of a real machine nothing is known.
+    /// The machine after a wait with this outcome; nothing is known of a real machine.
     ghost answers: { Self → Doing (List (Option S)) → Self → Type 0 } = { λ before doing after. ⊤ };
 
-    /// Waits until a socket is reported, at most so long where there is a limit. Tells whether one
+    /// Waits until a socket is reported, at most so long if there is a limit. Tells whether one
     /// was, and at which nanosecond since the beginning the wait ended.
     ///
     /// # Errors
@@ -31,7 +31,7 @@ pub(crate) trait Machine<S: Stream> {
         ensures { answers self.old (Told net.now) self.new };
 }
 
-/// The machine's clock, when it was read first, and what waits for its sockets.
+/// The machine's clock, when it was first read, and what waits for reports of its sockets.
 #[derive(Drop)]
 pub(crate) struct System<'a, C: Clock, A: Allocator> {
     clock: &'a C,

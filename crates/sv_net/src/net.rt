@@ -17,7 +17,7 @@ use std::net::Net as Network;
 use sv_serve::{Answer, Wire};
 use sv_server::{Dial, Port, Role};
 
-/// How many sockets there may be: sixteen connections, and behind them their interrupt channels.
+/// How many sockets there may be: sixteen connections, and after them their interrupt channels.
 const SOCKETS: usize = 32;
 
 /// Sixteen connections and their interrupt channels as sockets, with three ports of 127.0.0.1 on
@@ -41,7 +41,7 @@ impl<N: Network + Drop, A: Allocator, S: Stream> Model for Net<N, A, S> {
     ghost view = { λ a. a.sockets.items };
 }
 
-/// Which of the doors.
+/// The number of the listening socket for this role.
 fn door_number(role: Role) -> usize
     ensures { result < 3 }
 {
@@ -52,7 +52,7 @@ fn door_number(role: Role) -> usize
     }
 }
 
-/// Which of the sockets.
+/// The number of a port's socket.
 fn socket_number(port: Port) -> usize
     ensures { result ≡ socket_number port }
 {
@@ -62,7 +62,7 @@ fn socket_number(port: Port) -> usize
     }
 }
 
-/// Reads the socket that is at a place.
+/// Reads the socket at a place, if there is one.
 fn read_at<S: Stream>(place: &mut Option<Socket<S>>, buffer: &mut [u8]) -> Answer<usize>
     ensures within { IsWithin result (length buffer.old) }
     ensures gives { let answer = bytes_of result buffer.new in
@@ -74,7 +74,7 @@ fn read_at<S: Stream>(place: &mut Option<Socket<S>>, buffer: &mut [u8]) -> Answe
     }
 }
 
-/// Asks the socket that is at a place whether it is gone.
+/// Whether the socket at a place is gone.
 fn probe_at<S: Stream>(place: &mut Option<Socket<S>>, drops: bool) -> Answer<()>
     ensures { Does (Skips S.remaining drops) result place.old place.new }
 {
@@ -84,7 +84,7 @@ fn probe_at<S: Stream>(place: &mut Option<Socket<S>>, drops: bool) -> Answer<()>
     }
 }
 
-/// Writes to the socket that is at a place.
+/// Writes to the socket at a place, if there is one.
 fn write_at<S: Stream>(place: &mut Option<Socket<S>>, bytes: &[u8]) -> Answer<usize>
     ensures within { IsWithin result (length bytes.now) }
     ensures takes { Does (Takes S.contents bytes.now result) result place.old place.new }
@@ -149,7 +149,7 @@ impl<N: Network + Drop, A: Allocator, S: Stream> Net<N, A, S> {
         self.doors[0].is_waiting() | self.doors[1].is_waiting() | self.doors[2].is_waiting()
     }
 
-    /// Whether one may be there, though the last accept failed.
+    /// Whether a connection may be there, also if the last accept failed.
     pub(crate) fn is_knocked(&self) -> bool {
         self.doors[0].is_knocked() | self.doors[1].is_knocked() | self.doors[2].is_knocked()
     }

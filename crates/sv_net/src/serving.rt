@@ -18,7 +18,7 @@ use std::time::{Clock, Duration};
 use sv_pace::Pace;
 use sv_serve::Driver;
 
-/// How often it looks again without sleeping, at most.
+/// The most polls in one pause before it sleeps.
 const LOOKS: u32 = 1_000;
 
 /// Makes so many sweeps, and waits between them until a socket is reported or time matters. Each
@@ -27,7 +27,7 @@ const LOOKS: u32 = 1_000;
 /// A wait ends at the next whole millisecond, or at the hundredth if nothing waits for time in
 /// these. If nothing ever waits for time, and more than a million sweeps are left, it ends at a
 /// report alone. For 50 microseconds after a report it looks again without sleeping, if that paid
-/// of late. The clock is read behind each wait, so that deadlines come while many peers ask without
+/// of late. The clock is read after each wait, so that deadlines come while many peers ask without
 /// a pause.
 ///
 /// # Errors
@@ -67,8 +67,8 @@ fn run<M: Machine<S>, N: Network + Drop, A: Allocator, S: Stream>(
     Ok(())
 }
 
-/// Makes a sweep. Milliseconds that passed while it waited come in front of what was reported then,
-/// which the next sweep finds.
+/// Makes a sweep. Milliseconds that passed while it slept are handed in first; what was reported
+/// then is left to the next sweep.
 fn sweep<M: Machine<S>, N: Network + Drop, A: Allocator, S: Stream>(
     machine: &mut M,
     driver: &mut Driver<Net<N, A, S>, A>,
@@ -86,7 +86,7 @@ fn sweep<M: Machine<S>, N: Network + Drop, A: Allocator, S: Stream>(
     }
 }
 
-/// Waits for reports, at most so long where there is a limit. Tells whether one came, and when the
+/// Waits for reports, at most so long if there is a limit. Tells whether one came, and when the
 /// wait ended.
 fn wait<M: Machine<S>, S: Stream>(
     machine: &mut M,

@@ -27,7 +27,7 @@ pub(crate) struct Socket<S: Stream> {
     ended: Cell<bool>,
     /// It was reset, or is closed in both directions.
     broken: Cell<bool>,
-    /// Urgent bytes may be there: a read ends in front of them, though more is behind.
+    /// Urgent bytes may be there: a read ends before them, though more is after.
     urgent: Cell<bool>,
 }
 
@@ -66,7 +66,7 @@ impl<S: Stream> Socket<S> {
         }
     }
 
-    /// Has it reported under this token.
+    /// Registers it for reports with this token.
     pub(crate) fn register(&mut self, registry: &Registry, token: Token) -> io::Result<()>
         ensures { S.keeps self.old self.new }
     {
@@ -77,7 +77,7 @@ impl<S: Stream> Socket<S> {
         )
     }
 
-    /// Keeps what was reported.
+    /// Remembers what was reported.
     pub(crate) fn report(&self, event: &Event) {
         let broken = event.is_error();
         let ended = broken | event.is_read_closed();
@@ -130,7 +130,7 @@ impl<S: Stream> Socket<S> {
         }
     }
 
-    /// Whether it is gone, where it isn't read: broken, or, where what comes is dropped, ended.
+    /// Whether it is gone, if it isn't read: broken, or, where what comes is dropped, ended.
     pub(crate) fn probe(&mut self, drops: bool) -> Answer<()>
         ensures { Skips S.remaining drops self.old self.new }
     {

@@ -41,7 +41,7 @@ impl<A: Allocator + Copy> Watch<A> {
 }
 
 impl<A: Allocator> Watch<A> {
-    /// Waits until something is reported, at most so long where there is a limit, and tells whether
+    /// Waits until something is reported, at most so long if there is a limit, and tells whether
     /// something was.
     ///
     /// # Errors

@@ -38,7 +38,7 @@ fn has_input<N: Network + Drop, A: Allocator, S: Stream>(
     socket.is_broken() || socket.is_readable() && reads
 }
 
-/// The same of the connection's interrupt channel.
+/// Whether a sweep finds something to do on the connection's interrupt channel without a report.
 fn has_work_for<N: Network + Drop, A: Allocator, S: Stream>(
     driver: &Driver<Net<N, A, S>, A>,
     conn: u8,

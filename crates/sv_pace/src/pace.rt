@@ -10,13 +10,13 @@ pub const STILL: u32 = 100;
 /// With more sweeps left than these, a server for which nothing waits for time sleeps until it is
 /// called. The last ones are made every [`STILL`] milliseconds, so that they end.
 pub const FEW: u32 = 1_000_000;
-/// Most milliseconds that pass at a sweep.
+/// The most milliseconds that pass at a sweep.
 const MOST_TICKS: u64 = 1_000;
-/// For so many nanoseconds after work it may look again without sleeping.
+/// For so many nanoseconds after a report it may poll without sleeping.
 const WINDOW: u64 = 50_000;
 /// Nanoseconds of a millisecond.
 const MILLISECOND: u64 = 1_000_000;
-/// It sleeps so often at most before it looks again.
+/// The most sleeps before it polls again.
 const MOST_SLEEPS: u32 = 1_024;
 
 /// What a loop of sweeps keeps of the time, in nanoseconds since its beginning, and of its waits.
@@ -29,11 +29,11 @@ pub struct Pace {
     swept: u64,
     /// When something was reported last.
     worked: u64,
-    /// Whether looking found nothing last.
+    /// Whether the last polling found nothing.
     missed: bool,
-    /// How often it then sleeps before it looks again.
+    /// How often it sleeps after that, before it polls again.
     pause: u32,
-    /// How often of these still.
+    /// How many of these sleeps are left.
     left: u32,
 }
 
@@ -54,7 +54,7 @@ impl Model for Pace {
     ghost invariant = { λ a. a.pause ≤ 1024 };
 }
 
-/// How often it sleeps behind one more look in vain.
+/// How often it sleeps after one more polling that found nothing.
 fn longer(missed: bool, pause: u32) -> u32
     requires { pause ≤ 1024 }
     ensures value { result ≡ longer missed pause }
@@ -131,7 +131,7 @@ impl Pace {
         self.left = self.left.saturating_sub(1);
     }
 
-    /// Looking found something.
+    /// Polling found something.
     fn spin_hit(&mut self)
         ensures times { (self.new.swept ≡ self.old.swept) × (self.new.worked ≡ self.old.worked) }
         ensures stands { (waits : List Wait) → StandsFor self.new (Wait.Found ∷ waits) }
@@ -141,7 +141,7 @@ impl Pace {
         self.left = 0;
     }
 
-    /// Looking found nothing.
+    /// Polling found nothing.
     fn spin_miss(&mut self)
         ensures times { (self.new.swept ≡ self.old.swept) × (self.new.worked ≡ self.old.worked) }
         ensures stands { (waits : List Wait) → StandsFor self.old waits

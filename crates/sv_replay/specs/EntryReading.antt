@@ -18,7 +18,7 @@ accepted_at text = do
 unfoldable pub lone_stimulus_at : List ℕ → Option Stimulus
 lone_stimulus_at word = if bytes_eq word (codes "external") then Some External else None
 
--- a stimulus with this first word and this text behind it
+-- a stimulus with this first word and this text after it
 unfoldable pub worded_stimulus_at : List ℕ → List ℕ → Option Stimulus
 worded_stimulus_at word text = if bytes_eq word (codes "input") then accepted_at text else None
 

@@ -15,7 +15,7 @@ infixl 10 ◌>>=◌
 abbrev pub ◌>>=◌ : {A B : Type 0} → Option A → (A → Option B) → Option B
 o >>= f = option_and_then f o
 
--- the number n with these digits behind it, if it is at most this
+-- the number n with these digits after it, if it is at most this
 unfoldable pub digits_onto : ℕ → ℕ → List ℕ → Option ℕ
 digits_onto most n [] = Some n
 digits_onto most n (digit ∷ digits) =
@@ -28,7 +28,7 @@ unfoldable pub number_at : ℕ → List ℕ → Option ℕ
 number_at most [] = None
 number_at most (digit ∷ digits) = digits_onto most 0 (digit ∷ digits)
 
--- whether a zero has more digits behind it
+-- whether a zero has more digits after it
 abbrev pub has_leading_zero : List ℕ → Bool
 has_leading_zero [] = false
 has_leading_zero (digit ∷ []) = false
@@ -61,7 +61,7 @@ pair_at high low = do
   l ← hex_digit_at low
   Some (16 * h + l)
 
--- the text without the space in front of it
+-- the text without the space before it
 abbrev pub after_space : List ℕ → List ℕ
 after_space [] = []
 after_space (byte ∷ bytes) = if byte == 32 then bytes else (byte ∷ bytes)
@@ -74,12 +74,12 @@ hex_at (high ∷ low ∷ []) = pair_at high low >>= (λ byte. Some (byte ∷ [])
 hex_at (high ∷ low ∷ next ∷ rest) =
     pair_at high low >>= (λ byte. option_map (λ bytes. byte ∷ bytes) (if next == 32 then hex_at rest else hex_at (next ∷ rest)))
 
--- the text before the first space, and the text behind it; `None` without a space
+-- the text before the first space, and the text after it; `None` without a space
 unfoldable pub cut_at : List ℕ → Option (List ℕ × List ℕ)
 cut_at [] = None
 cut_at (byte ∷ bytes) = if byte == 32 then Some ([], bytes) else option_map (λ cut. (byte ∷ cut.0, cut.1)) (cut_at bytes)
 
--- a number of at most 255, and the text behind the space that follows it
+-- a number of at most 255, and the text after the space that follows it
 unfoldable pub numbered_at : List ℕ → Option (ℕ × List ℕ)
 numbered_at text = do
   cut ← cut_at text
@@ -110,7 +110,7 @@ ticks_at number = do
   n ← plain_at 1000000 number
   if n == 0 then None else Some (Ticks n)
 
--- an Open, by the text behind its word
+-- an Open, by the text after its word
 unfoldable pub open_at : List ℕ → Option PlainEvent
 open_at text = do
   x ← numbered_at text
@@ -138,7 +138,7 @@ input_at text = do
   microvolts ← voltage_at x.1
   Some (Input x.0 microvolts)
 
--- Bytes, a Turn or a Refuse, by the first word and the text behind it
+-- Bytes, a Turn or a Refuse, by the first word and the text after it
 unfoldable pub traffic_at : List ℕ → List ℕ → Option PlainEvent
 traffic_at word text =
     if bytes_eq word (codes "bytes") then bytes_at text
@@ -159,7 +159,7 @@ lone_at word =
     else (if bytes_eq word (codes "external") then Some (One External)
     else (if bytes_eq word (codes "tick") then Some (One Tick) else None))
 
--- a line of more words, by the first word and the text behind it
+-- a line of more words, by the first word and the text after it
 unfoldable pub words_at : List ℕ → List ℕ → Option Line
 words_at word text =
     if bytes_eq word (codes "tick") then ticks_at text

@@ -23,7 +23,7 @@ IsGiven more rest (Ok true) = Unit {0}
 IsGiven more rest (Ok false) = (more ≡ []) × IsAtEnd rest
 IsGiven more rest (Err fault) = more ≡ []
 
--- What the reader gave stands behind the text.
+-- What the reader gave follows the text.
 abbrev pub Filled : Option (List ℕ) → Option (List ℕ) → List ℕ → List ℕ → Result Bool InputFault → Type 0
 Filled before rest old new result = (more : List ℕ) × Consumes before rest more × (new ≡ old ++ more) × IsGiven more rest result
 

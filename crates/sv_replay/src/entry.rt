@@ -13,7 +13,7 @@ use sv_server::{Event, input_refusal};
 /// What happens to a server in a scenario.
 #[derive(Clone, Copy, Debug, PartialEq, Eq)]
 pub enum Stimulus {
-    /// The live voltage of a channel changes.
+    /// The input of a channel changes.
     Input {
         /// The channel, from 1 on.
         channel: u8,
@@ -66,7 +66,7 @@ pub(crate) fn timely(line: &[u8], least: u64) -> Option<Entry>
     Some(entry)
 }
 
-/// Reads an entry: a tick, a space, and what is to happen.
+/// Reads an entry: a tick, a space, and a stimulus.
 #[tactic(auto, unfolding(crate::specs::EntryReading::entry_at))]
 fn entry_of(line: &[u8]) -> Option<Entry>
     ensures { result ≡ entry_at line.now }
@@ -77,7 +77,7 @@ fn entry_of(line: &[u8]) -> Option<Entry>
     Some(Entry { tick, stimulus })
 }
 
-/// Reads what is to happen: at its first space it is cut into a word and a text.
+/// Reads a stimulus: at its first space it is cut into a word and a text.
 #[tactic(auto, unfolding(crate::specs::EntryReading::stimulus_at))]
 fn stimulus_of(text: &[u8]) -> Option<Stimulus>
     ensures { result ≡ stimulus_at text.now }
@@ -110,7 +110,7 @@ fn worded(word: &[u8], text: &[u8]) -> Option<Stimulus>
     }
 }
 
-/// Reads what channel's voltage becomes what, if the server accepts it.
+/// Reads the channel and the voltage of an `input`, if the server accepts them.
 #[tactic(auto, unfolding(crate::specs::EntryReading::accepted_at))]
 fn accepted(text: &[u8]) -> Option<Stimulus>
     ensures { result ≡ accepted_at text.now }

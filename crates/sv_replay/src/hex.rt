@@ -27,7 +27,7 @@ fn pair(high: u8, low: u8) -> Option<u8>
     Some(16 * high + low)
 }
 
-/// The text without the space in front of it, if there is one.
+/// The text without the space before it, if there is one.
 fn skip_space(text: &[u8]) -> &[u8]
     ensures value { result.now ≡ after_space text.now }
     ensures no_longer { length result.now ≤ length text.now }

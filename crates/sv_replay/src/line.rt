@@ -45,7 +45,7 @@ fn line_of<'a>(line: &[u8], buffer: &'a mut [u8]) -> Option<Line<'a>>
     }
 }
 
-/// What stands in front of the first space, and what stands behind it.
+/// The text before the first space, and the text after it.
 pub(crate) fn cut(text: &[u8]) -> Option<(&[u8], &[u8])>
     ensures exact { option_map (λ cut. (cut.0.now, cut.1.now)) result ≡ cut_at text.now }
     ensures shorter { IfSome result (λ cut. length cut.1.now < length text.now) }
@@ -94,7 +94,7 @@ fn event<'a>(word: &[u8], text: &[u8], buffer: &'a mut [u8]) -> Option<Event<'a>
     }
 }
 
-/// Reads bytes of a connection, or that one of its calls is taken or refused.
+/// Reads a `bytes`, a `turn` or a `refuse`.
 #[tactic(auto, unfolding(crate::specs::Reading::traffic_at))]
 fn traffic<'a>(word: &[u8], text: &[u8], buffer: &'a mut [u8]) -> Option<Event<'a>>
     requires { length text.now ≤ length buffer.old }
@@ -108,7 +108,7 @@ fn traffic<'a>(word: &[u8], text: &[u8], buffer: &'a mut [u8]) -> Option<Event<'
     }
 }
 
-/// Reads a number and a space, and gives what follows them.
+/// Reads a number and a space. Returns the number and what follows.
 #[tactic(auto, unfolding(crate::specs::Reading::numbered_at))]
 pub(crate) fn numbered(text: &[u8]) -> Option<(u8, &[u8])>
     ensures exact { option_map (λ x. (x.0, x.1.now)) result ≡ numbered_at text.now }
@@ -129,7 +129,7 @@ fn ticks<'a>(digits: &[u8]) -> Option<Line<'a>>
     }
 }
 
-/// Reads what connection opens, and what for.
+/// Reads an `open`: the connection and its role.
 #[tactic(auto, unfolding(crate::specs::Reading::open_at))]
 fn open<'a>(text: &[u8]) -> Option<Event<'a>>
     ensures { option_map plain_event result ≡ open_at text.now }
@@ -139,7 +139,7 @@ fn open<'a>(text: &[u8]) -> Option<Event<'a>>
     Some(Event::Open { conn, role })
 }
 
-/// Reads what a connection is for.
+/// Reads the role of a connection.
 #[tactic(auto, unfolding(crate::specs::Reading::role_at))]
 fn role(word: &[u8]) -> Option<Role>
     ensures { result ≡ role_at word.now }
@@ -152,7 +152,7 @@ fn role(word: &[u8]) -> Option<Role>
     }
 }
 
-/// Reads what bytes come on what connection. They are put into `buffer`.
+/// Reads a `bytes`: the connection, and the bytes, which are put into `buffer`.
 #[tactic(auto, unfolding(crate::specs::Reading::bytes_at))]
 fn bytes<'a>(text: &[u8], buffer: &'a mut [u8]) -> Option<Event<'a>>
     requires { length text.now ≤ length buffer.old }
@@ -166,7 +166,7 @@ fn bytes<'a>(text: &[u8], buffer: &'a mut [u8]) -> Option<Event<'a>>
     })
 }
 
-/// Reads which connection closes, or whose interrupt channel.
+/// Reads the port that closes: a connection, or its interrupt channel.
 #[tactic(auto, unfolding(crate::specs::Reading::port_at))]
 fn port(text: &[u8]) -> Option<Port>
     ensures { result ≡ port_at text.now }
@@ -178,7 +178,7 @@ fn port(text: &[u8]) -> Option<Port>
     }
 }
 
-/// Reads what became of dialing an interrupt channel.
+/// Reads a `dialed`: the connection, and whether its interrupt channel was connected.
 #[tactic(auto, unfolding(crate::specs::Reading::dialed_at))]
 fn dialed<'a>(text: &[u8]) -> Option<Event<'a>>
     ensures { option_map plain_event result ≡ dialed_at text.now }
@@ -188,7 +188,7 @@ fn dialed<'a>(text: &[u8]) -> Option<Event<'a>>
     Some(Event::Dialed { conn, ok })
 }
 
-/// Reads whether dialing went well.
+/// Reads whether an interrupt channel was connected.
 #[tactic(auto, unfolding(crate::specs::Reading::ok_at))]
 fn outcome(word: &[u8]) -> Option<bool>
     ensures { result ≡ ok_at word.now }
@@ -200,7 +200,7 @@ fn outcome(word: &[u8]) -> Option<bool>
     }
 }
 
-/// Reads what channel's voltage becomes what.
+/// Reads an `input`: the channel and its voltage.
 #[tactic(auto, unfolding(crate::specs::Reading::input_at))]
 fn input<'a>(text: &[u8]) -> Option<Event<'a>>
     ensures { option_map plain_event result ≡ input_at text.now }

@@ -68,7 +68,7 @@ fn unsigned(digits: &[u8]) -> Option<i64>
     Some(short(digits)? as i64)
 }
 
-/// The voltage that at most 18 digits spell, with a minus in front of them where it is below zero.
+/// The voltage that at most 18 digits spell, with a minus before them if it is below zero.
 #[tactic(auto, unfolding(crate::specs::Reading::voltage_at))]
 pub(crate) fn voltage(text: &[u8]) -> Option<i64>
     ensures { result ≡ voltage_at text.now }

@@ -32,7 +32,7 @@ pub fn perform<A: Allocator, W: Write>(
     }
 }
 
-/// Lets milliseconds pass, one after the other.
+/// Applies so many ticks, one after the other.
 fn pass<A: Allocator, W: Write>(
     server: &mut Server<A>,
     count: u32,

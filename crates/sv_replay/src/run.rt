@@ -19,21 +19,21 @@ use std::alloc::{AllocError, Allocator};
 use std::io::{BufWriter, Write};
 use sv_server::{Config, Server};
 
-/// What the server is set up with.
+/// The configuration of the server.
 const SET_UP: Config = Config {
     core: 4096,
     abort: 4097,
     clock: 0,
 };
 
-/// A replay that goes on.
+/// A replay that is under way.
 #[derive(Drop)]
 struct Run<A: Allocator> {
     server: Server<A>,
     text: Text<A>,
-    /// Where the bytes of a line are put.
+    /// The buffer for the bytes of a line.
     bytes: Vec<u8, A>,
-    /// How many lines are done.
+    /// How many lines were executed.
     lines: u64,
     ghost room: { length bytes.items ≡ 65536 },
 }
@@ -59,7 +59,7 @@ pub fn run_replay<A: Allocator + Copy, R: Source, W: Write + Drop, B: Allocator>
         × Runs read (R.remaining reader.new) result text }
     ensures end { OnOk result (IsAtEnd (R.remaining reader.new)) }
     // The reader is read 4,294,967,294 times at most. The input's fault comes where the last read
-    // failed, or behind so many.
+    // failed, or after so many.
     ensures reads { IsReadOut R.gives reader.old reader.new result }
     // Unless the output failed, nothing that was printed is left in the buffer.
     ensures flushed { result ≢ Err RunFault.Output → writer_buffer writer.new ≡ [] }
@@ -68,8 +68,7 @@ pub fn run_replay<A: Allocator + Copy, R: Source, W: Write + Drop, B: Allocator>
     pass_on(writer, answer)
 }
 
-/// Passes on what the writer holds, and then answers; where the output fails, it is the output's
-/// fault.
+/// Flushes the writer, and returns this result; if the output fails, its fault.
 fn pass_on<W: Write + Drop, B: Allocator>(
     writer: &mut BufWriter<W, B>,
     answer: Result<(), RunFault>,
@@ -85,7 +84,7 @@ fn pass_on<W: Write + Drop, B: Allocator>(
     }
 }
 
-/// Runs the replay, and leaves what it printed last with the writer.
+/// Runs the replay, without flushing what it printed last.
 fn run_lines<A: Allocator + Copy, R: Source, W: Write>(
     alloc: A,
     reader: &mut R,
@@ -107,7 +106,7 @@ fn run_lines<A: Allocator + Copy, R: Source, W: Write>(
     Err(RunFault::Input)
 }
 
-/// A replay of which nothing is done.
+/// A replay before its first line.
 fn start<A: Allocator + Copy>(alloc: A) -> Result<Run<A>, AllocError>
     ensures { IfOk result (λ run. StandsFor run.server set_up [] × (run.text ≡ nothing_held)
         × (run.lines ≡ 0)) }
@@ -120,7 +119,7 @@ fn start<A: Allocator + Copy>(alloc: A) -> Result<Run<A>, AllocError>
     })
 }
 
-/// Lets the writer pass on what it holds.
+/// Flushes the writer.
 fn flush<W: Write>(writer: &mut W) -> Result<(), RunFault>
     ensures kept { Keeps (W.contents writer.old) (W.contents writer.new) }
     ensures fault { IfErr result (λ fault. fault ≡ RunFault.Output) }
@@ -131,7 +130,7 @@ fn flush<W: Write>(writer: &mut W) -> Result<(), RunFault>
     }
 }
 
-/// Does what a line says. The bytes of a `bytes` line are put into `bytes`.
+/// Executes a line. The bytes of a `bytes` line are put into `bytes`.
 fn do_line<A: Allocator, W: Write>(
     server: &mut Server<A>,
     line: &[u8],
@@ -160,7 +159,7 @@ fn do_line<A: Allocator, W: Write>(
 }
 
 impl<A: Allocator> Run<A> {
-    /// Does the next line, or reads on where no line is whole; false at the end.
+    /// Executes the next line, or reads on if no line is complete; false at the end.
     fn turn<R: Source, W: Write>(
         &mut self,
         reader: &mut R,
@@ -198,7 +197,7 @@ impl<A: Allocator> Run<A> {
         }
     }
 
-    /// Reads on; where the reader is at its end, does the last line. False at the end.
+    /// Reads on; at the reader's end, executes the last line. False at the end.
     fn read_on<R: Source, W: Write>(
         &mut self,
         reader: &mut R,

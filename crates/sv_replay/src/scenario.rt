@@ -13,7 +13,7 @@ use thiserror::Error;
 #[derive(Clone, Copy, Debug, PartialEq, Eq, Error)]
 pub enum ScenarioFault {
     /// The line of this number, from 1, is above 65,536 bytes, says nothing that a scenario knows,
-    /// or says what is to happen before what the line in front of it says.
+    /// or has an earlier tick than the line before it.
     #[error("bad line {0}")]
     BadLine(u64),
     /// Memory was refused.
@@ -46,7 +46,7 @@ pub fn read_scenario<A: Allocator + Copy>(
     Ok(entries)
 }
 
-/// Puts the entry of a line behind the others, where the line isn't empty, and answers the tick of
+/// Appends the entry of a line, unless the line is empty, and returns the tick of
 /// the last one; `least` is the tick of the last one before.
 fn add<A: Allocator>(
     entries: &mut Vec<Entry, A>,

@@ -11,7 +11,7 @@ use std::marker::Model;
 
 /// How many bytes a line may have, without its new line.
 pub const LONGEST_LINE: usize = 65_536;
-/// How much text is kept: a line and its new line, and what is read behind it.
+/// How much text is kept: a line and its new line, and what is read after it.
 const SIZE: usize = 131_072;
 /// How often a reader is read; the read after these is an input fault.
 const MOST_READS: u32 = 4_294_967_294;
@@ -19,11 +19,11 @@ const MOST_READS: u32 = 4_294_967_294;
 /// Text that was read and not yet used.
 #[derive(Drop)]
 pub struct Text<A: Allocator = Global> {
-    /// As long as it ever gets.
+    /// The buffer, at its full length.
     buffer: Vec<u8, A>,
     /// Where the text begins.
     start: usize,
-    /// In front of this the text has no new line.
+    /// The text has no new line up to here.
     clean: usize,
     /// Where the text ends.
     end: usize,
@@ -51,7 +51,7 @@ impl<A: Allocator> Text<A> {
         Ok(Text::over(vec![in alloc; 0; SIZE]?))
     }
 
-    /// No text, in a buffer that is as long as it ever gets.
+    /// No text yet, in a buffer of full length.
     fn over(buffer: Vec<u8, A>) -> Text<A>
         requires { length buffer.items ≡ 131072 }
         ensures { result ≡ nothing_held }
@@ -106,9 +106,9 @@ impl<A: Allocator> Text<A> {
         self.clean = self.clean.max(self.start);
     }
 
-    /// Reads once, behind the text, and tells whether more may come: at the reader's end it
+    /// Reads once, after the text, and tells whether more may come: at the reader's end it
     /// doesn't, and an interrupted read gives nothing, but another may. Where too little of the
-    /// buffer is free behind the text, it moves to the front first.
+    /// buffer is free after the text, it moves to the front first.
     pub fn fill<R: Source>(&mut self, reader: &mut R) -> Result<bool, InputFault>
         requires { length self.old.text ≤ 65536 }
         ensures took { Filled (R.remaining reader.old)
@@ -139,8 +139,8 @@ impl<A: Allocator> Text<A> {
     }
 }
 
-/// Moves a part of a buffer to the buffer's front, where too little is free behind the part, and
-/// tells by how much.
+/// Moves a part of a buffer to the buffer's front, if too little is free after it. Returns by how
+/// much.
 fn make_room(buffer: &mut [u8], start: usize, end: usize) -> usize
     requires order { (start ≤ end) × (end ≤ 131072) }
     requires size { length buffer.old ≡ 131072 }
@@ -156,8 +156,8 @@ fn make_room(buffer: &mut [u8], start: usize, end: usize) -> usize
     start
 }
 
-/// Reads once, behind so many bytes of a buffer, and tells how many bytes came, or none at the
-/// reader's end.
+/// Reads once, after so many bytes of a buffer. Returns how many bytes came; `None` at the reader's
+/// end.
 fn read_behind<R: Source>(
     reader: &mut R,
     buffer: &mut [u8],

@@ -53,7 +53,7 @@ abbrev pub ◌>>=◌ : {A B : Type 0} → Result A XdrFault → (A → Result B 
 (Ok x) >>= f = f x
 (Err fault) >>= f = Err BadHeader
 
--- the part of a call behind the version of RPC
+-- the part of a call after the version of RPC
 unfoldable pub body_at : ℕ → List ℕ → Result PlainCall CallFault
 body_at xid bytes = do
   prog ← unsigned_at bytes

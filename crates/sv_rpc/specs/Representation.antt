@@ -27,7 +27,7 @@ abbrev pub spare_of : List ℕ → ℕ
 spare_of [] = 4
 spare_of (b ∷ payload) = 0
 
--- So many bytes fit behind this.
+-- So many bytes fit after this.
 abbrev pub Fits : List (List ℕ) → Tail → ℕ → Type 0
 Fits records (Header payload header) n = used_by records (Header payload header) + n ≤ capacity + spare_of payload
 Fits records (Data payload missing last) n = used_by records (Data payload missing last) + n ≤ capacity
@@ -119,6 +119,6 @@ after_data records TooLong piece = record { records = records; tail = TooLong }
 abbrev pub GoesOn : Records → Records → List ℕ → Type 0
 GoesOn old new front = (stream : List ℕ) (dropped : ℕ) → StandsFor old stream dropped → StandsFor new (stream ++ front) dropped
 
--- The records that were there stay, in front of those that came.
+-- The records that were there stay, before those that came.
 abbrev pub Keeps : Records → Records → Type 0
 Keeps old new = (more : List (List ℕ)) × (new.records ≡ old.records ++ more)

@@ -83,7 +83,7 @@ fn call_of(bytes: &[u8]) -> Result<Call<'_>, CallFault>
     body_of(xid, reader.rest())
 }
 
-/// Reads what follows the version.
+/// Reads the header after the version.
 #[tactic(auto, unfolding(crate::specs::Call::body_at))]
 fn body_of(xid: u32, bytes: &[u8]) -> Result<Call<'_>, CallFault>
     ensures { plain_call_result result ≡ body_at xid bytes.now }

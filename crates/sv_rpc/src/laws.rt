@@ -3,7 +3,7 @@
 
 ghost use Rattle.sv_rpc.specs.Laws.{OneReading, ReadAsSplit, ReadAlone, OneCall, CallAsSpelled, PortAsSpelled, CallsPrefixFree, RepliesPrefixFree};
 
-/// A stream of bytes has one reading: one list of records, and one tail behind them.
+/// A stream of bytes has one reading: one list of records, and one tail after them.
 pub fn one_reading()
     ensures { OneReading }
 {}

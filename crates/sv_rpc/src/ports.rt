@@ -24,7 +24,7 @@ pub struct Ports {
 }
 
 /// Answers GETPORT: the port of the core or the abort channel, each at version 1 over TCP, and 0
-/// for every other program, version or protocol. Bytes behind the arguments are ignored.
+/// for every other program, version or protocol. Bytes after the arguments are ignored.
 ///
 /// # Errors
 /// [`Garbage`] if fewer than 16 bytes are there, the four numbers of the arguments.
@@ -42,7 +42,7 @@ pub fn getport(args: &[u8], ports: Ports) -> Result<u32, Garbage>
     Ok(port_of(ports, prog, vers, prot))
 }
 
-/// The port of a program's version over a protocol.
+/// The port at which a version of a program is served over a protocol; 0 if it isn't.
 fn port_of(ports: Ports, prog: u32, vers: u32, prot: u32) -> u32
     ensures { result ≡ port_for ports (record { prog = prog; vers = vers; prot = prot; port = 0 }) }
 {

@@ -17,7 +17,7 @@ use thiserror::Error;
 const CAPACITY: usize = 16384;
 /// How many records may stand in a buffer: the shortest is empty and takes 4 bytes.
 const MAX_RECORDS: usize = CAPACITY / 4;
-/// How long a record may be that is taken, in bytes.
+/// The longest record, in bytes.
 const MAX_RECORD: usize = 8192;
 
 /// Why no further record comes.
@@ -43,15 +43,15 @@ enum Place {
 /// stays in the buffer, and counts against its room, until it is dropped.
 #[derive(Drop)]
 pub struct RecordBuf<A: Allocator = Global> {
-    /// The records, and behind them what came of the unfinished one.
+    /// The records, and after them what came of the unfinished one.
     bytes: Vec<u8, A>,
     /// The length of each whole record.
     lengths: Vec<u16, A>,
-    /// How many bytes of the unfinished record came.
+    /// How many data bytes of the unfinished record came.
     payload: usize,
-    /// What came of an unfinished header.
+    /// The bytes of an unfinished header.
     header: [u8; 4],
-    /// How many bytes of it came.
+    /// How many bytes of it there are.
     header_len: usize,
     place: Place,
 }
@@ -111,7 +111,7 @@ impl<A: Allocator> RecordBuf<A> {
     /// such record yet.
     ///
     /// # Errors
-    /// `RecordTooLong` if no complete record is left in front of one that is too long.
+    /// `RecordTooLong` if no complete record is left before one that is too long.
     pub fn next(&self) -> Result<Option<&[u8]>, RpcFault>
         ensures value { plain_record result ≡ next_among self.now.records self.now.tail }
         ensures answer { (stream : List ℕ) (dropped : ℕ) → StandsFor self.now stream dropped
@@ -261,7 +261,7 @@ impl<A: Allocator> RecordBuf<A> {
         }
     }
 
-    /// Makes what came of the unfinished record a whole one.
+    /// Ends the unfinished record: it is whole.
     fn finish(&mut self)
         requires header { IsBeforeHeader self.old.tail }
         requires fits { used_by self.old.records self.old.tail ≤ capacity }
@@ -272,7 +272,7 @@ impl<A: Allocator> RecordBuf<A> {
     }
 }
 
-/// The word that a header is.
+/// The header as a word.
 fn word_of(header: &[u8]) -> u32
     requires { length header.now ≡ 4 }
     ensures value { result ≡ from_be_bytes w32 header.now }

@@ -29,11 +29,11 @@ pub enum Reply {
     GarbageArgs,
 }
 
-/// Writes the header of a reply, without the fragment header in front of it and the result behind
+/// Writes the header of a reply, without the fragment header before it and the result after
 /// it.
 ///
 /// # Errors
-/// `NoRoom` at the first field that doesn't fit. The fields in front of it stay written.
+/// `NoRoom` at the first field that doesn't fit. The fields before it stay written.
 pub fn write_reply(writer: &mut Writer<'_>, xid: u32, reply: Reply) -> Result<(), XdrFault>
     ensures same_buffer { writer.new.out.ghost_name ≡ writer.old.out.ghost_name }
     ensures writes { WritesEach (map spelling (reply_fields xid reply)) result writer.old
@@ -50,10 +50,10 @@ pub fn write_reply(writer: &mut Writer<'_>, xid: u32, reply: Reply) -> Result<()
 }
 
 /// Writes the header of a call without credential and verifier, and without the fragment header in
-/// front of it and the arguments behind it.
+/// front of it and the arguments after it.
 ///
 /// # Errors
-/// `NoRoom` at the first field that doesn't fit. The fields in front of it stay written.
+/// `NoRoom` at the first field that doesn't fit. The fields before it stay written.
 pub fn write_call(
     writer: &mut Writer<'_>,
     xid: u32,

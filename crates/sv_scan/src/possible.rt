@@ -10,14 +10,14 @@ use sv_errors::{MOST_MICROVOLTS, MOST_SCANS, is_channel, is_channel_list};
 /// The ranges, in microvolts: 1, 10 and 100 V.
 const RANGES: (i64, i64, i64) = (1_000_000, 10_000_000, 100_000_000);
 
-/// Whether a limit may be this, in microvolts: up to 1,000 V in magnitude.
+/// Whether this may be a limit, in microvolts: up to 1,000 V in magnitude.
 fn is_limit(microvolts: i64) -> bool
     ensures { result ≡ is_within microvolts }
 {
     -i64::from(MOST_MICROVOLTS) <= microvolts && microvolts <= i64::from(MOST_MICROVOLTS)
 }
 
-/// The least range that isn't below this one, in microvolts.
+/// The smallest range that is at least this, in microvolts.
 pub(crate) fn least_range(wanted: i64) -> i64
     ensures { result ≡ least_range_of wanted }
 {
@@ -46,7 +46,7 @@ pub(crate) fn is_possible(setting: &Setting) -> bool
     }
 }
 
-/// Whether a setting can be changed in the idle state alone.
+/// Whether a setting can only be changed in the idle state.
 pub(crate) fn is_fixed(setting: &Setting) -> bool
     ensures { result ≡ has_to_wait setting.now }
 {

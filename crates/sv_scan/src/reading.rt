@@ -16,7 +16,7 @@ pub(crate) fn voltage(inputs: &[i64; CHANNELS], channel: u8) -> i64
     inputs[usize::from(channel) - 1]
 }
 
-/// A voltage as it reads in a range, both in microvolts.
+/// The reading of a voltage in a range, both in microvolts.
 pub(crate) fn reading_in(range: i64, microvolts: i64) -> Reading
     requires { IsTrue (int_le (pos 0) range) }
     ensures value { result ≡ reading_of range microvolts }

@@ -8,12 +8,13 @@ use crate::scan_list::ScanList;
 use crate::setting::State;
 use std::marker::Model;
 
-/// A measurement: what was fixed when it was initiated, and how many triggers it had.
+/// A measurement: its list and count, as they were when it was initiated, and how many triggers it
+/// had.
 #[derive(Drop)]
 pub(crate) struct Run {
     /// The channels that each scan reads.
     list: ScanList,
-    /// How many scans are wanted.
+    /// How many scans it has.
     scans: u8,
     triggers: u8,
 }
@@ -27,7 +28,7 @@ impl Model for Run {
 }
 
 impl Run {
-    /// A measurement that had no trigger.
+    /// A measurement before its first trigger.
     pub(crate) fn new(list: ScanList, scans: u8) -> Run
         ensures { result ≡ record { channels = list; scans = scans; triggers = 0 } }
     {
@@ -38,7 +39,7 @@ impl Run {
         }
     }
 
-    /// Its state behind so many samples.
+    /// Its state after so many samples.
     pub(crate) fn state(&self, samples: usize) -> State
         ensures { result ≡ state_by self.now.triggers samples
             (length self.now.channels) self.now.scans }
@@ -53,14 +54,14 @@ impl Run {
         }
     }
 
-    /// Whether each channel of each scan was read, behind so many samples.
+    /// Whether each channel of each scan was read, after so many samples.
     pub(crate) fn is_complete(&self, samples: usize) -> bool
         ensures { result ≡ (samples == self.now.scans * length self.now.channels) }
     {
         samples == usize::from(self.scans) * self.list.channels().len()
     }
 
-    /// The channel whose turn it is behind so many samples: they go round the list.
+    /// The channel to read after so many samples: the list is read again and again.
     pub(crate) fn channel(&self, samples: usize) -> u8
         requires { 0 < length self.now.channels }
         ensures { result ≡ channel_at self.now.channels samples }
@@ -69,7 +70,7 @@ impl Run {
         channels[samples % channels.len()]
     }
 
-    /// It had one trigger more.
+    /// Counts one more trigger.
     pub(crate) fn trigger(&mut self)
         requires { self.old.triggers < most_scans }
         ensures { self.new ≡ record self.old { triggers = self.old.triggers + 1 } }

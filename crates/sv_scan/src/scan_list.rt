@@ -10,7 +10,7 @@ use sv_errors::LONGEST_LIST;
 /// Channels, at most [`LONGEST_LIST`], in the order in which they are read.
 #[derive(Clone, Copy, Debug)]
 pub struct ScanList {
-    /// The channels, and zeros behind them.
+    /// The channels, and zeros after them.
     channels: [u8; LONGEST_LIST],
     /// How many channels there are.
     count: usize,

@@ -33,7 +33,7 @@ use sv_errors::{CHANNELS, Code, Layer, MOST_READINGS, Source, is_channel};
 pub struct Scanner<A: Allocator = Global> {
     /// The input of each channel, in microvolts; that of channel 1 first.
     inputs: [i64; CHANNELS],
-    /// What is set.
+    /// The settings.
     pub(crate) settings: Settings,
     /// The measurement since the last initiation.
     run: Option<Run>,

@@ -5,7 +5,7 @@ use crate::scan_list::ScanList;
 use crate::setting::Setting;
 use sv_errors::{MOST_MICROVOLTS, Source};
 
-/// What is set.
+/// The settings.
 #[derive(Drop)]
 pub(crate) struct Settings {
     /// The channels that a scan reads.
@@ -30,7 +30,7 @@ impl Settings {
     ghost use Rattle.std.specs.Prelude.{[]};
     ghost use Rattle.sv_scan.specs.Together.{AreOf, IsSet};
 
-    /// Each has its default.
+    /// All defaults.
     pub(crate) fn new() -> Settings
         ensures { AreOf result [] }
     {
@@ -46,7 +46,7 @@ impl Settings {
         }
     }
 
-    /// The one that is given takes its value, and the others stay.
+    /// Changes one setting.
     pub(crate) fn set(&mut self, setting: Setting)
         ensures { IsSet setting self.old self.new }
     {

@@ -8,7 +8,7 @@ use crate::run::Run;
 use crate::setting::State;
 use sv_errors::Source;
 
-/// The state of a measurement behind so many samples; idle without one.
+/// The state of a measurement after so many samples; idle without one.
 pub(crate) fn state_in(run: &Option<Run>, samples: usize) -> State
     ensures { result ≡ run_state run.now samples }
 {
@@ -63,7 +63,7 @@ impl State {
     }
 }
 
-/// Whether triggers from the one come from the other.
+/// Whether two sources are the same.
 pub(crate) fn is_same(first: Source, second: Source) -> bool
     ensures { result ≡ same_source first second }
 {

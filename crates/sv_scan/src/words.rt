@@ -52,7 +52,7 @@ pub(crate) fn questionable_word(overload: bool) -> u16
     mask_if(OVERLOAD, overload)
 }
 
-/// The condition word of the register of limits: where the limits count, whether the last reading
+/// The condition word of the register of limits: if the limits are on, whether the last reading
 /// is below or above them, and whether the live input is outside.
 pub(crate) fn limit_word(limits: bool, below: bool, above: bool, outside: bool) -> u16
     ensures { result ≡ bit 0 (limits && below) + bit 1 (limits && above) + bit 2
@@ -65,7 +65,7 @@ pub(crate) fn limit_word(limits: bool, below: bool, above: bool, outside: bool) 
     }
 }
 
-/// A mask where its condition holds, else nothing.
+/// A mask if its condition holds, else 0.
 fn mask_if(mask: u16, holds: bool) -> u16
     ensures { result ≡ (if holds then mask else 0) }
 {

@@ -46,7 +46,7 @@ abbrev pub Takes : Config → ℕ → List Act → List PlainEvent → Type 0
 Takes config c before turn = (turn ≡ Turn c ∷ []) ⊎ (((turn ≡ Refuse c ∷ []) × Answers config (Turn c) before (Err NoMemory))
     ⊎ ((turn ≡ []) × ((is_idle (of c before) ≡ true) ⊎ (free (of c before) < longest_reply))))
 
--- The bytes that wait on a connection, if any, are given to the wire in one write, perhaps with more behind them.
+-- The bytes that wait on a connection, if any, are given to the wire in one write, perhaps with more after them.
 abbrev pub Offers : ℕ → List Act → List Heard → Type 0
 Offers c log piece = (waiting (of c log) ≡ []) ⊎ ((more : List ℕ) × (answer : Answer ℕ) × (newer older : List Heard)
     × (piece ≡ newer ++ (WasWritten (Conn c) (waiting (of c log) ++ more) answer ∷ older)))

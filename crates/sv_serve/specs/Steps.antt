@@ -89,7 +89,7 @@ ProbesIf hears c false config before after = after ≡ before
 ProbesIf hears c true config before after = (drops : Bool) × (answer : Answer ⊤) × IsOverlong c config before drops
     × (Hears hears (WasProbed c drops answer) then Drops hears c answer) config before after
 
--- An open connection without room isn't read, but the wire is asked whether it is gone. What comes behind a record that is too long is
+-- An open connection without room isn't read, but the wire is asked whether it is gone. What comes after a record that is too long is
 -- discarded.
 abbrev pub Probes : {W : Type 0} → (W → Heard → W → Type 0) → ℕ → Config → DriverView W → DriverView W → Type 0
 Probes hears c config before after = (opened : Bool) × IsOpen (Conn c) config before opened × ProbesIf hears c opened config before after

@@ -16,7 +16,7 @@ use std::alloc::Allocator;
 use sv_server::{Event, Port, Role};
 
 impl<W: Wire + Drop, A: Allocator> Driver<W, A> {
-    /// Takes a connection for this purpose, if one comes; without a free number it is dropped.
+    /// Accepts a connection of this role, if one comes; without a free number it is dropped.
     pub(crate) fn accept(&mut self, role: Role)
         ensures { Steps (Accepts W.hears role) self.old self.new }
     {
@@ -25,7 +25,7 @@ impl<W: Wire + Drop, A: Allocator> Driver<W, A> {
         self.open(role, conn, answer);
     }
 
-    /// Takes a connection under this number.
+    /// Accepts a connection under this number.
     fn greet(&mut self, role: Role, conn: Option<u8>) -> Answer<()>
         ensures { Steps (Hears W.hears (WasAccepted role conn result)) self.old self.new }
     {
@@ -46,7 +46,7 @@ impl<W: Wire + Drop, A: Allocator> Driver<W, A> {
         None
     }
 
-    /// Opens what came.
+    /// Opens the connection that was accepted.
     fn open(&mut self, role: Role, conn: Option<u8>, answer: Answer<()>)
         ensures { From (IsLowest conn) (Opens role conn answer) self.old self.new }
     {

@@ -13,7 +13,7 @@ use crate::wire::{Answer, Wire};
 use std::alloc::Allocator;
 use sv_server::{Dial, Event, Port};
 
-/// Whether this one is wanted.
+/// Whether this peer is still wanted.
 fn is_wanted(called: Dial, wanted: Option<Dial>) -> bool
     ensures { result ≡ is_wanted called wanted }
 {
@@ -24,7 +24,7 @@ fn is_wanted(called: Dial, wanted: Option<Dial>) -> bool
 }
 
 impl<W: Wire + Drop, A: Allocator> Driver<W, A> {
-    /// Calls each peer that is wanted, and lets go each that isn't any more.
+    /// Connects to each peer that is wanted, and drops each that isn't any more.
     pub(crate) fn dial_each(&mut self)
         ensures { Steps (ForEach 16 (Dials W.hears)) self.old self.new }
     {
@@ -36,7 +36,7 @@ impl<W: Wire + Drop, A: Allocator> Driver<W, A> {
         }
     }
 
-    /// Calls the peer of a connection, or lets it go.
+    /// Connects to the peer of a connection, or drops it.
     fn dial(&mut self, conn: u8)
         requires { conn < 16 }
         ensures { Steps (Dials W.hears conn) self.old self.new }
@@ -45,7 +45,7 @@ impl<W: Wire + Drop, A: Allocator> Driver<W, A> {
         self.call(conn);
     }
 
-    /// Lets the peer of a connection go, unless its channel is open or it is still wanted.
+    /// Drops the peer of a connection, unless its channel is open or it is still wanted.
     fn cancel_unwanted(&mut self, conn: u8)
         requires { conn < 16 }
         ensures { Steps (LetsGo W.hears conn) self.old self.new }
@@ -54,7 +54,7 @@ impl<W: Wire + Drop, A: Allocator> Driver<W, A> {
         self.cancel_if_unwanted(conn, called);
     }
 
-    /// Lets a peer go that was called.
+    /// Drops a peer that was called, if it isn't wanted any more.
     fn cancel_if_unwanted(&mut self, conn: u8, called: Option<Dial>)
         requires { conn < 16 }
         ensures { Steps (CancelsUnwanted W.hears conn called) self.old self.new }
@@ -69,7 +69,7 @@ impl<W: Wire + Drop, A: Allocator> Driver<W, A> {
         }
     }
 
-    /// Hangs up, unless this is so.
+    /// Drops the peer, unless this is so.
     fn keep_call(&mut self, conn: u8, keeps: bool)
         requires { conn < 16 }
         ensures { Steps (KeepsCall W.hears conn keeps) self.old self.new }
@@ -123,7 +123,7 @@ impl<W: Wire + Drop, A: Allocator> Driver<W, A> {
         self.wire.dialed(conn)
     }
 
-    /// What came of calling a peer happens.
+    /// Applies the result of calling a peer.
     fn connect_result(&mut self, conn: u8, dial: Dial, answer: Answer<()>)
         requires { conn < 16 }
         ensures { From (λ (config : Config) (at : DriverView W). Wants conn config at (Some dial))
@@ -141,7 +141,7 @@ impl<W: Wire + Drop, A: Allocator> Driver<W, A> {
         }
     }
 
-    /// Keeps whom it called for a connection.
+    /// Remembers which peer it called for a connection.
     fn remember(&mut self, conn: u8, dial: Dial)
         requires { conn < 16 }
         ensures { Steps (Remembers conn (Some dial)) self.old self.new }
@@ -150,7 +150,7 @@ impl<W: Wire + Drop, A: Allocator> Driver<W, A> {
         self.dial_limit = self.dial_limit.max(conn + 1);
     }
 
-    /// What came of waiting for a peer happens.
+    /// Applies the result of waiting for a peer.
     fn poll_result(&mut self, conn: u8, answer: Answer<()>)
         requires { conn < 16 }
         ensures { From (IsAwaited conn) (PollResult W.hears conn answer) self.old self.new }

@@ -36,7 +36,7 @@ impl<W: Wire + Drop, A: Allocator> Driver<W, A> {
         self.wire.close(port);
     }
 
-    /// Keeps no longer whom it called for a connection.
+    /// Forgets which peer it called for a connection.
     fn forget(&mut self, conn: u8)
         requires { conn < 16 }
         ensures { Steps (Remembers conn None) self.old self.new }
@@ -56,7 +56,7 @@ impl<W: Wire + Drop, A: Allocator> Driver<W, A> {
         self.apply(Event::Close { port });
     }
 
-    /// Closes each connection that only waits for it, once nothing waits on it.
+    /// Closes each connection at fault on which nothing waits.
     pub(crate) fn end_each(&mut self)
         ensures { Steps (ForEach 16 (Ends W.hears)) self.old self.new }
     {
@@ -68,7 +68,7 @@ impl<W: Wire + Drop, A: Allocator> Driver<W, A> {
         }
     }
 
-    /// Closes a connection that only waits for it, once nothing waits on it.
+    /// Closes a connection at fault, if nothing waits on it.
     fn end(&mut self, conn: u8)
         requires { conn < 16 }
         ensures { Steps (Ends W.hears conn) self.old self.new }

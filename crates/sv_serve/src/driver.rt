@@ -20,14 +20,14 @@ pub(crate) const CONNECTIONS: u8 = 16;
 /// How many bytes are read at once, at most.
 const PIECE: usize = 16_384;
 
-/// A server behind a wire, at which a scenario is played.
+/// A server after a wire, at which a scenario is played.
 #[derive(Drop)]
 pub struct Driver<W: Wire + Drop, A: Allocator = Global> {
     pub(crate) server: Server<A>,
     pub(crate) wire: W,
-    /// Whom it called for the interrupt channel of each connection.
+    /// The peer that it called for the interrupt channel of each connection.
     pub(crate) called: [Option<Dial>; 16],
-    /// For no connection of this number or above it ever called anybody.
+    /// It never called a peer for a connection of this number or above.
     pub(crate) dial_limit: u8,
     pub(crate) scenario: Vec<Entry, A>,
     /// How many entries of the scenario were played.
@@ -103,7 +103,7 @@ impl<W: Wire + Drop, A: Allocator> Driver<W, A> {
         &self.server
     }
 
-    /// Whether no connection of this number or above was ever opened: nothing is to do on them.
+    /// Whether no connection of this number or above was ever opened.
     pub(crate) fn is_unused(&self, conn: u8) -> bool
         ensures { result ≡ true → (config : Config) (history : List PlainEvent)
             → StandsFor self.now.server config history
@@ -112,7 +112,7 @@ impl<W: Wire + Drop, A: Allocator> Driver<W, A> {
         conn >= self.server.connections_used()
     }
 
-    /// Whether nobody is to be called or let go for a connection of this number or above.
+    /// Whether no peer is to be called or dropped for a connection of this number or above.
     pub(crate) fn is_uncalled(&self, conn: u8) -> bool
         ensures { result ≡ true → (config : Config) (history : List PlainEvent)
             → StandsFor self.now.server config history
@@ -122,7 +122,7 @@ impl<W: Wire + Drop, A: Allocator> Driver<W, A> {
         self.is_unused(conn) && conn >= self.dial_limit
     }
 
-    /// Gives an event to the server that suits what it answers when it is asked: it is done.
+    /// Applies an event that fits the server's answers: it succeeds.
     pub(crate) fn apply(&mut self, event: Event<'_>)
         ensures { From (IsSuited (plain event.entry)) (IsApplied (plain event.entry))
             self.old self.new }
@@ -130,7 +130,7 @@ impl<W: Wire + Drop, A: Allocator> Driver<W, A> {
         let _ = self.server.apply(event);
     }
 
-    /// Gives an event to the server that it may refuse.
+    /// Applies an event that the server may refuse.
     pub(crate) fn give(&mut self, event: Event<'_>) -> Result<Did, Refused>
         ensures { Steps (Given (plain event.entry) result) self.old self.new }
     {

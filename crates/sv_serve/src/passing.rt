@@ -21,14 +21,14 @@ impl<W: Wire + Drop, A: Allocator> Driver<W, A> {
         self.play();
     }
 
-    /// Plays what is due.
+    /// Applies the entries of the scenario that are due.
     fn play(&mut self)
         ensures { Steps Plays self.old self.new }
     {
         while self.play_one() {}
     }
 
-    /// Plays the next entry, if it is due; false where it isn't.
+    /// Plays the next entry, if it is due; false if it isn't.
     fn play_one(&mut self) -> bool
         ensures goes { Steps (PlaysIf result) self.old self.new }
         ensures measure { result ≡ true → length self.new.ahead < length self.old.ahead }

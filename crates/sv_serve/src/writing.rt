@@ -48,7 +48,7 @@ impl<W: Wire + Drop, A: Allocator> Driver<W, A> {
         self.leave(port, answer);
     }
 
-    /// Lets go what was taken, or closes a port at which writing failed.
+    /// Drops the bytes that were taken, or closes a port whose write failed.
     fn leave(&mut self, port: Port, answer: Answer<usize>)
         requires number { port_number port < 16 }
         requires counted { (n : ℕ) → answer ≡ Answer.Got n → n < 4294967296 }

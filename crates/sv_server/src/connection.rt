@@ -168,7 +168,7 @@ impl<A: Allocator> Connection<A> {
         drop_front(&mut self.output, count);
     }
 
-    /// Whether a record was taken that is no call, or all records in front of one that is too long
+    /// Whether a record was taken that is no call, or all records before one that is too long
     /// are done.
     pub fn is_faulted(&self) -> bool
         ensures { (acts : List ConnAct) → IsConnection self.now acts → result ≡ is_faulted acts }
@@ -179,7 +179,7 @@ impl<A: Allocator> Connection<A> {
         }
     }
 
-    /// Whether a record came that is too long, so that nothing behind it is taken in.
+    /// Whether a record came that is too long, so that nothing after it is taken in.
     pub fn is_overlong(&self) -> bool
         ensures { (acts : List ConnAct) → IsConnection self.now acts → result ≡ is_overlong acts }
     {

@@ -165,7 +165,7 @@ impl<A: Allocator> Server<A> {
     }
 
     /// Whether the connection can only be closed: a record that is no call was taken, or a record
-    /// that is too long came and all records in front of it are done.
+    /// that is too long came and all records before it are done.
     pub fn faulted(&self, conn: u8) -> bool
         ensures { (config : Config) (history : List PlainEvent) → StandsFor self.now config history
             → Answered (λ log. is_faulted (of conn log)) config history result }
@@ -176,8 +176,8 @@ impl<A: Allocator> Server<A> {
         }
     }
 
-    /// Whether a record that is too long came on the connection. Nothing behind it is taken in, so
-    /// there is no room any more. Complete records in front of it are still executed.
+    /// Whether a record that is too long came on the connection. Nothing after it is taken in, so
+    /// there is no room any more. Complete records before it are still executed.
     pub fn overlong(&self, conn: u8) -> bool
         ensures { (config : Config) (history : List PlainEvent) → StandsFor self.now config history
             → Answered (λ log. is_overlong (of conn log)) config history result }

@@ -1,5 +1,5 @@
 //! Plays the rows of the standard input, each with a new server over real sockets of 127.0.0.1 and
-//! with peers in the same process, and prints behind the title of each what the peers get.
+//! with peers in the same process, and prints after the title of each what the peers get.
 //!
 //! The server makes some sweeps between two looks of a peer. Nothing that is printed depends on how
 //! fast the machine is: times are compared from below, and the program ends with a fault only where
@@ -10,7 +10,7 @@
 //! | Line | What it says |
 //! |---|---|
 //! | `= WORDS` | the title, in front |
-//! | `0 input 1 250000` | an entry of the scenario; all entries stand in front of the steps |
+//! | `0 input 1 250000` | an entry of the scenario; all entries stand before the steps |
 //! | `a core` | the peer connects to the core channel; `abort` and `portmap` are the other ports |
 //! | `a < 8000..` | it sends these bytes, which may have blanks between them |
 //! | `a > N` | so many bytes come to it, which are printed |

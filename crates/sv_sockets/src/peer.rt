@@ -13,7 +13,7 @@ fn local(port: u16) -> SocketAddr {
     SocketAddr::V4(SocketAddrV4::new(Ipv4Addr::LOCALHOST, port))
 }
 
-/// Whether a call failed only since it would have to wait.
+/// Whether a call failed only because it would block.
 fn would_wait(kind: ErrorKind) -> bool {
     matches!(
         kind,
@@ -28,9 +28,9 @@ pub(crate) struct Peer {
     pub(crate) name: char,
     listener: Option<TcpListener>,
     stream: Option<TcpStream>,
-    /// What it is still to send.
+    /// The bytes still to be sent.
     pub(crate) unsent: Vec<u8>,
-    /// What came, and wasn't printed.
+    /// The bytes that came and weren't printed yet.
     pub(crate) came: Vec<u8>,
     /// Its stream ended.
     pub(crate) ended: bool,
@@ -103,7 +103,7 @@ impl Peer {
         }
     }
 
-    /// What comes of a call that failed: a stream that was reset ended too.
+    /// Handles a call that failed: a stream that was reset has ended too.
     fn fault(&mut self, error: io::Error) -> io::Result<usize> {
         match error.kind() {
             ErrorKind::ConnectionReset | ErrorKind::BrokenPipe => {

@@ -4,13 +4,13 @@ use crate::stage::{Stage, bad};
 use std::alloc::Global;
 use std::io;
 
-/// How often in a row nothing moves before the sockets are full.
+/// After so many tries without a byte moved the sockets count as full.
 const STILL: u32 = 20;
-/// How often it tries at most.
+/// The most tries.
 const TRIES: u32 = 100_000;
 
 /// Numbers the calls or replies of some records, each of one fragment, from 1 on: the number stands
-/// behind the record mark (RFC 5531, sections 9 and 11).
+/// after the record mark (RFC 5531, sections 9 and 11).
 fn number_records(records: &mut Vec<u8>) -> io::Result<()> {
     let (mut place, mut number) = (0usize, 0u32);
     for _ in 0..records.len() {
@@ -30,7 +30,7 @@ fn number_records(records: &mut Vec<u8>) -> io::Result<()> {
     Ok(())
 }
 
-/// Some records so often, numbered.
+/// Some records, repeated and numbered.
 fn repeated(alloc: Global, records: &[u8], count: u32) -> io::Result<Vec<u8>> {
     let mut all = Vec::new(alloc);
     for _ in 0..count {

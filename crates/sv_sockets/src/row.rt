@@ -6,9 +6,9 @@ use crate::stage::{PORTS, Stage, bad};
 use std::alloc::Global;
 use std::io::{self, BufWriter, Write};
 
-/// How many sweeps are made while a peer is to hear nothing.
+/// How many sweeps are made while a peer must receive nothing.
 const SILENCE: u32 = 20;
-/// How many bytes of a reply that is poured are printed.
+/// How many bytes of the first of many replies are printed.
 const SHOWN: usize = 64;
 
 /// A number.
@@ -31,7 +31,7 @@ fn bytes(alloc: Global, text: &str) -> io::Result<Vec<u8>> {
     }
 }
 
-/// The letter that a text is.
+/// The letter of a peer.
 fn letter(text: &str) -> io::Result<char> {
     match text.chars().next() {
         Some(letter) => Ok(letter),
@@ -68,7 +68,7 @@ pub(crate) fn play<W: Write + Drop>(
     Ok(())
 }
 
-/// Does what a line says.
+/// Executes a line.
 fn step<W: Write + Drop>(
     stage: &mut Stage,
     line: &str,
@@ -87,7 +87,7 @@ fn step<W: Write + Drop>(
     }
 }
 
-/// Has a peer do what a line says.
+/// Executes a line of a peer.
 fn do_as<W: Write + Drop>(
     stage: &mut Stage,
     name: char,
@@ -158,7 +158,7 @@ fn compare<W: Write + Drop>(
     writeln!(writer, "{first} before {second}: {}", word(so))
 }
 
-/// So many bytes come to a peer, which are printed.
+/// Prints so many bytes that come to a peer.
 fn show_came<W: Write + Drop>(
     stage: &mut Stage,
     name: char,

@@ -17,17 +17,17 @@ const PATIENCE: u64 = 10;
 const TRIES: u32 = 2_000;
 /// How often it looks at most.
 const LOOKS: u32 = 10_000_000;
-/// How many sweeps are made between two looks. Behind the last one no time is counted.
+/// How many sweeps are made between two looks. After the last one no time is counted.
 const SWEEPS: u32 = 2;
-/// How many are made where times are compared, so that most of the time is counted.
+/// How many sweeps are made when times are compared, so that most of the time is counted.
 const MORE_SWEEPS: u32 = 4;
 
-/// What is told of a row that can't be played.
+/// The fault of a row that can't be played.
 pub(crate) fn bad() -> Error {
     Error::from(ErrorKind::InvalidData)
 }
 
-/// What is told where a peer waited so long.
+/// The fault of a peer that waited too long.
 fn late() -> Error {
     Error::from(ErrorKind::TimedOut)
 }
@@ -98,13 +98,13 @@ impl Stage {
         (0..16).any(|conn| !server.waiting(Port::Conn(conn)).is_empty())
     }
 
-    /// Keeps the time to compare with.
+    /// Starts a time measurement.
     pub(crate) fn begin(&mut self) -> io::Result<()> {
         self.start = Instant::now(&self.rt)?;
         Ok(())
     }
 
-    /// How many whole milliseconds passed since.
+    /// How many whole milliseconds passed since then.
     pub(crate) fn passed(&self) -> io::Result<u128> {
         Ok(self.start.elapsed(&self.rt)?.as_millis())
     }
@@ -160,7 +160,7 @@ impl Stage {
     }
 
     /// Serves until bytes came to the second of two peers; whether some came to the first one too,
-    /// which is looked at behind the second one.
+    /// which is looked at after the second one.
     ///
     /// # Errors
     /// If that takes too long.

@@ -8,7 +8,7 @@ use std::marker::Model;
 use std::mem::replace;
 use sv_errors::Layer;
 
-/// Above all bits of a mask that is written: bit 15 is dropped.
+/// Bit 15, which a mask that is written loses.
 const MASK_END: u16 = 1 << 15;
 /// The filter that lets each bit pass.
 const ALL: u16 = 32767;
@@ -52,7 +52,7 @@ pub struct Register {
     fall: u16,
     event: u16,
     enable: u16,
-    /// What the enable starts with, and is preset to.
+    /// The enable at power on and after a preset.
     start: u16,
 }
 
@@ -88,7 +88,7 @@ impl Register {
         Register::starting(ALL)
     }
 
-    /// A register whose enable starts so.
+    /// A register with this enable at power on.
     fn starting(start: u16) -> Register
         ensures { StandsFor start result [] }
     {

@@ -8,7 +8,7 @@ use std::marker::Model;
 use std::mem::replace;
 use sv_errors::Layer;
 
-/// Power on, which has happened when the register is new.
+/// Power on, which is set in a new register.
 const POWER_ON: u8 = 1 << 7;
 
 /// An act of the register.

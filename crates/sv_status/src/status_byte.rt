@@ -20,7 +20,7 @@ pub enum StatusAct {
         /// The service request enable; bit 6 is ignored.
         enable: u8,
     },
-    /// A poll, which ends a request for service.
+    /// A poll, which clears the request for service.
     Poll,
 }
 
@@ -125,14 +125,14 @@ impl StatusByte {
     }
 }
 
-/// The summary bits that stand and are enabled.
+/// The summary bits that are set and enabled.
 fn asking(bits: u8, enable: u8) -> u8
     ensures { (k : ℕ) → (bit_at result k ≡ 1) ↔ ServiceRequested k bits enable }
 {
     bits & enable & !REQUEST
 }
 
-/// These bits, but bit 6 as told.
+/// These bits, with bit 6 set as given.
 fn with_bit_6(bits: u8, stands: bool) -> u8
     ensures { (k : ℕ) → (bit_at result k ≡ 1)
         ↔ (((k ≢ 6) × (bit_at bits k ≡ 1)) ⊎ ((k ≡ 6) × (stands ≡ true))) }

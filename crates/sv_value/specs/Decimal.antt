@@ -14,26 +14,26 @@ digits_size text = position_or_len (λ b. not (is_ascii_digit b)) text
 abbrev pub digits_in : List ℕ → List ℕ
 digits_in text = take (digits_size text) text
 
--- the text behind these digits
+-- the text after these digits
 abbrev pub behind_digits : List ℕ → List ℕ
 behind_digits text = drop (digits_size text) text
 
--- the text behind its sign, if it has one
+-- the text after its sign, if it has one
 abbrev pub behind_sign : List ℕ → List ℕ
 behind_sign [] = []
 behind_sign (b ∷ text) = if b == 43 || b == 45 then text else b ∷ text
 
--- the digits behind a point at the front of the text
+-- the digits after a point at the front of the text
 abbrev pub fraction_in : List ℕ → List ℕ
 fraction_in [] = []
 fraction_in (b ∷ text) = if b == 46 then digits_in text else []
 
--- the text behind that point and these digits
+-- the text after that point and these digits
 abbrev pub behind_fraction : List ℕ → List ℕ
 behind_fraction [] = []
 behind_fraction (b ∷ text) = if b == 46 then behind_digits text else b ∷ text
 
--- the text behind an E at its front, and white space; empty without an E
+-- the text after an E at its front, and white space; empty without an E
 abbrev pub behind_letter : List ℕ → List ℕ
 behind_letter [] = []
 behind_letter (b ∷ text) = if b == 69 || b == 101 then trim_start text else []
@@ -50,7 +50,7 @@ exponent_in text = digits_in (behind_sign (behind_mark text))
 abbrev pub is_down : List ℕ → Bool
 is_down text = not (is_empty (exponent_in text)) && has_minus (behind_mark text)
 
--- the text behind the exponent, if there is one
+-- the text after the exponent, if there is one
 abbrev pub behind_exponent : List ℕ → List ℕ
 behind_exponent text = if is_empty (exponent_in text) then text else behind_digits (behind_sign (behind_mark text))
 
@@ -63,11 +63,11 @@ pub record Parts : Type 0 where
   pub exponent : List ℕ
   pub suffix : List ℕ
 
--- the text behind sign and digits
+-- the text after sign and digits
 abbrev pub behind_whole : List ℕ → List ℕ
 behind_whole text = behind_digits (behind_sign text)
 
--- the text behind the mantissa
+-- the text after the mantissa
 abbrev pub behind_mantissa : List ℕ → List ℕ
 behind_mantissa text = behind_fraction (behind_whole text)
 

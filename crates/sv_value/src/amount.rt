@@ -19,12 +19,12 @@ const MOST_DIGITS: usize = 255;
 /// The largest magnitude of an exponent.
 const MOST_EXPONENT: u64 = 32_000;
 
-/// A whole number, counted to a bound that is past every range.
+/// A whole number, up to a bound beyond every range.
 #[derive(Clone, Copy, Debug)]
 pub(crate) struct Amount {
-    /// Whether a minus stands in front.
+    /// Whether it begins with a minus.
     pub(crate) negative: bool,
-    /// The number without its sign, or [`crate::digits::MOST`].
+    /// Its magnitude, at most [`crate::digits::MOST`].
     pub(crate) magnitude: u64,
 }
 
@@ -106,7 +106,7 @@ fn significant(whole: &[u8], fraction: &[u8]) -> usize
     }
 }
 
-/// How many zeros stand in front.
+/// How many leading zeros it has.
 fn zeros_in(digits: &[u8]) -> usize
     ensures value { result ≡ position_or_len (λ b. not (b == 48)) digits.now }
     ensures within { result ≤ length digits.now }
@@ -114,7 +114,7 @@ fn zeros_in(digits: &[u8]) -> usize
     zeros_end(digits).unwrap_or(digits.len())
 }
 
-/// Where the first byte stands that is no zero.
+/// The place of the first byte that isn't a zero.
 fn zeros_end(digits: &[u8]) -> Option<usize>
     ensures { result ≡ position (λ b. not (b == 48)) digits.now }
 {

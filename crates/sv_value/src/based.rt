@@ -56,7 +56,7 @@ fn in_base(base: u8, digits: &[u8]) -> Result<Amount, Code>
     })
 }
 
-/// Whether a digit of a base stands in front.
+/// Whether it begins with a digit of the base.
 fn begins_well(base: u8, digits: &[u8]) -> bool
     ensures { result ≡ begins_with_digit base digits.now }
 {

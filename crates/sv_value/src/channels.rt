@@ -14,7 +14,7 @@ use arrayvec::ArrayVec;
 use sv_errors::{Code, LONGEST_LIST, is_channel};
 use sv_text::{first_part, trim};
 
-/// The two ends of an item, counted to a bound that is past every channel.
+/// The two ends of an item, up to a bound beyond every channel.
 #[derive(Clone, Copy, Debug)]
 struct Span {
     first: u64,
@@ -32,7 +32,7 @@ pub(crate) fn channels_of(text: &[u8]) -> Result<ArrayVec<u8, LONGEST_LIST>, Cod
     }
 }
 
-/// What stands between `(@` and `)`.
+/// The text between `(@` and `)`.
 fn inner(text: &[u8]) -> Option<&[u8]>
     ensures { MatchOption result (inner_of text.now ≡ None)
         (λ found. inner_of text.now ≡ Some found.now) }
@@ -138,7 +138,7 @@ fn two_ends(front: &[u8], back: &[u8]) -> Option<Span>
     }
 }
 
-/// The number that digits are, with white space around them or none.
+/// The number of these digits, perhaps with white space around them.
 fn number(text: &[u8]) -> Option<u64>
     ensures { result ≡ number_up_to text.now }
 {

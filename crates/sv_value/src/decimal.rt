@@ -13,17 +13,17 @@ use sv_text::without_start;
 /// A decimal number in its parts.
 #[derive(Clone, Copy, Debug)]
 pub(crate) struct Decimal<'a> {
-    /// Whether a minus stands in front.
+    /// Whether it begins with a minus.
     pub(crate) negative: bool,
-    /// The digits in front of the point.
+    /// The digits before the point.
     pub(crate) whole: &'a [u8],
-    /// The digits behind the point.
+    /// The digits after the point.
     pub(crate) fraction: &'a [u8],
-    /// Whether a minus stands in front of the exponent.
+    /// Whether the exponent is negative.
     pub(crate) down: bool,
-    /// The digits of the exponent; none where there is no exponent.
+    /// The digits of the exponent; none if there is no exponent.
     pub(crate) exponent: &'a [u8],
-    /// What stands behind the number.
+    /// What follows the number.
     pub(crate) suffix: &'a [u8],
 }
 
@@ -49,7 +49,7 @@ impl<'a> Decimal<'a> {
         }
     }
 
-    /// Whether it is spelled as a number: it has a digit, and what stands behind begins with a
+    /// Whether it is spelled as a number: it has a digit, and what follows begins with a
     /// letter.
     pub(crate) fn is_spelled(&self) -> bool
         ensures { result ≡ is_spelled_number (plain self.now) }
@@ -69,7 +69,7 @@ fn begins_well(suffix: &[u8]) -> bool
     }
 }
 
-/// Whether a minus stands in front, and what stands behind the sign.
+/// Whether it begins with a minus, and what follows the sign.
 fn signed(text: &[u8]) -> (bool, &[u8])
     ensures minus { result.0 ≡ has_minus text.now }
     ensures behind { result.1.now ≡ behind_sign text.now }
@@ -81,7 +81,7 @@ fn signed(text: &[u8]) -> (bool, &[u8])
     }
 }
 
-/// The digits behind a point in front, and what stands behind them.
+/// The digits after a point in front, and what follows them.
 fn fraction(text: &[u8]) -> (&[u8], &[u8])
     ensures digits { result.0.now ≡ fraction_in text.now }
     ensures all { list_all is_ascii_digit result.0.now ≡ true }
@@ -93,8 +93,8 @@ fn fraction(text: &[u8]) -> (&[u8], &[u8])
     }
 }
 
-/// Whether the exponent in front is negative, its digits, and what stands behind them; no digits
-/// where there is no exponent.
+/// Whether the exponent in front is negative, its digits, and what follows them; no digits
+/// if there is no exponent.
 fn exponent(text: &[u8]) -> (bool, &[u8], &[u8])
     ensures minus { result.0 ≡ is_down text.now }
     ensures digits { result.1.now ≡ exponent_in text.now }
@@ -109,7 +109,7 @@ fn exponent(text: &[u8]) -> (bool, &[u8], &[u8])
     }
 }
 
-/// What stands behind an `E` and the white space around it; nothing where there is no `E`.
+/// What follows an `E` and the white space around it; nothing if there is no `E`.
 fn behind_mark(text: &[u8]) -> &[u8]
     ensures { result.now ≡ mark_behind text.now }
 {

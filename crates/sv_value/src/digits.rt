@@ -6,10 +6,10 @@ ghost use Rattle.std.specs.List.{list_all};
 ghost use Rattle.std.specs.Str.Parse.{digits_value_after};
 ghost use Rattle.sv_value.specs.Decimal.{behind_digits, digits_in, digits_size};
 
-/// The most that a value is counted to: more than any range has.
+/// The bound of values: beyond every range.
 pub(crate) const MOST: u64 = 1_000_000_000_000_000_000;
 
-/// The value that digits of a base write when they follow those of a value, or [`MOST`] where it is
+/// The value that digits of a base write when they follow those of a value, or [`MOST`] if it is
 /// more.
 pub(crate) fn value_after(base: u8, front: u64, digits: &[u8]) -> u64
     requires base { base ≤ 16 }
@@ -27,7 +27,7 @@ pub(crate) fn value_after(base: u8, front: u64, digits: &[u8]) -> u64
     value
 }
 
-/// What a digit or a letter is worth: 36 for any other byte.
+/// The value of a digit or a letter; 36 for any other byte.
 pub(crate) fn value_of(byte: u8) -> u8
     ensures value { result ≡ digit_value byte }
     ensures most { result ≤ 36 }
@@ -40,7 +40,7 @@ pub(crate) fn value_of(byte: u8) -> u8
     }
 }
 
-/// The digits in front, and what stands behind them.
+/// The leading digits, and what follows them.
 pub(crate) fn digits(text: &[u8]) -> (&[u8], &[u8])
     ensures digits { result.0.now ≡ digits_in text.now }
     ensures all { list_all is_ascii_digit result.0.now ≡ true }
@@ -49,7 +49,7 @@ pub(crate) fn digits(text: &[u8]) -> (&[u8], &[u8])
     text.split_at(size_of(text))
 }
 
-/// How many digits stand in front.
+/// How many digits it begins with.
 fn size_of(text: &[u8]) -> usize
     ensures value { result ≡ digits_size text.now }
     ensures within { result ≤ length text.now }
@@ -57,7 +57,7 @@ fn size_of(text: &[u8]) -> usize
     end_of(text).unwrap_or(text.len())
 }
 
-/// Where the first byte stands that is no digit.
+/// The place of the first byte that isn't a digit.
 fn end_of(text: &[u8]) -> Option<usize>
     ensures { result ≡ position (λ b. not (is_ascii_digit b)) text.now }
 {

@@ -11,7 +11,7 @@ use crate::decimal::Decimal;
 use crate::digits::{MOST, value_after, value_of};
 
 /// A number without its sign, rounded to the nearest unit of which the power of ten make its own,
-/// half up; or [`MOST`] where it is more.
+/// half up; or [`MOST`] if it is more.
 pub(crate) fn magnitude(number: &Decimal<'_>, power: u64) -> u64
     requires power { power ≤ 9 }
     requires moved { digits_value 10 number.now.exponent.now ≤ 32000 }
@@ -45,7 +45,7 @@ fn moved(number: &Decimal<'_>) -> (u64, u64)
     }
 }
 
-/// A value times a power of ten, or [`MOST`] where it is more.
+/// A value times a power of ten, or [`MOST`] if it is more.
 fn shifted(value: u64, tens: u64) -> u64
     requires { value ≤ 1000000000000000000 }
     ensures { result ≡ min (value * 10 ^ tens) 1000000000000000000 }
@@ -59,8 +59,8 @@ fn shifted(value: u64, tens: u64) -> u64
     MOST.min(value.saturating_mul(10_u64.pow(tens as u32)))
 }
 
-/// The digits in front of the last so many, plus one where what is left out is half or more; or
-/// [`MOST`] where it is more.
+/// The digits before the last so many, plus one where what is left out is half or more; or
+/// [`MOST`] if it is more.
 fn rounded(whole: &[u8], fraction: &[u8], left_out: u64) -> u64
     requires some { 1 ≤ left_out }
     requires whole { list_all is_ascii_digit whole.now ≡ true }
@@ -76,14 +76,14 @@ fn rounded(whole: &[u8], fraction: &[u8], left_out: u64) -> u64
     MOST.min(front + carry(next))
 }
 
-/// What the first digit that is left out adds to those in front of it: 1 from 5 on.
+/// What the first digit that is left out adds to those before it: 1 from 5 on.
 fn carry(digit: u8) -> u64
     ensures { result ≡ (if nat_le 5 digit then 1 else 0) }
 {
     if digit >= 5 { 1 } else { 0 }
 }
 
-/// The value of the first so many digits, or [`MOST`] where it is more; and the digit behind them.
+/// The value of the first so many digits, or [`MOST`] if it is more; and the digit after them.
 fn front_of(whole: &[u8], fraction: &[u8], kept: usize) -> (u64, u8)
     requires { kept < length whole.now + length fraction.now }
     ensures front { result.0 ≡ min (digits_value 10 (take kept (whole.now ++ fraction.now)))

@@ -1,4 +1,4 @@
-//! Printing response data behind the bytes of a vector that has room for them (IEEE 488.2, 8.7).
+//! Printing response data after the bytes of a vector that has room for them (IEEE 488.2, 8.7).
 
 ghost use Rattle.std.specs.Prelude.{◌≡◌, ◌≤◌, ◌+◌, ◌*◌, ◌++◌, codes, decimal, length, unsigned_abs, vec_capacity, vec_len};
 ghost use Rattle.std.specs.Fmt.{signed_decimal};
@@ -13,7 +13,7 @@ use std::alloc::Allocator;
 use sv_bytes::append;
 use sv_errors::{Code, Source};
 
-/// Prints a voltage in microvolts, up to 1,000 V in magnitude, behind bytes that have room for 12
+/// Prints a voltage in microvolts, up to 1,000 V in magnitude, after bytes that have room for 12
 /// more: a sign (`+` for 0), whole volts, a point and six digits.
 pub fn put_voltage<A: Allocator>(out: &mut Vec<u8, A>, microvolts: i64)
     requires room { vec_len out.old + 12 ≤ vec_capacity out.old }
@@ -27,7 +27,7 @@ pub fn put_voltage<A: Allocator>(out: &mut Vec<u8, A>, microvolts: i64)
     append(out, &buffer[..size]);
 }
 
-/// Prints an overload behind bytes that have room for 8 more: `-9.9E+37` for a voltage below the
+/// Prints an overload after bytes that have room for 8 more: `-9.9E+37` for a voltage below the
 /// range, else `+9.9E+37` (SCPI-1999, volume 1, 7.2.1.5).
 pub fn put_overload<A: Allocator>(out: &mut Vec<u8, A>, below: bool)
     requires room { vec_len out.old + 8 ≤ vec_capacity out.old }
@@ -38,7 +38,7 @@ pub fn put_overload<A: Allocator>(out: &mut Vec<u8, A>, below: bool)
     append(out, if below { b"-9.9E+37" } else { b"+9.9E+37" });
 }
 
-/// Prints a whole number behind bytes that have room for 10 more: its digits, without a sign or
+/// Prints a whole number after bytes that have room for 10 more: its digits, without a sign or
 /// leading zeros.
 pub fn put_whole<A: Allocator>(out: &mut Vec<u8, A>, number: u32)
     requires room { vec_len out.old + 10 ≤ vec_capacity out.old }
@@ -49,7 +49,7 @@ pub fn put_whole<A: Allocator>(out: &mut Vec<u8, A>, number: u32)
     append(out, Buffer::new().format(number).as_bytes());
 }
 
-/// Prints a channel list, such as `(@5,4,3,3)`, behind bytes that have room for 3 more, and 4 for
+/// Prints a channel list, such as `(@5,4,3,3)`, after bytes that have room for 3 more, and 4 for
 /// each channel.
 pub fn put_channels<A: Allocator>(out: &mut Vec<u8, A>, channels: &[u8])
     requires room { vec_len out.old + (3 + 4 * length channels.now) ≤ vec_capacity out.old }
@@ -62,7 +62,7 @@ pub fn put_channels<A: Allocator>(out: &mut Vec<u8, A>, channels: &[u8])
     append(out, b")");
 }
 
-/// Prints an entry of the error queue, such as `-113,"Undefined header"`, behind bytes that have
+/// Prints an entry of the error queue, such as `-113,"Undefined header"`, after bytes that have
 /// room for 40 more: its number, a comma, and its text in double quotes (SCPI-1999, volume 2,
 /// section 21.8).
 pub fn put_error<A: Allocator>(out: &mut Vec<u8, A>, code: Code)
@@ -77,7 +77,7 @@ pub fn put_error<A: Allocator>(out: &mut Vec<u8, A>, code: Code)
     append(out, b"\"");
 }
 
-/// Prints a boolean behind bytes that have room for 1 more: `1` for on, `0` for off.
+/// Prints a boolean after bytes that have room for 1 more: `1` for on, `0` for off.
 pub fn put_switch<A: Allocator>(out: &mut Vec<u8, A>, on: bool)
     requires room { vec_len out.old + 1 ≤ vec_capacity out.old }
     ensures text { out.new.items ≡ out.old.items ++ switch_text on }
@@ -87,7 +87,7 @@ pub fn put_switch<A: Allocator>(out: &mut Vec<u8, A>, on: bool)
     append(out, if on { b"1" } else { b"0" });
 }
 
-/// Prints the short form of a source of triggers, `IMM`, `BUS` or `EXT`, behind bytes that have
+/// Prints the short form of a source of triggers, `IMM`, `BUS` or `EXT`, after bytes that have
 /// room for 3 more.
 pub fn put_source<A: Allocator>(out: &mut Vec<u8, A>, source: Source)
     requires room { vec_len out.old + 3 ≤ vec_capacity out.old }

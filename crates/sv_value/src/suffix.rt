@@ -26,7 +26,7 @@ pub(crate) fn volts(suffix: &[u8]) -> Option<u64>
     }
 }
 
-/// The power of a number without a unit; none where there is a suffix.
+/// The power of ten of a number without a unit; `None` if there is a suffix.
 pub(crate) fn none(suffix: &[u8]) -> Option<u64>
     ensures { result ≡ power_of_none suffix.now }
 {

@@ -43,7 +43,7 @@ pub fn microvolts(token: &Token<'_>) -> Result<i64, Code>
 /// For other data [`Code::SyntaxError`] or [`Code::DataTypeError`]. For a decimal number the first
 /// of [`Code::InvalidCharacterInNumber`], [`Code::SuffixNotAllowed`], [`Code::TooManyDigits`],
 /// [`Code::ExponentTooLarge`], [`Code::DataOutOfRange`]. In another base [`Code::SyntaxError`] if
-/// the letter of a base or a digit behind it is missing, then [`Code::InvalidCharacterInNumber`],
+/// the letter of a base or a digit after it is missing, then [`Code::InvalidCharacterInNumber`],
 /// [`Code::DataOutOfRange`].
 pub fn whole(token: &Token<'_>, low: u16, high: u16) -> Result<u16, Code>
     ensures value { result ≡ read_whole low high token.now.kind token.now.text.now }

@@ -9,7 +9,7 @@ use Rattle.sv_xdr.specs.declared.garbage.Garbage.{Garbage}
 use Rattle.sv_xdr.specs.Spelling.{Field, Unsigned, Signed, Boolean, Opaque, BeginsAll}
 pub use Rattle.sv_vxi.specs.Limits.{max_handle}
 
--- the arguments of a call on a link, behind the link, as plain data. Timeouts are in milliseconds. Five calls have Device_GenericParms.
+-- the arguments of a call on a link, after the link, as plain data. Timeouts are in milliseconds. Five calls have Device_GenericParms.
 pub data LinkCall : Type 0 where
   DeviceAbort : LinkCall
   DeviceWrite : (io_timeout lock_timeout flags : ℕ) (bytes : List ℕ) → LinkCall
@@ -59,7 +59,7 @@ abort_calls = 1 ∷ []
 abbrev pub is_one_of : List ℕ → ℕ → Bool
 is_one_of calls proc = list_any (λ call. proc == call) calls
 
--- the fields of a call on a link, behind the link
+-- the fields of a call on a link, after the link
 abbrev pub call_fields : LinkCall → List Field
 call_fields (DeviceWrite io_timeout lock_timeout flags bytes) =
     Unsigned io_timeout ∷ Unsigned lock_timeout ∷ Unsigned flags ∷ Opaque bytes ∷ []

@@ -37,7 +37,7 @@ read (unsigned ∷ kinds) makes bytes = unsigned_at bytes >>= λ x. read kinds (
 read (boolean ∷ kinds) makes bytes = boolean_at bytes >>= λ x. read kinds (makes x.0) x.1
 read (opaque most ∷ kinds) makes bytes = opaque_at most bytes >>= λ x. read kinds (makes x.0) x.1
 
--- a link, and behind it the fields of a call on it
+-- a link, and after it the fields of a call on it
 abbrev pub read_on_link : (kinds : List Kind) → Makes kinds LinkCall → List ℕ → Result Arguments Garbage
 read_on_link kinds makes bytes = signed_at bytes >>= λ x. result_map_both (OnLink x.0) (λ garbage. garbage) (read kinds makes x.1)
 

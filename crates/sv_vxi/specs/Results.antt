@@ -21,7 +21,7 @@ pub data Outcome : Type 0 where
 abbrev pub error_field : ErrorCode → Field
 error_field error = Signed (pos (error_number error))
 
--- The fields of a result, in order. Behind an error each other field is 0 or empty.
+-- The fields of a result, in order. After an error each other field is 0 or empty.
 abbrev pub result_fields : Outcome → List Field
 result_fields (Link error lid abort_port max_recv_size) =
     error_field error ∷ Signed (unless_error error lid (pos 0)) ∷ Unsigned (unless_error error abort_port 0)

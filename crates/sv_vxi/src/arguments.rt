@@ -31,7 +31,7 @@ pub enum GenericCall {
     Local,
 }
 
-/// The arguments of a call on a link, behind the link. Timeouts are in milliseconds.
+/// The arguments of a call on a link, after the link. Timeouts are in milliseconds.
 #[derive(Clone, Copy)]
 pub enum LinkCall<'a> {
     /// Of device_abort, which has none: the link's call is aborted.
@@ -42,20 +42,20 @@ pub enum LinkCall<'a> {
         io_timeout: u32,
         /// How long to wait for the lock.
         lock_timeout: u32,
-        /// Waiting for the lock, and END behind the last byte.
+        /// Whether it waits for the lock, and END after the last byte.
         flags: Flags,
         /// The bytes for the device.
         bytes: &'a [u8],
     },
     /// Of device_read.
     DeviceRead {
-        /// The most bytes to give.
+        /// The most bytes to return.
         request_size: u32,
         /// How long to wait for the device.
         io_timeout: u32,
         /// How long to wait for the lock.
         lock_timeout: u32,
-        /// Waiting for the lock, and whether the termination character counts.
+        /// Whether it waits for the lock, and whether the termination character counts.
         flags: Flags,
         /// The termination character, in the low eight bits.
         term_char: u32,
@@ -64,7 +64,7 @@ pub enum LinkCall<'a> {
     Generic {
         /// Which of the five it is.
         call: GenericCall,
-        /// Waiting for the lock.
+        /// Whether it waits for the lock.
         flags: Flags,
         /// How long to wait for the lock.
         lock_timeout: u32,
@@ -73,7 +73,7 @@ pub enum LinkCall<'a> {
     },
     /// Of device_lock.
     DeviceLock {
-        /// Waiting for the lock.
+        /// Whether it waits for the lock.
         flags: Flags,
         /// How long to wait for the lock.
         lock_timeout: u32,
@@ -82,14 +82,14 @@ pub enum LinkCall<'a> {
     DeviceUnlock,
     /// Of device_enable_srq.
     DeviceEnableSrq {
-        /// Whether service requests are sent.
+        /// Whether service requests are enabled.
         enable: bool,
-        /// What they are sent with, no longer than a handle may be.
+        /// The handle that requests carry, at most 40 bytes.
         handle: &'a [u8],
     },
     /// Of device_docmd.
     DeviceDocmd {
-        /// Waiting for the lock.
+        /// Whether it waits for the lock.
         flags: Flags,
         /// How long to wait for the device.
         io_timeout: u32,
@@ -200,7 +200,7 @@ impl Args<'_> {
     }
 }
 
-/// What flags and a timeout say of the lock.
+/// How long a call waits for the lock, by its flags and timeout.
 fn flagged(flags: Flags, timeout: u32) -> Option<LockWait>
     ensures { result ≡ flagged_by flags.0 timeout }
 {

@@ -6,25 +6,25 @@ ghost use Rattle.sv_vxi.specs.ErrorCode.{error_number};
 /// Why a call failed.
 #[derive(Clone, Copy, Debug, PartialEq, Eq)]
 pub enum ErrorCode {
-    /// It didn't.
+    /// No error.
     NoError = 0,
     /// There is no device of that name.
     NotAccessible = 3,
     /// There is no such link, or it isn't one of this connection.
     InvalidLink = 4,
-    /// A parameter is refused, such as data longer than a write may have.
+    /// A parameter is refused, such as a write of more than 4,096 bytes.
     ParameterError = 5,
     /// There is no interrupt channel.
     NotEstablished = 6,
     /// The operation isn't supported.
     NotSupported = 8,
-    /// There are as many links as there may be, no number is left for one, or out of memory.
+    /// There are 32 links, no number is left for one, or memory is refused.
     OutOfResources = 9,
     /// Another link holds the lock.
     Locked = 11,
     /// The link holds no lock.
     NoLock = 12,
-    /// What the call waited for didn't come in time.
+    /// The call timed out.
     IoTimeout = 15,
     /// The address or the port isn't one that may be called back.
     InvalidAddress = 21,

@@ -18,7 +18,7 @@ use sv_xdr::{Garbage, Reader};
 /// device_enable_srq).
 const MAX_HANDLE: u32 = 40;
 
-/// Reads the arguments of a call; bytes behind the last field are ignored. `proc` has to be a call
+/// Reads the arguments of a call; bytes after the last field are ignored. `proc` has to be a call
 /// of the core channel or device_abort.
 ///
 /// # Errors

@@ -10,7 +10,7 @@ use crate::error_code::ErrorCode;
 use crate::reason::Reason;
 use sv_xdr::{Writer, XdrFault};
 
-/// The result of a call, a variant for each shape. Behind an error each other field is written as 0
+/// The result of a call, a variant for each shape. After an error each other field is written as 0
 /// or empty, whatever it is.
 #[derive(Clone, Copy)]
 pub enum VxiResult<'a> {
@@ -22,7 +22,7 @@ pub enum VxiResult<'a> {
         lid: i32,
         /// The port of the abort channel.
         abort_port: u16,
-        /// The most that a write may bring, in bytes.
+        /// The most bytes of a write.
         max_recv_size: u32,
     },
     /// Of device_write.
@@ -48,7 +48,7 @@ pub enum VxiResult<'a> {
         /// The status byte (IEEE 488.2, 11.2).
         stb: u8,
     },
-    /// Of the calls that tell nothing but whether they failed.
+    /// Of the calls whose result is an error alone.
     Plain {
         /// Why it failed, if it did.
         error: ErrorCode,
@@ -57,7 +57,7 @@ pub enum VxiResult<'a> {
     Data {
         /// Why it failed, if it did.
         error: ErrorCode,
-        /// What the command answers.
+        /// The data that the command returns.
         bytes: &'a [u8],
     },
 }
@@ -79,7 +79,7 @@ impl<'a> VxiResult<'a> {
     }
 }
 
-/// The data of a result, and none behind an error.
+/// The data of a result, and none after an error.
 fn data_unless_error(error: ErrorCode, bytes: &[u8]) -> &[u8]
     ensures { result.now ≡ unless_failed error bytes.now [] }
 {
@@ -94,7 +94,7 @@ fn data_unless_error(error: ErrorCode, bytes: &[u8]) -> &[u8]
 ///
 /// # Errors
 /// `TooLong` for data longer than a length field can express, 4,294,967,295 bytes; nothing is
-/// written. Else `NoRoom` at the first field that doesn't fit; those in front of it stay written.
+/// written. Else `NoRoom` at the first field that doesn't fit; those before it stay written.
 pub fn write_result(writer: &mut Writer<'_>, outcome: &VxiResult<'_>) -> Result<(), XdrFault>
     ensures same_buffer { writer.new.out.ghost_name ≡ writer.old.out.ghost_name }
     ensures writes { length (data_of (plain_result outcome.now)) < 2 ^ 32
@@ -125,7 +125,7 @@ pub fn write_result(writer: &mut Writer<'_>, outcome: &VxiResult<'_>) -> Result<
     }
 }
 
-/// A field of a result: what it is to be, and nothing behind an error.
+/// A field of a result: this value, or 0 or empty after an error.
 fn unless_error<T: Copy>(error: ErrorCode, value: T, nothing: T) -> T
     ensures { result ≡ unless_failed error value nothing }
 {

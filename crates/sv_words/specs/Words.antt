@@ -45,7 +45,7 @@ abbrev pub Serves : List Text → Serve → Type 0
 Serves words serve = (Contains words (codes "--") → ⊥) × (fault_of serve_command words ≡ [])
     × ServesBy (λ name. first_of name (matches_of serve_command words)) serve
 
--- The words are the one word `replay`; or `serve`, with its options behind it.
+-- The words are the one word `replay`; or `serve`, with its options after it.
 abbrev pub AsksFor : List Text → Words → Type 0
 AsksFor words Replay = words ≡ codes "replay" ∷ []
 AsksFor [] (Server serve) = ⊥

@@ -33,7 +33,7 @@ pub(crate) fn command<'a>(alloc: Global) -> Result<Command<'a>, AllocError>
         .arg(option(alloc, "sweeps"))
 }
 
-/// Whether a word begins with a plus, which stands in front of no number here.
+/// Whether a word begins with a plus, which stands before no number here.
 fn has_plus(word: &str) -> bool
     ensures { result ≡ (slice_index word.now 0 == 43) }
 {

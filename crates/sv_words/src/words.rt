@@ -37,7 +37,7 @@ pub struct Serve<'a> {
     pub sweeps: u32,
 }
 
-/// Reads the words behind the program's name: the one word `replay`; or `serve` and five options in
+/// Reads the words after the program's name: the one word `replay`; or `serve` and five options in
 /// any order, each once and with its value. These are `--core`, `--abort` and `--portmap` with a
 /// port of 1 to 65535, `--scenario` with a path, `--sweeps` with 1 to 4,294,967,295. A number has 1
 /// to 10 decimal digits. There is no other word, and no `--`.
@@ -64,7 +64,7 @@ pub fn read_words<'a, S: AsStr>(alloc: Global, words: &'a [S]) -> Result<Words<'
     }
 }
 
-/// Reads the word `serve` and the options behind it.
+/// Reads the word `serve` and the options after it.
 fn read_serve<'a, S: AsStr>(alloc: Global, words: &'a [S]) -> Result<Serve<'a>, ProgramFault>
     ensures { ReadsWords (Serves (map S.text words.now)) result }
 {
@@ -83,14 +83,14 @@ fn read_serve<'a, S: AsStr>(alloc: Global, words: &'a [S]) -> Result<Serve<'a>, 
     }
 }
 
-/// Whether a word is `--`. To clap it ends the options, and may stand behind them.
+/// Whether a word is `--`. To clap it ends the options, and may follow them.
 fn has_end_of_options<S: AsStr>(words: &[S]) -> bool
     ensures { Decides result (Contains (map S.text words.now) (codes "--")) }
 {
     words.iter().any(|word| word.as_str() == "--")
 }
 
-/// Why words were refused.
+/// The fault of words that clap refused.
 fn refused(error: &Error) -> ProgramFault
     ensures { IsUsageFault (kind_of error.now) result }
 {

@@ -20,7 +20,7 @@ abbrev pub IsTwosComplement : ℕ → ℤ → Type 0
 IsTwosComplement n (pos k) = (k < 2 ^ 31) × (n ≡ k)
 IsTwosComplement n (negsuc k) = (k < 2 ^ 31) × (n + (k + 1) ≡ 2 ^ 32)
 
--- The padding behind n bytes: 0 to 3 zero bytes, up to a multiple of four (3 and 4.10).
+-- The padding after n bytes: 0 to 3 zero bytes, up to a multiple of four (3 and 4.10).
 abbrev pub IsPad : ℕ → List ℕ → Type 0
 IsPad n pad = (length pad < 4) × ((n + length pad) % 4 ≡ 0) × AllByRecursion (λ byte. byte ≡ 0) pad
 

@@ -7,7 +7,7 @@ use std::io::{self, BufWriter, Write};
 use sv_serve::Driver;
 use sv_server::{Config, Server};
 
-/// Above how many calls a row can't be played.
+/// The most calls of a row.
 const MOST: u64 = 1_000;
 
 /// How many sweeps there are, and the peers, a line of hexadecimal each.
@@ -20,7 +20,7 @@ struct Row<'a> {
 /// The driver of a row.
 type Played = Driver<Peers, Global>;
 
-/// What is failing in turn, with its word.
+/// The calls that fail in turn, each with its word.
 const CALLS: [(Call, &str); 5] = [
     (Call::Accept, "accept"),
     (Call::Read, "read"),
@@ -41,7 +41,7 @@ fn peers(alloc: Global, lines: &str) -> io::Result<Vec<Peer>> {
     Ok(peers)
 }
 
-/// A driver behind which so many sweeps are, in each of which a millisecond passes.
+/// The driver after so many sweeps of a millisecond each.
 fn played(alloc: Global, sweeps: u64, wire: Peers) -> io::Result<Played> {
     let config = Config {
         core: 4096,
@@ -73,7 +73,7 @@ fn show<W: Write + Drop>(
     writeln!(writer)
 }
 
-/// What of a peer's bytes came, beside a run without a failure.
+/// How the bytes that came to a peer compare with a run without a failure.
 fn outcome(peer: &Peer, whole: &Peer) -> &'static str {
     if peer.struck {
         "struck"

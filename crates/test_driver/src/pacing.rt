@@ -4,7 +4,7 @@ use crate::row::{bad, number};
 use std::io::{self, BufWriter, Write};
 use sv_pace::Pace;
 
-/// Above how many sleeps a row can't be played.
+/// The most sleeps of a row.
 const MOST: u32 = 10_000;
 
 /// A number of looks or of milliseconds.
@@ -23,7 +23,7 @@ fn sleeps(pace: &mut Pace, now: u64) -> io::Result<u32> {
     Err(bad())
 }
 
-/// Looks in vain so often, each time as soon as it may: prints how often it sleeps in front of
+/// Looks in vain so often, each time as soon as it may: prints how often it sleeps before
 /// each.
 fn miss<W: Write + Drop>(pace: &mut Pace, count: u64, writer: &mut BufWriter<W>) -> io::Result<()> {
     for _ in 0..count {

@@ -1,4 +1,4 @@
-//! A row: what stands in front of its sweeps, and the sweeps.
+//! A row: what stands before its sweeps, and the sweeps.
 
 use crate::scripted::Scripted;
 use crate::shown::show;
@@ -11,13 +11,13 @@ use sv_replay::{Entry, read_scenario};
 use sv_serve::Driver;
 use sv_server::{Config, Server};
 
-/// What stands behind a sweep's number, where memory is refused in it.
+/// What follows a sweep's number, where memory is refused in it.
 const MEMORY: &str = " memory ";
 
 /// The driver of a row.
 type Played<'a> = Driver<Recorder<Scripted>, &'a FailingAllocator<Global>>;
 
-/// What is told of a row that can't be played.
+/// The fault of a row that can't be played.
 pub(crate) fn bad() -> Error {
     Error::from(ErrorKind::InvalidData)
 }
@@ -30,7 +30,7 @@ pub(crate) fn number(text: &str) -> io::Result<u64> {
     }
 }
 
-/// The number of the first line, where that begins with a word, and what stands behind; else 0,
+/// The number of the first line, where that begins with a word, and what follows; else 0,
 /// and the whole.
 fn setting<'a>(word: &str, text: &'a str) -> io::Result<(u64, &'a str)> {
     match text.strip_prefix(word) {
@@ -42,7 +42,7 @@ fn setting<'a>(word: &str, text: &'a str) -> io::Result<(u64, &'a str)> {
     }
 }
 
-/// What stands in front of the sweeps of a row: what the clock has, which allocation fails, and the
+/// The first lines of a row, before its sweeps: the clock, which allocation fails, and the
 /// entries of the scenario.
 fn front(row: &str) -> io::Result<(u64, u64, &str)> {
     let (front, _) = row.split_once("\nsweep ").unwrap_or((row, ""));
@@ -63,7 +63,7 @@ fn scenario<'a>(
     }
 }
 
-/// A driver as a row wants it, whose heap the row may ration.
+/// The driver of a row; the row may limit its memory.
 fn made<'a>(
     alloc: Global,
     heap: &'a FailingAllocator<Global>,
@@ -110,7 +110,7 @@ fn sweep<W: Write + Drop>(
     Ok(())
 }
 
-/// Prints, for each line `still N` behind a sweep, whether nothing waits for so many milliseconds.
+/// Prints, for each line `still N` after a sweep, whether nothing waits for so many milliseconds.
 fn show_still<W: Write + Drop>(
     driver: &Played<'_>,
     lines: &str,
@@ -125,7 +125,7 @@ fn show_still<W: Write + Drop>(
     Ok(())
 }
 
-/// Prints, for each line `played` behind a sweep, whether the scenario is at its end.
+/// Prints, for each line `played` after a sweep, whether the scenario is at its end.
 fn show_played<W: Write + Drop>(
     driver: &Played<'_>,
     lines: &str,

@@ -14,11 +14,11 @@ use sv_server::{Dial, Port, Role};
 #[derive(Drop)]
 pub(crate) struct Scripted {
     alloc: Global,
-    /// A row: the sweeps stand behind lines `sweep`.
+    /// A row: the sweeps follow lines `sweep`.
     row: String,
     /// Which sweep is under way, from 1.
     pub(crate) sweep: Cell<usize>,
-    /// What it is asked, as it stands in front of an answer.
+    /// What it is asked, as it stands before an answer.
     asked: String,
 }
 

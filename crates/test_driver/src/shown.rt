@@ -4,7 +4,7 @@ use std::io::{self, BufWriter, Write};
 use sv_recording::Call;
 use sv_server::{Port, Role};
 
-/// The word of what a connection is for.
+/// The word for a role.
 pub(crate) fn word(role: Role) -> &'static str {
     match role {
         Role::Core => "core",

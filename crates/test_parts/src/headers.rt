@@ -3,7 +3,7 @@
 use crate::line::{Fault, put};
 use sv_header::{Path, Table};
 
-/// Tells the command that each header of a message names, behind those in front of it.
+/// Tells the command that each header of a message names, after those before it.
 pub(crate) fn put_commands(out: &mut String, table: &Table, text: &str) -> Result<(), Fault> {
     let mut path = Path::root();
     for header in text.split(';') {

@@ -4,10 +4,10 @@ use std::alloc::{AllocError, Global};
 use std::fmt::Debug;
 use std::str::FromStr;
 
-/// Why a line has no answer.
+/// Why a line can't be answered.
 #[derive(Debug, Drop)]
 pub(crate) enum Fault {
-    /// It is spelled like none that has one.
+    /// It is no line of a test.
     Unknown,
     /// Memory was refused.
     Memory,
@@ -19,7 +19,7 @@ impl From<AllocError> for Fault {
     }
 }
 
-/// The first word of a text, and what stands behind the space that ends it.
+/// The first word of a text, and what follows the space that ends it.
 pub(crate) fn cut(text: &str) -> (&str, &str) {
     text.split_once(' ').unwrap_or((text, ""))
 }
@@ -37,7 +37,7 @@ pub(crate) fn bytes_of(alloc: Global, digits: &str) -> Result<Vec<u8>, Fault> {
     hex::decode(alloc, digits).map_err(|_| Fault::Unknown)
 }
 
-/// Puts something behind what is there of an answer.
+/// Appends a value to an answer.
 pub(crate) fn put<T: Debug + Drop>(out: &mut String, value: T) -> Result<(), Fault> {
     write!(out, " {value:?}")?;
     Ok(())

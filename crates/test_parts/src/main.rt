@@ -7,12 +7,12 @@
 //! | `new` | nothing: from here on the parts to which acts happen are new ones |
 //! | `times N LINE` | the answers of the line, which comes so many times |
 //! | `white TEXT` | of each byte, whether it is white space |
-//! | `trim TEXT` | the text without white space at both ends, in front, and behind |
-//! | `cut BYTE TEXT` | where the byte first stands, and what stands in front of it and behind |
+//! | `trim TEXT` | the text without white space at both ends, in front, and after |
+//! | `cut BYTE TEXT` | where the byte first stands, and what stands before it and after |
 //! | `parts TEXT` | the parts of a header |
 //! | `unit TEXT` | the header and the parameters of a unit, each with its place and its kind |
 //! | `headers TEXT` | the commands that the headers of a message name, with `;` between two |
-//! | `orders MESSAGE` | what each unit of a message asks for, behind those in front of it |
+//! | `orders MESSAGE` | what each unit of a message asks for, after those before it |
 //! | `arity HEADER` | how many parameters the command takes at most that a header names |
 //! | `voltage UNIT`, `boolean UNIT`, `keyword UNIT`, `channels UNIT` | a unit's first parameter |
 //! | `whole LOW HIGH UNIT` | the same, as a whole number |

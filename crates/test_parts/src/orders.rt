@@ -9,7 +9,7 @@ use sv_header::{Path, Table};
 use sv_lexer::unit;
 use sv_scan::{ScanList, Setting};
 
-/// Tells what each unit of a message asks for behind those in front of it, or its first fault.
+/// Tells what each unit of a message asks for after those before it, or its first fault.
 pub(crate) fn put_orders(
     alloc: Global,
     out: &mut String,
@@ -54,7 +54,7 @@ fn put_list(out: &mut String, word: &str, list: &Option<ScanList>) -> Result<(),
     Ok(())
 }
 
-/// Tells another order: its word, and what stands behind it.
+/// Tells another order: its word, and what follows it.
 fn put_values(out: &mut String, order: &Order) -> Result<(), Fault> {
     match order {
         Order::Do(action) => write!(out, " Ok(Do({action:?}))")?,

@@ -21,7 +21,7 @@ use sv_rpc::RecordBuf;
 use sv_scan::Scanner;
 use sv_status::{Register, StandardEvent, StatusByte};
 
-/// The parts to which acts happen, and the table of commands.
+/// The parts that lines act on, and the table of commands.
 #[derive(Drop)]
 pub(crate) struct Parts {
     commands: Table,
@@ -35,7 +35,7 @@ pub(crate) struct Parts {
 }
 
 impl Parts {
-    /// Nothing happened to any of them yet.
+    /// New parts.
     pub(crate) fn new(alloc: Global) -> Result<Parts, AllocError> {
         Ok(Parts {
             commands: Table::new(alloc)?,
@@ -49,7 +49,7 @@ impl Parts {
         })
     }
 
-    /// Puts the answer of a line behind what is there, with a space in front.
+    /// Appends a space and the answer of a line.
     pub(crate) fn put_answer(
         &mut self,
         alloc: Global,
@@ -67,7 +67,7 @@ impl Parts {
         Ok(())
     }
 
-    /// Puts the answer of a line that happens once.
+    /// Appends the answer of a line that is executed once.
     fn put_one(&mut self, alloc: Global, out: &mut String, line: &str) -> Result<(), Fault> {
         let (word, text) = cut(line);
         match word {
@@ -90,7 +90,7 @@ impl Parts {
     }
 }
 
-/// Puts the answer of a line to which no earlier one matters.
+/// Appends the answer of a line that doesn't depend on earlier ones.
 fn put_of_text(alloc: Global, out: &mut String, word: &str, text: &str) -> Result<(), Fault> {
     match word {
         "white" => put_white(alloc, out, text),

@@ -1,9 +1,9 @@
-//! Acts of the whole instrument. Behind each it does all that is due.
+//! Acts of the whole instrument. After each it does all that is due.
 //!
 //! | Act | Answer |
 //! |---|---|
-//! | `tell TEXT`, `say TEXT` | nothing: a write, with END behind it or without; or `waits` |
-//! | `read` | up to 256 bytes of the response; or `waits`, or `unterminated` where there is none |
+//! | `tell TEXT`, `say TEXT` | nothing: a write, with END after it or without; or `waits` |
+//! | `read` | up to 256 bytes of the response; or `waits`, or `unterminated` if there is none |
 //! | `read N` | the same, of up to N bytes, with the reasons why they end there |
 //! | `poll` | the status byte |
 //! | `ticks N` | nothing: so many milliseconds go by |
@@ -24,7 +24,7 @@ const MOST_WRITTEN: usize = 4096;
 const MOST_READ: u32 = 256;
 
 /// Tells what the instrument answers to an act, and how many requests for service were raised, if
-/// any were, by the act and by all that is due behind it.
+/// any were, by the act and by all that is due after it.
 pub(crate) fn put_session(
     alloc: Global,
     out: &mut String,
@@ -60,7 +60,7 @@ fn settle(instrument: &mut Instrument) -> u64 {
     sum
 }
 
-/// Takes the step that is due: a trigger comes in front of what is left of messages.
+/// Takes the step that is due: a trigger comes before what is left of messages.
 fn step(instrument: &mut Instrument) -> Option<u8>
     ensures { OnSome result (instrument_measure instrument.new
         < instrument_measure instrument.old) }
@@ -129,7 +129,7 @@ fn put_reasons(out: &mut String, read: &Read<'_>) -> Result<(), Fault> {
     Ok(())
 }
 
-/// So many milliseconds go by, and behind each all is done that is due.
+/// So many milliseconds go by, and after each all is done that is due.
 fn tick(instrument: &mut Instrument, count: u16) -> u64 {
     let mut sum = 0u64;
     for _ in 0..count {

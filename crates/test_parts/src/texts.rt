@@ -13,7 +13,7 @@ pub(crate) fn put_white(alloc: Global, out: &mut String, text: &str) -> Result<(
     Ok(())
 }
 
-/// Tells a text without white space at both ends, in front, and behind.
+/// Tells a text without white space at both ends, in front, and after.
 pub(crate) fn put_trimmed(alloc: Global, out: &mut String, text: &str) -> Result<(), Fault> {
     let bytes = Vec::unescape_bytes(alloc, text)?;
     put_text(out, trim(bytes.as_slice()))?;
@@ -21,7 +21,7 @@ pub(crate) fn put_trimmed(alloc: Global, out: &mut String, text: &str) -> Result
     put_text(out, without_end(bytes.as_slice()))
 }
 
-/// Tells where a byte first stands in a text, and what stands in front of it and behind.
+/// Tells where a byte first stands in a text, and what stands before it and after.
 pub(crate) fn put_cut(out: &mut String, text: &str) -> Result<(), Fault> {
     let (separator, text) = cut(text);
     let [separator] = separator.as_bytes() else {

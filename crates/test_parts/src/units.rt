@@ -20,7 +20,7 @@ pub(crate) fn put_unit(alloc: Global, out: &mut String, text: &str) -> Result<()
     }
 }
 
-/// Tells each parameter, and nothing where there is none at the place behind the last.
+/// Tells each parameter, and nothing if there is none at the place after the last.
 fn put_parameters(out: &mut String, parameters: &Params<'_>) -> Result<(), Fault> {
     for index in 0..=parameters.count() {
         if let Some(token) = parameters.get(index) {

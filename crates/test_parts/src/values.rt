@@ -31,7 +31,7 @@ pub(crate) fn parameter(text: &str) -> Result<Token<'_>, Fault> {
     parameters.get(0).ok_or(Fault::Unknown)
 }
 
-/// Tells a whole number, behind the lowest and the highest that it may be.
+/// Tells a whole number, after the lowest and the highest that it may be.
 fn put_whole(out: &mut String, text: &str) -> Result<(), Fault> {
     let (low, text) = cut(text);
     let (high, text) = cut(text);

@@ -2,12 +2,12 @@
 //!
 //! | Line | What it says |
 //! |---|---|
-//! | `clock MILLISECONDS` | in front of all others: the clock at the start; else 0 |
+//! | `clock MILLISECONDS` | before all others: the clock at the start; else 0 |
 //! | a line of a replay, other than `tick N` | this happens |
 //! | `took c0 44` | the peer takes so many bytes of a port |
 //! | `memory N` | from here on the Nth allocation is refused |
 //! | `memory ?` | whether memory was asked for since, up to that allocation |
-//! | `times N` | what stands behind it, up to the next such line, comes so many times |
+//! | `times N` | what follows it, up to the next such line, comes so many times |
 //! | `ask 0` | what is told of a connection |
 //! | `show c0` | the bytes that wait on a port |
 //! | `used` | how many numbers of connections were used |

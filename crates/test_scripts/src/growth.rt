@@ -35,7 +35,7 @@ struct Growing<'a> {
     told: String,
 }
 
-/// Puts bytes behind a text, if there are any, as a line of a replay.
+/// Puts bytes after a text, if there are any, as a line of a replay.
 fn tell(told: &mut String, letter: char, conn: u8, bytes: &[u8]) -> io::Result<()> {
     if bytes.is_empty() {
         return Ok(());
@@ -105,7 +105,7 @@ impl Growing<'_> {
         Ok(found_none)
     }
 
-    /// Goes on behind an event that found no memory. These are the line that brought its bytes, and
+    /// Goes on after an event that found no memory. These are the line that brought its bytes, and
     /// its own.
     fn go_on(&mut self, brought: &str, line: &str) -> io::Result<()> {
         if self.refuses {

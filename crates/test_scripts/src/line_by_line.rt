@@ -7,7 +7,7 @@ use std::cell::RefCell;
 use std::io::{self, BufWriter, Read, Write};
 use sv_replay::run_replay;
 
-/// Notes bytes behind those that were noted.
+/// Notes bytes after those that were noted.
 fn note(noted: &RefCell<Vec<u8>>, bytes: &[u8]) -> io::Result<()> {
     match noted.try_borrow_mut() {
         Ok(mut all) => {
@@ -59,7 +59,7 @@ impl Write for Answers<'_> {
     }
 }
 
-/// Prints the lines that were given, each behind `> `, and what the output took, in their order.
+/// Prints the lines that were given, each after `> `, and what the output took, in their order.
 pub(crate) fn play<W: Write + Drop>(
     alloc: Global,
     script: &str,

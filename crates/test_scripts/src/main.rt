@@ -1,27 +1,27 @@
-//! Plays the rows of the standard input, each with parts of its own, and prints behind the title of
+//! Plays the rows of the standard input, each with parts of its own, and prints after the title of
 //! each what comes of it.
 //!
-//! A title is a line `= WORDS`. The text behind it reaches to the next title, without the new line
-//! in front of that: so a text that ends in a new line has an empty line behind it, and one without
+//! A title is a line `= WORDS`. The text after it reaches to the next title, without the new line
+//! before that: so a text that ends in a new line has an empty line after it, and one without
 //! shows how a replay ends in the midst of a line. A text is a script of a replay, unless its first
 //! line begins with `! `:
 //!
 //! - none: a script; printed is what its replay prints, and its fault where it has one;
 //! - `! line by line`: a script, of which each read gives a line; printed are the lines, each
-//!   behind `> `, and what the output took, in the order in which they were given and taken;
+//!   after `> `, and what the output took, in the order in which they were given and taken;
 //! - `! singly`: the same as a script, where bytes come and go singly, each behind an interruption;
 //! - `! reads`: as singly, where the first, second, .. read fails; printed is for each how often
-//!   the input was read, what the output took, and the fault; behind that the same without one;
+//!   the input was read, what the output took, and the fault; after that the same without one;
 //! - `! input fails`: a script, behind which the input fails; printed is what the output took, and
 //!   the fault, on a line of its own;
 //! - `! output takes N`, `! output stops at N`: a script, whose output takes so many bytes and then
 //!   fails, or takes none without a word; printed is how many it took, and the same;
 //! - `! without TEXT`: a script; printed are the lines of its replay that don't end in this text;
 //! - `! closed`: a script of three connections; printed is what its replay prints with a close of
-//!   each of them behind each number of its lines;
+//!   each of them after each number of its lines;
 //! - `! memory`, `! memory, output takes N`: a script, of whose replay each allocation is refused
-//!   in turn; printed is each outcome that differs from the one in front of it, `again` behind one
-//!   that came more than once in a row, and behind `all` that with all memory;
+//!   in turn; printed is each outcome that differs from the one before it, `again` after one
+//!   that came more than once in a row, and after `all` that with all memory;
 //! - `! growth`: a script at a server, of whose memory each allocation is refused in turn; what
 //!   finds none is asked for again; printed is each outcome as with `! memory`, where `no server`
 //!   says that a server had to be made again, `changed` that a refusal changed what the server

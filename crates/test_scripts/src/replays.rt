@@ -41,8 +41,8 @@ fn manner_of(words: &str) -> io::Result<Manner> {
     }
 }
 
-/// What was taken of the print, behind how many bytes that is where the output is narrow, and the
-/// fault where there is one, on a line of its own.
+/// What was taken of the print, after how many bytes that is where the output is narrow, and the
+/// fault if there is one, on a line of its own.
 fn told(
     alloc: Global,
     taken: &[u8],
@@ -140,7 +140,7 @@ pub(crate) fn play_without<W: Write + Drop>(
     Ok(())
 }
 
-/// A script with a close of this connection behind so many lines.
+/// A script with a close of this connection after so many lines.
 fn closed(alloc: Global, script: &str, conn: u8, place: usize) -> io::Result<String> {
     let mut made = String::new(alloc);
     for (number, line) in script.lines().enumerate() {
@@ -154,7 +154,7 @@ fn closed(alloc: Global, script: &str, conn: u8, place: usize) -> io::Result<Str
     Ok(made)
 }
 
-/// Prints what a script prints with a close of this connection behind each number of lines.
+/// Prints what a script prints with a close of this connection after each number of lines.
 fn play_closes<W: Write + Drop>(
     alloc: Global,
     script: &str,
@@ -170,7 +170,7 @@ fn play_closes<W: Write + Drop>(
     Ok(())
 }
 
-/// Prints what a script prints with a close of each of three connections behind each number of
+/// Prints what a script prints with a close of each of three connections after each number of
 /// lines.
 pub(crate) fn play_closed<W: Write + Drop>(
     alloc: Global,
@@ -183,7 +183,7 @@ pub(crate) fn play_closed<W: Write + Drop>(
     Ok(())
 }
 
-/// Prints what a script prints where the first, second, .. read fails, behind how often its reader
+/// Prints what a script prints where the first, second, .. read fails, after how often its reader
 /// was read; at the end the same where none fails.
 pub(crate) fn play_reads<W: Write + Drop>(
     alloc: Global,

@@ -5,7 +5,7 @@ use std::io::{Error, ErrorKind, Read, Result, Write};
 /// How a reader gives its bytes, and a writer takes them.
 #[derive(Clone, Copy)]
 pub(crate) struct Manner {
-    /// Whether each byte comes and goes by itself, behind an interruption.
+    /// Whether each byte comes and goes by itself, after an interruption.
     pub(crate) singly: bool,
     /// Whether the reader fails at its end.
     pub(crate) input_fails: bool,

@@ -9,8 +9,8 @@ use std::io::{self, BufWriter, Write};
 const MOST: u64 = 1000;
 
 /// Makes something once for each of its allocations, of which that one is refused. Prints each
-/// outcome that differs from the one before it, `again` behind one that came more than once in a
-/// row, and behind `all` the one with all memory.
+/// outcome that differs from the one before it, `again` after one that came more than once in a
+/// row, and after `all` the one with all memory.
 pub(crate) fn each<W: Write + Drop, F: Fn(&FailingAllocator<Global>) -> io::Result<String>>(
     alloc: Global,
     make: F,

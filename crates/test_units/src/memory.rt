@@ -20,7 +20,7 @@ const CONFIG: Config = Config {
     clock: 0,
 };
 
-/// Each allocation of a making is refused in turn, which has to refuse the making, and behind that
+/// Each allocation of a making is refused in turn, which has to refuse the making, and after that
 /// it has to succeed: how many there are.
 fn refusals<'a, T: Drop, F: Fn(&'a FailingAllocator<Global>) -> Result<T, AllocError>>(
     heap: &'a FailingAllocator<Global>,

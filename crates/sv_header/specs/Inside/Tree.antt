@@ -1,4 +1,4 @@
--- The tree of nodes that the code keeps: each stands in front of those below it, and these in front of its next sibling.
+-- The tree of nodes that the code keeps: each stands before those below it, and these before its next sibling.
 use Rattle.std.specs.Prelude.{◌≡◌, ℕ, zero, suc, ◌≤◌, Bool, true, false, length, List, [], ◌∷◌, ◌++◌, map, take, drop, Option, Some, None}
 use Rattle.sv_header.specs.declared.command.CommandId.{CommandId}
 use Rattle.sv_header.specs.declared.branch.Branch.{Branch}
@@ -11,7 +11,7 @@ abbrev pub command_of : Bool → Branch → Option CommandId
 command_of false branch = branch.plain
 command_of true branch = branch.query
 
--- The first of siblings, the nodes below it, and its siblings behind these.
+-- The first of siblings, the nodes below it, and its siblings after these.
 abbrev pub IsParted : List Branch → Branch → List Branch → List Branch → Type 0
 IsParted [] branch children siblings = ⊥
 IsParted (first ∷ behind) branch children siblings =

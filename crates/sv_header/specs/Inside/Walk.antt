@@ -16,15 +16,15 @@ Takes (first ∷ behind) part others = IsForm first part × (others ≡ behind)
 abbrev pub Ends : List (List ℕ) → Option CommandId → CommandId → Type 0
 Ends left ending command = (left ≡ []) × (ending ≡ Some command)
 
--- What is left behind a node leads to its own command, or to one below it.
+-- What is left after a node leads to its own command, or to one below it.
 abbrev pub LeadsBelow : Bool → Branch → (List (List ℕ) → Type 0) → List (List ℕ) → CommandId → Type 0
 LeadsBelow query branch Below left command = Ends left (command_of query branch) command ⊎ Below left
 
--- A node is there, or absent where it may be, and what is left behind it is so.
+-- A node is there, or absent where it may be, and what is left after it is so.
 abbrev pub Passes : Part → (List (List ℕ) → Type 0) → List (List ℕ) → Type 0
 Passes part Behind left = ((others : List (List ℕ)) × Takes left part others × Behind others) ⊎ ((part.optional ≡ true) × Behind left)
 
--- Mnemonics lead to a command through the first of siblings, or through those behind it.
+-- Mnemonics lead to a command through the first of siblings, or through those after it.
 abbrev pub Leads : ℕ → Bool → List Branch → List (List ℕ) → CommandId → Type 0
 Leads zero query branches left command = ⊥
 Leads (suc fuel) query [] left command = ⊥
@@ -43,7 +43,7 @@ abbrev pub OnLeft : Option Mnemonics → (List (List ℕ) → Type 0) → Type 0
 OnLeft None P = ⊥
 OnLeft (Some left) P = P (left_of left)
 
--- What is left behind the first mnemonic where that is a node's; else nothing is.
+-- What is left after the first mnemonic where that is a node's; else nothing is.
 abbrev pub IsBehind : List (List ℕ) → Part → Option Mnemonics → Type 0
 IsBehind left part None = (others : List (List ℕ)) → Takes left part others → ⊥
 IsBehind left part (Some others) = Takes left part (left_of others)

@@ -40,7 +40,7 @@ pub record BeginsOne (log new : List Act) : Type 0 where
   pub message : message (exchange_acts new) ≡ message (exchange_acts log)
   pub begun : units_begun new ≡ units_done (current (exchange_acts log)) + 1
 
--- A unit made this of a log, behind a place from which requests are counted; what it will answer is told, if it is held.
+-- A unit made this of a log, after a place from which requests are counted; what it will answer is told, if it is held.
 pub record Behaves (Makes : List Act → Type 0) (start : List Act) (layers : LayerState) (awaited : Option Awaited) (log : List Act)
     : Type 0 where
   pub new : List Act
@@ -49,7 +49,7 @@ pub record Behaves (Makes : List Act → Type 0) (start : List Act) (layers : La
   pub held : awaited ≡ held_unit new
   pub begins : BeginsOne log new
 
--- A unit was read behind a path, and left another, and this came of it.
+-- A unit was read after a path, and left another, and this came of it.
 abbrev pub Follows : List ℕ → List (List ℕ) → List (List ℕ) → List Act → List Act → Type 0
 Follows unit front behind log new = (outcome : Result Order Code) × IsReadAs front unit outcome behind × Does outcome log new
 

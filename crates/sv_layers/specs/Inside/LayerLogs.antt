@@ -66,7 +66,7 @@ after_complete at = record at {
   waits = at.waits && not (idles at);
 }
 
--- an act of a register behind others, where it is the one that is named
+-- an act of a register after others, if it is the one that is named
 abbrev pub where_same : RegisterName → RegisterName → RegisterAct → List RegisterAct → List RegisterAct
 where_same name other act acts = if is_same name other then act ∷ acts else acts
 
@@ -92,7 +92,7 @@ abbrev pub EndsAs : Act → Act → Type 0
 EndsAs other act = ((name : RegisterName) (acts : List RegisterAct) → own name other acts ≡ own name act acts)
     × ((acts : List StandardAct) → own_standard other acts ≡ own_standard act acts)
 
--- an act ends behind those before it: each register is told its condition, and ends the act itself
+-- an act ends after those before it: each register is told its condition, and ends the act itself
 abbrev pub after_end : Act → List Act → LayerLogs → LayerLogs
 after_end act log at = record (after_complete at) {
   registers = λ name. own name act (register.Condition (condition name (act ∷ log)) ∷ at.registers name);

@@ -58,7 +58,7 @@ abbrev pub own_status : Act → List StatusAct → List StatusAct
 own_status Polled acts = Poll ∷ acts
 own_status _ acts = acts
 
--- The status byte sees these acts: behind each act it is told the summary bits and the enable.
+-- The status byte sees these acts: after each act it is told the summary bits and the enable.
 abbrev pub IsStatus : List Act → List StatusAct → Type 0
 IsStatus [] acts = acts ≡ []
 IsStatus (act ∷ log) acts = (word : ℕ) × (before : List StatusAct) × IsSummary word (layer_logs (act ∷ log)) × IsStatus log before

@@ -21,7 +21,7 @@ fault_of DataSpace p = length_fault_of p
 fault_of Illegal p = Some InvalidCharacter
 fault_of _ p = Some SyntaxError
 
--- where its program data begin or end then: behind the header, where there are none
+-- where its program data begin or end then: after the header, if there are none
 abbrev pub data_of : Stage → (behind_header in_data : ℕ) → ℕ
 data_of ProgramData behind_header in_data = in_data
 data_of DataSpace behind_header in_data = in_data

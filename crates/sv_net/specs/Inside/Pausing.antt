@@ -27,7 +27,7 @@ pub record Rounds {W M : Type 0} (hears : W → Heard → W → Type 0) (answers
       → Running hears answers is_fresh many swept time start old machine first
       → Running hears answers is_told (many + 1) time time start new machine now
 
--- Behind a sweep waits follow alone: it was `began`, and this was so; and it is `time`, and that is so.
+-- After a sweep waits follow alone: it was `began`, and this was so; and it is `time`, and that is so.
 pub record Pauses {W M : Type 0} (hears : W → Heard → W → Type 0) (answers : M → Doing W → M → Type 0) (driver : DriverState W)
     (was is_so : List (Doing W) → Bool) (swept began time : ℕ) (old now : M) : Type 0 where
   pub goes : (many : ℕ) (start : DriverState W) (first : M) → Running hears answers was many swept began start driver first old

@@ -32,7 +32,7 @@ pub enum Answer<'a> {
     Result(VxiResult<'a>),
 }
 
-/// Puts a reply behind the outgoing bytes.
+/// Puts a reply after the outgoing bytes.
 pub fn put_reply<A: Allocator>(out: &mut Vec<u8, A>, xid: u32, answer: &Answer<'_>)
     requires room { vec_len out.old + longest_reply ≤ vec_capacity out.old }
     requires short { IsShort answer.now }
@@ -66,7 +66,7 @@ fn is_brief(answer: &Answer<'_>) -> bool
     }
 }
 
-/// Writes a reply into a text that has room for it, and puts it behind the outgoing bytes.
+/// Writes a reply into a text that has room for it, and puts it after the outgoing bytes.
 fn put_through<A: Allocator>(out: &mut Vec<u8, A>, text: &mut [u8], xid: u32, answer: &Answer<'_>)
     requires fits { length (answer_text xid answer.now) ≤ length text.old }
     requires room { vec_len out.old + longest_reply ≤ vec_capacity out.old }

@@ -1,4 +1,4 @@
-//! What stands in front of a call of the core channel (VXI-11 revision 1.0, B.4.4 and B.6):
+//! What stands before a call of the core channel (VXI-11 revision 1.0, B.4.4 and B.6):
 //! its link, the lock, and what it waits for.
 
 ghost use Rattle.std.specs.Prelude.{◌≡◌, ◌<◌, ◌&&◌, ℕ, List, ◌∷◌, Some, None, option_map, is_none, is_some, IfSome, OnOk, OnErr, Option, true, false, Bool, if◌then◌else◌};

@@ -11,7 +11,7 @@ use Rattle.sv_history.specs.Reply.{reply_record}
 use Rattle.sv_server.specs.declared.connection.reply.Answer.{Answer}
 use Rattle.sv_server.specs.declared.connection.reply.Answer.TheVariants as answers
 
--- the reply of an answer, and the fields behind it
+-- the reply of an answer, and the fields after it
 abbrev pub reply_of : Answer → Reply
 reply_of (answers.Header reply) = reply
 reply_of (answers.Port port) = Success

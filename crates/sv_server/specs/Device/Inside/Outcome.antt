@@ -64,12 +64,12 @@ IsGranted _ kept acts = ⊤
 
 -- ---- a call that begins
 
--- A call that waits stands behind all that wait, and waits for the lock where it makes a link.
+-- A call that waits follows all that wait, and waits for the lock where it makes a link.
 abbrev pub IsBehind : ℕ → Bool → List Entry → List Entry → Type 0
 IsBehind c makes old new =
     (entry : Entry) × (entry.conn ≡ c) × (new ≡ without c old ++ entry ∷ []) × (makes ≡ true → creates entry ≡ true)
 
--- The queue is as it was; or, if this is so, the call stands behind all that wait.
+-- The queue is as it was; or, if this is so, the call follows all that wait.
 abbrev pub MayWait : Type 0 → ℕ → Bool → List Entry → List Entry → Type 0
 MayWait IsSuspended c makes old new = (new ≡ old) ⊎ (IsSuspended × IsBehind c makes old new)
 
