@@ -22,7 +22,7 @@ impl Connection {
         Ok(Connection { stream })
     }
 
-    /// Reads once and gives it back; false where the connection is to be closed.
+    /// Reads once and sends it back. Returns false if the connection is to be closed.
     pub(crate) fn echo(&mut self, buffer: &mut [u8]) -> bool {
         match self.stream.read(buffer) {
             Ok(0) => false,

@@ -12,7 +12,7 @@ use sv_pace::{FEW, Pace, STILL};
 /// How many connections there may be.
 const CONNECTIONS: usize = 16;
 
-/// Takes the connections that are there, as far as there is a place.
+/// Accepts connections, while there is a place.
 fn accept(
     listener: &TcpListener,
     poll: &Poll,
@@ -46,7 +46,7 @@ fn echo(connections: &mut Vec<Option<Connection>, Global>, number: usize, buffer
     }
 }
 
-/// What a port is served with.
+/// The state of the echo server.
 #[derive(Drop)]
 struct Served {
     poll: Poll,
@@ -77,8 +77,8 @@ impl Served {
         })
     }
 
-    /// Waits until something comes, at most so long if there is a limit, and gives back what
-    /// came; whether anything did.
+    /// Waits until something comes, or until a limit if there is one, and sends it back. Returns
+    /// whether something came.
     fn spin(&mut self, limit: Option<Duration>) -> io::Result<bool> {
         self.poll.poll(&mut self.events, limit)?;
         for event in self.events.iter() {
@@ -115,7 +115,7 @@ pub(crate) fn serve(rt: &HostRuntime, port: u16, looks: u32) -> io::Result<()> {
     Ok(())
 }
 
-/// How long it may sleep with so many looks left: until something comes, but for the last ones.
+/// How long it may sleep, with so many polls left: without a limit, but for the last ones.
 fn sleep_time(pace: &Pace, now: u64, left: u32) -> Option<Duration> {
     if left > FEW {
         return None;
@@ -123,8 +123,7 @@ fn sleep_time(pace: &Pace, now: u64, left: u32) -> Option<Duration> {
     Some(Duration::from_nanos(pace.sleep_time(now, STILL)))
 }
 
-/// Keeps what came of a look, and tells how many were made in vain since the last one that ended a
-/// wait.
+/// Records the result of a poll. Returns how many polls in a row found nothing.
 fn keep(pace: &mut Pace, now: u64, tries: u32, spinning: bool, came: bool) -> u32 {
     if came {
         pace.work(now);

@@ -21,7 +21,7 @@ fn main(rt: HostRuntime) -> ExitCode {
     }
 }
 
-/// Reads the words, and does what they ask for.
+/// Reads the words of the command line, and runs what they ask for.
 fn program(rt: &HostRuntime) -> Result<(), ProgramFault> {
     let words = own_words(rt)?;
     match read_words(rt.alloc(), words.get(1..).unwrap_or(&[]))? {
@@ -30,13 +30,13 @@ fn program(rt: &HostRuntime) -> Result<(), ProgramFault> {
     }
 }
 
-/// The words, the program's name first.
+/// The words of the command line, with the name of the program first.
 fn own_words(rt: &HostRuntime) -> Result<Vec<String<Global>, Global>, ProgramFault> {
     let words = env::args(rt).map_err(|error| words_fault(&error))?;
     Ok(words.collect(rt.alloc())?)
 }
 
-/// What is told where the words can't be read: memory was refused, or a word isn't text.
+/// The fault if the words can't be read: out of memory, or a word isn't text.
 fn words_fault(error: &Error) -> ProgramFault {
     match error.kind() {
         ErrorKind::OutOfMemory => ProgramFault::Run(RunFault::Memory),

@@ -9,7 +9,7 @@ use sv_serve::Driver;
 use sv_server::{Config, Server};
 use sv_words::{ProgramFault, Serve};
 
-/// The fault that a failure of the system is: out of memory, or else this.
+/// The fault of an error of the system: out of memory, or else this one.
 fn fault_or(error: &Error, other: ProgramFault) -> ProgramFault {
     match error.kind() {
         ErrorKind::OutOfMemory => ProgramFault::Run(RunFault::Memory),
@@ -17,7 +17,7 @@ fn fault_or(error: &Error, other: ProgramFault) -> ProgramFault {
     }
 }
 
-/// Reads a scenario whole.
+/// Reads the whole scenario.
 fn scenario(rt: &HostRuntime, path: &str) -> Result<Vec<Entry, Global>, ProgramFault> {
     let text = fs::read(rt, path).map_err(|error| fault_or(
         &error,

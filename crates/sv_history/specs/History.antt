@@ -100,7 +100,8 @@ last_clock = 9223372036854775807
 abbrev pub turn_refusal : List ConnAct → Option Refused
 turn_refusal acts = if is_idle acts then None else (if nat_lt (free acts) longest_reply then Some NoRoom else None)
 
--- why a Refuse of an open connection is refused: the next call can't be, or there is no room for the longest reply
+-- why a Refuse of an open connection is refused itself: the next call isn't one that may be refused, or there is no room for the longest
+-- reply
 abbrev pub refuse_refusal : List ConnAct → Option Refused
 refuse_refusal acts =
     if is_none (refusable acts) then Some NotRefusable else (if nat_lt (free acts) longest_reply then Some NoRoom else None)

@@ -31,14 +31,14 @@ pub enum Event<'a> {
     Open {
         /// Its number.
         conn: u8,
-        /// What it is for.
+        /// Its role.
         role: Role,
     },
     /// Bytes come on a connection.
     Bytes {
         /// Its number.
         conn: u8,
-        /// As many bytes as the connection has room for, at most.
+        /// The bytes, at most as many as the connection has room for.
         piece: &'a [u8],
     },
     /// The next call of a connection is taken.
@@ -53,14 +53,14 @@ pub enum Event<'a> {
     },
     /// The peer took bytes that waited.
     Took {
-        /// Where.
+        /// The port.
         port: Port,
         /// How many bytes.
         count: u32,
     },
     /// A connection or an interrupt channel closes.
     Close {
-        /// Which.
+        /// The port.
         port: Port,
     },
     /// The connection to the peer of an interrupt channel was tried.
@@ -70,7 +70,7 @@ pub enum Event<'a> {
         /// Whether it was made, so that the channel opens.
         ok: bool,
     },
-    /// The live voltage of a channel changes.
+    /// The input of a channel changes.
     Input {
         /// The channel, 1 to [`CHANNELS`](sv_errors::CHANNELS).
         channel: u8,
@@ -86,7 +86,7 @@ pub enum Event<'a> {
 /// What an event that wasn't refused did.
 #[derive(Clone, Copy, Debug, PartialEq, Eq)]
 pub enum Did {
-    /// What it asks for.
+    /// The event was applied.
     Done,
     /// Nothing: a Turn found no call to take.
     Idle,

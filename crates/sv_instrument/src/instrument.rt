@@ -12,13 +12,13 @@ use sv_layers::{Awaited, Layers};
 /// A simulated instrument.
 #[derive(Drop)]
 pub struct Instrument<A: Allocator = Global> {
-    /// Which command a header names.
+    /// The table that names the command of a header.
     pub(crate) table: Table<A>,
-    /// What stands before the header of the next unit.
+    /// The path that the next header continues.
     pub(crate) path: Path,
     /// The layers.
     pub(crate) layers: Layers<A>,
-    /// What the unit will answer that is held.
+    /// What the held unit will answer; `None` if no unit is held.
     pub(crate) held: Option<Awaited>,
     /// The answer of a unit, at most as long as a response.
     pub(crate) answer: Vec<u8, A>,

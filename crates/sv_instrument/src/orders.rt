@@ -16,7 +16,7 @@ use sv_header::Action;
 use sv_layers::{Awaited, Change, Layers};
 use sv_scan::ScanAct;
 
-/// Performs the order of the unit that is due; an answer is put into a vector on the way. Returns
+/// Performs the order of the unit that is due; an answer is put into `answer` on the way. Returns
 /// what the unit will answer, if it is held.
 pub(crate) fn perform<A: Allocator>(
     layers: &mut Layers<A>,
@@ -49,7 +49,7 @@ pub(crate) fn perform<A: Allocator>(
     carry_out(layers, change)
 }
 
-/// Does what needs no value. Returns what the unit will answer, if it is held.
+/// Performs an action, which has no value. Returns what the unit will answer, if it is held.
 fn act<A: Allocator>(layers: &mut Layers<A>, action: Action) -> Option<Awaited>
     requires { IsUnitDue (next_of layers.old.exchange) }
     ensures behaves { (start log : List Act) → Counts start layers.old log

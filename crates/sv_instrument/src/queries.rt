@@ -18,7 +18,7 @@ use sv_header::{Question, SettingName};
 use sv_layers::{Awaited, Change, Layers};
 use sv_value::printing::{put_channels, put_error, put_source, put_switch, put_voltage, put_whole};
 
-/// Answers the query that is due; the answer is put into a vector on the way.
+/// Answers the query that is due.
 pub(crate) fn ask<A: Allocator>(
     layers: &mut Layers<A>,
     answer: &mut Vec<u8, A>,
@@ -42,7 +42,7 @@ pub(crate) fn ask<A: Allocator>(
     }
 }
 
-/// What a query is refused with: readings that aren't complete, or were aborted, can't be fetched.
+/// The error that refuses a query: -230 if there is no complete measurement to fetch.
 fn refused<A: Allocator>(layers: &Layers<A>, question: Question) -> Option<Code>
     ensures { (log : List Act) → Stands layers.now log → result ≡ question_fault question log }
 {
@@ -52,7 +52,7 @@ fn refused<A: Allocator>(layers: &Layers<A>, question: Question) -> Option<Code>
     }
 }
 
-/// What a query asks for is taken, or cleared.
+/// Takes or clears what a query reads: an entry of the error queue, or an event register.
 fn take<A: Allocator>(layers: &mut Layers<A>, question: Question)
     ensures counts { (start log : List Act) → Counts start layers.old log
         → Counts start layers.new (after_query question log) }
@@ -66,8 +66,8 @@ fn take<A: Allocator>(layers: &mut Layers<A>, question: Question)
     }
 }
 
-/// Puts the answer of a query, as it is now, in the place of what is there. Readings that can't be
-/// fetched aren't put.
+/// Puts the answer of a query in the place of the bytes there. Readings that can't be fetched
+/// aren't put.
 pub(crate) fn put_answer<A: Allocator>(out: &mut Vec<u8, A>, layers: &Layers<A>, question: Question)
     requires { max_response ≤ vec_capacity out.old }
     ensures says { (log : List Act) → Stands layers.now log → question_fault question log ≡ None
@@ -91,7 +91,7 @@ pub(crate) fn put_answer<A: Allocator>(out: &mut Vec<u8, A>, layers: &Layers<A>,
     put_whole(out, u32::from(word));
 }
 
-/// Puts the value of a setting where nothing is.
+/// Puts the value of a setting into an empty vector.
 fn put_value<A: Allocator>(out: &mut Vec<u8, A>, layers: &Layers<A>, name: SettingName)
     requires empty { out.old.items ≡ [] }
     requires room { max_response ≤ vec_capacity out.old }

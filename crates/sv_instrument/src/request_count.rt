@@ -9,7 +9,7 @@ use crate::instrument::Instrument;
 use std::alloc::Allocator;
 
 impl<A: Allocator> Instrument<A> {
-    /// How many requests for service were raised since this was asked last. Each call that may
+    /// How many requests for service were raised since this was last asked. Each call that may
     /// raise one asks at its end.
     pub(crate) fn take_requests(&mut self) -> u8
         ensures ran { (start log : List Act) → Runs start self.old log → IsCountable start log

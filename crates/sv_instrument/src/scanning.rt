@@ -21,7 +21,7 @@ use sv_scan::{ScanAct, ScanList, Setting};
 /// The range that a measurement is configured with, in microvolts.
 const RANGE: i64 = 10_000_000;
 
-/// A trigger from the controller; if none is waited for, that is reported.
+/// Applies a trigger from the controller; reports -211 if none is waited for.
 pub(crate) fn trigger<A: Allocator>(layers: &mut Layers<A>) -> Option<Awaited>
     requires { IsUnitDue (next_of layers.old.exchange) }
     ensures behaves { (start log : List Act) → Counts start layers.old log
@@ -37,7 +37,7 @@ pub(crate) fn trigger<A: Allocator>(layers: &mut Layers<A>) -> Option<Awaited>
     }
 }
 
-/// What the scanner is to do; where it may not, the report of that.
+/// The act of the scanner if it is allowed, else the report of the error.
 fn unless_refused(allowed: Result<(), Code>, act: ScanAct) -> Change
     ensures { (fault : Option Code) (log : List Act) → allowed ≡ refused_by fault
         → done_of (act_of result ∷ log) ≡ unless fault (done_of (Scanned act ∷ log)) log }
@@ -48,7 +48,7 @@ fn unless_refused(allowed: Result<(), Code>, act: ScanAct) -> Change
     }
 }
 
-/// A setting is changed; if it is refused, that is reported.
+/// Changes a setting, or reports why it can't be changed.
 pub(crate) fn set<A: Allocator>(layers: &mut Layers<A>, setting: Setting) -> Option<Awaited>
     requires { IsUnitDue (next_of layers.old.exchange) }
     ensures behaves { (start log : List Act) → Counts start layers.old log
@@ -59,7 +59,7 @@ pub(crate) fn set<A: Allocator>(layers: &mut Layers<A>, setting: Setting) -> Opt
     carry_out(layers, unless_refused(allowed, ScanAct::Configure(setting)))
 }
 
-/// A measurement begins; if one is under way, that is reported.
+/// Begins a measurement; reports -213 if one is under way.
 pub(crate) fn initiate<A: Allocator>(layers: &mut Layers<A>) -> Option<Awaited>
     requires { IsUnitDue (next_of layers.old.exchange) }
     ensures behaves { (start log : List Act) → Counts start layers.old log
@@ -70,8 +70,7 @@ pub(crate) fn initiate<A: Allocator>(layers: &mut Layers<A>) -> Option<Awaited>
     carry_out(layers, unless_refused(allowed, ScanAct::Init))
 }
 
-/// A measurement is configured: it is aborted, its settings take their defaults, and then its list
-/// is set, if one is given.
+/// Configures a measurement: aborts, sets the defaults, and then the list if one is given.
 pub(crate) fn configure<A: Allocator>(layers: &mut Layers<A>, list: Option<ScanList>)
     ensures counts { (start log : List Act) → Counts start layers.old log
         → Counts start layers.new (after_configure list log) }
@@ -84,7 +83,7 @@ pub(crate) fn configure<A: Allocator>(layers: &mut Layers<A>, list: Option<ScanL
     set_list(layers, list);
 }
 
-/// The list of a measurement is set, if one is given.
+/// Sets the scan list, if one is given.
 fn set_list<A: Allocator>(layers: &mut Layers<A>, list: Option<ScanList>)
     ensures counts { (start log : List Act) → Counts start layers.old log
         → Counts start layers.new (with_list list log) }
@@ -96,8 +95,8 @@ fn set_list<A: Allocator>(layers: &mut Layers<A>, list: Option<ScanList>)
     }
 }
 
-/// A measurement begins anew, and its readings are waited for; where the controller would have to
-/// trigger it, that is reported.
+/// Begins a measurement anew, and holds the unit until its readings are there; reports -214 if the
+/// controller would have to trigger it.
 pub(crate) fn read<A: Allocator>(layers: &mut Layers<A>) -> Option<Awaited>
     requires { IsUnitDue (next_of layers.old.exchange) }
     ensures behaves { (start log : List Act) → Counts start layers.old log
@@ -114,7 +113,7 @@ pub(crate) fn read<A: Allocator>(layers: &mut Layers<A>) -> Option<Awaited>
     }
 }
 
-/// A measurement is configured and begins, and its readings are waited for.
+/// Configures and begins a measurement, and holds the unit until its readings are there.
 pub(crate) fn measure<A: Allocator>(
     layers: &mut Layers<A>,
     list: Option<ScanList>,

@@ -53,7 +53,7 @@ impl<A: Allocator> Instrument<A> {
         }
     }
 
-    /// Takes the step that is due. Returns whether one was.
+    /// Takes the step that is due. Returns whether a step was due.
     fn take_step(&mut self) -> bool
         ensures { Steps result self.old self.new }
     {
@@ -63,7 +63,7 @@ impl<A: Allocator> Instrument<A> {
         }
     }
 
-    /// The unit that is held ends where no measurement is under way.
+    /// Ends the held unit, if no measurement is under way.
     fn release(&mut self, awaited: Awaited) -> bool
         requires { self.old.held ≡ Some awaited }
         ensures { Steps result self.old self.new }
@@ -79,7 +79,7 @@ impl<A: Allocator> Instrument<A> {
         }
     }
 
-    /// The step that is due where no unit is held.
+    /// Takes the step that is due while no unit is held.
     fn next_step(&mut self) -> bool
         requires { self.old.held ≡ None }
         ensures { Steps result self.old self.new }
@@ -94,7 +94,7 @@ impl<A: Allocator> Instrument<A> {
         true
     }
 
-    /// The message that is too long is reported.
+    /// Reports that the message is too long.
     fn overran(&mut self)
         requires free { self.old.held ≡ None }
         requires due { next_of self.old.layers.exchange ≡ OverrunDue }
@@ -106,7 +106,7 @@ impl<A: Allocator> Instrument<A> {
         self.layers.apply(Change::Report(Code::InputBufferOverrun));
     }
 
-    /// The response is interrupted, and the unit that is due starts.
+    /// Interrupts the response, and starts the unit that is due.
     fn interrupt(&mut self)
         requires free { self.old.held ≡ None }
         requires due { next_of self.old.layers.exchange ≡ InterruptDue }
@@ -119,7 +119,7 @@ impl<A: Allocator> Instrument<A> {
         self.start();
     }
 
-    /// The unit that is due starts.
+    /// Starts the unit that is due.
     fn start(&mut self)
         requires free { self.old.held ≡ None }
         requires due { IsUnitDue (next_of self.old.layers.exchange) }
@@ -135,7 +135,7 @@ impl<A: Allocator> Instrument<A> {
         );
     }
 
-    /// The message that has ended is finished.
+    /// Finishes the message that has ended.
     fn finish(&mut self)
         requires free { self.old.held ≡ None }
         requires due { next_of self.old.layers.exchange ≡ FinishDue }

@@ -11,7 +11,7 @@ use std::alloc::Allocator;
 use sv_errors::Code;
 use sv_layers::{Awaited, Change, Layers};
 
-/// The unit that is due is done.
+/// Ends the unit that is due.
 pub(crate) fn end<A: Allocator>(layers: &mut Layers<A>)
     requires { IsUnitDue (next_of layers.old.exchange) }
     ensures behaves { (start log : List Act) → Counts start layers.old log
@@ -21,8 +21,8 @@ pub(crate) fn end<A: Allocator>(layers: &mut Layers<A>)
     layers.done();
 }
 
-/// A change happens, and then the unit that is due is done: no unit is held. All functions that
-/// perform a unit tell what it will answer, if it is held.
+/// Applies a change, and ends the unit that is due: no unit is held. Every function that performs a
+/// unit returns what it will answer, if it is held.
 pub(crate) fn carry_out<A: Allocator>(layers: &mut Layers<A>, change: Change) -> Option<Awaited>
     requires { IsUnitDue (next_of layers.old.exchange) }
     ensures behaves { (start log : List Act) → Counts start layers.old log
@@ -34,7 +34,7 @@ pub(crate) fn carry_out<A: Allocator>(layers: &mut Layers<A>, change: Change) ->
     None
 }
 
-/// The unit that is due is held.
+/// Holds the unit that is due.
 pub(crate) fn hold<A: Allocator>(layers: &mut Layers<A>, awaited: Awaited) -> Option<Awaited>
     requires { IsUnitDue (next_of layers.old.exchange) }
     ensures behaves { (start log : List Act) → Counts start layers.old log
@@ -45,8 +45,7 @@ pub(crate) fn hold<A: Allocator>(layers: &mut Layers<A>, awaited: Awaited) -> Op
     Some(awaited)
 }
 
-/// An answer is given, if it fits; else all answers of the message are dropped, and that is
-/// reported.
+/// Gives an answer, if it fits; else drops all answers of the message, and reports -430.
 fn respond<A: Allocator>(layers: &mut Layers<A>, text: &[u8])
     requires { IsTrue (may_respond layers.old.exchange) }
     ensures counts { (start log : List Act) → Counts start layers.old log
@@ -58,7 +57,7 @@ fn respond<A: Allocator>(layers: &mut Layers<A>, text: &[u8])
     }
 }
 
-/// The unit that is due is done, and its answer is given.
+/// Ends the unit that is due, and gives its answer.
 pub(crate) fn reply<A: Allocator>(layers: &mut Layers<A>, text: &[u8])
     requires { IsUnitDue (next_of layers.old.exchange) }
     ensures behaves { (start log : List Act) → Counts start layers.old log

@@ -17,8 +17,8 @@ use sv_errors::Code;
 use sv_header::{Path, Table};
 use sv_layers::{Awaited, Change, Layers};
 
-/// The unit that is due starts, after this path, which follows it: it does what it asks for, or
-/// its fault is reported.
+/// Starts the unit that is due: it is executed, or its first fault is reported. Its header updates
+/// the path.
 pub(crate) fn start<A: Allocator>(
     table: &Table<A>,
     path: &mut Path,
@@ -39,7 +39,7 @@ pub(crate) fn start<A: Allocator>(
     }
 }
 
-/// The unit that is held, which is the one that is due, is done.
+/// Ends the held unit, and gives its answer.
 pub(crate) fn release<A: Allocator>(
     layers: &mut Layers<A>,
     answer: &mut Vec<u8, A>,

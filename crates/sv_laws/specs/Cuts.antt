@@ -45,7 +45,8 @@ IsWritten lid bytes ended before acts = (xid io_timeout lock_timeout flags : ℕ
     × ((bit_at flags 3 ≡ 1) ↔ (ended ≡ true))
     × (acts ≡ Replied (result_reply xid (Size NoError (length bytes))) ∷ CallTaken call ∷ before)
 
--- After a history such events of a connection lead from its log to another one, and leave no complete record to take.
+-- After the history `past` these events, all Bytes and Turns of connection `c`, lead from the log `before` to `log`, and leave no complete
+-- record to take.
 pub record Feeds (c : ℕ) (config : Config) (past events : List PlainEvent) (before log : List Act) : Type 0 where
   pub feeding : AllByRecursion (IsFeeding c) events
   pub was : IsLogOf config past before

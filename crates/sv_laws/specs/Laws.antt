@@ -80,8 +80,8 @@ RepliesMatch = (config : Config) (history : List PlainEvent) (log : List Act) (c
     → IsLogOf config history log → of c log ≡ newer ++ Replied reply ∷ older
     → (call : List ℕ) × (pending_call older ≡ Some call) × HasXidOf call reply
 
--- A call that a Turn takes is answered; or it is no call, which faults its connection; or it is suspended, for what isn't there (VXI-11
--- revision 1.0, section B.4.4).
+-- What a Turn takes is answered if it is a call, or it is suspended because what it waits for isn't there (VXI-11 revision 1.0, section
+-- B.4.4). If it isn't a call, its connection is at fault.
 abbrev pub TurnAnswered : Type 0
 TurnAnswered = (config : Config) (history : List PlainEvent) (before log : List Act) (c : ℕ) (call : List ℕ) → IsLogOf config history before
     → IsLogOf config (Turn c ∷ history) log → next_call (of c before) ≡ Some call

@@ -18,7 +18,8 @@ use std::alloc::Allocator;
 use sv_errors::{Code, Layer, Source};
 use sv_scan::ScanAct;
 
-/// Device-specific error, of the standard events, which an overflow of the error queue is.
+/// The bit of device-specific errors in the standard events; an overflow of the error queue sets
+/// it.
 const DEVICE: u8 = 1 << 3;
 
 impl<A: Allocator> Layers<A> {
@@ -33,7 +34,7 @@ impl<A: Allocator> Layers<A> {
         self.tell();
     }
 
-    /// Begins a change: what it does to its own layer.
+    /// Applies a change to its own layer.
     fn begin(&mut self, change: &Change)
         ensures stands { (at : LayerLogs) (status_log : List StatusAct)
             → Represents self.old at status_log
@@ -64,7 +65,7 @@ impl<A: Allocator> Layers<A> {
         }
     }
 
-    /// Something happens to the scanner; a reset cancels an `*OPC`.
+    /// Applies an act to the scanner; a reset cancels an `*OPC`.
     fn scan(&mut self, act: ScanAct)
         ensures stands { (at : LayerLogs) (status_log : List StatusAct)
             → Represents self.old at status_log
@@ -76,7 +77,8 @@ impl<A: Allocator> Layers<A> {
         self.scanner.act(act);
     }
 
-    /// An error is reported, with the standard event of its class, and that of an overflow.
+    /// Reports an error: sets the standard event of its class, and that of an overflow of the
+    /// queue.
     fn report(&mut self, code: Code)
         ensures stands { (at : LayerLogs) (status_log : List StatusAct)
             → Represents self.old at status_log
@@ -114,7 +116,7 @@ impl<A: Allocator> Layers<A> {
     }
 }
 
-/// Whether every setting takes its default.
+/// Whether an act is a reset.
 fn is_reset(act: &ScanAct) -> bool
     ensures { result ≡ resets act.now }
 {

@@ -26,10 +26,10 @@ const COMPLETE: u8 = 1 << 0;
 const SUMMARY: u16 = 1 << 9;
 
 impl<A: Allocator> Layers<A> {
-    /// Ends an act that has begun in its own layer, as this change ends. One register after the
-    /// other is told its condition, where that may have changed, and then the change does to it
-    /// what it does to a register itself. So the summary of a nested register is there before the
-    /// register above it is told its condition.
+    /// Ends an act that has begun in its own layer. For one register after the other, a condition
+    /// that may have changed is first run through the filters as they were; then the act's own
+    /// effect on the register is applied. A nested register comes before the register above it, so
+    /// that its summary is known there.
     pub(crate) fn end(&mut self, change: &Change)
         ensures stands { (log : List Act) (act : Act) (status_log : List StatusAct)
             → EndsAs (act_of change.now) act
@@ -55,7 +55,7 @@ impl<A: Allocator> Layers<A> {
         change_standard(&mut self.standard, change);
     }
 
-    /// An `*OPC` is complete where no measurement is under way.
+    /// Sets operation complete if an `*OPC` waits and no measurement is under way.
     fn complete(&mut self)
         ensures stands { (at : LayerLogs) (status_log : List StatusAct)
             → Represents self.old at status_log
@@ -70,7 +70,7 @@ impl<A: Allocator> Layers<A> {
     }
 }
 
-/// Whether one of two holds alone.
+/// Whether exactly one of two holds.
 fn differ(first: bool, second: bool) -> bool
     ensures { result ≡ false → first ≡ second }
 {
@@ -84,7 +84,7 @@ fn summary_bit(stands: bool) -> u16
     if stands { SUMMARY } else { 0 }
 }
 
-/// Gives a register its condition, if that may have changed.
+/// Runs the condition of a register through its filters, if it may have changed.
 fn compare(register: &mut Register, touched: bool, word: u16)
     ensures { (start : ℕ) (acts : List RegisterAct) → Registers start register.old acts
         → (touched ≡ false → word ≡ condition acts)
@@ -95,7 +95,7 @@ fn compare(register: &mut Register, touched: bool, word: u16)
     }
 }
 
-/// What a change does to a status register itself.
+/// Applies a change's own effect on a status register.
 fn change_register(register: &mut Register, name: RegisterName, change: &Change)
     ensures { (start : ℕ) (acts : List RegisterAct) → Registers start register.old acts
         → Registers start register.new (own name (act_of change.now) acts) }
@@ -136,7 +136,7 @@ fn change_register(register: &mut Register, name: RegisterName, change: &Change)
     }
 }
 
-/// What a change does to the standard events themselves.
+/// Applies a change's own effect on the standard events.
 fn change_standard(standard: &mut StandardEvent, change: &Change)
     ensures { (acts : List StandardAct) → Standards standard.old acts
         → Standards standard.new (own_standard (act_of change.now) acts) }
@@ -161,7 +161,7 @@ fn change_standard(standard: &mut StandardEvent, change: &Change)
     }
 }
 
-/// Whether both names are those of one register.
+/// Whether two names are the same.
 fn is_same(first: RegisterName, second: RegisterName) -> bool
     ensures { result ≡ same_register first second }
 {

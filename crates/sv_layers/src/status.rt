@@ -34,7 +34,7 @@ impl<A: Allocator> Layers<A> {
             + mask_if(ERRORS, self.errors.count() > 0)
     }
 
-    /// Tells the status byte, and counts the request for service that this raises, if it does.
+    /// Updates the status byte, and counts the request for service that this raises, if any.
     pub(crate) fn tell(&mut self)
         ensures applied { (log : List Act) (act : Act) (before : List StatusAct)
             → IsStatus log before
@@ -59,8 +59,7 @@ impl<A: Allocator> Layers<A> {
         requests
     }
 
-    /// What follows an act that does nothing to a register itself: it ends, and the status byte is
-    /// told.
+    /// Ends an act that has no effect of its own on a register, and updates the status byte.
     pub(crate) fn update_status(&mut self)
         ensures applied { (log : List Act) (act : Act) → Begun self.old act log
             → is_plain act ≡ true → IsApplied self.old.requests self.new (act ∷ log) }
@@ -72,7 +71,7 @@ impl<A: Allocator> Layers<A> {
     }
 }
 
-/// A mask where its condition holds, else nothing.
+/// A mask if its condition holds, else 0.
 pub(crate) fn mask_if(mask: u8, holds: bool) -> u8
     ensures { result ≡ (if holds then mask else 0) }
 {

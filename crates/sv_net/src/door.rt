@@ -51,8 +51,8 @@ impl Door {
         self.knocked.get() & (self.delay.get() == 0)
     }
 
-    /// How many milliseconds it may sleep before the next accept: twice as many after each one that
-    /// fails, at most 100; 100 if none is there.
+    /// How many milliseconds to sleep before the next accept: doubled after each one that fails, at
+    /// most 100; 100 if none failed.
     pub(crate) fn patience(&self) -> u32
         ensures { result ≤ 100 }
     {

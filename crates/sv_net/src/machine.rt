@@ -18,8 +18,8 @@ pub(crate) trait Machine<S: Stream> {
     /// The machine after a wait with this outcome; nothing is known of a real machine.
     ghost answers: { Self → Doing (List (Option S)) → Self → Type 0 } = { λ before doing after. ⊤ };
 
-    /// Waits until a socket is reported, at most so long if there is a limit. Tells whether one
-    /// was, and at which nanosecond since the beginning the wait ended.
+    /// Waits until a socket is reported, or until a limit if there is one. Returns whether one was,
+    /// and the nanosecond since the beginning at which the wait ended.
     ///
     /// # Errors
     /// If the system tells no time, or fails to wait.

@@ -127,7 +127,7 @@ impl<N: Network + Drop, A: Allocator, S: Stream> Net<N, A, S> {
         })
     }
 
-    /// Keeps what was reported of a socket or a port.
+    /// Remembers what was reported of a socket or a port.
     pub(crate) fn report(&self, event: &Event) {
         let Token(number) = event.token();
         match self.sockets.get(number) {
@@ -137,7 +137,7 @@ impl<N: Network + Drop, A: Allocator, S: Stream> Net<N, A, S> {
         }
     }
 
-    /// Keeps that a port was reported.
+    /// Remembers that a port was reported.
     fn report_door(&self, number: usize) {
         if let Some(door) = self.doors.get(number.saturating_sub(SOCKETS)) {
             door.report();
@@ -154,7 +154,7 @@ impl<N: Network + Drop, A: Allocator, S: Stream> Net<N, A, S> {
         self.doors[0].is_knocked() | self.doors[1].is_knocked() | self.doors[2].is_knocked()
     }
 
-    /// How many milliseconds it may sleep before an accept is to be tried again, at most 100.
+    /// How many milliseconds to sleep before an accept is tried again, at most 100.
     pub(crate) fn patience(&self) -> u32
         ensures { result ≤ 100 }
     {
@@ -172,7 +172,7 @@ impl<N: Network + Drop, A: Allocator, S: Stream> Net<N, A, S> {
         }
     }
 
-    /// Keeps a socket under its number, and has it reported.
+    /// Keeps a socket under its number, and registers it for reports.
     fn keep(&mut self, port: Port, mut socket: Socket<S>) -> io::Result<()>
         ensures ok { IfOk result (λ _. (stream : S)
             × (self.new ≡ slice_set self.old (socket_number port) (Some stream))) }

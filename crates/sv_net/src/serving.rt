@@ -21,7 +21,7 @@ use sv_serve::Driver;
 /// The most polls in one pause before it sleeps.
 const LOOKS: u32 = 1_000;
 
-/// Makes so many sweeps, and waits between them until a socket is reported or time matters. Each
+/// Makes so many sweeps. Between two sweeps it waits until a socket is reported or something is due. Each
 /// sweep gets the whole milliseconds since the one before, at most 1,000.
 ///
 /// A wait ends at the next whole millisecond, or at the hundredth if nothing waits for time in
@@ -86,8 +86,8 @@ fn sweep<M: Machine<S>, N: Network + Drop, A: Allocator, S: Stream>(
     }
 }
 
-/// Waits for reports, at most so long if there is a limit. Tells whether one came, and when the
-/// wait ended.
+/// Waits for reports, until a limit if there is one. Returns whether one came, and when the wait
+/// ended.
 fn wait<M: Machine<S>, S: Stream>(
     machine: &mut M,
     pace: &mut Pace,
@@ -104,8 +104,8 @@ fn wait<M: Machine<S>, S: Stream>(
     Ok((reported, now))
 }
 
-/// Waits for the next sweep, of so many left, and tells when it begins: at once where a sweep finds
-/// something to do. Whether it does need not be asked where the first look finds a report.
+/// Waits for the next sweep; so many are left. Returns when it begins: at once if a sweep finds
+/// something to do. That is only checked if the first poll finds no report.
 fn pause<M: Machine<S>, N: Network + Drop, A: Allocator, S: Stream>(
     machine: &mut M,
     driver: &Driver<Net<N, A, S>, A>,
@@ -129,8 +129,8 @@ fn pause<M: Machine<S>, N: Network + Drop, A: Allocator, S: Stream>(
     spin(machine, driver, pace, now, left)
 }
 
-/// Looks again until something is reported, or looking isn't worth it any more; then it sleeps.
-/// Tells when that ended.
+/// Polls until something is reported, or polling isn't worth it any more; then it sleeps. Returns
+/// when that ended.
 fn spin<M: Machine<S>, N: Network + Drop, A: Allocator, S: Stream>(
     machine: &mut M,
     driver: &Driver<Net<N, A, S>, A>,
@@ -158,7 +158,7 @@ fn spin<M: Machine<S>, N: Network + Drop, A: Allocator, S: Stream>(
     Ok(now)
 }
 
-/// Sleeps until something is reported, or time matters. Tells when that was.
+/// Sleeps until something is reported or is due. Returns when that was.
 fn sleep<M: Machine<S>, N: Network + Drop, A: Allocator, S: Stream>(
     machine: &mut M,
     driver: &Driver<Net<N, A, S>, A>,

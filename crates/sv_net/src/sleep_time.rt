@@ -11,7 +11,7 @@ use std::time::Duration;
 use sv_pace::{FEW, Pace, STILL};
 use sv_serve::Driver;
 
-/// Whether a call is there to be taken on any connection.
+/// Whether any connection has a call to take.
 fn is_ready<N: Network + Drop, A: Allocator, S: Stream>(driver: &Driver<Net<N, A, S>, A>) -> bool
     ensures { result ≡ false → NoneReady driver.now }
 {
@@ -24,8 +24,7 @@ fn is_ready<N: Network + Drop, A: Allocator, S: Stream>(driver: &Driver<Net<N, A
     false
 }
 
-/// Whether so many milliseconds do nothing while it sleeps: nothing waits for them, and no call for
-/// room.
+/// Whether nothing is due within so many milliseconds of sleep, and no call waits for room.
 fn is_idle<N: Network + Drop, A: Allocator, S: Stream>(
     driver: &Driver<Net<N, A, S>, A>,
     ticks: u32,
@@ -35,8 +34,8 @@ fn is_idle<N: Network + Drop, A: Allocator, S: Stream>(
     driver.is_still(ticks) & !is_ready(driver)
 }
 
-/// Up to which millisecond since the last sweep it may sleep, where time does something, or an
-/// accept is to be tried again.
+/// How many milliseconds after the last sweep it may sleep at most: until something is due, or an
+/// accept is tried again.
 fn longest<N: Network + Drop, A: Allocator, S: Stream>(driver: &Driver<Net<N, A, S>, A>) -> u32
     ensures { (result ≡ 1) ⊎ ((result ≤ 100) × IsIdle 100 driver.now) }
 {
@@ -47,8 +46,8 @@ fn longest<N: Network + Drop, A: Allocator, S: Stream>(driver: &Driver<Net<N, A,
     }
 }
 
-/// How long it may sleep with so many sweeps left; without a limit where time does nothing. A call
-/// waits for as many milliseconds at most as a u32 counts (VXI-11 revision 1.0, section B.4.4).
+/// How long it may sleep, with so many sweeps left; `None` without a limit, if nothing is due. The
+/// timeout of a call is at most 4,294,967,295 ms (VXI-11 revision 1.0, section B.4.4).
 pub(crate) fn sleep_time<N: Network + Drop, A: Allocator, S: Stream>(
     driver: &Driver<Net<N, A, S>, A>,
     pace: &Pace,

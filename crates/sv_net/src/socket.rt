@@ -15,7 +15,7 @@ use sv_serve::Answer;
 /// How many bytes are dropped at once, at most.
 const DROPPED: usize = 1_024;
 
-/// A socket, and what was reported of it since it last answered that it would wait.
+/// A socket, and what was reported of it since it last said that it would block.
 #[derive(Drop)]
 pub(crate) struct Socket<S: Stream> {
     stream: S,
@@ -27,7 +27,7 @@ pub(crate) struct Socket<S: Stream> {
     ended: Cell<bool>,
     /// It was reset, or is closed in both directions.
     broken: Cell<bool>,
-    /// Urgent bytes may be there: a read ends before them, though more is after.
+    /// Urgent bytes may be there: a read ends before them, though more bytes follow.
     urgent: Cell<bool>,
 }
 
@@ -38,7 +38,7 @@ impl<S: Stream> Model for Socket<S> {
 }
 
 impl<S: Stream> Socket<S> {
-    /// A connected socket, of which anything is possible until it is asked.
+    /// A connected socket, of which nothing is known until it is asked.
     pub(crate) fn connected(stream: S) -> Socket<S>
         ensures { result ≡ stream }
     {
@@ -130,7 +130,8 @@ impl<S: Stream> Socket<S> {
         }
     }
 
-    /// Whether it is gone, if it isn't read: broken, or, where what comes is dropped, ended.
+    /// Whether it is gone, for a socket that isn't read: it is broken, or its stream ended while
+    /// its bytes are dropped.
     pub(crate) fn probe(&mut self, drops: bool) -> Answer<()>
         ensures { Skips S.remaining drops self.old self.new }
     {
@@ -184,8 +185,8 @@ impl<S: Stream> Socket<S> {
     }
 }
 
-/// What a call that failed answers: nothing yet where it would wait, and then nothing more is
-/// asked until it is reported.
+/// The answer of a call that failed: pending if it would block. Then it isn't asked again until it
+/// is reported.
 fn would_wait(flag: &Cell<bool>, kind: ErrorKind) -> Answer<usize>
     ensures { (result ≡ Answer.Pending) ⊎ (result ≡ Answer.Failed) }
 {

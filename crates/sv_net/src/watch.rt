@@ -41,7 +41,7 @@ impl<A: Allocator + Copy> Watch<A> {
 }
 
 impl<A: Allocator> Watch<A> {
-    /// Waits until something is reported, at most so long if there is a limit, and tells whether
+    /// Waits until something is reported, or until a limit if there is one. Returns whether
     /// something was.
     ///
     /// # Errors

@@ -8,8 +8,8 @@ use std::net::Net as Network;
 use sv_serve::Driver;
 use sv_server::Port;
 
-/// Whether a sweep finds something to do on a connection without a report: bytes that wait can be
-/// written, or else a call is there; or bytes may be there that it has room for.
+/// Whether a sweep finds something to do on a connection that wasn't reported: waiting bytes can be
+/// written; or, if none wait, there is a call; or there may be bytes for which it has room.
 fn has_work_on<N: Network + Drop, A: Allocator, S: Stream>(
     driver: &Driver<Net<N, A, S>, A>,
     conn: u8,
@@ -26,8 +26,8 @@ fn has_work_on<N: Network + Drop, A: Allocator, S: Stream>(
     goes_on || has_input(driver, conn, socket) || has_work_for(driver, conn)
 }
 
-/// Whether a sweep reads it: bytes may be there that it has room for, or that are dropped; or it is
-/// gone, though it isn't read.
+/// Whether a sweep reads it: there may be bytes for which it has room, or which are dropped; or it
+/// is gone.
 fn has_input<N: Network + Drop, A: Allocator, S: Stream>(
     driver: &Driver<Net<N, A, S>, A>,
     conn: u8,

@@ -23,7 +23,8 @@ port_of ports m =
     if (m.prog == 395183) && ((m.vers == 1) && (m.prot == 6)) then ports.core
     else (if (m.prog == 395184) && ((m.vers == 1) && (m.prot == 6)) then ports.abort else 0)
 
--- The answer to these arguments. Bytes after them are ignored; if they aren't spelled, they are garbage.
+-- The answer to a call with these bytes as arguments. Bytes after the arguments are ignored. Bytes that can't be read as arguments are
+-- garbage.
 abbrev pub PortIs : Ports → List ℕ → Result ℕ Garbage → Type 0
 PortIs ports args (Ok port) = (m : Mapping) × (after : List ℕ) × BeginsAll args (mapping_fields m) after × (port ≡ port_of ports m)
 PortIs ports args (Err garbage) = (m : Mapping) (after : List ℕ) → BeginsAll args (mapping_fields m) after → ⊥

@@ -22,8 +22,8 @@ pub record StandsFor (held : Records) (stream : List ℕ) (dropped : ℕ) : Type
   pub bounded : dropped ≤ length all
   pub kept : held.records ≡ drop dropped all
 
--- how many bytes count against the room: 4 and its bytes for each complete record; the same for the unfinished one, even if nothing of it
--- came; and what came of an unfinished header. Once a record is too long, all of the capacity counts.
+-- How many bytes of the capacity are used. Each complete record uses 4 more than its length. The unfinished one uses 4 and the bytes of it
+-- that came, even if none did, and the bytes of an unfinished header. Once a record is too long, the whole capacity is used.
 abbrev pub used_by : List (List ℕ) → Tail → ℕ
 used_by records (Header payload header) = sum_by (λ r. 4 + length r) records + (4 + length payload + length header)
 used_by records (Data payload missing last) = sum_by (λ r. 4 + length r) records + (4 + length payload)

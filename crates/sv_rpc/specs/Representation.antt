@@ -33,7 +33,7 @@ Fits records (Header payload header) n = used_by records (Header payload header)
 Fits records (Data payload missing last) n = used_by records (Data payload missing last) + n ≤ capacity
 Fits records TooLong n = Unit {0}
 
--- The same of what a buffer holds.
+-- What a buffer holds fits into its capacity.
 abbrev pub InRoom : Records → ℕ → Type 0
 InRoom held n = Fits held.records held.tail n
 

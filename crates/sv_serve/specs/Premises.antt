@@ -43,7 +43,7 @@ Handed port answer config at = (bytes : List ℕ) × Waits port config at bytes 
 abbrev pub FoundNone : {W : Type 0} → ℕ → Config → DriverView W → Type 0
 FoundNone c config at = (log : List Act) × IsLogOf config at.history log × Answers config (Turn c) log (Err NoMemory)
 
--- If the answer is out of memory, that was so.
+-- If the result is out of memory, a call was there to take, and memory for it was refused.
 abbrev pub MayFindNone : {W : Type 0} → ℕ → Result Did Refused → Config → DriverView W → Type 0
 MayFindNone c answer config at = answer ≡ Err NoMemory → FoundNone c config at
 

@@ -30,7 +30,7 @@ IsExponent text minus digits = (before behind sign : List ℕ) × (letter : ℕ)
 abbrev pub NoExponent : List ℕ → Type 0
 NoExponent text = (exponent behind digits : List ℕ) (minus : Bool) → text ≡ exponent ++ behind → IsExponent exponent minus digits → ⊥
 
--- The text is white space and this suffix, which begins with a letter, or is empty.
+-- The text is white space followed by this suffix. The suffix is empty or begins with a letter.
 abbrev pub IsSuffix : List ℕ → List ℕ → Type 0
 IsSuffix text suffix = (space : List ℕ) × (text ≡ space ++ suffix) × IsSpace space × (begins_well suffix ≡ true)
 

@@ -44,7 +44,7 @@ fn port_of(text: &str) -> io::Result<Port> {
     }
 }
 
-/// Lets an event happen, and prints what it did, unless that is what it asks for.
+/// Applies an event, and prints its result, unless it is `Done`.
 fn apply<W: Write + Drop>(
     server: &mut Played<'_>,
     event: Event<'_>,
@@ -57,7 +57,7 @@ fn apply<W: Write + Drop>(
     }
 }
 
-/// Lets the event of a replay's line happen.
+/// Applies the event of a replay's line.
 fn replayed<W: Write + Drop>(
     server: &mut Played<'_>,
     line: &str,
@@ -127,7 +127,7 @@ fn ration<W: Write + Drop>(
     }
 }
 
-/// Does what a line says.
+/// Executes a line.
 fn step<W: Write + Drop>(
     heap: &FailingAllocator<Global>,
     server: &mut Played<'_>,
@@ -150,7 +150,7 @@ fn step<W: Write + Drop>(
     }
 }
 
-/// Does what lines say.
+/// Executes lines.
 fn steps<W: Write + Drop>(
     heap: &FailingAllocator<Global>,
     server: &mut Played<'_>,
@@ -163,7 +163,7 @@ fn steps<W: Write + Drop>(
     Ok(())
 }
 
-/// Does so often what lines say. The first line has the number.
+/// Executes lines repeatedly. The first line has the number.
 fn repeat<W: Write + Drop>(
     heap: &FailingAllocator<Global>,
     server: &mut Played<'_>,

@@ -18,14 +18,14 @@ const CONNECTIONS: u8 = 16;
 /// The server of a script, whose memory may be refused.
 type Played<'a> = Server<&'a FailingAllocator<Global>>;
 
-/// What the script's server is set up with.
+/// The configuration of the script's server.
 const SET_UP: Config = Config {
     core: 4096,
     abort: 4097,
     clock: 0,
 };
 
-/// A script that is played, and what came of it.
+/// A script that is played, and what it printed.
 #[derive(Drop)]
 struct Growing<'a> {
     alloc: Global,
@@ -61,7 +61,7 @@ impl Growing<'_> {
         Ok(asked)
     }
 
-    /// Tells what waits on a port, and takes it.
+    /// Appends what waits on a port, and takes it.
     fn take(&mut self, letter: char, conn: u8, port: Port) -> io::Result<()> {
         let bytes = self.server.waiting(port);
         tell(&mut self.told, letter, conn, bytes)?;
@@ -86,7 +86,7 @@ impl Growing<'_> {
         Ok(())
     }
 
-    /// Lets the event of a line happen, and tells what comes of it; true where it found no memory.
+    /// Applies the event of a line, and appends its result. Returns true if it found no memory.
     fn apply(&mut self, line: &str) -> io::Result<bool> {
         let mut buffer = [0; LONGEST];
         if line.len() > LONGEST {
@@ -120,7 +120,7 @@ impl Growing<'_> {
         Ok(())
     }
 
-    /// Does what a line says; where that finds no memory nothing may be different.
+    /// Executes a line. If that finds no memory, nothing may be different.
     fn step(&mut self, brought: &str, line: &str) -> io::Result<()> {
         let before = self.asked()?;
         if !self.apply(line)? {
@@ -133,7 +133,7 @@ impl Growing<'_> {
     }
 }
 
-/// A play of which nothing is done: where memory is refused to its server, that is made again.
+/// A play before its first line. If memory is refused to its server, the server is made again.
 fn start<'a>(
     alloc: Global,
     heap: &'a FailingAllocator<Global>,
@@ -155,7 +155,7 @@ fn start<'a>(
     })
 }
 
-/// What comes of a script.
+/// The print of a script.
 fn outcome(
     alloc: Global,
     heap: &FailingAllocator<Global>,
@@ -173,7 +173,7 @@ fn outcome(
     Ok(play.told.clone()?)
 }
 
-/// Prints what comes of a script, with each allocation refused in turn.
+/// Prints the outcome of a script, with each allocation refused in turn.
 pub(crate) fn play<W: Write + Drop>(
     alloc: Global,
     refuses: bool,

@@ -79,7 +79,7 @@ fn replay<W: Write + Drop>(alloc: Global, text: &str, writer: &mut BufWriter<W>)
     }
 }
 
-/// Prints what comes of a text of this kind.
+/// Prints the outcome of a text of this kind.
 fn play<W: Write + Drop>(
     alloc: Global,
     kind: &str,

@@ -8,7 +8,7 @@ use std::alloc::Global;
 use std::io::{self, BufWriter, Write};
 use sv_replay::{RunFault, run_replay};
 
-/// Above how many reads a row can't be played.
+/// The most reads of a row.
 const MOST_READS: u64 = 1_000;
 
 /// The manner that these words tell.
@@ -41,8 +41,7 @@ fn manner_of(words: &str) -> io::Result<Manner> {
     }
 }
 
-/// What was taken of the print, after how many bytes that is where the output is narrow, and the
-/// fault if there is one, on a line of its own.
+/// What the writer took of the print, and the fault, if there is one, on a line of its own.
 fn told(
     alloc: Global,
     taken: &[u8],
@@ -68,7 +67,7 @@ fn told(
     Ok(outcome)
 }
 
-/// What comes of a replay.
+/// The print of a replay, and its fault.
 fn outcome(
     alloc: Global,
     heap: &FailingAllocator<Global>,
@@ -103,7 +102,7 @@ fn read_out(
     Ok((told, source.reads))
 }
 
-/// Prints what comes of a script in the manner that these words tell.
+/// Prints the outcome of a script in the manner of these words.
 pub(crate) fn play<W: Write + Drop>(
     alloc: Global,
     words: &str,

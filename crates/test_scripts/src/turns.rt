@@ -5,7 +5,7 @@ use failing_alloc::FailingAllocator;
 use std::alloc::Global;
 use std::io::{self, BufWriter, Write};
 
-/// Above how many allocations a row can't be played.
+/// The most allocations of a row.
 const MOST: u64 = 1000;
 
 /// Makes something once for each of its allocations, of which that one is refused. Prints each

@@ -2,7 +2,7 @@
 
 use std::io::{self, Error, ErrorKind};
 
-/// What is told of a row that can't be played.
+/// The fault of a row that can't be played.
 pub(crate) fn bad() -> Error {
     Error::from(ErrorKind::InvalidData)
 }

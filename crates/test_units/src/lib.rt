@@ -1,9 +1,7 @@
-//! Tests of what no row and no line of a table can show: parts that are refused memory when they
-//! are made, calls that nothing joins yet, and the words, texts and statuses of the program. What
-//! rows and lines can show is in `test_scripts`, `test_driver`, `sv_sockets` and `test_parts`. The
-//! library
+//! Tests of what the rows and lines of other tests can't show: parts whose construction is refused
+//! memory, calls that no other crate makes, and the words, texts and exit statuses of the program.
+//! All else is tested in `test_scripts`, `test_driver`, `sv_sockets` and `test_parts`. The library
 //! itself is empty.
-#![tactic(auto)]
 
 #[cfg(test)]
 mod memory;
