@@ -1,6 +1,6 @@
-//! A bare echo, for measuring: `echo PORT LOOKS` gives back what it reads on connections to a port
-//! of 127.0.0.1, asleep in the same way as scanvolt between sweeps. It prints `ready PORT`, and
-//! ends after so many looks at what there is.
+//! A bare echo server, for measuring: `echo PORT LOOKS` sends back what it reads on connections to a
+//! port of 127.0.0.1. It polls and sleeps as scanvolt does between sweeps. It prints `ready PORT`,
+//! and ends after `LOOKS` polls.
 #![tactic(auto)]
 
 mod connection;

@@ -1,9 +1,9 @@
 //! Plays the rows of the standard input, each with a new server over real sockets of 127.0.0.1 and
 //! with peers in the same process, and prints after the title of each what the peers get.
 //!
-//! The server makes some sweeps between two looks of a peer. Nothing that is printed depends on how
-//! fast the machine is: times are compared from below, and the program ends with a fault only where
-//! nothing comes to a peer that waits for ten seconds.
+//! The server makes some sweeps between two polls of a peer. The print doesn't depend on the speed of
+//! the machine: only lower bounds of times are checked. The program ends with a fault if nothing
+//! comes to a peer for ten seconds.
 //!
 //! A row has these lines, of which most name a peer by a letter:
 //!

@@ -93,8 +93,8 @@ fn fraction(text: &[u8]) -> (&[u8], &[u8])
     }
 }
 
-/// Whether the exponent in front is negative, its digits, and what follows them; no digits
-/// if there is no exponent.
+/// Of a text that begins with an exponent: whether this is negative, its digits, and what follows.
+/// There are no digits if there is no exponent.
 fn exponent(text: &[u8]) -> (bool, &[u8], &[u8])
     ensures minus { result.0 ≡ is_down text.now }
     ensures digits { result.1.now ≡ exponent_in text.now }

@@ -84,8 +84,8 @@ fn outcome(peer: &Peer, whole: &Peer) -> &'static str {
     }
 }
 
-/// Prints for each peer whether a call for it failed, or else whether it got every byte. If no call
-/// failed, it prints nothing, and that is told.
+/// Prints for each peer whether a call for it failed, or else whether it got every byte. Prints
+/// nothing if no call failed. Returns whether one did.
 fn compare<W: Write + Drop>(
     peers: &Peers,
     whole: &Peers,

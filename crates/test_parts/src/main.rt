@@ -1,6 +1,5 @@
-//! Answers the lines of the standard input, each of which asks something of one part of the
-//! instrument or of the whole, and prints each of them with its answer. Empty lines and those that
-//! begin with `#` ask nothing.
+//! Reads lines from the standard input, and prints each with its answer. A line asks one part of the
+//! instrument, or the whole. Empty lines and those that begin with `#` are skipped.
 //!
 //! | Line | Answer |
 //! |---|---|

@@ -71,7 +71,7 @@ fn show<W: Write + Drop>(alloc: Global, row: &str, writer: &mut BufWriter<W>) ->
     }
 }
 
-/// Prints what the replay of a script prints. A replay that fails is told by its fault.
+/// Prints what the replay of a script prints. If the replay fails, its fault is printed.
 fn replay<W: Write + Drop>(alloc: Global, text: &str, writer: &mut BufWriter<W>) -> io::Result<()> {
     match run_replay(alloc, &mut text.as_bytes(), writer) {
         Ok(()) => Ok(()),

@@ -55,7 +55,7 @@ impl<A: Allocator> Device<A> {
         }
     }
 
-    /// Makes a link. There are a place and memory for it.
+    /// Makes a link. A place and memory for it are reserved.
     fn make_free(&mut self, conn: Conn) -> CallOutcome
         ensures ends { (config : Configured) (acts : List DeviceAct) → IsDevice self.old config acts
             → HasPlace self.old acts
@@ -69,7 +69,7 @@ impl<A: Allocator> Device<A> {
         CallOutcome::Result(self.told_link(lid))
     }
 
-    /// Makes a link that has the lock, which no link has. There are a place and memory for it.
+    /// Makes a link that has the lock, which no link has. A place and memory for it are reserved.
     fn make_locked(&mut self, conn: Conn) -> CallOutcome
         ensures ends { (config : Configured) (acts : List DeviceAct) → IsDevice self.old config acts
             → HasPlace self.old acts → is_locked_out (holder (link_acts acts)) None ≡ false
