@@ -21,8 +21,8 @@ limit_is : (log : List ScanAct) (word : ℕ) (limits_now below above outside : B
     → limits_now ≡ limits log → lower_now ≡ lower log → upper_now ≡ upper log → last ≡ last_reading log
     → below ≡ is_below last lower_now → above ≡ is_above last upper_now → outside ≡ is_outside log
     → word ≡ limit log
-limit_is log word limits_now below above outside lower_now upper_now last word_is limits_are lower_is upper_is last_is is_low is_high is_out =
-    rw (word_is, is_low, is_high, is_out, last_is, limits_are, lower_is, upper_is) refl
+limit_is log word limits_now below above outside lower_now upper_now last word_is limits_are lower_is upper_is last_is low high out =
+    rw (word_is, low, high, out, last_is, limits_are, lower_is, upper_is) refl
 
 pub returns-clause-limit : goal.returns-clause-limit
 returns-clause-limit g c acts is =
