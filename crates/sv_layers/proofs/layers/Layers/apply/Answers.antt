@@ -1,4 +1,4 @@
-use Rattle.std.proofs.Common.{◌∷◌, List, refl, subst}
+use Rattle.std.proofs.Common.{◌∷◌, List, refl, ◌∙◌, subst}
 use Rattle.sv_status.specs.declared.status_byte.StatusAct.{StatusAct}
 use Rattle.sv_layers.specs.Change.{act_of}
 use Rattle.sv_layers.specs.Inside.LayerLogs.{seen}
@@ -13,3 +13,6 @@ returns-clause-applied g c = λ log h.
     rw (← c.begin.ensures.requests, ← c.end.ensures.requests) (c.tell.ensures.applied log act h.told h.are
     (subst (λ (told : List StatusAct). Represents c.end.new.self (seen (act ∷ log)) told) (unpolled c.args.change h.told)
     (c.end.ensures.stands log act h.told ((λ name acts. refl), (λ acts. refl)) begins)))
+
+pub returns-clause-exchange : goal.returns-clause-exchange
+returns-clause-exchange g c = c.tell.ensures.exchange ∙ c.end.ensures.exchange ∙ c.begin.ensures.exchange
