@@ -1,5 +1,40 @@
+use Rattle.std.proofs.Common.{[], ◌++◌}
+use base.Fml.{Lft}
+use contract.BorrowLft.{◌⊑◌, ⊑_meet, ⊑_static}
 use Rattle.sv_net.proofs.Running.{told_first, swept_first}
 use Rattle.sv_net.proofs.serving.sweep.Goals as goal
+
+-- What is borrowed of a driver ends before each of its parts does: the search takes long to take the list apart.
+ends_first : (κ network memory socket stream listener : Lft)
+    → κ ⊑ network → κ ⊑ memory → κ ⊑ socket → κ ⊑ stream → κ ⊑ listener
+    → κ ⊑ (network ++ (memory ++ (socket ++ (stream ++ (listener ++ [])))))
+    ++ (network ++ ((((((((socket ++ []) ++ (socket ++ [])) ++ []) ++ ((((socket ++ []) ++ (socket ++ [])) ++ []) ++ []))
+    ++ (memory ++ [])) ++ (memory ++ [])) ++ [])))
+ends_first κ network memory socket stream listener n m s t l =
+    let none : κ ⊑ [] = ⊑_static κ in
+    let one : κ ⊑ socket ++ [] = ⊑_meet κ _ _ s none in
+    let two : κ ⊑ ((socket ++ []) ++ (socket ++ [])) ++ [] = ⊑_meet κ _ _ (⊑_meet κ _ _ one one) none in
+    let owned : κ ⊑ memory ++ [] = ⊑_meet κ _ _ m none in
+    ⊑_meet κ _ _ (⊑_meet κ _ _ n (⊑_meet κ _ _ m (⊑_meet κ _ _ s (⊑_meet κ _ _ t (⊑_meet κ _ _ l none)))))
+    (⊑_meet κ _ _ n (⊑_meet κ _ _ (⊑_meet κ _ _ (⊑_meet κ _ _ (⊑_meet κ _ _ two (⊑_meet κ _ _ two none)) owned) owned) none))
+
+pub wire-requires : goal.wire-requires
+wire-requires g c κs h = (ends_first _ _ _ _ _ _ h.0 h.1.0 h.1.1.0 h.1.1.1.0 h.1.1.1.1.0, h.1.1.1.1.1)
+
+pub wire-requires-else-ticks-eq0 : goal.wire-requires-else-ticks-eq0
+wire-requires-else-ticks-eq0 g c κs h = (ends_first _ _ _ _ _ _ h.0 h.1.0 h.1.1.0 h.1.1.1.0 h.1.1.1.1.0, h.1.1.1.1.1)
+
+pub sweep-requires : goal.sweep-requires
+sweep-requires g c κs h = (ends_first _ _ _ _ _ _ h.0 h.1.0 h.1.1.0 h.1.1.1.0 h.1.1.1.1.0, h.1.1.1.1.1)
+
+pub sweep-requires-else-ticks-eq0 : goal.sweep-requires-else-ticks-eq0
+sweep-requires-else-ticks-eq0 g c κs h = (ends_first _ _ _ _ _ _ h.0 h.1.0 h.1.1.0 h.1.1.1.0 h.1.1.1.1.0, h.1.1.1.1.1)
+
+pub report-requires : goal.report-requires
+report-requires g c κs h = h
+
+pub report-requires-else-ticks-eq0 : goal.report-requires-else-ticks-eq0
+report-requires-else-ticks-eq0 g c κs h = h
 
 pub returns-then-ticks-eq0 : goal.returns-then-ticks-eq0
 returns-then-ticks-eq0 g c =

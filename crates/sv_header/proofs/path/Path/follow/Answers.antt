@@ -1,4 +1,4 @@
-use Rattle.std.proofs.Common.{◌≡◌, ◌∙◌, sym}
+use Rattle.std.proofs.Common.{◌≡◌, ◌∙◌, sym, rules}
 use Rattle.sv_text.specs.Header.{lead}
 use Rattle.sv_text.specs.declared.header.Lead.TheVariants.{Root, Onward}
 use Rattle.sv_header.proofs.Fitting.{root-small, onward-small}
@@ -27,3 +27,6 @@ walk-requires-in-Onward-clause-short c =
     let e : lead c.args.header.now ≡ Onward = sym c.header_parts-parts.ensures.lead ∙ c.in-Onward.is in
     let s = onward-small c.args.self.now c.args.header.now c.requires.0 e c.requires.1 in
     rw c.header_parts-parts.ensures.body s.1
+
+pub returns-in-Common : goal.returns-in-Common
+returns-in-Common c = search rules

@@ -1,4 +1,4 @@
-use Rattle.std.proofs.Common.{◌∷◌, List, refl, subst}
+use Rattle.std.proofs.Common.{◌∷◌, List, refl, ◌∙◌, subst}
 use Rattle.sv_status.specs.declared.status_byte.StatusAct.{StatusAct}
 use Rattle.sv_layers.specs.Change.{act_of}
 use Rattle.sv_layers.specs.Inside.LayerLogs.{layer_logs}
@@ -14,3 +14,6 @@ returns-clause-applied g c = λ log h.
     (subst (λ (status_log : List StatusAct). Represents c.end.new.self (layer_logs (act ∷ log)) status_log)
     (unpolled c.args.change h.status_log)
     (c.end.ensures.stands log act h.status_log ((λ name acts. refl), (λ acts. refl)) begins)))
+
+pub returns-clause-exchange : goal.returns-clause-exchange
+returns-clause-exchange g c = c.tell.ensures.exchange ∙ c.end.ensures.exchange ∙ c.begin.ensures.exchange

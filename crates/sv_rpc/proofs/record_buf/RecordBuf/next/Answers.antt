@@ -7,3 +7,15 @@ returns-in-TooLong-clause-value g c = grind (arith, common_steps)
 
 pub returns-in-TooLong-clause-answer : goal.returns-in-TooLong-clause-answer
 returns-in-TooLong-clause-answer g c = grind (arith, common_steps)
+
+pub returns-in-Some-clause-value : goal.returns-in-Some-clause-value
+returns-in-Some-clause-value g c = grind (arith, common_steps)
+
+pub returns-in-Some-clause-answer : goal.returns-in-Some-clause-answer
+returns-in-Some-clause-answer g c = grind (arith, common_steps)
+
+pub returns-in-Header-clause-value : goal.returns-in-Header-clause-value
+returns-in-Header-clause-value g c = grind (arith, common_steps)
+
+pub returns-in-Header-clause-answer : goal.returns-in-Header-clause-answer
+returns-in-Header-clause-answer g c = grind (arith, common_steps)

@@ -1,11 +1,33 @@
-use Rattle.std.proofs.Common.{rules}
+use Rattle.std.proofs.Common.{◌≡◌, ◌∙◌, ℕ, ◌+◌, ◌≤◌, ap, ℤ, Bool, List, Option, refl, rules, w64, to_z, of_z}
+use Rattle.std.specs.Prelude.{◌&&◌, unsigned_abs}
+use Rattle.sv_scan.specs.declared.setting.Reading.{Reading}
+use Rattle.sv_scan.specs.declared.acts.ScanAct.{ScanAct}
+use Rattle.sv_scan.specs.Setting.{limits, upper, lower}
+use Rattle.sv_scan.specs.Scan.{last_reading}
+use Rattle.sv_scan.specs.Counted.{effective}
+use Rattle.sv_scan.specs.Condition.{bit, is_below, is_above, is_outside, limit}
 use Rattle.sv_scan.proofs.scanner.Scanner.conditions.Goals as goal
 
 pub returns-clause-operation : goal.returns-clause-operation
-returns-clause-operation g c = search rules
+returns-clause-operation g c acts is = rw (c.operation_word.ensures, c.state.ensures.answer acts is) refl
 
 pub returns-clause-questionable : goal.returns-clause-questionable
-returns-clause-questionable g c = search rules
+returns-clause-questionable g c acts is =
+    rw (c.questionable_word.ensures, c.is_overload.ensures, c.last_reading-last.ensures acts is) refl
+
+-- the limits that are passed, by the parts that the word is made of
+limit_is : (log : List ScanAct) (word : ℕ) (limits_now below above outside : Bool) (lower_now upper_now : ℤ) (last : Option Reading)
+    → word ≡ bit 0 (limits_now && below) + bit 1 (limits_now && above) + bit 2 (limits_now && outside)
+    → limits_now ≡ limits log → lower_now ≡ lower log → upper_now ≡ upper log → last ≡ last_reading log
+    → below ≡ is_below last lower_now → above ≡ is_above last upper_now → outside ≡ is_outside log
+    → word ≡ limit log
+limit_is log word limits_now below above outside lower_now upper_now last word_is limits_are lower_is upper_is last_is low high out =
+    rw (word_is, low, high, out, last_is, limits_are, lower_is, upper_is) refl
 
 pub returns-clause-limit : goal.returns-clause-limit
-returns-clause-limit g c = search rules
+returns-clause-limit g c acts is =
+    let held = rw (← c.self.view_is) at is in
+    let fits : (v : ℤ) → unsigned_abs v ≤ 1000000000 → to_z w64 (of_z w64 v) ≡ v = λ v small. search rules in
+    limit_is (effective acts) _ _ _ _ _ _ _ _ c.limit_word.ensures held.limits held.lower held.upper (c.last_reading-last.ensures acts is)
+    (c.is_below.ensures ∙ ap (is_below _) (fits c.self.inside.settings.lower c.self.invariant.lower))
+    (c.is_above.ensures ∙ ap (is_above _) (fits c.self.inside.settings.upper c.self.invariant.upper)) (c.is_outside.ensures acts is)

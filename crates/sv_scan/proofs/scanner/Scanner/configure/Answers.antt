@@ -1,4 +1,4 @@
-use Rattle.std.proofs.Common.{rules}
+use Rattle.std.proofs.Common.{refl, rules}
 use Rattle.sv_scan.specs.declared.acts.ScanAct.TheVariants.{Configure}
 use Rattle.sv_scan.specs.Counted.{effective, setting_fault}
 use Rattle.sv_scan.proofs.Stands.{StandsFor-counted, StandsFor-dropped, is_accepted, is_refused}
@@ -23,4 +23,4 @@ pub returns-in-Err-clause-answer : goal.returns-in-Err-clause-answer
 returns-in-Err-clause-answer g c = c.in-Err.ensures.answer
 
 pub returns-in-Err-clause-refused : goal.returns-in-Err-clause-refused
-returns-in-Err-clause-refused g c = search rules
+returns-in-Err-clause-refused g c = refl

@@ -11,3 +11,6 @@ pub returns-clause-only : goal.returns-clause-only
 returns-clause-only c = λ z after b.
     let parts = pair_parts _ z c.u32.new.self after (sym (returns-clause-exact c) ∙ signed_begins c.args.self.now after z b) in
     (ap (λ y. Ok y) parts.0, parts.1)
+
+pub returns-clause-found : goal.returns-clause-found
+returns-clause-found c = search rules

@@ -20,3 +20,6 @@ returns-clause-exact c =
 
 pub returns-in_default-clause-too_long : goal.returns-in_default-clause-too_long
 returns-in_default-clause-too_long c = search rules
+
+pub returns-clause-same_buffer : goal.returns-clause-same_buffer
+returns-clause-same_buffer c = search rules

@@ -6,3 +6,6 @@ returns-clause-spelled c = search rules
 
 pub returns-clause-exact : goal.returns-clause-exact
 returns-clause-exact c = search rules
+
+pub returns-clause-same_buffer : goal.returns-clause-same_buffer
+returns-clause-same_buffer c = search rules
