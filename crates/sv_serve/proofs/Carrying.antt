@@ -88,7 +88,7 @@ closes hears May config c may older before between after so still silent fit old
       unhung = (λ n e. absurd cc);
       older_unhung = old;
       log = log;
-      told = channel_log.0;
+      channel_log = channel_log.0;
       was = subst (λ h. IsLogOf config h log) same was;
       hears_of = channel_log.1;
       through = subst (λ w. Through hears (q.piece ++ WasClosed (Conn c) ∷ older) before.wire w) (sym (ap (λ m. m.wire) to))
@@ -303,7 +303,7 @@ write_by hears May config (Intr c) may bytes Failed wire before between after lo
       unhung = (λ n e. absurd cc);
       older_unhung = tt;
       log = log;
-      told = channel_log;
+      channel_log = channel_log;
       was = was;
       hears_of = tells_so;
       through = subst (λ w. Through hears (q.piece ++ WasWritten (Intr c) bytes Failed ∷ []) before.wire w) (sym (ap (λ m. m.wire) done))

@@ -244,7 +244,7 @@ pub record Heeds {W : Type 0} (hears : W → Heard → W → Type 0) (May : Subj
   pub unhung : IsNoHang heard
   pub older_unhung : NoneHung older
   pub log : List Act
-  pub told : List ChannelAct
+  pub channel_log : List ChannelAct
   pub was : IsLogOf config before.history log
   pub hears_of : HearsOf (device_acts log) channel_log
   pub through : Through hears (newer ++ heard ∷ older) before.wire after.wire
@@ -279,7 +279,7 @@ event_keeps hears May config heard event newer older before after e = record {
   keeps = λ trace keeping. subst (λ h. Keeping config h ((newer ++ heard ∷ older) ++ trace)) (sym e.grown)
       (subst (λ t. Keeping config (event ∷ before.history) t) (sym (append_assoc newer (heard ∷ older) trace))
       (keeping_silent config (event ∷ before.history) newer (heard ∷ older ++ trace) e.newer_silent
-      (keeping_event only_calls only_requests config before.history e.log e.told event (older ++ trace)
+      (keeping_event only_calls only_requests config before.history e.log e.channel_log event (older ++ trace)
       (heard ∷ older ++ trace) e.was e.hears_of
       (e.step (older ++ trace)) (keeping_silent config before.history older trace e.older_silent keeping))));
   closing = closing_event config before.history after.history event heard newer older e.grown e.newer_silent e.newer_calm e.older_silent
@@ -311,7 +311,7 @@ answer_keeps hears May config heard may event wire before between after channel_
       unhung = unhung;
       older_unhung = tt;
       log = log;
-      told = channel_log;
+      channel_log = channel_log;
       was = was;
       hears_of = tells_so;
       through = (before.wire, refl, subst (λ w. hears before.wire heard w) (sym (ap (λ m. m.wire) done ∙ there)) heard_so);

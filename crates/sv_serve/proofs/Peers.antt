@@ -95,7 +95,7 @@ dialed_keeps hears May config c may ok heard mine newer all_may before between a
       unhung = unhung;
       older_unhung = tt;
       log = log;
-      told = channel_log.0;
+      channel_log = channel_log.0;
       was = was;
       hears_of = channel_log.1;
       through = subst (λ w. Through hears (newer ++ heard ∷ []) before.wire w) (sym (ap (λ m. m.wire) done)) through;

@@ -234,4 +234,4 @@ no_memory TimeOver e = absurd cc
 
 pub finds_none : {W : Type 0} (c : ℕ) (answer : Result Did Refused) (refused : Refused) (so : Bool) (config : Config) (at : DriverView W)
     → answer ≡ Err refused → so ≡ is_no_memory refused → MayFindNone c answer config at → FindsNoneIf c so config at
-finds_none c answer refused so config at is same may told = may (is ∙ ap Err (no_memory refused (sym same ∙ channel_log)))
+finds_none c answer refused so config at is same may told = may (is ∙ ap Err (no_memory refused (sym same ∙ told)))

@@ -86,7 +86,7 @@ replay_shown config history event did mid new head first put last r fault some s
         answers = answers.2;
         log = s.log;
         is_log = s.is_log;
-        told = channel_log;
+        channel_log = channel_log;
         tells = tells;
         writes = writes;
       },
@@ -109,7 +109,7 @@ replay_stopped config history event refusal mid first last e fault came answers 
     answers = answers.2;
     log = s.log;
     is_log = s.is_log;
-    told = (told_now mid.device config (device_acts s.log) s.represents.device).0;
+    channel_log = (told_now mid.device config (device_acts s.log) s.represents.device).0;
     tells = (told_now mid.device config (device_acts s.log) s.represents.device).1;
     writes = rw came (inl (front, refl));
   },
@@ -133,7 +133,7 @@ replay_no_memory config history event refusal mid first last is answered s took 
         answers = answers.2;
         log = s.log;
         is_log = s.is_log;
-        told = (told_now mid.device config (device_acts s.log) s.represents.device).0;
+        channel_log = (told_now mid.device config (device_acts s.log) s.represents.device).0;
         tells = (told_now mid.device config (device_acts s.log) s.represents.device).1;
         writes = (refl, sym (append-nil (refusal_line refused.NoMemory)), refl);
       },

@@ -116,8 +116,8 @@ log_with_some c [] log some = absurd (omega arith)
 log_with_some c (byte ∷ bytes) log some = refl
 
 told_with_conn : (c : ℕ) (bytes : List ℕ) (channel_log : List ChannelAct) → told_with_took (Conn c) bytes channel_log ≡ channel_log
-told_with_conn c [] told = refl
-told_with_conn c (byte ∷ bytes) told = refl
+told_with_conn c [] channel_log = refl
+told_with_conn c (byte ∷ bytes) channel_log = refl
 
 log_with_channel : (c : ℕ) (bytes : List ℕ) (log : List Act) → 0 < length bytes
     → log_with_took (Intr c) bytes log ≡ OnDevice (Channel (ChannelTaken c (length bytes))) ∷ log

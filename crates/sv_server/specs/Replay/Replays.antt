@@ -38,6 +38,6 @@ pub record Replays (config : Config) (history : List PlainEvent) (event : PlainE
   pub answers : Answers config event before did
   pub log : List Act
   pub is_log : IsLogOf config (history_after event did history) log
-  pub told : List ChannelAct
+  pub channel_log : List ChannelAct
   pub tells : HearsOf (device_acts log) channel_log
   pub writes : IsReplayWritten did channel_log log (history_after event did history) result text after

@@ -27,9 +27,9 @@ log_with_took (Conn c) (byte ∷ bytes) log = On c (BytesTaken (length (byte ∷
 log_with_took (Intr c) (byte ∷ bytes) log = OnDevice (Channel (ChannelTaken c (length (byte ∷ bytes)))) ∷ log
 
 abbrev pub told_with_took : Port → List ℕ → List ChannelAct → List ChannelAct
-told_with_took port [] told = channel_log
-told_with_took (Conn c) (byte ∷ bytes) told = channel_log
-told_with_took (Intr c) (byte ∷ bytes) told = ChannelTaken c (length (byte ∷ bytes)) ∷ channel_log
+told_with_took port [] channel_log = channel_log
+told_with_took (Conn c) (byte ∷ bytes) channel_log = channel_log
+told_with_took (Intr c) (byte ∷ bytes) channel_log = ChannelTaken c (length (byte ∷ bytes)) ∷ channel_log
 
 -- The line of a port was written, and then the peer took what it shows; or a front of it was written, and nothing was taken.
 abbrev pub ShowsPort : Port → Config → List PlainEvent → List ChannelAct → List Act → Result ⊤ WriteFault → State → List ℕ → Type 0
