@@ -13,7 +13,7 @@ term_end None bytes = length bytes
 abbrev pub read_count : List ℕ → ℕ → Option ℕ → ℕ
 read_count response most term = min (term_end term response) (min most (min max_read (length response)))
 
--- whether these bytes, if there are any, end at the termination character
+-- whether the first `count` bytes of the response, at least one, end in the termination character
 abbrev pub ends_at_term : List ℕ → ℕ → Option ℕ → Bool
 ends_at_term response count (Some term) = nat_lt 0 count && option_map_or (λ b. b == term) (slice_get response (count - 1)) false
 ends_at_term response count None = false

@@ -6,7 +6,7 @@ use Rattle.sv_header.specs.declared.pattern.Node.{Node}
 use Rattle.sv_header.specs.declared.left.Mnemonics.{Mnemonics}
 use Rattle.sv_header.specs.Pattern.{Part}
 
--- a node of the code
+-- a node of the code, as plain data
 abbrev pub part : Node → Part
 part node = record { short = node.short.now; long = node.long.now; optional = node.optional }
 

@@ -47,6 +47,6 @@ unit_fault unit =
     else if not (list_all (λ word. nat_le (length word) 12) (words (header unit))) then Some ProgramMnemonicTooLong
     else None
 
--- The unit as it was read: its bytes, or its fault.
+-- The outcome of reading a unit: its bytes if it has no fault, else its first fault.
 abbrev pub IsLexed : Result (List ℕ) Code → List ℕ → Type 0
 IsLexed outcome bytes = MatchResult outcome (λ unit. (unit ≡ bytes) × (unit_fault bytes ≡ None)) (λ code. unit_fault bytes ≡ Some code)

@@ -15,7 +15,7 @@ pub record Records : Type 0 where
 abbrev pub no_records : Records
 no_records = record { records = []; tail = Header [] [] }
 
--- The buffer holds the records of the stream, without the first so many, which were dropped.
+-- The buffer holds the complete records of the stream, without the first `dropped` ones, and the stream's tail.
 pub record StandsFor (held : Records) (stream : List ℕ) (dropped : ℕ) : Type 0 where
   pub all : List (List ℕ)
   pub splits : Splits stream all held.tail
@@ -33,23 +33,24 @@ used_by records TooLong = capacity
 abbrev pub room_of : Records → ℕ
 room_of held = capacity - used_by held.records held.tail
 
--- what `next` answers once no complete record is left: none yet, or that a record is too long
+-- what `next` returns when no complete record is left: `None`, or the fault that a record is too long
 abbrev pub at_end : Tail → Result (Option (List ℕ)) RpcFault
 at_end (Header payload header) = Ok None
 at_end (Data payload missing last) = Ok None
 at_end TooLong = Err RecordTooLong
 
--- what `next` answers
+-- what `next` returns: the first of these records; if there is none, what `at_end` says of the tail
 abbrev pub next_among : List (List ℕ) → Tail → Result (Option (List ℕ)) RpcFault
 next_among [] tail = at_end tail
 next_among (r ∷ rs) tail = Ok (Some r)
 
--- The answer is the record of the stream that follows the dropped ones.
+-- The answer is the record that follows the first `dropped` records of the stream. If it isn't complete, the answer is `None`, or the fault
+-- that it is too long.
 abbrev pub IsNext : List ℕ → ℕ → Result (Option (List ℕ)) RpcFault → Type 0
 IsNext stream dropped answer = (all : List (List ℕ)) × (tail : Tail) × Splits stream all tail × (dropped ≤ length all)
     × (answer ≡ next_among (drop dropped all) tail)
 
--- The room is counted over the records of the stream without the dropped ones.
+-- This is the room of a buffer that holds the records of the stream without the first `dropped` ones.
 abbrev pub IsRoom : List ℕ → ℕ → ℕ → Type 0
 IsRoom stream dropped room = (all : List (List ℕ)) × (tail : Tail) × Splits stream all tail × (dropped ≤ length all)
     × (room ≡ capacity - used_by (drop dropped all) tail)

@@ -12,12 +12,12 @@ use Rattle.sv_scan.specs.Setting.{is_possible}
 use Rattle.sv_scan.specs.Scan.{state_by, is_bounded}
 use Rattle.sv_scan.specs.Stands.{Run, Contents}
 
--- the state of a measurement after so many samples; idle without one
+-- the state of a measurement after this many samples; idle if there is no measurement
 abbrev pub run_state : Option Run → ℕ → State
 run_state None samples = Idle
 run_state (Some run) samples = state_by run.triggers samples (length run.channels) run.scans
 
--- whether each channel of each of its scans was read
+-- whether each channel of each scan of the measurement was read; false if there is no measurement
 abbrev pub run_complete : Option Run → ℕ → Bool
 run_complete None samples = false
 run_complete (Some run) samples = samples == run.scans * length run.channels
@@ -30,7 +30,7 @@ pub record IsRun (run : Run) (samples : ℕ) : Type 0 where
   pub triggers : run.triggers ≤ run.scans
   pub read : samples ≤ run.triggers * length run.channels
 
--- The same if there is a measurement; without one there are no samples.
+-- If there is a measurement, it is a valid one (`IsRun`). Without a measurement there are no samples.
 abbrev pub IsRunOf : Option Run → ℕ → Type 0
 IsRunOf None samples = samples ≡ 0
 IsRunOf (Some run) samples = IsRun run samples

@@ -13,7 +13,7 @@ use Rattle.std.specs.Str.{str_eq_ignore_ascii_case as is_same}
 use Rattle.sv_value.specs.Choice.{read_switch, read_keyword}
 use Rattle.sv_value.specs.Channels.{read_list}
 
--- the power of ten of a suffix over the microvolt; no suffix is volts; `None` for a suffix that isn't allowed
+-- the power of ten of a suffix's unit in microvolts; no suffix means volts; `None` for a suffix that isn't allowed
 abbrev pub power_of_volts : List ℕ → Option ℕ
 power_of_volts suffix =
     if is_empty suffix || is_same suffix (codes "V") then Some 6
@@ -22,11 +22,11 @@ power_of_volts suffix =
     else if is_same suffix (codes "UV") then Some 0
     else None
 
--- the same of a number without a unit, which has no suffix
+-- the power of ten of a number that has no unit: 0; `None` if it has a suffix
 abbrev pub power_of_none : List ℕ → Option ℕ
 power_of_none suffix = if is_empty suffix then Some 0 else None
 
--- the error of data of a kind that the parameter can't have: -102 for data of no kind, else -104
+-- the error for data of a kind that the parameter can't have: -102 if the data are of no kind at all, else -104
 abbrev pub wrong_kind : Kind → Code
 wrong_kind = elim [ Other ↦ SyntaxError | _ ↦ DataTypeError ]
 
@@ -75,6 +75,6 @@ abbrev pub read_channels : Kind → List ℕ → Result (List ℕ) Code
 read_channels Expression text = read_list text
 read_channels kind text = Err (wrong_kind kind)
 
--- What reads as a channel list is one: 1 to 128 channels.
+-- What `read_channels` returns is a valid channel list, of 1 to 128 channels.
 abbrev pub ReadIsChannelList : Type 0
 ReadIsChannelList = (kind : Kind) (text list : List ℕ) → read_channels kind text ≡ Ok list → is_channel_list list ≡ true

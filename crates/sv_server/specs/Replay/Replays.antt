@@ -29,7 +29,7 @@ IsReplayWritten did channel_log log history (Err Write) text after = (IsFront te
     ⊎ ((shown others : List Port) × (part : List ℕ) × (ports_after did ≡ shown ++ others) × IsFront part (lines_of channel_log others log)
     × (text ≡ head_of did ++ (lines_of channel_log shown log ++ part)) × (after ≡ with_tooks channel_log shown log history))
 
--- The event is applied or refused as the history says; then its print is written, by the log of the history after it.
+-- The event is applied or refused as the history requires. Then its print is written, from the log of the history after the event.
 pub record Replays (config : Config) (history : List PlainEvent) (event : PlainEvent) (result : Result ⊤ ReplayFault) (text : List ℕ)
     (after : List PlainEvent) : Type 0 where
   pub before : List Act
