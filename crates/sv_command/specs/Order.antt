@@ -19,7 +19,7 @@ pub record Parameter : Type 0 where
   pub kind : Kind
   pub text : List ℕ
 
--- what is made of a value; its error if it has one
+-- what is made of a value; or the error, if there is no value
 abbrev pub then_value : {A B : Type 0} → (A → B) → Result A Code → Result B Code
 then_value make (Ok value) = Ok (make value)
 then_value make (Err code) = Err code

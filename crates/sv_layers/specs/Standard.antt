@@ -21,11 +21,12 @@ abbrev pub IsPending : List Act → Type 0
 IsPending [] = ⊤
 IsPending (act ∷ log) = (is_idle (act ∷ log) ≡ false) × (cancels act ≡ false)
 
--- An `*OPC` is pending: there was one, and at each place since a measurement was under way and nothing cancelled it.
+-- An `*OPC` is pending: there was one, and at each moment since then a measurement was under way and nothing cancelled the `*OPC`.
 abbrev pub Waits : List Act → Type 0
 Waits log = Since IsAsked IsPending log
 
--- At the newest act an `*OPC` completes: it is the first place since at which no measurement is under way, and it wasn't cancelled.
+-- At the newest act an `*OPC` completes: no measurement is under way. Either the act is the `*OPC`, or one was pending before and the act
+-- doesn't cancel it.
 abbrev pub Completes : List Act → Type 0
 Completes [] = ⊥
 Completes (act ∷ before) = (is_idle (act ∷ before) ≡ true) × (IsAsked (act ∷ before) ⊎ (Waits before × (cancels act ≡ false)))

@@ -33,16 +33,16 @@ abbrev pub Reason : List Act → Type 0
 Reason [] = ⊥
 Reason (act ∷ before) = (k : ℕ) × ServiceRequested k (act ∷ before) × (ServiceRequested k before → ⊥)
 
--- The newest act keeps a request: it is no poll, and the master summary is set.
+-- The newest act keeps a request: it isn't a poll, and the master summary is set.
 abbrev pub Lasts : List Act → Type 0
 Lasts (Polled ∷ log) = ⊥
 Lasts log = Master log
 
--- A request for service stands: a reason arose, and since then the master summary was set at each place and no poll came.
+-- A request for service stands: a reason arose, and at each moment since then the master summary was set and no poll came.
 abbrev pub Request : List Act → Type 0
 Request log = Since Reason Lasts log
 
--- A request is raised at the newest act: it stands there, and didn't before.
+-- A request is raised at the newest act: it stands after that act, and didn't stand before.
 abbrev pub IsRaised : List Act → Type 0
 IsRaised [] = ⊥
 IsRaised (act ∷ before) = Request (act ∷ before) × (Request before → ⊥)

@@ -38,7 +38,7 @@ is_of conn owner = option_map_or (λ other. other == conn) owner false
 abbrev pub links_of : ℕ → List LinkAct → List ℕ
 links_of conn acts = map (λ link. link.lid) (filter (λ link. link.conn == conn) (live acts))
 
--- the first of them; `None` if there is none
+-- the lowest number of a connection's live links; `None` if it has none
 abbrev pub lowest : ℕ → List LinkAct → Option ℕ
 lowest conn acts = find (λ lid. true) (links_of conn acts)
 
@@ -76,6 +76,6 @@ is_locked_out (Some holder) (Some lid) = not (lid == holder)
 is_locked_out (Some holder) None = true
 is_locked_out None named = false
 
--- whether it is this link
+-- whether the link that is named is this one; false if none is named
 abbrev pub is_this : ℕ → Option ℕ → Bool
 is_this lid named = option_map_or (λ other. other == lid) named false

@@ -1,4 +1,4 @@
--- What is kept of suspended calls, and which acts it stands for.
+-- What is kept of suspended calls, and which acts that stands for.
 use Rattle.std.specs.Prelude.{◌≡◌, ◌≢◌, ℕ, ◌==◌, ◌<◌, nat_le, Bool, false, List, [], ◌∷◌, Option, Some, None, is_none, option_map, find, filter, length, not, ◌&&◌, ◌+◌, if◌then◌else◌, ⊤}
 use Rattle.std.specs.List.{AllByRecursion}
 use Rattle.sv_links.specs.declared.waiting.Entry.{Entry}
@@ -15,7 +15,7 @@ abbrev pub IsOnce : List Entry → Type 0
 IsOnce [] = ⊤
 IsOnce (entry ∷ entries) = IsFree entry.conn entries × IsOnce entries
 
--- Each connection is below this number.
+-- The connection of each entry is below this number.
 abbrev pub IsBelow : ℕ → List Entry → Type 0
 IsBelow most entries = AllByRecursion (λ entry. entry.conn < most) entries
 
@@ -23,7 +23,7 @@ IsBelow most entries = AllByRecursion (λ entry. entry.conn < most) entries
 abbrev pub entry_of : ℕ → List Entry → Option Entry
 entry_of conn entries = find (λ entry. entry.conn == conn) entries
 
--- The entry is what the acts say of its connection.
+-- The entry is what the acts determine for its connection.
 abbrev pub IsEntry : List WaitAct → Entry → Type 0
 IsEntry acts entry = (waits entry.conn acts ≡ Some entry.wait) × (deadline entry.conn acts ≡ entry.deadline)
     × (link entry.conn acts ≡ entry.lid)
@@ -40,7 +40,7 @@ pub record IsQueue (entries : List Entry) (acts : List WaitAct) : Type 0 where
   pub ordered : IsOrdered acts entries
   pub all : (conn : ℕ) → waits conn acts ≡ option_map (λ entry. entry.wait) (entry_of conn entries)
 
--- an entry; if it is of this connection, suspended anew
+-- an entry, suspended anew with this wait and this deadline if it is of this connection; otherwise unchanged
 abbrev pub anew : ℕ → Wait → Option ℕ → Entry → Entry
 anew conn wait deadline entry = if entry.conn == conn then record entry { wait = wait; deadline = deadline } else entry
 
@@ -49,11 +49,11 @@ abbrev pub is_past : ℕ → Option ℕ → Bool
 is_past clock (Some deadline) = nat_le deadline clock
 is_past clock None = false
 
--- whether it is a suspended create_link
+-- whether an entry is a suspended create_link
 abbrev pub creates : Entry → Bool
 creates entry = is_lock (Some entry.wait) && is_none entry.lid
 
--- how many of these there are
+-- how many of the entries are suspended create_links
 abbrev pub creations : List Entry → ℕ
 creations entries = length (filter creates entries)
 
@@ -68,7 +68,7 @@ wait_measure Input = 1
 wait_measure Response = 1
 wait_measure Dial = 1
 
--- the sum over all entries
+-- the sum of the measures of all entries
 abbrev pub queue_measure : List Entry → ℕ
 queue_measure [] = 0
 queue_measure (entry ∷ entries) = wait_measure entry.wait + queue_measure entries

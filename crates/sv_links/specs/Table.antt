@@ -1,4 +1,4 @@
--- What the table of links keeps, and which acts it stands for.
+-- What the table of links keeps, and which acts that stands for.
 use Rattle.std.specs.Prelude.{◌≡◌, ℕ, ◌<◌, ◌≤◌, List, [], ◌∷◌, ◌++◌, is_some, count_by, Option, Some, None, ⊤}
 use Rattle.std.specs.List.{AllByRecursion}
 use Rattle.sv_links.specs.declared.links.Link.{Link}
@@ -28,7 +28,7 @@ abbrev pub IsRising : List Link → ℕ → Type 0
 IsRising [] last = ⊤
 IsRising (link ∷ links) last = (link.lid ≤ last) × AllByRecursion (λ other. link.lid < other.lid) links × IsRising links last
 
--- The table keeps what the acts say of links: each live link at one key, and nothing else.
+-- The table keeps what the acts determine: each live link in one slot, and nothing else.
 pub record IsTable (table : Table) (acts : List LinkAct) : Type 0 where
   pub made : table.made ≡ links_made acts
   pub kept : IsKept table.slots (live acts)

@@ -28,7 +28,7 @@ pub data Arguments : Type 0 where
   CreateIntrChan : (host_addr host_port prog_num prog_vers prog_family : ℕ) → Arguments
   DestroyIntrChan : Arguments
 
--- the number of the call with these arguments
+-- the number of the call that has these arguments
 abbrev pub procedure_of : Arguments → ℕ
 procedure_of (OnLink lid DeviceAbort) = 1
 procedure_of (CreateLink client_id lock_device lock_timeout device) = 10
@@ -55,7 +55,7 @@ core_calls = 10 ∷ 11 ∷ 12 ∷ 13 ∷ 14 ∷ 15 ∷ 16 ∷ 17 ∷ 18 ∷ 19 �
 abbrev pub abort_calls : List ℕ
 abort_calls = 1 ∷ []
 
--- whether a call is one of these
+-- whether the number of a call is one of these
 abbrev pub is_one_of : List ℕ → ℕ → Bool
 is_one_of calls proc = list_any (λ call. proc == call) calls
 
@@ -87,11 +87,11 @@ abbrev pub InBounds : Arguments → Type 0
 InBounds (OnLink lid (DeviceEnableSrq enable handle)) = length handle ≤ max_handle
 InBounds _ = Unit {0}
 
--- The bytes begin with a spelling of the arguments, and continue with these.
+-- The bytes begin with the encoded arguments, and `after` are the bytes that follow.
 abbrev pub BeginsWith : List ℕ → Arguments → List ℕ → Type 0
 BeginsWith bytes arguments after = InBounds arguments × BeginsAll bytes (argument_fields arguments) after
 
--- What the bytes are as arguments of a call. Bytes after the last field are ignored.
+-- What the bytes are as arguments of the call with this number: these arguments, or garbage. Bytes after the last field are ignored.
 abbrev pub ArgumentsAre : ℕ → List ℕ → Result Arguments Garbage → Type 0
 ArgumentsAre proc bytes (Ok arguments) = (procedure_of arguments ≡ proc) × (after : List ℕ) × BeginsWith bytes arguments after
 ArgumentsAre proc bytes (Err garbage) = (arguments : Arguments) (after : List ℕ) → procedure_of arguments ≡ proc
