@@ -11,7 +11,7 @@ abbrev pub owner_of : Option ℕ → List DeviceAct → Option ℕ
 owner_of (Some lid) acts = owner lid (link_acts acts)
 owner_of None acts = None
 
--- the connection whose call is ended: this one, if its call is suspended and names this link
+-- the connection whose suspended call is ended: this one, if it has a suspended call that names this link; else `None`
 abbrev pub if_waiting : Option ℕ → Option ℕ → List DeviceAct → Option ℕ
 if_waiting (Some c) (Some lid) acts =
     if is_some (waits c (wait_acts acts)) && is_this lid (link c (wait_acts acts)) then Some c else None

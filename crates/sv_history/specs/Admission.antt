@@ -21,12 +21,12 @@ use Rattle.sv_history.specs.CoreCall.{lid_of, is_too_long, failure}
 use Rattle.sv_history.specs.Interrupts.{has_channel, is_peer}
 use Rattle.sv_history.specs.CoreChannel.{owns, own_call}
 
--- what stops a call: it fails with an error, or it is suspended, at most for so many milliseconds if there is a timeout
+-- what stops a call: it fails with an error; or it is suspended, for at most `timeout` milliseconds if it has a timeout
 pub data Stop : Type 0 where
   Fails : (error : ErrorCode) → Stop
   Awaits : (wait : Wait) (timeout : Option ℕ) → Stop
 
--- what stops a call while another link holds the lock: it waits for the lock if its flag says so, else it fails with error 11
+-- what stops a call while another link holds the lock: it waits for the lock if its waitlock flag is set, else it fails with error 11
 abbrev pub lock_stop : LockWait → Stop
 lock_stop wait = if wait.waits then Awaits Lock (Some wait.timeout) else Fails DeviceLocked
 
@@ -60,8 +60,8 @@ link_stop lock_device timeout device acts =
     else (if not (may_make_more acts) then Some (Fails OutOfResources)
     else (if lock_device && is_locked_out (holder (link_acts acts)) None then Some (Awaits Lock (Some timeout)) else None))
 
--- What stops create_intr_chan, the first of these: a channel is open, the protocol isn't TCP (0), the address is no peer. Else it waits
--- without a deadline until its peer is connected.
+-- What stops create_intr_chan, the first of these: a channel is open, the protocol isn't TCP (0), the address or the port can't be a
+-- peer's. Else it waits without a deadline until its peer is connected.
 abbrev pub channel_stop : Bool → ℕ → ℕ → ℕ → Stop
 channel_stop there host_addr host_port prog_family =
     if there then Fails AlreadyEstablished

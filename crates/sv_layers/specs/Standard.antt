@@ -16,7 +16,7 @@ IsAsked = elim [ OpcAsked ∷ log ↦ ⊤ | _ ↦ ⊥ ]
 abbrev pub cancels : Act → Bool
 cancels = elim [ Cleared ↦ true | Scanned Reset ↦ true | Purged ↦ true | _ ↦ false ]
 
--- At the newest act a measurement is under way, and the act doesn't cancel.
+-- At the newest act a measurement is under way, and the act doesn't cancel a pending `*OPC`.
 abbrev pub IsPending : List Act → Type 0
 IsPending [] = ⊤
 IsPending (act ∷ log) = (is_idle (act ∷ log) ≡ false) × (cancels act ≡ false)
