@@ -34,8 +34,8 @@ IsNamed path unit outcome behind =
     (header unit)))
     ⊎ (((command : CommandId) → Resolves path (header unit) command → ⊥) × (outcome ≡ Err UndefinedHeader) × (behind ≡ path))
 
--- A unit, with the path before it, asks for this, and leaves this path. The path follows a header that is well spelled and names a command;
--- else it stays.
+-- A unit, with the path before it, has this outcome: what it asks for, or its error. It leaves the path `behind`. The path follows a header
+-- that is well spelled and names a command; otherwise it is unchanged.
 abbrev pub IsReadAs : List (List ℕ) → List ℕ → Result Order Code → List (List ℕ) → Type 0
 IsReadAs path unit outcome behind = ((code : Code) × (unit_fault unit ≡ Some code) × (outcome ≡ Err code) × (behind ≡ path))
     ⊎ ((unit_fault unit ≡ None) × IsNamed path unit outcome behind)

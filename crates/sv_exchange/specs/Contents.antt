@@ -1,4 +1,4 @@
--- What message exchange keeps, and which acts it stands for.
+-- What message exchange keeps, and which acts that stands for.
 use Rattle.std.specs.Prelude.{◌≡◌, ◌≢◌, ℕ, ◌+◌, ◌*◌, ◌==◌, Bool, true, false, not, ◌&&◌, List, [], ◌∷◌, ◌++◌, length, drop, map, Option, None, nat_lt, slice_get, if◌then◌else◌}
 use Rattle.sv_exchange.specs.declared.exchange.Next.{Next}
 use Rattle.sv_exchange.specs.declared.exchange.Next.TheVariants as next
@@ -65,7 +65,7 @@ pub record StandsFor (contents : Contents) (acts : List ExchangeAct) : Type 0 wh
   pub answers_dropped : has_dropped (current acts) ≡ contents.answers_dropped
   pub shows : IsShown contents.answering contents.output (answers acts) (response acts)
 
--- whether no ended message waits to be finished
+-- whether the current message hasn't ended yet
 abbrev pub is_open : Contents → Bool
 is_open contents = not contents.ended
 
@@ -83,7 +83,7 @@ abbrev pub unit_of : Contents → Option (List ℕ)
 unit_of contents = if contents.ended && (not contents.overlong && not contents.answers_dropped) then slice_get (units contents.rest) 0
     else None
 
--- what is due
+-- what is due, by what is kept
 abbrev pub next_of : Contents → Due
 next_of contents = if contents.overlong && not contents.overrun_reported then OverrunDue else due_unit (unit_of contents)
     (is_something (shown_by contents)) contents.ended

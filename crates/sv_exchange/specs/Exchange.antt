@@ -146,7 +146,7 @@ abbrev pub due_unit : Option (List ℕ) → Bool → Bool → Due
 due_unit (Some unit) interrupts ended = if interrupts then InterruptDue else UnitDue unit
 due_unit None interrupts ended = if ended then FinishDue else NothingDue
 
--- what is due
+-- what is due after these acts
 abbrev pub due : List ExchangeAct → Due
 due acts =
     if is_long acts && not (has_overrun (current acts)) then OverrunDue

@@ -1,4 +1,4 @@
--- How the fields of message exchange keep its contents, and how that changes.
+-- How the fields of message exchange keep its contents, and how the contents change.
 use Rattle.std.specs.Prelude.{◌≡◌, ℕ, ◌+◌, ◌==◌, ◌<◌, ◌≤◌, Bool, true, false, ◌&&◌, ◌||◌, List, [], ◌∷◌, ◌++◌, length, take, drop, nat_lt, slice_range, if◌then◌else◌}
 use Rattle.std.specs.List.{position_or_len}
 use Rattle.sv_exchange.specs.Contents.{Contents}

@@ -1,4 +1,4 @@
--- What a read gives of a response (VXI-11 revision 1.0, device_read).
+-- What a read returns of a response (VXI-11 revision 1.0, device_read).
 use Rattle.std.specs.Prelude.{ℕ, ◌+◌, ◌-◌, ◌==◌, Bool, false, ◌&&◌, List, length, min, Option, Some, None, nat_lt, slice_get}
 use Rattle.std.specs.List.{position_or_len}
 use Rattle.std.specs.Option.{option_map_or}

@@ -38,8 +38,8 @@ device_wait (DeviceRead request_size timeout lock_timeout flags term_char) acts 
     if is_answerable (instrument_acts acts) then None else Some (Response, timeout)
 device_wait _ acts = None
 
--- What stops a call on a link, the first of these: the connection doesn't own the link, a write is too long, another link holds the lock,
--- it has to wait.
+-- What stops a call on a link, the first of these: the connection doesn't own the link; a write is too long; another link holds the lock;
+-- what the call waits for isn't there.
 abbrev pub call_stop : ℕ → Option ℕ → LinkCall → List DeviceAct → Option Stop
 call_stop c lid call acts =
     if not (owns c lid acts) then Some (Fails InvalidLink)
@@ -52,8 +52,8 @@ call_stop c lid call acts =
 abbrev pub may_make_more : List DeviceAct → Bool
 may_make_more acts = nat_lt (length (live (link_acts acts)) + creating (wait_acts acts)) max_links && lids_left (link_acts acts)
 
--- What stops create_link, the first of these: the device's name isn't inst0; no link more may be made; it asks for the lock, which a link
--- holds.
+-- What stops create_link, the first of these: the device's name isn't inst0; no more link may be made; the call asks for the lock, which a
+-- link holds.
 abbrev pub link_stop : Bool → ℕ → List ℕ → List DeviceAct → Option Stop
 link_stop lock_device timeout device acts =
     if not (bytes_eq device (codes "inst0")) then Some (Fails NotAccessible)

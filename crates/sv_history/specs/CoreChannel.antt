@@ -21,7 +21,7 @@ use Rattle.sv_history.specs.CallOutcome.{CallOutcome, answer_with, only}
 use Rattle.sv_history.specs.CoreCall.{no_bytes, failure}
 use Rattle.sv_history.specs.Interrupts.{has_channel, enable_srq}
 
--- whether a connection owns a link: the link lives, and this connection made it
+-- whether a connection owns a link: the link is live, and this connection made it
 abbrev pub owns : ℕ → Option ℕ → List DeviceAct → Bool
 owns c (Some lid) acts = is_of c (owner lid (link_acts acts))
 owns c None acts = false

@@ -28,6 +28,6 @@ replies xid None = []
 abbrev pub call_effect : ℕ → CallOutcome → Effect
 call_effect xid outcome = record { own = replies xid outcome.result; adds = outcome.adds }
 
--- the effect of a reply alone
+-- the effect that is only this reply
 abbrev pub only_reply : List ℕ → Effect
 only_reply bytes = record { own = Replied bytes ∷ []; adds = [] }

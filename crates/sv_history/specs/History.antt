@@ -110,7 +110,7 @@ refuse_refusal acts =
 abbrev pub took_refusal : ℕ → List ℕ → Option Refused
 took_refusal count bytes = if nat_lt (length bytes) count then Some NotSent else None
 
--- `NoConn` if the connection isn't open, else the other refusal
+-- `NoConn` if the connection isn't open, else this refusal
 abbrev pub unless_shut : ℕ → List Act → Option Refused → Option Refused
 unless_shut c log other = if is_shut c log then Some NoConn else other
 

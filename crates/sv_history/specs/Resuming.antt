@@ -20,7 +20,7 @@ use Rattle.sv_history.specs.Admission.{device_wait, deadline}
 abbrev pub leaving : ℕ → CallOutcome → CallOutcome
 leaving c outcome = record outcome { adds = outcome.adds ++ Waited (Left c) ∷ [] }
 
--- what a call that got past the lock waits for next, and its timeout in milliseconds; `None` if nothing
+-- what a call that got past the lock waits for next, and its timeout in milliseconds; `None` if it waits for nothing more
 abbrev pub next_wait : Wait → Arguments → List DeviceAct → Option (Wait × ℕ)
 next_wait Lock (OnLink lid call) acts = device_wait call acts
 next_wait _ arguments acts = None

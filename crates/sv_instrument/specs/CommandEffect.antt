@@ -30,7 +30,7 @@ after_answering text log =
     if fits_response (answers (exchange_acts log)) text then Exchanged (Answered text) ∷ log
     else Reported QueryDeadlocked ∷ Exchanged AnswersDropped ∷ log
 
--- If there is an error, it is reported and the unit is done; else these acts happen.
+-- the log after this error is reported and the unit is done, if there is an error; else these acts
 abbrev pub unless : Option Code → List Act → List Act → List Act
 unless (Some code) acts log = done (Reported code ∷ log)
 unless None acts log = acts
@@ -64,7 +64,7 @@ abbrev pub Replies : Option Code → Question → List Act → List Act → Type
 Replies (Some code) asked log new = new ≡ done (Reported code ∷ log)
 Replies None asked log new = (text : List ℕ) × Says asked log text × (new ≡ after_answering text (done (after_query asked log)))
 
--- the effect of a command without a value
+-- the log after a command without a value
 abbrev pub after_action : Action → List Act → List Act
 after_action action.ClearStatus log = done (Cleared ∷ log)
 after_action action.Reset log = done (Scanned scan.Reset ∷ log)
@@ -78,7 +78,7 @@ after_action action.Abort log = done (Scanned scan.Abort ∷ log)
 after_action action.Read log = unless (read_fault (effective_acts log))
     (Held awaited.Readings ∷ Scanned scan.Init ∷ Scanned scan.Abort ∷ log) log
 
--- The effect of an order on the log.
+-- The order leads from `log` to `new`.
 abbrev pub Performs : Order → List Act → List Act → Type 0
 Performs (order.Do action) log new = new ≡ after_action action log
 Performs (order.Ask asked) log new = Replies (question_fault asked log) asked log new

@@ -22,7 +22,7 @@ use Rattle.sv_layers.specs.Filter.{rise, fall, enable}
 use Rattle.sv_layers.specs.Standard.{Stands, enable as standard_enable}
 use Rattle.sv_layers.specs.StatusByte.{MasterBit, service}
 
--- The text is a word of 16 bits in decimal, with exactly these bits.
+-- The text is a word of 16 bits in decimal, in which exactly those bits are set for which `Bit` holds.
 pub record IsWord (Bit : ℕ → Type 0) (text : List ℕ) : Type 0 where
   pub word : ℕ
   pub fits : word < 65536

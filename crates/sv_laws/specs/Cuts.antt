@@ -53,7 +53,7 @@ pub record Feeds (c : ℕ) (config : Config) (past events : List PlainEvent) (be
   pub is_log : IsLogOf config (events ++ past) log
   pub none_left : drop (records_ended (of c log)) (records_of (stream (of c log))) ≡ []
 
--- No read or write is suspended for input or output.
+-- No write is suspended until it is accepted, and no read until it is answered.
 abbrev pub NoneWaits : List WaitAct → Type 0
 NoneWaits acts = (c : ℕ) → (waits c acts ≢ Some ForInput) × (waits c acts ≢ Some ForResponse)
 

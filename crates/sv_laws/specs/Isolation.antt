@@ -15,7 +15,7 @@ use Rattle.sv_history.specs.AbortChannel.{owner_of}
 use Rattle.sv_history.specs.History.{IsLogOf}
 use Rattle.sv_laws.specs.Adding.{Adds}
 
--- whether an event is of another connection than this, or of another's interrupt channel
+-- whether an event is of a connection other than `c`, or of its interrupt channel
 abbrev pub is_foreign : ℕ → PlainEvent → Bool
 is_foreign c (Open d role) = not (d == c)
 is_foreign c (Bytes d piece) = not (d == c)
@@ -60,7 +60,7 @@ abbrev pub HoldsFrom : ℕ → List Act → List Act → Type 0
 HoldsFrom lid before log = (later since : List Act) → log ≡ later ++ (since ++ before)
     → holder (link_acts (device_acts (since ++ before))) ≡ Some lid
 
--- No read or write of another connection is suspended for input or output.
+-- No write of another connection is suspended until it is accepted, and no read until it is answered.
 abbrev pub NoOtherWaits : ℕ → List WaitAct → Type 0
 NoOtherWaits c acts = (d : ℕ) → d ≢ c → (waits d acts ≢ Some ForInput) × (waits d acts ≢ Some ForResponse)
 

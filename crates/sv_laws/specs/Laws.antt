@@ -23,7 +23,7 @@ use Rattle.sv_history.specs.History.{is_port_shut, input_refusal, last_clock, Is
 abbrev pub OneLog : Type 0
 OneLog = (config : Config) (history : List PlainEvent) (a b : List Act) → IsLogOf config history a → IsLogOf config history b → a ≡ b
 
--- While nothing waits for time, ticks change nothing but the clock, up to its last value: they are all that the log gains.
+-- While nothing waits for time, ticks change nothing but the clock, up to its last value. The log gains nothing but the ticks.
 abbrev pub TimeOnlyCounts : Type 0
 TimeOnlyCounts = (config : Config) (history : List PlainEvent) (log : List Act) (most : ℕ) → IsLogOf config history log
     → IsStill most config (device_acts log) → config.clock + ticks (device_acts log) + most ≤ last_clock
@@ -35,8 +35,8 @@ abbrev pub NoneLate : Type 0
 NoneLate = (config : Config) (history : List PlainEvent) (log : List Act) (c : ℕ) → IsLogOf config history log
     → (IsExpired (config.clock + ticks (device_acts log)) (wait_acts (device_acts log)) c → ⊥) × (CanResume (device_acts log) c → ⊥)
 
--- The event fits the answers of the queries at this moment: an Open of a free number; Bytes that fit the room; a Took of at most what
--- waits, if anything waits; a Close of an open port; a Dialed that is waited for; an Input that isn't refused; the external trigger.
+-- The event fits the answers of the queries at this moment. It is an Open of a free number; Bytes that fit the room; a Took of at most what
+-- waits, if anything waits; a Close of an open port; a Dialed that is waited for; an Input that isn't refused; or the external trigger.
 abbrev pub Suits : PlainEvent → List ChannelAct → List Act → Type 0
 Suits (Open c role) channel_log log = (c < 16) × (is_open (of c log) ≡ false)
 Suits (Bytes c piece) channel_log log = (c < 16) × (0 < room (of c log)) × (length piece ≤ room (of c log))

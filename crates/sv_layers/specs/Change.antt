@@ -1,4 +1,4 @@
--- Which act a change of the code is.
+-- Which act each change of the code makes.
 use Rattle.sv_layers.specs.declared.change.Change.{Change}
 use Rattle.sv_layers.specs.declared.change.Change.TheVariants as changes
 use Rattle.sv_layers.specs.Act.{Act, Scanned, Held, Reported, EntryTaken, Cleared, Preset, OpcAsked, StandardRead, StandardEnabled, EventRead, Enabled, RiseSet, FallSet, ServiceEnabled}

@@ -31,8 +31,8 @@ abbrev pub Completes : List Act → Type 0
 Completes [] = ⊥
 Completes (act ∷ before) = (is_idle (act ∷ before) ≡ true) × (IsAsked (act ∷ before) ⊎ (Waits before × (cancels act ≡ false)))
 
--- An event occurs at the newest act. Bit 7: power on, before all acts. Bit 0: an operation completes. Bits 5 to 2: an error of that class
--- is reported. Bit 3 also: the error queue overflows.
+-- An event occurs at the newest act. Bit 7: power on, which occurs before all acts. Bit 0: an operation completes. Bits 5 to 2: an error of
+-- the bit's class is reported. Bit 3 also: the error queue overflows.
 abbrev pub Occurs : ℕ → List Act → Type 0
 Occurs k [] = k ≡ 7
 Occurs k (Reported code ∷ log) = (bit_at (standard_event_of code) k ≡ 1) ⊎ ((k ≡ 3) × (is_full (queue_acts log) ≡ true))
@@ -43,7 +43,7 @@ Occurs k log = (k ≡ 0) × Completes log
 abbrev pub NotCleared : List Act → Type 0
 NotCleared = elim [ StandardRead ∷ log ↦ ⊥ | Cleared ∷ log ↦ ⊥ | _ ↦ ⊤ ]
 
--- A bit is set exactly if its event occurred after the last clearing.
+-- A bit of the standard event status register is set: its event occurred after the last clearing.
 abbrev pub Stands : ℕ → List Act → Type 0
 Stands k log = Since (Occurs k) NotCleared log
 

@@ -9,8 +9,8 @@ use Rattle.sv_layers.specs.Act.{Act, ServiceEnabled, Polled, exchange_acts, queu
 use Rattle.sv_layers.specs.Event.{Summary}
 use Rattle.sv_layers.specs.Standard.{Summary as StandardSummary}
 
--- A summary bit is set: 7 the operation register, 5 the standard events, 4 a message is available, 3 the questionable register, 2 the error
--- queue isn't empty.
+-- A summary bit is set. Bit 7: the operation register. Bit 5: the standard events. Bit 4: a message is available. Bit 3: the questionable
+-- register. Bit 2: the error queue isn't empty.
 abbrev pub SummaryBit : ℕ → List Act → Type 0
 SummaryBit k log = ((k ≡ 7) × Summary Operation log) ⊎ ((k ≡ 5) × StandardSummary log)
     ⊎ ((k ≡ 4) × (is_something (response (exchange_acts log)) ≡ true)) ⊎ ((k ≡ 3) × Summary Questionable log)

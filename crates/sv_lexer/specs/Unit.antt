@@ -18,7 +18,7 @@ header_size unit = position_or_len is_white (trim unit)
 abbrev pub header : List ℕ → List ℕ
 header unit = take (header_size unit) (trim unit)
 
--- where the header begins
+-- where the header begins in the unit
 abbrev pub header_place : List ℕ → ℕ
 header_place unit = white_size unit
 

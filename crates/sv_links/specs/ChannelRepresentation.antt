@@ -51,7 +51,7 @@ IsChannelFor None kept count calls = ⊤
 abbrev pub IsChannel : Channel → ℕ → List ChannelAct → Type 0
 IsChannel kept c acts = (opened_for kept.stage ≡ peer c acts) × IsChannelFor (peer c acts) kept (bytes_taken c acts) (calls c acts)
 
--- The links stand by rising number.
+-- The links are in rising order of their numbers.
 abbrev pub IsSorted : List Enabled → Type 0
 IsSorted [] = ⊤
 IsSorted (link ∷ links) = AllByRecursion (λ other. link.lid < other.lid) links × IsSorted links

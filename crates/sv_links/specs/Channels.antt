@@ -72,7 +72,8 @@ abbrev pub add_call : Option Peer → ℕ → List (List ℕ) → List ℕ → L
 add_call (Some what) count calls handle = if may_call count calls then calls ++ request (length calls + 1) what handle ∷ [] else calls
 add_call None count calls handle = calls
 
--- the calls that were sent on the channel of a connection since it was opened: one for each of its links at each request
+-- the calls that were sent on the channel of a connection since it was opened: at each service request, one for each link of the connection
+-- that has service requests enabled
 abbrev pub calls : ℕ → List ChannelAct → List (List ℕ)
 calls c [] = []
 calls c (ChannelOpened conn what ∷ acts) = if conn == c then [] else calls c acts

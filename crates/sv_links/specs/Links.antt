@@ -1,19 +1,19 @@
--- Links (VXI-11 revision 1.0, sections B.4.4 and B.6): which live, who owns one, and which holds the lock. Lists of acts have the newest
--- first.
+-- Links (VXI-11 revision 1.0, sections B.4.4 and B.6): which of them are live, which connection owns each, and which holds the lock. Lists
+-- of acts have the newest first.
 use Rattle.std.specs.Prelude.{ℕ, ◌+◌, ◌==◌, not, ◌&&◌, ◌||◌, Bool, true, false, List, [], ◌∷◌, ◌++◌, length, map, filter, find, reverse, option_map, Option, Some, None, nat_lt}
 use Rattle.std.specs.List.{filter_map}
 use Rattle.std.specs.Option.{option_map_or}
 use Rattle.sv_links.specs.Limits.{max_links}
 use Rattle.sv_links.specs.declared.links.Link.{Link}
 
--- what happens to links: one is made on a connection, destroyed, gets the lock, or frees it
+-- what happens to links: a link is made on a connection, is destroyed, gets the lock, or frees it
 pub data LinkAct : Type 0 where
   Made : (lid conn : ℕ) → LinkAct
   Destroyed : (lid : ℕ) → LinkAct
   Locked : (lid : ℕ) → LinkAct
   Unlocked : (lid : ℕ) → LinkAct
 
--- how many links were ever made; the number of the next is one more
+-- how many links were ever made; the next link gets the number that is one more
 abbrev pub links_made : List LinkAct → ℕ
 links_made [] = 0
 links_made (Made lid conn ∷ acts) = links_made acts + 1
@@ -26,7 +26,7 @@ live (Made lid conn ∷ acts) = live acts ++ record { lid = lid; conn = conn } �
 live (Destroyed lid ∷ acts) = filter (λ link. not (link.lid == lid)) (live acts)
 live (_ ∷ acts) = live acts
 
--- the connection that made a link; `None` if the link doesn't live
+-- the connection that made a link; `None` if the link isn't live
 abbrev pub owner : ℕ → List LinkAct → Option ℕ
 owner lid acts = option_map (λ link. link.conn) (find (λ link. link.lid == lid) (live acts))
 

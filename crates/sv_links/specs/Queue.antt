@@ -6,7 +6,7 @@ use Rattle.sv_links.specs.declared.waiting.Wait.{Wait}
 use Rattle.sv_links.specs.declared.waiting.Wait.TheVariants.{Lock, Input, Response, Dial}
 use Rattle.sv_links.specs.Waiting.{WaitAct, waits, deadline, link, arrival, is_lock}
 
--- No call of this connection is kept.
+-- No entry is of this connection.
 abbrev pub IsFree : ℕ → List Entry → Type 0
 IsFree conn entries = AllByRecursion (λ entry. entry.conn ≢ conn) entries
 
@@ -28,13 +28,13 @@ abbrev pub IsEntry : List WaitAct → Entry → Type 0
 IsEntry acts entry = (waits entry.conn acts ≡ Some entry.wait) × (deadline entry.conn acts ≡ entry.deadline)
     × (link entry.conn acts ≡ entry.lid)
 
--- The entries stand in order of arrival.
+-- The entries are in order of arrival.
 abbrev pub IsOrdered : List WaitAct → List Entry → Type 0
 IsOrdered acts [] = ⊤
 IsOrdered acts (entry ∷ entries) =
     AllByRecursion (λ other. arrival entry.conn acts < arrival other.conn acts) entries × IsOrdered acts entries
 
--- These calls are suspended, and no others.
+-- The entries are exactly the suspended calls, in order of arrival.
 pub record IsQueue (entries : List Entry) (acts : List WaitAct) : Type 0 where
   pub each : AllByRecursion (IsEntry acts) entries
   pub ordered : IsOrdered acts entries
@@ -61,7 +61,7 @@ creations entries = length (filter creates entries)
 abbrev pub without : ℕ → List Entry → List Entry
 without conn entries = filter (λ entry. not (entry.conn == conn)) entries
 
--- how often a call may still be suspended anew or leave: one that waits for the lock may be suspended once more
+-- how often a call may still be suspended anew or leave the queue: a call that waits for the lock may be suspended once more
 abbrev pub wait_measure : Wait → ℕ
 wait_measure Lock = 2
 wait_measure Input = 1

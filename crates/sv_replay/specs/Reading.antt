@@ -1,4 +1,4 @@
--- The function that reads a line from left to right.
+-- The function that reads a line of a replay from left to right.
 use Rattle.std.specs.Prelude.{ℕ, ◌+◌, ◌-◌, ◌*◌, ℤ, pos, neg_ℤ, Bool, true, false, ◌&&◌, List, [], ◌∷◌, length, drop, codes, Option, Some, None, option_and_then, option_map, nat_le, nat_lt, ◌==◌, if◌then◌else◌}
 use Rattle.sv_text.specs.Front.{has_minus}
 use Rattle.std.specs.Char.{is_ascii_digit}

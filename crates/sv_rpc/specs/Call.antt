@@ -20,7 +20,7 @@ pub record PlainCall : Type 0 where
 abbrev pub plain_call : Call → PlainCall
 plain_call call = record { xid = call.xid; prog = call.prog; vers = call.vers; proc = call.proc; args = call.args.now }
 
--- a credential or a verifier (8.2): a flavor, and a body of at most 400 bytes. Nothing depends on them.
+-- a credential or a verifier (8.2): a flavor, and a body of at most 400 bytes. Both are ignored.
 pub record Auth : Type 0 where
   pub flavor : ℕ
   pub body : List ℕ

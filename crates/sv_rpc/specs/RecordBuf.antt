@@ -22,8 +22,8 @@ pub record StandsFor (held : Records) (stream : List ℕ) (dropped : ℕ) : Type
   pub bounded : dropped ≤ length all
   pub kept : held.records ≡ drop dropped all
 
--- How many bytes of the capacity are used. Each complete record uses 4 more than its length. The unfinished one uses 4 and the bytes of it
--- that came, even if none did, and the bytes of an unfinished header. Once a record is too long, the whole capacity is used.
+-- How many bytes of the capacity are used. Each complete record uses 4 more than its length. The unfinished record uses 4, even if nothing
+-- of it came, and its data that came, and the bytes of an unfinished header. Once a record is too long, the whole capacity is used.
 abbrev pub used_by : List (List ℕ) → Tail → ℕ
 used_by records (Header payload header) = sum_by (λ r. 4 + length r) records + (4 + length payload + length header)
 used_by records (Data payload missing last) = sum_by (λ r. 4 + length r) records + (4 + length payload)
@@ -55,7 +55,7 @@ abbrev pub IsRoom : List ℕ → ℕ → ℕ → Type 0
 IsRoom stream dropped room = (all : List (List ℕ)) × (tail : Tail) × Splits stream all tail × (dropped ≤ length all)
     × (room ≡ capacity - used_by (drop dropped all) tail)
 
--- the answer of the code, as plain data
+-- a record that the code returns, or its fault, as plain data
 abbrev pub plain_record : Result (Option (Bor (List ℕ))) RpcFault → Result (Option (List ℕ)) RpcFault
 plain_record (Ok found) = Ok (option_map (λ r. r.now) found)
 plain_record (Err fault) = Err fault

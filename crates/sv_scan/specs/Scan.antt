@@ -1,4 +1,4 @@
--- The trigger state and the readings (SCPI-1999, volume 2, chapter 24), by counts over the acts that count, the newest first.
+-- The trigger state and the readings (SCPI-1999, volume 2, chapter 24), by searches and counts of the acts that count, the newest first.
 use Rattle.std.specs.Prelude.{ℕ, ◌-◌, ◌*◌, ◌%◌, ◌==◌, ℤ, neg_ℤ, int_lt, nat_le, unsigned_abs, Bool, true, false, List, [], ◌∷◌, ◌++◌, length, filter, Option, Some, None, slice_get, slice_index_or, if◌then◌else◌}
 use Rattle.sv_errors.specs.Limits.{most_microvolts}
 use Rattle.std.specs.Option.{option_map_or}

@@ -42,12 +42,12 @@ begins port (PeerAnswered d (Got all)) = is_same port (Intr d)
 begins port (WasClosed (Conn d)) = is_same port (Conn d)
 begins _ _ = false
 
--- the bytes that were read on a port
+-- the bytes that were read on a port with this answer; none with another answer
 abbrev pub read : Port → Heard → List ℕ
 read port (WasRead d most (Got bytes)) = if is_same port (Conn d) then bytes else []
 read _ _ = []
 
--- the bytes that the wire took for a port
+-- the bytes that the wire took for a port with this answer; none with another answer
 abbrev pub taken_bytes : Port → Heard → List ℕ
 taken_bytes port (WasWritten other bytes (Got n)) = if is_same port other then take n bytes else []
 taken_bytes _ _ = []
@@ -89,8 +89,8 @@ Once IsSo history trace = (later earlier : List PlainEvent) × (history ≡ late
 
 -- The wire's events are exactly its answers, in order. Every byte that is read enters its connection's stream, and every byte that the wire
 -- takes comes out of what the history sends: in order, none lost, invented or doubled. Each write hands over all that waits. A connection
--- is closed right after it failed, else only if it was at fault and nothing waited on it; the socket of an interrupt channel only after
--- what ends it, or if the channel isn't open.
+-- is closed right after it failed; otherwise it is only closed if it was at fault and nothing waited on it. The socket of an interrupt
+-- channel is only closed right after what ends it (`ends_port`), or if the channel isn't open.
 pub record IsCarried (config : Config) (history : List PlainEvent) (trace : List Heard) : Type 0 where
   pub events : filter is_outer history ≡ flat_map event_of trace
   pub streams : (c : ℕ) → Answered (λ log. stream (of c log)) config history (since (Conn c) (read (Conn c)) trace)

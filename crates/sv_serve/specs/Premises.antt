@@ -35,7 +35,7 @@ IsSuited event config at = (log : List Act) × (channel_log : List ChannelAct) �
 abbrev pub IsAwaited : {W : Type 0} → ℕ → Config → DriverView W → Type 0
 IsAwaited c config at = (dial : Dial) × Wants c config at (Some dial)
 
--- These bytes waited, and the wire took some of them.
+-- Some bytes waited on a port, and the wire took no more than these.
 abbrev pub Handed : {W : Type 0} → Port → Answer ℕ → Config → DriverView W → Type 0
 Handed port answer config at = (bytes : List ℕ) × Waits port config at bytes × (0 < length bytes) × IsWithin answer (length bytes)
 

@@ -40,12 +40,12 @@ called_of c at = slice_index_or at.called c None
 abbrev pub Remembers : {W : Type 0} → ℕ → Option Dial → Config → DriverView W → DriverView W → Type 0
 Remembers c dial config before after = after ≡ record before { called = slice_set before.called c dial }
 
--- A connection was accepted, and opens under its number.
+-- If a connection was accepted under a number, it opens under that number.
 abbrev pub Opens : {W : Type 0} → Role → Option ℕ → Answer ⊤ → Config → DriverView W → DriverView W → Type 0
 Opens role (Some c) (Got all) = IsApplied (Open c role)
 Opens role number answer = Unchanged
 
--- A connection is accepted, under the lowest free number; if none is free, it is dropped.
+-- A connection is accepted, under the lowest free number. If no number is free, the connection is dropped.
 abbrev pub Accepts : {W : Type 0} → (W → Heard → W → Type 0) → Role → Config → DriverView W → DriverView W → Type 0
 Accepts hears role config before after = (number : Option ℕ) × (answer : Answer ⊤) × IsLowest number config before
     × (Hears hears (WasAccepted role number answer) then Opens role number answer) config before after
@@ -83,7 +83,7 @@ abbrev pub Drops : {W : Type 0} → (W → Heard → W → Type 0) → ℕ → A
 Drops hears c Failed = Closes hears c
 Drops hears c answer = Unchanged
 
--- If the connection is open, the wire is asked whether it is gone.
+-- If the flag is true, the connection is open, and the wire is asked whether it is gone.
 abbrev pub ProbesIf : {W : Type 0} → (W → Heard → W → Type 0) → ℕ → Bool → Config → DriverView W → DriverView W → Type 0
 ProbesIf hears c false config before after = after ≡ before
 ProbesIf hears c true config before after = (drops : Bool) × (answer : Answer ⊤) × IsOverlong c config before drops
@@ -174,7 +174,7 @@ Calls hears c config before after =
 abbrev pub Dials : {W : Type 0} → (W → Heard → W → Type 0) → ℕ → Config → DriverView W → DriverView W → Type 0
 Dials hears c = LetsGo hears c then Calls hears c
 
--- A connection is closed, or an interrupt channel alone.
+-- A port is closed: a connection with its interrupt channel, or an interrupt channel alone.
 abbrev pub BreaksOff : {W : Type 0} → (W → Heard → W → Type 0) → Port → Config → DriverView W → DriverView W → Type 0
 BreaksOff hears (Conn c) = Closes hears c
 BreaksOff hears (Intr c) = ClosesChannel hears c then IsApplied (Close (Intr c))
@@ -196,7 +196,7 @@ abbrev pub WritesTo : {W : Type 0} → (W → Heard → W → Type 0) → Port �
 WritesTo hears port config before after =
     (bytes : List ℕ) × Waits port config before bytes × WritesAll hears port bytes config before after
 
--- If a connection is at fault, it is closed once nothing waits on it.
+-- If the flag is true, the connection is at fault, and is closed once nothing waits on it.
 abbrev pub EndsIf : {W : Type 0} → (W → Heard → W → Type 0) → ℕ → Bool → Config → DriverView W → DriverView W → Type 0
 EndsIf hears c false config before after = after ≡ before
 EndsIf hears c true config before after =

@@ -41,7 +41,7 @@ NotCleared = elim [ ReadEvent ∷ acts ↦ ⊥ | Clear ∷ acts ↦ ⊥ | _ ↦ 
 abbrev pub EventStands : ℕ → List RegisterAct → Type 0
 EventStands k acts = Since (Passes k) NotCleared acts
 
--- Some bit is set and enabled.
+-- Some bit of the event register is set and enabled.
 abbrev pub Summary : ℕ → List RegisterAct → Type 0
 Summary start acts = (k : ℕ) × EventStands k acts × (bit_at (enable start acts) k ≡ 1)
 

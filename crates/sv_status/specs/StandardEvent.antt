@@ -15,7 +15,7 @@ Occurs k (_ ∷ acts) = ⊥
 abbrev pub NotCleared : List StandardAct → Type 0
 NotCleared = elim [ Read ∷ acts ↦ ⊥ | Clear ∷ acts ↦ ⊥ | _ ↦ ⊤ ]
 
--- A bit is set: its event occurred after the last clearing.
+-- A bit of the standard event status register is set: its event occurred after the last clearing.
 abbrev pub Stands : ℕ → List StandardAct → Type 0
 Stands k acts = Since (Occurs k) NotCleared acts
 

@@ -8,7 +8,7 @@ use Rattle.sv_value.specs.Channels.{Span as Ends, is_number, number}
 use Rattle.sv_value.specs.Decimal.{Parts}
 use Rattle.sv_value.specs.Number.{signed}
 
--- the parts of a number
+-- a `Decimal` of the code, as the parts of a number
 abbrev pub plain : Decimal → Parts
 plain number = record {
   negative = number.negative;

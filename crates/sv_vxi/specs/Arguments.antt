@@ -82,7 +82,7 @@ argument_fields (CreateIntrChan host_addr host_port prog_num prog_vers prog_fami
     Unsigned host_addr ∷ Unsigned host_port ∷ Unsigned prog_num ∷ Unsigned prog_vers ∷ Unsigned prog_family ∷ []
 argument_fields DestroyIntrChan = []
 
--- A handle has at most 40 bytes.
+-- If the arguments have a handle, it has at most 40 bytes.
 abbrev pub InBounds : Arguments → Type 0
 InBounds (OnLink lid (DeviceEnableSrq enable handle)) = length handle ≤ max_handle
 InBounds _ = Unit {0}
@@ -106,7 +106,7 @@ link _ = None
 abbrev pub lock_wait_of : ℕ → ℕ → Option LockWait
 lock_wait_of flags timeout = Some (record { waits = bit_at flags 0 == 1; timeout = timeout })
 
--- what a call does while another link holds the lock (section B.4.4); `None` if it is executed all the same
+-- what a call does while another link holds the lock (section B.4.4); `None` if the call is executed nevertheless
 abbrev pub lock_wait : LinkCall → Option LockWait
 lock_wait (DeviceWrite io_timeout lock_timeout flags bytes) = lock_wait_of flags lock_timeout
 lock_wait (DeviceRead request_size io_timeout lock_timeout flags term_char) = lock_wait_of flags lock_timeout

@@ -41,7 +41,7 @@ read (opaque most ∷ kinds) makes bytes = opaque_at most bytes >>= λ x. read k
 abbrev pub read_on_link : (kinds : List Kind) → Makes kinds LinkCall → List ℕ → Result Arguments Garbage
 read_on_link kinds makes bytes = signed_at bytes >>= λ x. result_map_both (OnLink x.0) (λ garbage. garbage) (read kinds makes x.1)
 
--- the arguments of the call of this number
+-- the arguments of the call with this number, read from bytes
 abbrev pub arguments_at : ℕ → List ℕ → Result Arguments Garbage
 arguments_at proc =
     if proc == 1 then read_on_link [] DeviceAbort

@@ -31,7 +31,7 @@ Spells bytes (Signed z) = (n : ℕ) × IsWord bytes n × IsTwosComplement n z
 Spells bytes (Boolean b) = IsWord bytes (from_bool b)
 Spells bytes (Opaque text) = (size pad : List ℕ) × IsWord size (length text) × IsPad (length text) pad × (bytes ≡ size ++ (text ++ pad))
 
--- The bytes begin with the field, and continue with these.
+-- The bytes begin with the encoded field, and `after` are the bytes that follow.
 abbrev pub Begins : List ℕ → Field → List ℕ → Type 0
 Begins bytes field after = (front : List ℕ) × Spells front field × (bytes ≡ front ++ after)
 

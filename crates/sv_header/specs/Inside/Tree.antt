@@ -29,7 +29,7 @@ ending_rows common branch = ending_row common false branch.plain ++ ending_row c
 abbrev pub below : Part → Row → Row
 below part row = record row { parts = part ∷ row.parts }
 
--- the rows that stand in siblings and the nodes below them
+-- the rows that end at these siblings and at the nodes below them
 abbrev pub rows_of : ℕ → Bool → List Branch → List Row
 rows_of zero common branches = []
 rows_of (suc fuel) common [] = []

@@ -26,7 +26,7 @@ pub record Device : Type 0 where
   pub config : Config
   pub clock : ℕ
 
--- There are places, and memory, for the links of all suspended create_links.
+-- There are places, and there is memory, for the links of all suspended create_links.
 abbrev pub IsReserved : Device → List DeviceAct → Type 0
 IsReserved kept acts = (length (live (link_acts acts)) + creations kept.waiting ≤ max_links) × (creations kept.waiting ≤ kept.links.spare)
 
@@ -43,7 +43,7 @@ abbrev pub AreTold : Channels → List DeviceAct → Type 0
 AreTold kept acts = (channel_log : List ChannelAct) × HearsOf acts channel_log × AreChannels kept channel_log
     × AreOwned kept.enabled (link_acts acts)
 
--- The channel of each suspended create_intr_chan can be opened.
+-- Each connection whose create_intr_chan is suspended has a prepared channel, which can be opened.
 abbrev pub AreReady : Channels → List WaitAct → Type 0
 AreReady kept acts = (c : ℕ) → is_dialing c acts ≡ true → IsReady kept c
 

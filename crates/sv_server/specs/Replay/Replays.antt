@@ -15,9 +15,9 @@ use Rattle.sv_history.specs.History.{IsLogOf, Answers, history_after}
 use Rattle.sv_history.specs.Print.{head_of, ports_after, lines_of, with_tooks, print_of}
 use Rattle.sv_server.specs.Replay.TakenByWriter.{IsFront}
 
--- Success: the whole print was written, and the peers took all that it shows. Out of memory: the refusal's line was written, and nothing
--- was taken. The writer failed: in the refusal's line, and nothing was taken; or after the whole lines of some first ports, of which the
--- peers took what they show, a prefix of the remaining lines was written.
+-- Success: the whole print was written, and the peers took all that it shows. Out of memory: the line of the refusal was written, and
+-- nothing was taken. The writer failed in the line of the refusal: nothing was taken. The writer failed later: the lines of some first
+-- ports were written, and the peers took what these show; then a prefix of the remaining lines was written.
 abbrev pub IsReplayWritten : Result Did Refused → List ChannelAct → List Act → List PlainEvent → Result ⊤ ReplayFault → List ℕ
     → List PlainEvent
     → Type 0

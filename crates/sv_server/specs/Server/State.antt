@@ -1,4 +1,4 @@
--- What the server keeps, and which log and which history it stands for.
+-- What the server keeps, and which log and which history that stands for.
 use Rattle.std.specs.Prelude.{◌≡◌, ℕ, ◌<◌, ◌≤◌, true, List, [], Some, slice_index_or}
 use Rattle.sv_history.specs.declared.event.Config.{Config}
 use Rattle.sv_history.specs.Event.{PlainEvent}
@@ -15,7 +15,7 @@ use Rattle.sv_history.specs.Settling.{IsSettled}
 use Rattle.sv_history.specs.Queries.{IsUsed}
 use Rattle.sv_history.specs.History.{IsLogOf}
 
--- what is kept: sixteen connections, the device, and how many numbers of connections were used
+-- what is kept: sixteen connections, the device, and one more than the highest number of a connection that was ever used (0 if none was)
 pub record State : Type 0 where
   pub connections : List Connection
   pub device : Device

@@ -43,7 +43,7 @@ Acts config event log (Err NoMemory) new = IsRefusal config event log None
     × ((polled : ℕ) → IsPolled polled (device_acts log) → wants_memory (device_acts (own_acts config polled event log)) ≡ true)
 Acts config event log (Err refused) new = IsRefusal config event log (Some refused)
 
--- an event that makes no step due
+-- whether an event is an Open, Bytes or a Took, which make no step due
 abbrev pub is_quiet : PlainEvent → Bool
 is_quiet (Open c role) = true
 is_quiet (Bytes c piece) = true
