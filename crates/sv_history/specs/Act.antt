@@ -1,5 +1,5 @@
--- The acts of a log, which are what events did. A log is a list of acts, the newest first. Each act is of one connection or of the device.
--- The device is all that connections share: links, suspended calls, interrupt channels, the instrument and the clock.
+-- The acts of a log: what events did. A log is a list of acts, the newest first. Each act is of one connection or of the device. The device
+-- is all that connections share: links, suspended calls, interrupt channels, the instrument and the clock.
 use Rattle.std.specs.Prelude.{ℕ, ◌+◌, ◌==◌, List, [], ◌∷◌, if◌then◌else◌}
 use Rattle.sv_links.specs.Links.{LinkAct}
 use Rattle.sv_links.specs.Waiting.{WaitAct}

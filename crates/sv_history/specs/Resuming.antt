@@ -16,7 +16,7 @@ use Rattle.sv_history.specs.CoreChannel.{own_call}
 use Rattle.sv_history.specs.Interrupts.{connect_outcome}
 use Rattle.sv_history.specs.Admission.{device_wait, deadline}
 
--- this outcome for a suspended call, which isn't suspended any more
+-- this outcome, with the act by which the call isn't suspended any more
 abbrev pub leaving : ℕ → CallOutcome → CallOutcome
 leaving c outcome = record outcome { adds = outcome.adds ++ Waited (Left c) ∷ [] }
 

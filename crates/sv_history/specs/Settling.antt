@@ -54,11 +54,11 @@ IsNext config log =
 abbrev pub IsSettled : Config → List Act → Type 0
 IsSettled config log = (new : List Act) → IsNext config log new → ⊥
 
--- In `n` steps, each the one that is due, `log` becomes `new`, in which no step is due.
+-- In `n` steps, each the one that is due, `log` becomes `new`, after which no step is due.
 abbrev pub SettlesIn : ℕ → Config → List Act → List Act → Type 0
 SettlesIn zero config log new = IsSettled config log × (new ≡ log)
 SettlesIn (suc n) config log new = (middle : List Act) × IsNext config log middle × SettlesIn n config middle new
 
--- In some number of steps, each the one that is due, `log` becomes `new`, in which no step is due.
+-- In some number of steps, each the one that is due, `log` becomes `new`, after which no step is due.
 abbrev pub Settles : Config → List Act → List Act → Type 0
 Settles config log new = (n : ℕ) × SettlesIn n config log new

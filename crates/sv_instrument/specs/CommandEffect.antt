@@ -30,7 +30,7 @@ after_answering text log =
     if fits_response (answers (exchange_acts log)) text then Exchanged (Answered text) ∷ log
     else Reported QueryDeadlocked ∷ Exchanged AnswersDropped ∷ log
 
--- the log after this error is reported and the unit is done, if there is an error; else these acts
+-- the log after this error is reported and the unit is done, if there is an error; else `acts`
 abbrev pub unless : Option Code → List Act → List Act → List Act
 unless (Some code) acts log = done (Reported code ∷ log)
 unless None acts log = acts
@@ -47,7 +47,7 @@ after_configure list log = set_list list
     (Scanned (scan.Configure (setting.Count 1)) ∷ Scanned (scan.Configure (setting.Source Immediate))
     ∷ Scanned (scan.Configure (setting.Range (pos 10000000))) ∷ Scanned scan.Abort ∷ log)
 
--- the log after a query took or cleared something, if it does that
+-- the log after a query: with the act by which the query takes or clears something, if it does
 abbrev pub after_query : Question → List Act → List Act
 after_query question.StandardEvents log = StandardRead ∷ log
 after_query question.Error log = EntryTaken ∷ log
@@ -59,7 +59,7 @@ abbrev pub question_fault : Question → List Act → Option Code
 question_fault question.Readings log = if is_complete (effective_acts log) then None else Some DataCorruptOrStale
 question_fault asked log = None
 
--- A query is answered with its text, and takes or clears something, if it does that. Or its error is reported.
+-- A query is answered with its text. If it takes or clears something, that happens before the answer is given. Or its error is reported.
 abbrev pub Replies : Option Code → Question → List Act → List Act → Type 0
 Replies (Some code) asked log new = new ≡ done (Reported code ∷ log)
 Replies None asked log new = (text : List ℕ) × Says asked log text × (new ≡ after_answering text (done (after_query asked log)))

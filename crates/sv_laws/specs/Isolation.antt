@@ -15,7 +15,7 @@ use Rattle.sv_history.specs.AbortChannel.{owner_of}
 use Rattle.sv_history.specs.History.{IsLogOf}
 use Rattle.sv_laws.specs.Adding.{Adds}
 
--- whether an event is of a connection other than `c`, or of its interrupt channel
+-- whether an event is of a connection other than `c`, or of another connection's interrupt channel
 abbrev pub is_foreign : ℕ → PlainEvent → Bool
 is_foreign c (Open d role) = not (d == c)
 is_foreign c (Bytes d piece) = not (d == c)
@@ -64,7 +64,8 @@ HoldsFrom lid before log = (later since : List Act) → log ≡ later ++ (since 
 abbrev pub NoOtherWaits : ℕ → List WaitAct → Type 0
 NoOtherWaits c acts = (d : ℕ) → d ≢ c → (waits d acts ≢ Some ForInput) × (waits d acts ≢ Some ForResponse)
 
--- These events follow the history `past`. During them a link of this connection holds the lock. They leave its links alone.
+-- These events follow the history `past`. During them a link of this connection holds the lock, and they leave its links alone
+-- (`LeavesLinksAlone`). When they begin, no read or write of another connection is suspended (`NoOtherWaits`).
 pub record IsLocked (c lid : ℕ) (config : Config) (past events : List PlainEvent) : Type 0 where
   pub before : List Act
   pub log : List Act

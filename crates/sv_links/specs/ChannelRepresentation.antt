@@ -1,4 +1,4 @@
--- What is kept of interrupt channels, and which acts that stands for.
+-- What is kept of interrupt channels, and when it stands for a list of acts.
 use Rattle.std.specs.Prelude.{◌≡◌, ℕ, ◌-◌, ◌==◌, ◌<◌, ◌≤◌, nat_lt, not, Bool, true, false, List, [], ◌∷◌, length, map, filter, Option, Some, None, is_some, slice_get, slice_index_or, if◌then◌else◌, ⊤}
 use Rattle.std.specs.List.{concat, AllByRecursion}
 use Rattle.sv_links.specs.declared.enabled.Enabled.{Enabled}

@@ -17,7 +17,7 @@ max_links = 32
 abbrev pub max_enabled : ℕ
 max_enabled = max_links
 
--- how many calls of an interrupt channel may be pending, because its peer didn't take them completely
+-- how many calls may wait on an interrupt channel that its peer didn't take completely
 abbrev pub max_calls : ℕ
 max_calls = 32
 

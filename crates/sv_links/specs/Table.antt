@@ -1,4 +1,4 @@
--- What the table of links keeps, and which acts that stands for.
+-- What the table of links keeps, and when it stands for a list of acts.
 use Rattle.std.specs.Prelude.{◌≡◌, ℕ, ◌<◌, ◌≤◌, List, [], ◌∷◌, ◌++◌, is_some, count_by, Option, Some, None, ⊤}
 use Rattle.std.specs.List.{AllByRecursion}
 use Rattle.sv_links.specs.declared.links.Link.{Link}

@@ -1,22 +1,22 @@
 -- The searches that all layers share. A list of acts has the newest first. A suffix of it is the list as it was some acts ago.
 use Rattle.std.specs.Prelude.{ℕ, ◌≤◌, Bool, ◌&&◌, ◌||◌, List, [], ◌∷◌, length, drop, Option, unwrap_or, if◌then◌else◌}
 
--- the longest suffix of the list for which `is_such` holds: as it was most recently; the empty list if there is none
+-- the longest suffix of the list for which `is_such` holds; the empty list if there is none
 abbrev pub newest : {A : Type 0} → (List A → Bool) → List A → List A
 newest is_such [] = []
 newest is_such (act ∷ acts) = if is_such (act ∷ acts) then act ∷ acts else newest is_such acts
 
--- the acts since the newest moment for which `is_such` holds; all acts if there is none
+-- the acts that are newer than the longest suffix for which `is_such` holds; all acts if there is none
 abbrev pub since : {A : Type 0} → (List A → Bool) → List A → List A
 since is_such [] = []
 since is_such (act ∷ acts) = if is_such (act ∷ acts) then [] else act ∷ since is_such acts
 
--- what the newest act gives of those for which `gives` isn't `None`; the default if there is none
+-- what `gives` returns for the newest act for which it returns something; the default if there is none
 abbrev pub last_given : {A B : Type 0} → (A → Option B) → B → List A → B
 last_given gives default [] = default
 last_given gives default (act ∷ acts) = unwrap_or (gives act) (last_given gives default acts)
 
--- For the list as it was some number of acts ago, `IsFind` holds. For the list at each moment since then, that one included, `Keeps` holds.
+-- `IsFind` holds of the list as it was some number of acts ago. `Keeps` holds of the list at each moment since then, that one included.
 pub record Since {A : Type 0} (IsFind Keeps : List A → Type 0) (log : List A) : Type 0 where
   pub ago : ℕ
   pub within : ago ≤ length log

@@ -60,8 +60,8 @@ Waits answers [] start now = now ≡ start
 Waits answers (MadeSweep ∷ doings) start now = Waits answers doings start now
 Waits answers (doing ∷ doings) start now = (between : _) × Waits answers doings start between × answers between doing now
 
--- A loop, of whose number of sweeps `IsCount` holds, leads from one state of the driver to another. Its sweeps alone, with their
--- milliseconds, do so, too.
+-- A loop leads from one state of the driver to another, and `IsCount` holds of the number of its sweeps. Its sweeps alone, with their
+-- milliseconds, lead from the one state to the other, too.
 abbrev pub Served : {W : Type 0} → (W → Heard → W → Type 0) → (ℕ → Type 0) → DriverState W → DriverState W → Type 0
 Served hears IsCount old new = (doings : List (Doing _)) × IsCount (length (handed_in doings)) × Serves hears doings old new
     × Swept hears (handed_in doings) old new

@@ -33,7 +33,8 @@ Keeps before heard after = after.is_whole ≡ true → (before.is_whole ≡ true
 abbrev pub Passes : {W : Type 0} → (W → Heard → W → Type 0) → Recording W → Heard → Recording W → Type 0
 Passes hears before heard after = hears before.wire heard after.wire × Keeps before heard after
 
--- What a recorder is asked, the recorded wire is asked, with the same answers. If all calls are kept, this trace is what was kept of them.
+-- The calls of a recorder are made on the recorded wire, with the same answers. If all calls are kept, this trace was added to what was
+-- kept before.
 abbrev pub TraceIsKept : {W : Type 0} → (W → Heard → W → Type 0) → (Recording W → Heard → Recording W → Type 0) → Type 0
 TraceIsKept hears recorded = (trace : List Heard) (start now : Recording _) → Through recorded trace start now
     → Through hears trace start.wire now.wire × (now.is_whole ≡ true → now.trace ≡ trace ++ start.trace)

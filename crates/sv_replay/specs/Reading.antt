@@ -97,7 +97,7 @@ role_at word =
 unfoldable pub ok_at : List ℕ → Option Bool
 ok_at word = if bytes_eq word (codes "ok") then Some true else (if bytes_eq word (codes "failed") then Some false else None)
 
--- a port: a letter and a number
+-- a port, from a letter and a number
 unfoldable pub port_at : List ℕ → Option Port
 port_at [] = None
 port_at (letter ∷ number) =
@@ -110,42 +110,42 @@ ticks_at number = do
   n ← plain_at 1000000 number
   if n == 0 then None else Some (Ticks n)
 
--- an Open, by the text after its word
+-- an Open event, from the text after its word
 unfoldable pub open_at : List ℕ → Option PlainEvent
 open_at text = do
   x ← numbered_at text
   role ← role_at x.1
   Some (Open x.0 role)
 
--- a Bytes, by the text after its word
+-- a Bytes event, from the text after its word
 unfoldable pub bytes_at : List ℕ → Option PlainEvent
 bytes_at text = do
   x ← numbered_at text
   piece ← hex_at x.1
   Some (Bytes x.0 piece)
 
--- a Dialed, by the text after its word
+-- a Dialed event, from the text after its word
 unfoldable pub dialed_at : List ℕ → Option PlainEvent
 dialed_at text = do
   x ← numbered_at text
   ok ← ok_at x.1
   Some (Dialed x.0 ok)
 
--- an Input, by the text after its word
+-- an Input event, from the text after its word
 unfoldable pub input_at : List ℕ → Option PlainEvent
 input_at text = do
   x ← numbered_at text
   microvolts ← voltage_at x.1
   Some (Input x.0 microvolts)
 
--- a Bytes, a Turn or a Refuse, by the first word and the text after it
+-- a Bytes, a Turn or a Refuse event, from the first word and the text after it
 unfoldable pub traffic_at : List ℕ → List ℕ → Option PlainEvent
 traffic_at word text =
     if bytes_eq word (codes "bytes") then bytes_at text
     else (if bytes_eq word (codes "turn") then option_map Turn (plain_at 255 text)
     else (if bytes_eq word (codes "refuse") then option_map Refuse (plain_at 255 text) else None))
 
--- an event of a connection or an interrupt channel, by the first word and the text after it
+-- an event of a connection or an interrupt channel, from the first word and the text after it
 unfoldable pub event_at : List ℕ → List ℕ → Option PlainEvent
 event_at word text =
     if bytes_eq word (codes "open") then open_at text
@@ -159,13 +159,13 @@ lone_at word =
     else (if bytes_eq word (codes "external") then Some (One External)
     else (if bytes_eq word (codes "tick") then Some (One Tick) else None))
 
--- a line of more words, by the first word and the text after it
+-- a line of more words, from the first word and the text after it
 unfoldable pub words_at : List ℕ → List ℕ → Option Line
 words_at word text =
     if bytes_eq word (codes "tick") then ticks_at text
     else (if bytes_eq word (codes "input") then option_map One (input_at text) else option_map One (event_at word text))
 
--- what a line says, by the line and by the line cut at its first space
+-- what a line says, from the line and from its two parts around the first space
 abbrev pub cut_line_at : List ℕ → Option (List ℕ × List ℕ) → Option Line
 cut_line_at line None = lone_at line
 cut_line_at line (Some cut) = words_at cut.0 cut.1

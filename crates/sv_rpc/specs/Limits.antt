@@ -1,7 +1,7 @@
 -- How long records and their parts may be.
 use Rattle.std.specs.Prelude.{ℕ, ◌/◌}
 
--- how many bytes the records of a buffer may use, where each uses 4 more than its length
+-- how many bytes the records of a buffer may use; each uses 4 more than its length
 abbrev pub capacity : ℕ
 capacity = 16384
 

@@ -1,4 +1,4 @@
--- What the scanner keeps, and which acts that stands for.
+-- What the scanner keeps, and when it stands for a list of acts.
 use Rattle.std.specs.Prelude.{◌≡◌, ℕ, ◌-◌, ℤ, pos, Bool, true, List, Option, slice_index_or}
 use Rattle.std.specs.Prelude.{option_map}
 use Rattle.sv_scan.specs.declared.setting.Reading.{Reading}

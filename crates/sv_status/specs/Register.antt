@@ -63,6 +63,6 @@ pub record StandsFor (start : ℕ) (latches : Latches) (acts : List RegisterAct)
   pub enable : latches.enable ≡ enable start acts
   pub event : (k : ℕ) → (bit_at latches.event k ≡ 1) ↔ EventStands k acts
 
--- What the register keeps stands for the acts, with the start of the enable that it keeps.
+-- What the register keeps stands for the acts, with the start value of the enable that it keeps.
 abbrev pub Stands : Latches → List RegisterAct → Type 0
 Stands latches acts = StandsFor latches.start latches acts

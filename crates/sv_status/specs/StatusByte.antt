@@ -13,11 +13,11 @@ bits = last_given (elim [ Update word mask ↦ Some word | _ ↦ None ]) 0
 abbrev pub enable : List StatusAct → ℕ
 enable = last_given (elim [ Update word mask ↦ Some mask | _ ↦ None ]) 0
 
--- This summary bit is set and enabled; bit 6 is no summary bit.
+-- This bit is a summary bit, which bit 6 isn't, and it is set and enabled.
 abbrev pub ServiceRequested : ℕ → ℕ → ℕ → Type 0
 ServiceRequested k word mask = (k ≢ 6) × (bit_at word k ≡ 1) × (bit_at mask k ≡ 1)
 
--- After these acts this summary bit is set and enabled; bit 6 is no summary bit.
+-- After these acts this bit is a summary bit, which bit 6 isn't, and it is set and enabled.
 abbrev pub ServiceRequestedAt : ℕ → List StatusAct → Type 0
 ServiceRequestedAt k acts = ServiceRequested k (bits acts) (enable acts)
 

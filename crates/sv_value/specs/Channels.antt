@@ -50,9 +50,8 @@ abbrev pub channel_range : ℕ → ℕ → List ℕ
 channel_range first last = if nat_le first last then range_with_len first (last - first + 1) else reverse
     (range_with_len last (first - last + 1))
 
--- The channels so far, those of the next item and those of the items after it; or the first error. If an end isn't a channel, it is -222;
--- then, if the channels so far become more than a list may have, -223. A text that isn't an item is -171; `read_items` checks all of them
--- for that first.
+-- The channels so far, then those of the next item and of the items after it. Or the first error: an end that isn't a channel (-222), then
+-- more channels so far than a list may have (-223). Texts that aren't items (-171) are found by `read_items` before.
 abbrev pub next : Option Span → List ℕ → (List ℕ → Result (List ℕ) Code) → Result (List ℕ) Code
 next None before others = Err InvalidExpression
 next (Some ends) before others =

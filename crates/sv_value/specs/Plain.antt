@@ -19,7 +19,8 @@ plain number = record {
   suffix = number.suffix.now;
 }
 
--- The amount stands for this result, which is a number: the amount has its sign, and its magnitude, which is cut to 10 ^ 18.
+-- The amount stands for this result, which is a number. The amount has the number's sign and its magnitude, but a magnitude of at most 10 ^
+-- 18.
 abbrev pub StandsFor : Amount → Result ℤ Code → Type 0
 StandsFor amount answer = (magnitude : ℕ) × (answer ≡ Ok (signed amount.negative magnitude))
     × (amount.magnitude ≡ min magnitude 1000000000000000000)

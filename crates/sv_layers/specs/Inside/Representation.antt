@@ -1,4 +1,4 @@
--- What the layers keep, and which log that stands for.
+-- What the layers keep, and when it stands for a log.
 use Rattle.std.specs.Prelude.{◌≡◌, ◌↔◌, ℕ, ◌+◌, min, Bool, true, List, [], ◌∷◌, length}
 use Rattle.sv_errors.specs.declared.code.Code.{Code}
 use Rattle.sv_errors.specs.ErrorQueue.{entries, StandsFor as Queues}

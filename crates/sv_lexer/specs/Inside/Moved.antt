@@ -8,7 +8,7 @@ use Rattle.sv_lexer.specs.Partial.{Progress}
 abbrev pub one_more : ℕ → ℕ
 one_more n = min (n + 1) (2 ^ 64 - 1)
 
--- each of these: the new value of a field of `Progress`, from the stage at which the unit now ends, its new size and the old value
+-- for each field of `Progress` that changes: its new value, from the stage at which the unit now ends, the new size, and the old value
 abbrev pub header_start_in : Stage → ℕ → ℕ → ℕ
 header_start_in WhiteSpace size before = size
 header_start_in _ size before = before

@@ -1,4 +1,4 @@
--- What the server keeps of a connection, and which acts of the connection that stands for.
+-- What the server keeps of a connection, and when it stands for the acts of the connection.
 use Rattle.std.specs.Prelude.{◌≡◌, ℕ, ◌≤◌, Bool, true, List, length, Option, slice_get, is_some}
 use Rattle.sv_rpc.specs.RecordBuf.{Records, StandsFor}
 use Rattle.sv_history.specs.declared.event.Role.{Role}

@@ -1,4 +1,4 @@
--- What the server keeps of the device, and which acts of the device that stands for.
+-- What the server keeps of the device, and when it stands for the acts of the device.
 use Rattle.std.specs.Prelude.{◌≡◌, ℕ, ◌+◌, ◌<◌, ◌≤◌, true, List, [], ◌++◌, length, Some}
 use Rattle.std.specs.List.{AllByRecursion}
 use Rattle.sv_links.specs.declared.waiting.Entry.{Entry}

@@ -1,4 +1,4 @@
--- What the server keeps, and which log and which history that stands for.
+-- What the server keeps, and when it stands for a log or a history.
 use Rattle.std.specs.Prelude.{◌≡◌, ℕ, ◌<◌, ◌≤◌, true, List, [], Some, slice_index_or}
 use Rattle.sv_history.specs.declared.event.Config.{Config}
 use Rattle.sv_history.specs.Event.{PlainEvent}

@@ -38,7 +38,7 @@ plain_stop (stops.Awaits wait timeout) = Awaits wait timeout
 abbrev pub IsDeviceAt : Device → Config → ℕ → List DeviceAct → Type 0
 IsDeviceAt kept config polled acts = IsDevice kept config acts × IsPolled polled acts
 
--- The outcome isn't a result with data; only reading the response gives data.
+-- The outcome has no data of its own. Only reading the response gives data.
 abbrev pub IsBrief : Outcome → Type 0
 IsBrief (outcomes.Result given) = data_of (plain_result given) ≡ []
 IsBrief _ = ⊤
@@ -65,7 +65,7 @@ IsGranted _ kept acts = ⊤
 
 -- ---- a call that begins
 
--- The call is suspended, in the queue behind all others. If it makes a link, it waits as a create_link.
+-- The call is suspended, in the queue behind all others. If it is create_link, it waits for the lock.
 abbrev pub IsBehind : ℕ → Bool → List Entry → List Entry → Type 0
 IsBehind c makes old new =
     (entry : Entry) × (entry.conn ≡ c) × (new ≡ without c old ++ entry ∷ []) × (makes ≡ true → creates entry ≡ true)
