@@ -34,7 +34,7 @@ count_acts (Report code ∷ acts) = admit (count_acts acts) (length acts + 1)
 count_acts (Take ∷ acts) = take_one (count_acts acts)
 count_acts (Clear ∷ acts) = record { admitted = []; taken = 0 }
 
--- the entries, oldest first, each as the place of its report
+-- the entries of the queue, the oldest first, each given as the place of its report
 abbrev pub entries : List QueueAct → List ℕ
 entries acts = left (count_acts acts)
 

@@ -106,7 +106,7 @@ is_overlong acts = ends_overlong (tail_of (stream acts))
 abbrev pub is_faulted : List ConnAct → Bool
 is_faulted acts = took_no_call acts || (is_overlong acts && (records_ended acts == length (records_of (stream acts))))
 
--- how many bytes may come: a record takes room until it is answered
+-- how many bytes may still come: a record uses room until it is answered
 abbrev pub room : List ConnAct → ℕ
 room acts =
     if is_open acts then capacity - used_by (drop (records_ended acts) (records_of (stream acts))) (tail_of (stream acts)) else 0

@@ -139,7 +139,7 @@ IsLogOf config (event ∷ history) log = (before : List Act) × (polled : ℕ) �
     × IsPolled polled (device_acts before)
     × Settles config (own_acts config polled event before ++ before) log
 
--- what an event that wasn't refused did: a Turn that finds no call is idle
+-- what an event that wasn't refused did: `Idle` for a Turn that finds no call, else `Done`
 abbrev pub did : PlainEvent → List Act → Did
 did (Turn c) log = if is_idle (of c log) then Idle else Done
 did _ log = Done

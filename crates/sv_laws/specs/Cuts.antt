@@ -22,7 +22,7 @@ use Rattle.sv_laws.specs.Adding.{Sends, Adds}
 
 -- ---- writes
 
--- The event is bytes on this connection, or a Turn of it.
+-- The event is Bytes on connection `c`, or a Turn of it.
 abbrev pub IsFeeding : ℕ → PlainEvent → Type 0
 IsFeeding c (Bytes d piece) = d ≡ c
 IsFeeding c (Turn d) = d ≡ c

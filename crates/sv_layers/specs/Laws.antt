@@ -44,7 +44,7 @@ SameEvents = (name : RegisterName) (k : ℕ) (log : List Act)
 abbrev pub SameWaiting : Type 0
 SameWaiting = (log : List Act) → ((layer_logs log).waits ≡ true) ↔ Waits log
 
--- Operation complete occurs at an act exactly if an `*OPC` completes at that act.
+-- By the logs of the layers, operation complete occurs at an act exactly if an `*OPC` completes at that act.
 abbrev pub SameCompletion : Type 0
 SameCompletion = (act : Act) (before : List Act) → (completes : Bool)
     × ((after_complete (after_begin act (layer_logs before))).standard ≡ Occur (bit 0 completes)

@@ -63,7 +63,7 @@ abbrev pub calls_left : ℕ → List (List ℕ) → List (List ℕ)
 calls_left count [] = []
 calls_left count (call ∷ calls) = if nat_lt count (length call) then drop count call ∷ calls else calls_left (count - length call) calls
 
--- whether one more call may be sent: fewer than 32 aren't taken completely, and a number is left
+-- whether one more call may be sent: fewer than 32 calls aren't taken completely, and a number is left for it
 abbrev pub may_call : ℕ → List (List ℕ) → Bool
 may_call count calls = nat_lt (length (calls_left count calls)) max_calls && nat_lt (length calls) 4294967295
 

@@ -30,7 +30,7 @@ live (_ ∷ acts) = live acts
 abbrev pub owner : ℕ → List LinkAct → Option ℕ
 owner lid acts = option_map (λ link. link.conn) (find (λ link. link.lid == lid) (live acts))
 
--- whether this connection is the owner
+-- whether this connection is the owner; false if there is no owner
 abbrev pub is_of : ℕ → Option ℕ → Bool
 is_of conn owner = option_map_or (λ other. other == conn) owner false
 
@@ -46,7 +46,7 @@ lowest conn acts = find (λ lid. true) (links_of conn acts)
 abbrev pub lids_left : List LinkAct → Bool
 lids_left acts = nat_lt (links_made acts) 2147483647
 
--- whether one more link may be made: fewer than 32 live, and a number is left
+-- whether one more link may be made: fewer than 32 links are live, and a number is left
 abbrev pub may_make : List LinkAct → Bool
 may_make acts = nat_lt (length (live acts)) max_links && lids_left acts
 

@@ -57,7 +57,7 @@ creates entry = is_lock (Some entry.wait) && is_none entry.lid
 abbrev pub creations : List Entry → ℕ
 creations entries = length (filter creates entries)
 
--- the entries without that of a connection
+-- the entries without the one of this connection
 abbrev pub without : ℕ → List Entry → List Entry
 without conn entries = filter (λ entry. not (entry.conn == conn)) entries
 

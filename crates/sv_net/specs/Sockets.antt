@@ -37,8 +37,8 @@ abbrev pub At : {S A : Type 0} → ℕ → (S → S → Type 0) → Answer A →
 At n step answer before after =
     (place : Option _) × Does step answer (slice_index_or before n None) place × (after ≡ slice_set before n place)
 
--- What a call of the wire and its answer lead to: only the socket of its port changes. What is known of a stream are the bytes that it has
--- left to read, and those that it was sent.
+-- What a call of the wire, with its answer, does to the sockets: only the socket of its port changes. Of a stream two things are known: the
+-- bytes that it has left to read, and the bytes that it was sent.
 abbrev pub Hears : {S : Type 0} → (S → Option (List ℕ)) → (S → Option (List ℕ)) → List (Option S) → Heard → List (Option S) → Type 0
 Hears left sent before (WasAccepted role (Some c) (Got all)) after = (stream : _) × (after ≡ slice_set before c (Some stream))
 Hears left sent before (WasAccepted role number answer) after = after ≡ before

@@ -5,7 +5,7 @@ use Rattle.std.specs.Prelude.{ℕ, ◌/◌}
 abbrev pub capacity : ℕ
 capacity = 16384
 
--- how many records a buffer may hold: an empty one takes 4 bytes
+-- how many records a buffer may hold, because even an empty one uses 4 bytes
 abbrev pub max_records : ℕ
 max_records = capacity / 4
 
