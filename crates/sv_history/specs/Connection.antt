@@ -111,6 +111,6 @@ abbrev pub room : List ConnAct → ℕ
 room acts =
     if is_open acts then capacity - used_by (drop (records_ended acts) (records_of (stream acts))) (tail_of (stream acts)) else 0
 
--- how many bytes of replies still find room
+-- for how many bytes of replies there is still room
 abbrev pub free : List ConnAct → ℕ
 free acts = max_output - length (bytes_left acts)
