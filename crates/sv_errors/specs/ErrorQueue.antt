@@ -1,5 +1,5 @@
--- The error queue (SCPI-1999, volume 2, section 21.8), as a search of its acts, the newest first. A place of the acts is given as the
--- number of acts up to it.
+-- The error queue (SCPI-1999, volume 2, section 21.8), as a search of its acts, the newest first. The place of an act is the number of acts
+-- up to it, itself included.
 use Rattle.std.specs.Prelude.{◌≡◌, ℕ, ◌+◌, ◌-◌, ◌==◌, ◌&&◌, Bool, List, [], ◌∷◌, ◌++◌, length, map, drop, Option, Some, None, is_some, unwrap_or, nat_lt, slice_get, if◌then◌else◌}
 use Rattle.sv_errors.specs.declared.code.Code.{Code}
 use Rattle.sv_errors.specs.declared.code.Code.TheVariants.{NoError, QueueOverflow}

@@ -38,8 +38,8 @@ rest_place unit = header_place unit + header_size unit + white_size (behind unit
 abbrev pub is_legal : ℕ → Bool
 is_legal b = is_white b || (nat_lt 32 b && nat_lt b 127)
 
--- the first fault of a unit: an illegal byte (-101), a header that isn't spelled as one (-102), a mnemonic above 12 characters (-112);
--- `None` if there is no fault
+-- the first fault of a unit: an illegal byte (-101), a text in the header's place that isn't a header (-102), a mnemonic of more than 12
+-- characters (-112); `None` if there is no fault
 abbrev pub unit_fault : List ℕ → Option Code
 unit_fault unit =
     if not (list_all is_legal unit) then Some InvalidCharacter

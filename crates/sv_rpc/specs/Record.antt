@@ -30,7 +30,7 @@ abbrev pub IsTaken : Sent → Type 0
 IsTaken sent = length (record_of sent) ≤ max_record
 
 -- what follows the last complete record of a stream: an unfinished record, which lacks bytes of a fragment's header (`Header`) or of its
--- data (`Data`); or a record that is too long. The payload is what came of the record's data.
+-- data (`Data`); or a record that is too long. The payload is the part of the record's data that came.
 pub data Tail : Type 0 where
   Header : (payload header : List ℕ) → Tail
   Data : (payload : List ℕ) (missing : ℕ) (last : Bool) → Tail

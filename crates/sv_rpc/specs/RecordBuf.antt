@@ -6,7 +6,7 @@ use Rattle.sv_rpc.specs.declared.record_buf.RpcFault.TheVariants.{RecordTooLong}
 use Rattle.sv_rpc.specs.Limits.{capacity}
 use Rattle.sv_rpc.specs.Record.{Tail, Header, Data, TooLong, Splits}
 
--- the complete records that weren't dropped, and what follows them
+-- what a buffer holds: the complete records that weren't dropped, and the tail that follows them
 pub record Records : Type 0 where
   pub records : List (List ℕ)
   pub tail : Tail

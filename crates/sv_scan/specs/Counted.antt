@@ -46,7 +46,7 @@ init_fault log = if is_idle (state log) then None else Some InitIgnored
 abbrev pub trigger_fault : List ScanAct → Source → Option Code
 trigger_fault log from = if is_waiting (state log) && same_source (source log) from then None else Some TriggerIgnored
 
--- why a reading can't be waited for: -214 if the controller, which would wait, would have to trigger it
+-- why a reading can't be waited for: -214 if triggers come from the controller, which would be the one that waits
 abbrev pub read_fault : List ScanAct → Option Code
 read_fault log = if same_source (source log) Bus then Some TriggerDeadlock else None
 

@@ -22,8 +22,8 @@ abbrev pub run_complete : Option Run → ℕ → Bool
 run_complete None samples = false
 run_complete (Some run) samples = samples == run.scans * length run.channels
 
--- A measurement has a legal scan list, at most 16 scans, at most as many triggers as scans, and at most as many samples as its triggered
--- scans have channels.
+-- A measurement has a legal scan list, at most 16 scans, and at most as many triggers as scans. It has at most as many samples as its
+-- triggered scans have channels in total.
 pub record IsRun (run : Run) (samples : ℕ) : Type 0 where
   pub channels : is_channel_list run.channels ≡ true
   pub scans : run.scans ≤ most_scans

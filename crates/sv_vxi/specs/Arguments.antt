@@ -102,7 +102,7 @@ abbrev pub link : Arguments → Option ℤ
 link (OnLink lid call) = Some lid
 link _ = None
 
--- what flags and a timeout, in milliseconds, say of the lock: bit 0 is waitlock
+-- what flags and a timeout in milliseconds say about the lock: the call waits for it if bit 0, waitlock, is set
 abbrev pub lock_wait_of : ℕ → ℕ → Option LockWait
 lock_wait_of flags timeout = Some (record { waits = bit_at flags 0 == 1; timeout = timeout })
 

@@ -11,7 +11,7 @@ use Rattle.sv_history.specs.Reply.{reply_record}
 use Rattle.sv_server.specs.declared.connection.reply.Answer.{Answer}
 use Rattle.sv_server.specs.declared.connection.reply.Answer.TheVariants as answers
 
--- of an answer: its reply, the fields after that, its bytes, and its bytes as a record
+-- for an answer: its reply, the fields after the reply's header, its bytes, and its bytes as a record
 abbrev pub reply_of : Answer → Reply
 reply_of (answers.Header reply) = reply
 reply_of (answers.Port port) = Success
