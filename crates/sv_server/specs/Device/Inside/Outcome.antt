@@ -84,7 +84,7 @@ pub record Does {O : Type 0} (IsSo : Config → ℕ → List DeviceAct → O →
   pub brief : IfOk result (λ outcome. IsShort outcome)
   pub err : OnErr result (new ≡ old)
 
--- The call begins, after acts for which `IsAt` holds: any acts, or those after which `stop` stops the call.
+-- The call begins, after acts for which `IsAt` holds: any acts (`Admits`), or those after which `stop` is what stops the call (`AdmitsAt`).
 abbrev pub Begins : (List DeviceAct → Type 0) → {E : Type 0} → Result Outcome E → ℕ → Arguments → Device → Device → Type 0
 Begins IsAt result c arguments old new =
     Does (λ config polled acts outcome. IsAt acts
@@ -130,8 +130,8 @@ abbrev pub IsNearer : Cause → ℕ → List Entry → Type 0
 IsNearer (causes.Able wait) c old = queue_measure (without c old) + wait_measure wait ≤ queue_measure old
 IsNearer _ c old = ⊤
 
--- A suspended call may resume for this cause: what it waits for is there, and `HasPlaceOfLink` holds; or it waits for its peer, which was
--- called; or it fails.
+-- A call may resume for this cause. If what it waits for is there, it is suspended, and `HasPlaceOfLink` holds. If its peer was called, it
+-- waits for that. If it fails, nothing is needed.
 abbrev pub MayResume : Cause → ℕ → Type 0 → List DeviceAct → Type 0
 MayResume (causes.Able wait) c HasPlaceOfLink acts = (waits c (wait_acts acts) ≡ None → ⊥) × HasPlaceOfLink
 MayResume (causes.Dialed ok) c HasPlaceOfLink acts = is_dialing c (wait_acts acts) ≡ true
