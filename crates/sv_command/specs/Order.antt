@@ -19,7 +19,7 @@ pub record Parameter : Type 0 where
   pub kind : Kind
   pub text : List ℕ
 
--- what is made of a value; its error if it has one
+-- what is made of a value; or the error, if there is no value
 abbrev pub then_value : {A B : Type 0} → (A → B) → Result A Code → Result B Code
 then_value make (Ok value) = Ok (make value)
 then_value make (Err code) = Err code
@@ -52,7 +52,8 @@ set_order name.Limits kind text = then_value (λ on. order.Set (setting.Limits o
 set_order name.Source kind text = then_value (λ source. order.Set (setting.Source source)) (read_source kind text)
 set_order name.Count kind text = then_value (λ scans. order.Set (setting.Count scans)) (read_whole 1 most_scans kind text)
 
--- what a command asks for, with its parameter if it has one. A setting needs one (-109); a measurement may have a channel list.
+-- What a command asks for, with its parameter if it has one. A command that sets a value needs a parameter (-109). A command that
+-- configures a measurement may have a channel list.
 abbrev pub order_of : CommandId → Option Parameter → Result Order Code
 order_of (id.Do action) parameter_of = Ok (order.Do action)
 order_of (id.Ask question) parameter_of = Ok (order.Ask question)

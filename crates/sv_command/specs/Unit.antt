@@ -15,7 +15,7 @@ use Rattle.sv_command.specs.Order.{Parameter, order_of}
 abbrev pub first_parameter : List ℕ → Option Parameter
 first_parameter unit = if count unit == 0 then None else Some (record { kind = kind_of (parameter unit 0); text = parameter unit 0 })
 
--- the error if there is one, else the other result
+-- this error, if there is one; else this result
 abbrev pub unless : Option Code → Result Order Code → Result Order Code
 unless (Some code) outcome = Err code
 unless None outcome = outcome
@@ -26,15 +26,16 @@ order_of_unit command unit =
     unless (parameters_fault unit)
     (if nat_lt (most_parameters command) (count unit) then Err ParameterNotAllowed else order_of command (first_parameter unit))
 
--- The header names a command, or none does (-113). The path follows a header that does.
+-- The header names a command: the unit asks for what that command does, and the path follows the header. Or the header names no command
+-- (-113), and the path stays.
 abbrev pub IsNamed : List (List ℕ) → List ℕ → Result Order Code → List (List ℕ) → Type 0
 IsNamed path unit outcome behind =
     ((command : CommandId) × Resolves path (header unit) command × (outcome ≡ order_of_unit command unit) × (behind ≡ next_path path
     (header unit)))
     ⊎ (((command : CommandId) → Resolves path (header unit) command → ⊥) × (outcome ≡ Err UndefinedHeader) × (behind ≡ path))
 
--- A unit, with the path before it, asks for this, and leaves this path. The path follows a header that is well spelled and names a command;
--- else it stays.
+-- A unit, with the path before it, has this outcome: what it asks for, or its error. It leaves the path `behind`. The path follows a header
+-- that is well spelled and names a command; otherwise it is unchanged.
 abbrev pub IsReadAs : List (List ℕ) → List ℕ → Result Order Code → List (List ℕ) → Type 0
 IsReadAs path unit outcome behind = ((code : Code) × (unit_fault unit ≡ Some code) × (outcome ≡ Err code) × (behind ≡ path))
     ⊎ ((unit_fault unit ≡ None) × IsNamed path unit outcome behind)

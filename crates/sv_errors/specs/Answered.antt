@@ -6,12 +6,12 @@ use Rattle.sv_errors.specs.declared.error_queue.QueueAnswer.{QueueAnswer}
 use Rattle.sv_errors.specs.declared.error_queue.QueueAnswer.TheVariants.{Reported, Taken, Cleared}
 use Rattle.sv_errors.specs.ErrorQueue.{is_full, oldest}
 
--- the answer to an act: whether a report overflows, or the entry that is taken
+-- the answer to an act after these acts: whether a report overflows, or the entry that is taken
 abbrev pub answer_to : List QueueAct → QueueAct → QueueAnswer
 answer_to acts (Report code) = Reported (is_full acts)
 answer_to acts Take = Taken (oldest acts)
 answer_to acts Clear = Cleared
 
--- The answer is that.
+-- The error queue gives this answer to an act after these acts.
 abbrev pub Gives : List QueueAct → QueueAct → QueueAnswer → Type 0
 Gives acts act answer = answer ≡ answer_to acts act

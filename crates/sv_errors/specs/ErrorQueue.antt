@@ -1,5 +1,5 @@
--- The error queue (SCPI-1999, volume 2, section 21.8), as a search of its acts, the newest first. A place of the acts is given as the
--- number of acts up to it.
+-- The error queue (SCPI-1999, volume 2, section 21.8), as a search of its acts, the newest first. The place of an act is the number of acts
+-- up to it, itself included.
 use Rattle.std.specs.Prelude.{◌≡◌, ℕ, ◌+◌, ◌-◌, ◌==◌, ◌&&◌, Bool, List, [], ◌∷◌, ◌++◌, length, map, drop, Option, Some, None, is_some, unwrap_or, nat_lt, slice_get, if◌then◌else◌}
 use Rattle.sv_errors.specs.declared.code.Code.{Code}
 use Rattle.sv_errors.specs.declared.code.Code.TheVariants.{NoError, QueueOverflow}
@@ -15,26 +15,26 @@ pub record Counted : Type 0 where
   pub admitted : List ℕ
   pub taken : ℕ
 
--- those that weren't taken
+-- the places of the reports that weren't taken
 abbrev pub left : Counted → List ℕ
 left count_acts = drop count_acts.taken count_acts.admitted
 
--- a report finds room if fewer than 64 entries are left
+-- what is counted after a report at this place, which finds room if fewer than 64 entries are left
 abbrev pub admit : Counted → ℕ → Counted
 admit before place = if nat_lt (length (left before)) most then record before { admitted = before.admitted ++ place ∷ [] } else before
 
--- an entry is taken, if there is one
+-- what is counted after an entry is taken, if there is one
 abbrev pub take_one : Counted → Counted
 take_one before = if is_some (slice_get (left before) 0) then record before { taken = before.taken + 1 } else before
 
--- what is counted of all acts
+-- what is counted after these acts
 abbrev pub count_acts : List QueueAct → Counted
 count_acts [] = record { admitted = []; taken = 0 }
 count_acts (Report code ∷ acts) = admit (count_acts acts) (length acts + 1)
 count_acts (Take ∷ acts) = take_one (count_acts acts)
 count_acts (Clear ∷ acts) = record { admitted = []; taken = 0 }
 
--- the entries, oldest first, each as the place of its report
+-- the entries of the queue, the oldest first, each given as the place of its report
 abbrev pub entries : List QueueAct → List ℕ
 entries acts = left (count_acts acts)
 
@@ -54,8 +54,8 @@ report_of = elim [ Report code ∷ acts ↦ Some code | _ ↦ None ]
 abbrev pub is_overtaken : ℕ → List QueueAct → Bool
 is_overtaken place acts = nat_lt place (length acts) && is_some (report_of (up_to (place + 1) acts))
 
--- What an entry reads: the error of its report; but of the entry that made the queue full -350, if another report came before the next
--- taking.
+-- The error that an entry gives: that of its report. But the entry that made the queue full gives -350 if the act after its report is
+-- another report.
 abbrev pub entry_code : List QueueAct → ℕ → Code
 entry_code acts place =
     if is_full (up_to place acts) && is_overtaken place acts then QueueOverflow else unwrap_or (report_of (up_to place acts)) NoError
@@ -64,10 +64,10 @@ entry_code acts place =
 abbrev pub queue_codes : List QueueAct → List Code
 queue_codes acts = map (entry_code acts) (entries acts)
 
--- the oldest of them; `None` if there is none
+-- the oldest error in the queue; `None` if the queue is empty
 abbrev pub oldest : List QueueAct → Option Code
 oldest acts = slice_get (queue_codes acts) 0
 
--- These errors are those that the acts leave queued.
+-- These are the errors in the queue after these acts, the oldest first.
 abbrev pub StandsFor : List Code → List QueueAct → Type 0
 StandsFor codes acts = codes ≡ queue_codes acts

@@ -30,6 +30,6 @@ is_channel_list channels = nat_le 1 (length channels) && (nat_le (length channel
 abbrev pub most_microvolts : ℕ
 most_microvolts = 1000000000
 
--- whether a voltage, in microvolts, has at most that magnitude
+-- whether a voltage, in microvolts, is at most 1,000 V in magnitude
 abbrev pub is_within : ℤ → Bool
 is_within value = int_le (neg_ℤ (pos most_microvolts)) value && int_le value (pos most_microvolts)

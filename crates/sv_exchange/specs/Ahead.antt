@@ -19,12 +19,12 @@ pub record IsOpen (seen unit space : List ℕ) : Type 0 where
   pub starts : is_something unit ≡ true → (more : List ℕ) → trim_start (unit ++ more) ≡ unit ++ more
   pub ends : trim_end unit ≡ unit
 
--- The unit is the first one, whatever follows; or it may still go on.
+-- If the flag is true, this unit is the first of the text, whatever follows. Otherwise the unit may still go on.
 abbrev pub IsFound : Bool → (seen unit space : List ℕ) → Type 0
 IsFound true seen unit space = (is_something unit ≡ true) × ((more : List ℕ) → units (seen ++ more) ≡ unit ∷ units more)
 IsFound false seen unit space = IsOpen seen unit space
 
--- What was looked at: bytes that are no unit, the unit so far, and what follows it.
+-- What was looked at: bytes before the first unit, that unit so far, and what follows it.
 pub record IsAhead (ahead : Ahead) (seen : List ℕ) : Type 0 where
   pub before : List ℕ
   pub unit : List ℕ
@@ -46,12 +46,12 @@ pub record IsLooked (ahead : Ahead) (text : List ℕ) : Type 0 where
   pub begun : IsBegun ahead text
   pub all : ahead.closed ≡ false → ahead.looked ≡ length text
 
--- one more semicolon was looked at
+-- what is known after one more semicolon
 abbrev pub behind_semicolon : Ahead → Ahead
 behind_semicolon ahead = if nat_lt ahead.start ahead.end then record ahead { looked = ahead.looked + 1; closed = true }
     else record ahead { start = ahead.looked + 1; end = ahead.looked + 1; looked = ahead.looked + 1 }
 
--- one more byte of white space was looked at
+-- what is known after one more byte of white space
 abbrev pub behind_space : Ahead → Ahead
 behind_space ahead = if nat_lt ahead.start ahead.end then record ahead { looked = ahead.looked + 1 }
     else record ahead { start = ahead.looked + 1; end = ahead.looked + 1; looked = ahead.looked + 1 }

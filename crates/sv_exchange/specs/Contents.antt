@@ -1,4 +1,4 @@
--- What message exchange keeps, and which acts it stands for.
+-- What message exchange keeps, and when it stands for a list of acts.
 use Rattle.std.specs.Prelude.{◌≡◌, ◌≢◌, ℕ, ◌+◌, ◌*◌, ◌==◌, Bool, true, false, not, ◌&&◌, List, [], ◌∷◌, ◌++◌, length, drop, map, Option, None, nat_lt, slice_get, if◌then◌else◌}
 use Rattle.sv_exchange.specs.declared.exchange.Next.{Next}
 use Rattle.sv_exchange.specs.declared.exchange.Next.TheVariants as next
@@ -6,7 +6,7 @@ use Rattle.sv_exchange.specs.Exchange.{ExchangeAct, Symbol, Byte, end_mark, text
 use Rattle.sv_exchange.specs.Limits.{max_message}
 
 -- what is kept: the rest of the current message, and whether it has ended; the text after it, and whether END follows that; what happened
--- to the message; and its answers, or else what can be read
+-- to the message; and either its answers or what can be read
 pub record Contents : Type 0 where
   pub rest : List ℕ
   pub ended : Bool
@@ -42,7 +42,8 @@ abbrev pub following : Bool → List ℕ → Bool → List (List ℕ)
 following true later end_pending = messages (symbols later end_pending)
 following false later end_pending = []
 
--- What is kept is the answers of the current message, joined; or the response.
+-- The output that is kept is the joined answers of the current message, and nothing can be read; or there is no answer, and it is the
+-- response.
 abbrev pub IsShown : Bool → List ℕ → List (List ℕ) → List ℕ → Type 0
 IsShown true output given readable = (given ≢ []) × (output ≡ joined_answers given) × (readable ≡ [])
 IsShown false output given readable = (given ≡ []) × (readable ≡ output)
@@ -64,7 +65,7 @@ pub record StandsFor (contents : Contents) (acts : List ExchangeAct) : Type 0 wh
   pub answers_dropped : has_dropped (current acts) ≡ contents.answers_dropped
   pub shows : IsShown contents.answering contents.output (answers acts) (response acts)
 
--- whether no ended message waits to be finished
+-- whether the current message hasn't ended yet
 abbrev pub is_open : Contents → Bool
 is_open contents = not contents.ended
 
@@ -77,12 +78,12 @@ readable_of false output = output
 abbrev pub shown_by : Contents → List ℕ
 shown_by contents = readable_of contents.answering contents.output
 
--- the next unit, of a message that has ended, isn't too long, and lost no answers
+-- the next unit of the current message; `None` unless the message has ended, isn't too long, and lost no answers
 abbrev pub unit_of : Contents → Option (List ℕ)
 unit_of contents = if contents.ended && (not contents.overlong && not contents.answers_dropped) then slice_get (units contents.rest) 0
     else None
 
--- what is due
+-- what is due, by what is kept
 abbrev pub next_of : Contents → Due
 next_of contents = if contents.overlong && not contents.overrun_reported then OverrunDue else due_unit (unit_of contents)
     (is_something (shown_by contents)) contents.ended
@@ -95,17 +96,18 @@ IsUnitDue due = (unit : List ℕ) × (due ≡ UnitDue unit)
 abbrev pub may_respond : Contents → Bool
 may_respond contents = contents.ended && (not contents.answers_dropped && not (is_something (shown_by contents)))
 
--- 1 if so, else 0
+-- 1 for true, 0 for false
 abbrev pub bit : Bool → ℕ
 bit true = 1
 bit false = 0
 
--- how much text there is
+-- how much text is kept: the bytes of the current message; if it has ended, also 1 for its end, the bytes after it, and 1 if END follows
+-- them
 abbrev pub text_size : Bool → ℕ → ℕ → Bool → ℕ
 text_size true rest later end_pending = rest + (1 + (later + bit end_pending))
 text_size false rest later end_pending = rest
 
--- how much is left to do: each step that is due makes it less, so repeated stepping terminates
+-- how much is left to do: each step that is due makes this less, so repeated stepping terminates
 abbrev pub exchange_measure : Contents → ℕ
 exchange_measure contents = 3 * text_size contents.ended (length contents.rest) (length contents.later) contents.end_pending +
     (bit (contents.overlong && not contents.overrun_reported) + bit (is_something (shown_by contents)))

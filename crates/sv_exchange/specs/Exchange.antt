@@ -57,19 +57,19 @@ messages_finished acts = length (filter (elim [ Finished ↦ true | _ ↦ false 
 abbrev pub current : List ExchangeAct → List ExchangeAct
 current acts = since (elim [ Finished ∷ older ↦ true | TextDropped ∷ older ↦ true | _ ↦ false ]) acts
 
--- how many units are done, in these acts
+-- how many units were done in these acts
 abbrev pub units_done : List ExchangeAct → ℕ
 units_done acts = length (filter (elim [ UnitDone ↦ true | _ ↦ false ]) acts)
 
--- whether the message was reported as too long, in these acts
+-- whether the message was reported as too long in these acts
 abbrev pub has_overrun : List ExchangeAct → Bool
 has_overrun acts = list_any (elim [ Overran ↦ true | _ ↦ false ]) acts
 
--- whether the answers were dropped, in these acts
+-- whether the answers were dropped in these acts
 abbrev pub has_dropped : List ExchangeAct → Bool
 has_dropped acts = list_any (elim [ AnswersDropped ↦ true | _ ↦ false ]) acts
 
--- the answers that were given, in these acts
+-- the answers that were given in these acts
 abbrev pub all_answers : List ExchangeAct → List (List ℕ)
 all_answers [] = []
 all_answers (Answered answer ∷ acts) = all_answers acts ++ answer ∷ []
@@ -100,7 +100,7 @@ is_something (x ∷ xs) = true
 abbrev pub units : List ℕ → List (List ℕ)
 units bytes = filter is_something (map trim (cut_at 59 bytes))
 
--- the unit to execute next, of a message that has ended, isn't too long, and lost no answers
+-- the unit of the current message to execute next; `None` unless the message has ended, isn't too long, and lost no answers
 abbrev pub next_unit : List ExchangeAct → Option (List ℕ)
 next_unit acts =
     if has_ended acts && (not (is_long acts) && not (has_dropped (current acts))) then slice_get (units (message acts))
@@ -110,18 +110,18 @@ next_unit acts =
 abbrev pub joined_answers : List (List ℕ) → List ℕ
 joined_answers = join_with_byte 59
 
--- The newest act makes a new response: a message that had answers is finished, or the response is interrupted.
+-- whether the newest act makes a new response: it finishes a message that had answers, or interrupts the response
 abbrev pub renews : List ExchangeAct → Bool
 renews (Finished ∷ acts) = is_something (answers acts)
 renews (Interrupted ∷ acts) = true
 renews _ = false
 
--- that response: the answers, joined and ended by a new line; none once interrupted
+-- the response that the newest act makes: the answers, joined and ended by a new line; empty if it interrupts the response
 abbrev pub new_response : List ExchangeAct → List ℕ
 new_response (Finished ∷ acts) = joined_answers (answers acts) ++ 10 ∷ []
 new_response _ = []
 
--- how many bytes were read
+-- how many bytes of responses were read in these acts
 abbrev pub bytes_read : List ExchangeAct → ℕ
 bytes_read [] = 0
 bytes_read (ResponseRead count ∷ acts) = bytes_read acts + count
@@ -140,17 +140,18 @@ pub data Due : Type 0 where
   UnitDue : (text : List ℕ) → Due
   FinishDue : Due
 
--- what is due of this next unit, if there is one: it starts, or interrupts a response
+-- what is due, given the next unit: it starts or, if `interrupts` is true, the response is interrupted; without a unit, a message that has
+-- ended is finished
 abbrev pub due_unit : Option (List ℕ) → Bool → Bool → Due
 due_unit (Some unit) interrupts ended = if interrupts then InterruptDue else UnitDue unit
 due_unit None interrupts ended = if ended then FinishDue else NothingDue
 
--- what is due
+-- what is due after these acts
 abbrev pub due : List ExchangeAct → Due
 due acts =
     if is_long acts && not (has_overrun (current acts)) then OverrunDue
     else due_unit (next_unit acts) ((units_done (current acts) == 0) && is_something (response acts)) (has_ended acts)
 
--- whether an answer fits the response, after the answers before it and with the new line
+-- whether an answer fits into the response, after the answers before it and with the new line
 abbrev pub fits_response : List (List ℕ) → List ℕ → Bool
 fits_response before answer = nat_lt (length (joined_answers (before ++ answer ∷ []))) max_response

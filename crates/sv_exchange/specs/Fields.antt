@@ -1,4 +1,4 @@
--- How the fields of message exchange keep its contents, and how that changes.
+-- How the fields of message exchange keep its contents, and how the contents change.
 use Rattle.std.specs.Prelude.{◌≡◌, ℕ, ◌+◌, ◌==◌, ◌<◌, ◌≤◌, Bool, true, false, ◌&&◌, ◌||◌, List, [], ◌∷◌, ◌++◌, length, take, drop, nat_lt, slice_range, if◌then◌else◌}
 use Rattle.std.specs.List.{position_or_len}
 use Rattle.sv_exchange.specs.Contents.{Contents}
@@ -8,7 +8,7 @@ use Rattle.sv_exchange.specs.Limits.{max_message, max_text, max_response}
 abbrev pub first_size : List ℕ → ℕ
 first_size bytes = position_or_len (λ b. b == 10) bytes
 
--- whether a new line ends it
+-- whether a new line ends the first message
 abbrev pub has_line : List ℕ → Bool
 has_line bytes = nat_lt (first_size bytes) (length bytes)
 
@@ -16,7 +16,7 @@ has_line bytes = nat_lt (first_size bytes) (length bytes)
 abbrev pub second_at : List ℕ → ℕ
 second_at bytes = if has_line bytes then first_size bytes + 1 else length bytes
 
--- more text was accepted
+-- the contents after more text was accepted
 abbrev pub after_accept : Contents → List ℕ → Bool → Contents
 after_accept contents bytes ended =
     let overlong = contents.overlong || nat_lt max_message (length contents.rest + first_size bytes) in
@@ -28,7 +28,7 @@ after_accept contents bytes ended =
       overlong = overlong;
     }
 
--- the next message becomes the current one
+-- the contents after the current message was finished, so that the next one is current
 abbrev pub after_finish : Contents → Contents
 after_finish contents = record {
   rest = take (first_size contents.later) contents.later;
@@ -42,12 +42,12 @@ after_finish contents = record {
   output = if contents.answering then contents.output ++ 10 ∷ [] else contents.output;
 }
 
--- the answers with one more
+-- the joined answers with one more
 abbrev pub with_answer : Bool → List ℕ → List ℕ → List ℕ
 with_answer true output answer = output ++ 59 ∷ answer
 with_answer false output answer = answer
 
--- an answer was given, or it didn't fit and all answers were dropped
+-- the contents after an answer was given (`true`), or after it didn't fit and all answers were dropped
 abbrev pub after_answer : Contents → List ℕ → Bool → Contents
 after_answer contents answer true = record contents { answering = true; output = with_answer contents.answering contents.output answer }
 after_answer contents answer false = record contents { answers_dropped = true; answering = false; output = [] }
@@ -71,7 +71,7 @@ abbrev pub IsOut : Bool → ℕ → ℕ → Type 0
 IsOut true size read = (size < max_response) × (read ≡ 0)
 IsOut false size read = (size ≤ max_response) × (read ≤ size)
 
--- Of a message that hasn't ended, at most 4,096 bytes are kept.
+-- Of a message that hasn't ended, at most 4,096 bytes are kept. After one that has ended, at most 4,096 more are kept, and 8,192 in all.
 abbrev pub IsText : Bool → ℕ → ℕ → ℕ → ℕ → Type 0
 IsText true size cursor end next_start = (size ≤ max_text) × (size ≤ next_start + max_message)
 IsText false size cursor end next_start = (end ≡ size) × (next_start ≡ size) × (end ≤ cursor + max_message)

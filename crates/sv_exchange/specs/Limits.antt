@@ -5,7 +5,7 @@ use Rattle.std.specs.Prelude.{ℕ}
 abbrev pub max_message : ℕ
 max_message = 4096
 
--- how much text may wait: a message that hasn't ended, and a write
+-- how many bytes of text may wait: a message that hasn't ended, and a write
 abbrev pub max_text : ℕ
 max_text = 8192
 

@@ -1,4 +1,4 @@
--- What a read gives of a response (VXI-11 revision 1.0, device_read).
+-- What a read returns of a response (VXI-11 revision 1.0, device_read).
 use Rattle.std.specs.Prelude.{ℕ, ◌+◌, ◌-◌, ◌==◌, Bool, false, ◌&&◌, List, length, min, Option, Some, None, nat_lt, slice_get}
 use Rattle.std.specs.List.{position_or_len}
 use Rattle.std.specs.Option.{option_map_or}
@@ -13,7 +13,7 @@ term_end None bytes = length bytes
 abbrev pub read_count : List ℕ → ℕ → Option ℕ → ℕ
 read_count response most term = min (term_end term response) (min most (min max_read (length response)))
 
--- whether these bytes, if there are any, end at the termination character
+-- whether the first `count` bytes of the response, at least one, end in the termination character
 abbrev pub ends_at_term : List ℕ → ℕ → Option ℕ → Bool
 ends_at_term response count (Some term) = nat_lt 0 count && option_map_or (λ b. b == term) (slice_get response (count - 1)) false
 ends_at_term response count None = false

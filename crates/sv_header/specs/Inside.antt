@@ -1,3 +1,3 @@
--- What only the proofs inside need.
+-- Only the proofs of this crate need these definitions.
 pub mod Tree
 pub mod Walk

@@ -11,7 +11,7 @@ abbrev pub OneCommand : Type 0
 OneCommand = (path : List (List ℕ)) → (header : List ℕ) → (first second : CommandId) → Resolves path header first
     → Resolves path header second → first ≡ second
 
--- It fits at most one pattern.
+-- A header, with the path before it, fits at most one row of the table.
 abbrev pub OnePattern : Type 0
 OnePattern = (path : List (List ℕ)) → (header : List ℕ) → (first second : Row) → Contains table first → Contains table second
     → FitsRow path header first → FitsRow path header second → first ≡ second

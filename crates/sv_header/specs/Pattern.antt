@@ -21,15 +21,15 @@ pub record Row : Type 0 where
 abbrev pub node : String → String → Part
 node short more = record { short = codes short; long = codes short ++ codes more; optional = false }
 
--- an optional node, likewise
+-- an optional node, by its short form and the rest of its long form
 abbrev pub maybe : String → String → Part
 maybe short more = record { short = codes short; long = codes short ++ codes more; optional = true }
 
--- a row of these parts
+-- a row of the table with these fields
 abbrev pub row : Bool → Bool → List Part → CommandId → Row
 row common query parts command = record { common = common; query = query; parts = parts; command = command }
 
--- Both have the same letters, in any case.
+-- Both texts are equal, but for the case of letters.
 abbrev pub Same : List ℕ → List ℕ → Type 0
 Same sent form = map to_ascii_lowercase sent ≡ map to_ascii_lowercase form
 
@@ -37,7 +37,7 @@ Same sent form = map to_ascii_lowercase sent ≡ map to_ascii_lowercase form
 abbrev pub IsForm : List ℕ → Part → Type 0
 IsForm sent part = Same sent part.short ⊎ Same sent part.long
 
--- The first mnemonic is that of the node, and this holds of the others.
+-- The first mnemonic is that of the node, and `Others` holds of those after it.
 abbrev IsThere : List (List ℕ) → Part → (List (List ℕ) → Type 0) → Type 0
 IsThere [] part Others = ⊥
 IsThere (sent ∷ others) part Others = IsForm sent part × Others others

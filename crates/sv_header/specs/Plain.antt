@@ -6,7 +6,7 @@ use Rattle.sv_header.specs.declared.pattern.Node.{Node}
 use Rattle.sv_header.specs.declared.left.Mnemonics.{Mnemonics}
 use Rattle.sv_header.specs.Pattern.{Part}
 
--- a node of the code
+-- a node of the code, as plain data
 abbrev pub part : Node → Part
 part node = record { short = node.short.now; long = node.long.now; optional = node.optional }
 
@@ -15,7 +15,7 @@ abbrev pub sent_of : Option (Bor (List ℕ)) → List (List ℕ)
 sent_of None = []
 sent_of (Some text) = cut_at 58 text.now
 
--- a mnemonic and those after it; none without it
+-- the mnemonics `first` and `others`; none if there is no first one
 abbrev pub led_by : Option (Bor (List ℕ)) → List (List ℕ) → List (List ℕ)
 led_by None others = []
 led_by (Some first) others = first.now ∷ others

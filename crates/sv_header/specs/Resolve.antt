@@ -37,7 +37,7 @@ but_last [] = []
 but_last (part ∷ []) = []
 but_last (part ∷ other ∷ others) = part ∷ but_last (other ∷ others)
 
--- the path that a header leaves, by what leads it
+-- the path that a header leaves, by what leads the header, the path before it, and all mnemonics, with those of the path
 abbrev pub kept_by : Lead → List (List ℕ) → List (List ℕ) → List (List ℕ)
 kept_by Common path all = path
 kept_by _ path all = but_last all

@@ -19,11 +19,11 @@ common name id = row true false (node name "" ∷ []) id
 abbrev common_query : String → CommandId → Row
 common_query name id = row true true (node name "" ∷ []) id
 
--- another command, by its nodes
+-- a command that isn't common, by its nodes
 abbrev command : List Part → CommandId → Row
 command nodes id = row false false nodes id
 
--- another query
+-- a query that isn't common, by its nodes
 abbrev query : List Part → CommandId → Row
 query nodes id = row false true nodes id
 

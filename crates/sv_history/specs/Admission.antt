@@ -21,12 +21,12 @@ use Rattle.sv_history.specs.CoreCall.{lid_of, is_too_long, failure}
 use Rattle.sv_history.specs.Interrupts.{has_channel, is_peer}
 use Rattle.sv_history.specs.CoreChannel.{owns, own_call}
 
--- what stops a call: it fails with an error, or it is suspended, at most for so many milliseconds if there is a timeout
+-- what stops a call: it fails with an error; or it is suspended, for at most `timeout` milliseconds if it has a timeout
 pub data Stop : Type 0 where
   Fails : (error : ErrorCode) → Stop
   Awaits : (wait : Wait) (timeout : Option ℕ) → Stop
 
--- what stops a call while another link holds the lock: it waits for the lock if its flag says so, else it fails with error 11
+-- what stops a call while another link holds the lock: it waits for the lock if its waitlock flag is set, else it fails with error 11
 abbrev pub lock_stop : LockWait → Stop
 lock_stop wait = if wait.waits then Awaits Lock (Some wait.timeout) else Fails DeviceLocked
 
@@ -38,8 +38,8 @@ device_wait (DeviceRead request_size timeout lock_timeout flags term_char) acts 
     if is_answerable (instrument_acts acts) then None else Some (Response, timeout)
 device_wait _ acts = None
 
--- What stops a call on a link, the first of these: the connection doesn't own the link, a write is too long, another link holds the lock,
--- it has to wait.
+-- What stops a call on a link, the first of these: the connection doesn't own the link; a write is too long; another link holds the lock;
+-- what the call waits for isn't there.
 abbrev pub call_stop : ℕ → Option ℕ → LinkCall → List DeviceAct → Option Stop
 call_stop c lid call acts =
     if not (owns c lid acts) then Some (Fails InvalidLink)
@@ -52,16 +52,16 @@ call_stop c lid call acts =
 abbrev pub may_make_more : List DeviceAct → Bool
 may_make_more acts = nat_lt (length (live (link_acts acts)) + creating (wait_acts acts)) max_links && lids_left (link_acts acts)
 
--- What stops create_link, the first of these: the device's name isn't inst0; no link more may be made; it asks for the lock, which a link
--- holds.
+-- What stops create_link, the first of these: the device's name isn't inst0; no more link may be made; the call asks for the lock, which a
+-- link holds.
 abbrev pub link_stop : Bool → ℕ → List ℕ → List DeviceAct → Option Stop
 link_stop lock_device timeout device acts =
     if not (bytes_eq device (codes "inst0")) then Some (Fails NotAccessible)
     else (if not (may_make_more acts) then Some (Fails OutOfResources)
     else (if lock_device && is_locked_out (holder (link_acts acts)) None then Some (Awaits Lock (Some timeout)) else None))
 
--- What stops create_intr_chan, the first of these: a channel is open, the protocol isn't TCP (0), the address is no peer. Else it waits
--- without a deadline until its peer is connected.
+-- What stops create_intr_chan, the first of these: a channel is open, the protocol isn't TCP (0), the address or the port can't be a
+-- peer's. Else it waits without a deadline until its peer is connected.
 abbrev pub channel_stop : Bool → ℕ → ℕ → ℕ → Stop
 channel_stop there host_addr host_port prog_family =
     if there then Fails AlreadyEstablished

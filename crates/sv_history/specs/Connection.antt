@@ -1,4 +1,4 @@
--- What the acts of a connection say of it: searches and counts of those since its newest opening or closing.
+-- What the acts of a connection determine: searches and counts of its acts since it was last opened or closed.
 use Rattle.std.specs.Prelude.{ℕ, ◌+◌, ◌-◌, ◌==◌, ◌&&◌, ◌||◌, Bool, true, false, List, [], ◌∷◌, ◌++◌, length, drop, filter, Option, Some, None, is_none, is_some, slice_get, if◌then◌else◌}
 use Rattle.std.specs.List.{concat, filter_map, list_any}
 use Rattle.sv_logs.specs.Since.{since, last_given}
@@ -13,7 +13,7 @@ use Rattle.sv_history.specs.declared.event.Port.TheVariants.{Conn, Intr}
 use Rattle.sv_history.specs.Act.{Act, ConnAct, Opened, Piece, CallTaken, Faulted, Replied, BytesTaken, PortClosed, of}
 use Rattle.sv_history.specs.Limits.{max_output}
 
--- the role that an opening gives, and a closing takes away
+-- the role after an act that changes it: opening gives a role, closing takes it away
 abbrev pub opening : ConnAct → Option (Option Role)
 opening = elim [ Opened role ↦ Some (Some role) | PortClosed ↦ Some None | _ ↦ None ]
 
@@ -25,7 +25,7 @@ open_role = last_given opening None
 abbrev pub acts_since_opening : List ConnAct → List ConnAct
 acts_since_opening = since (elim [ Opened role ∷ older ↦ true | PortClosed ∷ older ↦ true | _ ↦ false ])
 
--- the bytes of these pieces, oldest first; the newest piece stands first
+-- the bytes of these pieces, the oldest first; in the list the newest piece is first
 abbrev pub join_pieces : List (List ℕ) → List ℕ
 join_pieces [] = []
 join_pieces (piece ∷ pieces) = join_pieces pieces ++ piece
@@ -39,15 +39,15 @@ total (number ∷ numbers) = total numbers + number
 abbrev pub stream : List ConnAct → List ℕ
 stream acts = join_pieces (filter_map (elim [ Piece bytes ↦ Some bytes | _ ↦ None ]) (acts_since_opening acts))
 
--- all bytes of its replies
+-- all bytes of the replies on the connection since it opened
 abbrev pub bytes_sent : List ConnAct → List ℕ
 bytes_sent acts = join_pieces (filter_map (elim [ Replied bytes ↦ Some bytes | _ ↦ None ]) (acts_since_opening acts))
 
--- how many of these the peer took
+-- how many bytes of replies the peer took since the connection opened
 abbrev pub bytes_taken : List ConnAct → ℕ
 bytes_taken acts = total (filter_map (elim [ BytesTaken count ↦ Some count | _ ↦ None ]) (acts_since_opening acts))
 
--- the pending call after an act that changes it: a call that is taken becomes pending; a reply, or a record that is no call, ends it
+-- the pending call after an act that changes it: a call that is taken becomes pending; a reply, or a record that isn't a call, ends it
 abbrev pub taking : ConnAct → Option (Option (List ℕ))
 taking = elim [ CallTaken call ↦ Some (Some call) | Replied bytes ↦ Some None | Faulted ↦ Some None | _ ↦ None ]
 
@@ -55,15 +55,15 @@ taking = elim [ CallTaken call ↦ Some (Some call) | Replied bytes ↦ Some Non
 abbrev pub pending_call : List ConnAct → Option (List ℕ)
 pending_call acts = last_given taking None (acts_since_opening acts)
 
--- whether there is one
+-- whether a call was taken that isn't answered yet
 abbrev pub is_busy : List ConnAct → Bool
 is_busy acts = is_some (pending_call acts)
 
--- how many records were answered, or are no call
+-- how many records were answered, or aren't calls
 abbrev pub records_ended : List ConnAct → ℕ
 records_ended acts = length (filter (elim [ Replied bytes ↦ true | Faulted ↦ true | _ ↦ false ]) (acts_since_opening acts))
 
--- whether a record that is no call was taken
+-- whether a record was taken that isn't a call
 abbrev pub took_no_call : List ConnAct → Bool
 took_no_call acts = list_any (elim [ Faulted ↦ true | _ ↦ false ]) (acts_since_opening acts)
 
@@ -79,17 +79,17 @@ bytes_left acts = drop (bytes_taken acts) (bytes_sent acts)
 abbrev pub waiting : List ConnAct → List ℕ
 waiting acts = if is_open acts then bytes_left acts else []
 
--- the bytes that wait on a port; `channel_log` is what interrupt channels were told
+-- the bytes that wait on a port; `channel_log` is the log of the interrupt channels
 abbrev pub waiting_on : List ChannelAct → Port → List Act → List ℕ
 waiting_on channel_log (Conn c) log = waiting (of c log)
 waiting_on channel_log (Intr c) log = channel_waiting c channel_log
 
--- all bytes that were sent on a port since it was opened
+-- all bytes that were sent on a port since it was opened; `channel_log` is the log of the interrupt channels
 abbrev pub sent_on : List ChannelAct → Port → List Act → List ℕ
 sent_on channel_log (Conn c) log = bytes_sent (of c log)
 sent_on channel_log (Intr c) log = concat (calls c channel_log)
 
--- The call to take next: the first record that isn't answered; none while a call is pending, or once a record was no call.
+-- The call to take next: the first record that isn't answered. There is none while a call is pending, or once a record wasn't a call.
 abbrev pub next_call : List ConnAct → Option (List ℕ)
 next_call acts = if took_no_call acts || is_busy acts then None else slice_get (records_of (stream acts)) (records_ended acts)
 
@@ -101,15 +101,16 @@ is_idle acts = is_none (next_call acts)
 abbrev pub is_overlong : List ConnAct → Bool
 is_overlong acts = ends_overlong (tail_of (stream acts))
 
--- whether it only waits to be closed: a record that is no call was taken, or all records before one that is too long were answered
+-- whether the connection is at fault and only waits to be closed: a record was taken that isn't a call, or all records before one that is
+-- too long were answered
 abbrev pub is_faulted : List ConnAct → Bool
 is_faulted acts = took_no_call acts || (is_overlong acts && (records_ended acts == length (records_of (stream acts))))
 
--- how many bytes may come: a record takes room until it is answered
+-- how many bytes may still come: a record uses room until it is answered
 abbrev pub room : List ConnAct → ℕ
 room acts =
     if is_open acts then capacity - used_by (drop (records_ended acts) (records_of (stream acts))) (tail_of (stream acts)) else 0
 
--- how many bytes of replies still find room
+-- for how many bytes of replies there is still room
 abbrev pub free : List ConnAct → ℕ
 free acts = max_output - length (bytes_left acts)

@@ -1,4 +1,4 @@
--- The calls of the core channel (VXI-11 revision 1.0, section B.6), as their arguments say.
+-- The calls of the core channel (VXI-11 revision 1.0, section B.6), as plain data.
 use Rattle.std.specs.Prelude.{ℕ, ℤ, pos, Bool, false, [], length, Option, Some, None, nat_lt}
 use Rattle.sv_vxi.specs.declared.error_code.ErrorCode.{ErrorCode}
 use Rattle.sv_vxi.specs.declared.arguments.GenericCall.TheVariants.{Readstb}
@@ -6,7 +6,7 @@ use Rattle.sv_vxi.specs.Arguments.{LinkCall, DeviceWrite, DeviceRead, Generic, D
 use Rattle.sv_vxi.specs.Results.{Outcome, Link, Size, Read, Status, Plain, Data}
 use Rattle.sv_exchange.specs.Limits.{max_message}
 
--- a call of the core channel: its transaction and its arguments
+-- a call of the core channel: its xid and its arguments
 pub record CoreCall : Type 0 where
   pub xid : ℕ
   pub arguments : Arguments

@@ -21,7 +21,7 @@ use Rattle.sv_history.specs.CallOutcome.{CallOutcome, answer_with, only}
 use Rattle.sv_history.specs.CoreCall.{no_bytes, failure}
 use Rattle.sv_history.specs.Interrupts.{has_channel, enable_srq}
 
--- whether a connection owns a link: the link lives, and this connection made it
+-- whether a connection owns a link: the link is live, and this connection made it
 abbrev pub owns : ℕ → Option ℕ → List DeviceAct → Bool
 owns c (Some lid) acts = is_of c (owner lid (link_acts acts))
 owns c None acts = false
@@ -55,7 +55,8 @@ device_write flags bytes acts =
 abbrev pub term_of : ℕ → ℕ → Option ℕ
 term_of flags term_char = if bit_at flags 7 == 1 then Some (term_char % 256) else None
 
--- the result of a read of these bytes: as many as the request, or up to the termination character; and each reason for which it ends there
+-- the result of a read of these bytes: as many as were requested, or up to the termination character; with each reason for which it ends
+-- there
 abbrev pub read_of : List ℕ → ℕ → Option ℕ → Outcome
 read_of bytes most term =
     let count = read_count bytes most term in
@@ -93,7 +94,7 @@ link_call polled c lid DestroyLink acts = answer_with (Linked (Destroyed lid) �
 link_call polled c lid call acts = only (failure (OnLink (pos lid) call) NotSupported)
 
 -- What any call of the core channel does. No link has a negative number. create_intr_chan gets error 8 here: it is always stopped before
--- (`Admission`), and its outcome is that of `dialed` (`Interrupts`).
+-- (`Admission`), and its outcome is `connect_outcome` (`Interrupts`).
 abbrev pub own_call : Config → ℕ → ℕ → Arguments → List DeviceAct → CallOutcome
 own_call config polled c (CreateLink client_id lock_device lock_timeout device) acts = make_link config c lock_device acts
 own_call config polled c (OnLink (pos lid) call) acts = link_call polled c lid call acts

@@ -6,7 +6,7 @@ use Rattle.sv_history.specs.Act.{Act, ConnAct, DeviceAct, Replied, On, OnDevice}
 use Rattle.sv_history.specs.Reply.{reply_record}
 use Rattle.sv_history.specs.CallOutcome.{CallOutcome}
 
--- acts of its connection, and acts of the device
+-- an effect: acts of the connection, and acts of the device
 pub record Effect : Type 0 where
   pub own : List ConnAct
   pub adds : List DeviceAct
@@ -15,19 +15,19 @@ pub record Effect : Type 0 where
 abbrev pub acts_of : ℕ → Effect → List Act
 acts_of c effect = map (On c) effect.own ++ map OnDevice effect.adds
 
--- the reply with a result
+-- the reply with this xid and this result
 abbrev pub result_reply : ℕ → Outcome → List ℕ
 result_reply xid result = reply_record xid Success (result_fields result)
 
--- the reply to a call of this transaction, if it has a result
+-- the reply to a call with this xid, if the call has a result
 abbrev pub replies : ℕ → Option Outcome → List ConnAct
 replies xid (Some result) = Replied (result_reply xid result) ∷ []
 replies xid None = []
 
--- the effect of a call of this transaction with this outcome
+-- the effect of a call with this xid and this outcome
 abbrev pub call_effect : ℕ → CallOutcome → Effect
 call_effect xid outcome = record { own = replies xid outcome.result; adds = outcome.adds }
 
--- the effect of a reply alone
+-- the effect that is only this reply
 abbrev pub only_reply : List ℕ → Effect
 only_reply bytes = record { own = Replied bytes ∷ []; adds = [] }

@@ -1,4 +1,4 @@
--- Events as plain data, and the ranges of their numbers and of those of the configuration.
+-- Events as plain data, and the ranges of the numbers in an event and in a configuration.
 use Rattle.std.specs.Prelude.{ℕ, ◌<◌, ◌^◌, ℤ, pos, neg_ℤ, ◌≤ℤ◌, ◌<ℤ◌, Bool, List, All, ⊤}
 use Rattle.sv_history.specs.declared.event.Role.{Role}
 use Rattle.sv_history.specs.declared.event.Port.{Port}

@@ -1,4 +1,4 @@
--- What a record that was taken does.
+-- The effect of a record that was taken.
 use Rattle.std.specs.Prelude.{ℕ, List, [], ◌∷◌, Option, Some, None, Result, Ok, Err}
 use Rattle.sv_xdr.specs.declared.garbage.Garbage.{Garbage}
 use Rattle.sv_xdr.specs.Spelling.{Unsigned}
@@ -18,7 +18,7 @@ abbrev pub port_reply : ℕ → Result ℕ Garbage → List ℕ
 port_reply xid (Ok port) = reply_record xid Success (Unsigned port ∷ [])
 port_reply xid (Err garbage) = reply_record xid GarbageArgs []
 
--- The effect of a request, if a poll of the status byte would give `polled`. A record that is no call faults its connection.
+-- The effect of a request, if a poll of the status byte would give `polled`. A record that isn't a call puts its connection at fault.
 abbrev pub request_effect : Config → ℕ → ℕ → Request → List DeviceAct → Effect
 request_effect config polled c NoCall acts = record { own = Faulted ∷ []; adds = [] }
 request_effect config polled c (Decided xid reply) acts = only_reply (reply_record xid reply [])

@@ -35,7 +35,7 @@ abbrev pub abort_acts : Option ℕ → List Act → List Act
 abort_acts (Some c) log = acts_of c (failure_effect Abort c (core_call_in (pending_call (of c log))))
 abort_acts None log = []
 
--- the acts of a record that was taken: those of the call that it aborts, its own effect, and that it was taken
+-- the acts of a record that was taken: those of the call that it aborts, if any, its own effect, and the act of taking it
 abbrev pub taken_acts : ℕ → List ℕ → Effect → Option ℕ → List Act → List Act
 taken_acts c bytes effect aborts log =
     let acts = acts_of c effect ++ On c (CallTaken bytes) ∷ [] in abort_acts aborts (acts ++ log) ++ acts
@@ -110,12 +110,12 @@ refuse_refusal acts =
 abbrev pub took_refusal : ℕ → List ℕ → Option Refused
 took_refusal count bytes = if nat_lt (length bytes) count then Some NotSent else None
 
--- `NoConn` if the connection isn't open, else the other refusal
+-- `NoConn` if the connection isn't open, else this refusal
 abbrev pub unless_shut : ℕ → List Act → Option Refused → Option Refused
 unless_shut c log other = if is_shut c log then Some NoConn else other
 
--- Which check an event fails, the first in their order; `None` if none. `channel_log` is what interrupt channels were told. Out of memory
--- isn't among them.
+-- The first check that an event fails, in the order of the checks; `None` if it fails none. `channel_log` is the log of the interrupt
+-- channels. Out of memory isn't one of the checks.
 abbrev pub refusal : Config → List ChannelAct → PlainEvent → List Act → Option Refused
 refusal config channel_log (Open c role) log = if nat_lt 15 c then Some NoConn else (if is_open (of c log) then Some ConnInUse else None)
 refusal config channel_log (Bytes c piece) log = unless_shut c log (if nat_lt (room (of c log)) (length piece) then Some NoRoom else None)
@@ -139,7 +139,7 @@ IsLogOf config (event ∷ history) log = (before : List Act) × (polled : ℕ) �
     × IsPolled polled (device_acts before)
     × Settles config (own_acts config polled event before ++ before) log
 
--- what an event that wasn't refused did: a Turn that finds no call is idle
+-- what an event that wasn't refused did: `Idle` for a Turn that finds no call, else `Done`
 abbrev pub did : PlainEvent → List Act → Did
 did (Turn c) log = if is_idle (of c log) then Idle else Done
 did _ log = Done
@@ -157,7 +157,7 @@ AnswersBy config channel_log event log (Err NoMemory) = (refusal config channel_
     × (wants_memory (device_acts (own_acts config polled event log)) ≡ true)
 AnswersBy config channel_log event log (Err refused) = refusal config channel_log event log ≡ Some refused
 
--- The result of an event, with what the log tells interrupt channels.
+-- The result of an event that is given after this log.
 abbrev pub Answers : Config → PlainEvent → List Act → Result Did Refused → Type 0
 Answers config event log result = (channel_log : List ChannelAct) × HearsOf (device_acts log) channel_log
     × AnswersBy config channel_log event log result

@@ -24,7 +24,7 @@ enable_srq c true lid handle = if nat_lt max_handle (length handle) then only (P
     else answer_with (Channel (SrqEnabled lid c handle) ∷ []) (Plain NoError)
 enable_srq c false lid handle = answer_with (Channel (SrqDisabled lid) ∷ []) (Plain NoError)
 
--- whether an interrupt channel may go there: to an address in 127.0.0.0/8, on a port of 1 to 65535
+-- whether an interrupt channel may connect to this address and port: the address is in 127.0.0.0/8, and the port is 1 to 65535
 abbrev pub is_peer : ℕ → ℕ → Bool
 is_peer host_addr host_port = (host_addr / 16777216 == 127) && nat_lt 0 host_port && nat_lt host_port 65536
 
@@ -37,7 +37,7 @@ is_dial _ = false
 abbrev pub is_dialing : ℕ → List WaitAct → Bool
 is_dialing c acts = is_dial (waits c acts)
 
--- how many connections have such a call
+-- how many connections have a create_intr_chan that is suspended until its peer is connected
 abbrev pub dialing : List WaitAct → ℕ
 dialing acts = length (filter (λ c. is_dialing c acts) connections)
 

@@ -1,4 +1,4 @@
--- What a replay prints of an event: its refusal, and a line for each port on which bytes wait.
+-- What a replay prints for an event: its refusal, and a line for each port on which bytes wait.
 use Rattle.std.specs.Prelude.{ℕ, zero, suc, ◌-◌, Bool, true, false, List, [], ◌∷◌, ◌++◌, map, length, codes, decimal, nat_lt, Result, Ok, Err, if◌then◌else◌}
 use Rattle.hex.specs.Hex.{encode_lower}
 use Rattle.sv_links.specs.Channels.{ChannelAct}
@@ -38,30 +38,30 @@ abbrev pub port_line : Port → List ℕ → List ℕ
 port_line port [] = []
 port_line port (byte ∷ bytes) = port_name port ++ 32 ∷ (encode_lower (byte ∷ bytes) ++ 10 ∷ [])
 
--- the numbers from 0 up to this one, without it
+-- the numbers below this one, from 0 up
 abbrev pub below : ℕ → List ℕ
 below zero = []
 below (suc n) = below n ++ n ∷ []
 
--- the ports in the order of their lines: connections 0 to 15, then their interrupt channels
+-- the port that has this number in the order of the lines: connections 0 to 15, then their interrupt channels
 abbrev pub port_of : ℕ → Port
 port_of n = if nat_lt n 16 then Conn n else Intr (n - 16)
 
--- all ports, in that order
+-- all ports, in the order of the lines
 abbrev pub ports : List Port
 ports = map port_of (below 32)
 
--- the lines of these ports, by a log and what it tells interrupt channels
+-- the lines of these ports, by the log and the log of the interrupt channels
 abbrev pub lines_of : List ChannelAct → List Port → List Act → List ℕ
 lines_of channel_log [] log = []
 lines_of channel_log (port ∷ others) log = port_line port (waiting_on channel_log port log) ++ lines_of channel_log others log
 
--- the history in which the peer took these bytes of a port; the same history if there are none
+-- the history after the peer took these bytes from a port; unchanged if there are none
 abbrev pub with_took : Port → List ℕ → List PlainEvent → List PlainEvent
 with_took port [] history = history
 with_took port (byte ∷ bytes) history = Took port (length (byte ∷ bytes)) ∷ history
 
--- the history in which the peers took all that waits on these ports, one port after the other
+-- the history after the peers took all that waits on these ports, one port after the other
 abbrev pub with_tooks : List ChannelAct → List Port → List Act → List PlainEvent → List PlainEvent
 with_tooks channel_log [] log history = history
 with_tooks channel_log (port ∷ others) log history = with_tooks channel_log others log
@@ -82,6 +82,6 @@ abbrev pub ports_after : Result Did Refused → List Port
 ports_after (Ok did) = ports
 ports_after (Err refusal) = if is_no_memory refusal then [] else ports
 
--- what is printed of an event, by its result and the log after it
+-- what is printed for an event, by its result and the log after it
 abbrev pub print_of : Result Did Refused → List ChannelAct → List Act → List ℕ
 print_of did channel_log log = head_of did ++ lines_of channel_log (ports_after did) log

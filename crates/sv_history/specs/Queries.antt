@@ -9,24 +9,24 @@ use Rattle.sv_history.specs.Connection.{waiting_on}
 use Rattle.sv_history.specs.Requests.{HearsOf}
 use Rattle.sv_history.specs.History.{IsLogOf}
 
--- These bytes wait on a port, by the log of the history and what it tells interrupt channels.
+-- These bytes wait on a port after this history.
 abbrev pub WaitOn : Port → Config → List PlainEvent → List ℕ → Type 0
 WaitOn port config history bytes = (log : List Act) × (channel_log : List ChannelAct) × IsLogOf config history log
     × HearsOf (device_acts log) channel_log
     × (bytes ≡ waiting_on channel_log port log)
 
--- The result is this function of the log of the history.
+-- The result is what `answer` gives for the log of the history.
 abbrev pub Answered : {A : Type 0} → (List Act → A) → Config → List PlainEvent → A → Type 0
 Answered answer config history result = (log : List Act) × IsLogOf config history log × (result ≡ answer log)
 
--- The result is true exactly if this holds of the log of the history.
+-- The result is true exactly if `IsSuch` holds of the log of the history.
 abbrev pub Decided : (List Act → Type 0) → Config → List PlainEvent → Bool → Type 0
 Decided IsSuch config history result = (log : List Act) × IsLogOf config history log × ((result ≡ true) ↔ IsSuch log)
 
--- Nothing was recorded of connections of this number and above.
+-- The log has no act of a connection with this number or a higher one.
 abbrev pub IsUnused : ℕ → List Act → Type 0
 IsUnused n log = (c : ℕ) → n ≤ c → of c log ≡ []
 
--- The number is the least one from which on nothing was recorded.
+-- This is the lowest number such that the log has no act of a connection with this number or a higher one.
 abbrev pub IsUsed : ℕ → List Act → Type 0
 IsUsed n log = IsUnused n log × ((c : ℕ) → n ≡ suc c → of c log ≢ [])

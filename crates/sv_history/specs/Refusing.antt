@@ -1,4 +1,5 @@
--- Refusing a call for want of resources (VXI-11 revision 1.0, section B.5, error 9): a create_link or a create_intr_chan, which allocate.
+-- Refusing a call because resources are lacking (VXI-11 revision 1.0, section B.5, error 9): a create_link or a create_intr_chan, which
+-- allocate.
 use Rattle.std.specs.Prelude.{ℕ, Bool, true, false, List, Option, Some, None, if◌then◌else◌}
 use Rattle.sv_vxi.specs.declared.error_code.ErrorCode.TheVariants.{OutOfResources}
 use Rattle.sv_vxi.specs.Arguments.{Arguments, CreateLink, CreateIntrChan}

@@ -15,8 +15,8 @@ use Rattle.sv_history.specs.Act.{ConnAct}
 use Rattle.sv_history.specs.Connection.{next_call, open_role}
 use Rattle.sv_history.specs.CoreCall.{CoreCall}
 
--- what a record is: no call; a call whose reply its header or its unreadable arguments decide; a call of the core channel; device_abort; or
--- GETPORT
+-- what a record is: not a call; a call whose reply is decided by its header, or by arguments that can't be read; a call of the core
+-- channel; device_abort; or GETPORT
 pub data Request : Type 0 where
   NoCall : Request
   Decided : (xid : ℕ) (reply : Reply) → Request
@@ -40,7 +40,7 @@ abbrev pub abort_request : ℕ → Result Arguments Garbage → Request
 abort_request xid (Ok (OnLink lid call)) = AbortRequest xid lid
 abort_request xid _ = Decided xid GarbageArgs
 
--- a call of one of its program's procedures
+-- what a call of one of the procedures of the connection's program asks for
 abbrev pub procedure_request : Role → PlainCall → Request
 procedure_request Core call = core_request call.xid (arguments_at call.proc call.args)
 procedure_request Abort call = abort_request call.xid (arguments_at call.proc call.args)
@@ -55,7 +55,8 @@ call_request role call =
     else (if call.proc == 0 then Decided call.xid Success
     else (if not (is_one_of procedures call.proc) then Decided call.xid ProcUnavail else procedure_request role call)))
 
--- What a record asks for, by how it reads as a call: another version of RPC is denied, and a bad header is no call.
+-- What a record asks for, by how it reads as a call: a call under another version of RPC is denied, and a record with a bad header isn't a
+-- call.
 abbrev pub request_of : Role → Result PlainCall CallFault → Request
 request_of role (Ok call) = call_request role call
 request_of role (Err (Version xid)) = Decided xid Mismatch
@@ -70,16 +71,16 @@ request_for _ _ = None
 abbrev pub next_request : List ConnAct → Option Request
 next_request acts = request_for (open_role acts) (next_call acts)
 
--- the call of the core channel that a request is; `None` if it is another
+-- the call of the core channel that a request is; `None` if it is another request
 abbrev pub core_call_of : Request → Option CoreCall
 core_call_of (CoreRequest call) = Some call
 core_call_of _ = None
 
--- the call of the core channel that a record is; `None` if it is none
+-- the call of the core channel that a record is; `None` if it isn't one
 abbrev pub core_call : List ℕ → Option CoreCall
 core_call bytes = core_call_of (request_of Core (call_at bytes))
 
--- the call of the core channel that a record is; `None` if there is no record, or it is none
+-- the call of the core channel that a record is; `None` if there is no record, or if it isn't such a call
 abbrev pub core_call_in : Option (List ℕ) → Option CoreCall
 core_call_in (Some bytes) = core_call bytes
 core_call_in None = None

@@ -1,22 +1,22 @@
--- What interrupt channels are told (VXI-11 revision 1.0, section B.6, device_intr_srq; IEEE 488.2, 11.3): their own acts; that a link which
--- is destroyed has service requests disabled; and a request wherever one is raised.
+-- The log of the interrupt channels (VXI-11 revision 1.0, section B.6, device_intr_srq; IEEE 488.2, 11.3). It has their own acts. If a link
+-- is destroyed, its service requests are disabled. Each service request that is raised is in it.
 use Rattle.std.specs.Prelude.{◌≡◌, ◌↔◌, Bool, true, false, List, [], ◌∷◌}
 use Rattle.sv_links.specs.Links.{LinkAct, Destroyed}
 use Rattle.sv_links.specs.Channels.{ChannelAct, SrqDisabled, Requested}
 use Rattle.sv_layers.specs.StatusByte.{IsRaised}
 use Rattle.sv_history.specs.Act.{DeviceAct, Linked, Channel, Applied, instrument_acts}
 
--- what an act of a link tells them
+-- the log of the interrupt channels after an act of a link: if the link is destroyed, its service requests are disabled
 abbrev pub link_told : LinkAct → List ChannelAct → List ChannelAct
 link_told (Destroyed lid) channel_log = SrqDisabled lid ∷ channel_log
 link_told _ channel_log = channel_log
 
--- what an act of the instrument tells them: a request, if it raises one
+-- the log of the interrupt channels after an act of the instrument, with a service request if the act raises one
 abbrev pub request_told : Bool → List ChannelAct → List ChannelAct
 request_told true channel_log = Requested ∷ channel_log
 request_told false channel_log = channel_log
 
--- The acts of the device tell them this list.
+-- These acts of the device lead to this log of the interrupt channels.
 abbrev pub HearsOf : List DeviceAct → List ChannelAct → Type 0
 HearsOf [] channel_log = channel_log ≡ []
 HearsOf (Channel act ∷ acts) channel_log = (before : List ChannelAct) × HearsOf acts before × (channel_log ≡ act ∷ before)

@@ -15,7 +15,7 @@ use Rattle.sv_history.specs.Request.{core_call_in}
 use Rattle.sv_history.specs.Effect.{acts_of}
 use Rattle.sv_history.specs.Resuming.{resume_effect, failure_effect, late}
 
--- The instrument takes a step of this kind, which adds acts to its log.
+-- The instrument takes a step for which `IsSuch` holds, and which adds acts to its log.
 abbrev pub InstrumentDoes : (List InstrumentAct → List InstrumentAct → Type 0) → List Act → List Act → Type 0
 InstrumentDoes IsSuch log new = (adds : List InstrumentAct)
     × IsSuch (instrument_acts (device_acts log)) (adds ++ instrument_acts (device_acts log))
@@ -26,39 +26,39 @@ abbrev pub CanResume : List DeviceAct → ℕ → Type 0
 CanResume acts = IsAble (holder (link_acts acts)) (not (has_ended (exchange_acts acts))) (is_answerable (instrument_acts acts))
     (wait_acts acts)
 
--- The oldest suspended call that can resume does.
+-- Of the suspended calls that can resume, the oldest resumes.
 abbrev pub Resumes : Config → List Act → List Act → Type 0
 Resumes config log new = (c : ℕ) × (wait : Wait) × (polled : ℕ)
     × IsOldest (wait_acts (device_acts log)) (CanResume (device_acts log)) (Some c)
     × (waits c (wait_acts (device_acts log)) ≡ Some wait) × IsPolled polled (device_acts log)
     × (new ≡ acts_of c (resume_effect config polled c wait (core_call_in (pending_call (of c log))) (device_acts log)) ++ log)
 
--- The oldest suspended call whose deadline has come times out.
+-- Of the suspended calls whose deadline has come, the oldest times out.
 abbrev pub TimesOut : Config → List Act → List Act → Type 0
 TimesOut config log new = (c : ℕ) × (wait : Wait)
     × IsOldest (wait_acts (device_acts log)) (IsExpired (config.clock + ticks (device_acts log)) (wait_acts (device_acts log))) (Some c)
     × (waits c (wait_acts (device_acts log)) ≡ Some wait)
     × (new ≡ acts_of c (failure_effect (late wait) c (core_call_in (pending_call (of c log)))) ++ log)
 
--- The first of two steps is taken; the second only if the first isn't possible.
+-- The first of two steps is taken if it is possible, else the second.
 abbrev pub First : (List Act → Type 0) → (List Act → Type 0) → List Act → Type 0
 First IsOne IsOther new = IsOne new ⊎ (((one : List Act) → IsOne one → ⊥) × IsOther new)
 
--- The step that is due makes the new log, the first of these: an immediate trigger; a suspended call resumes; a step of message exchange; a
--- suspended call times out.
+-- The step that is due leads to the new log. It is the first of these that is possible: an immediate trigger; a suspended call resumes; a
+-- step of message exchange; a suspended call times out.
 abbrev pub IsNext : Config → List Act → List Act → Type 0
 IsNext config log =
     First (InstrumentDoes IsFired log) (First (Resumes config log) (First (InstrumentDoes IsStep log) (TimesOut config log)))
 
--- No step is due in a log.
+-- After this log no step is due.
 abbrev pub IsSettled : Config → List Act → Type 0
 IsSettled config log = (new : List Act) → IsNext config log new → ⊥
 
--- In so many steps, each the one that is due, the first log becomes the second, in which none is due.
+-- In `n` steps, each the one that is due, `log` becomes `new`, after which no step is due.
 abbrev pub SettlesIn : ℕ → Config → List Act → List Act → Type 0
 SettlesIn zero config log new = IsSettled config log × (new ≡ log)
 SettlesIn (suc n) config log new = (middle : List Act) × IsNext config log middle × SettlesIn n config middle new
 
--- In some number of steps the first log becomes the second, in which none is due.
+-- In some number of steps, each the one that is due, `log` becomes `new`, after which no step is due.
 abbrev pub Settles : Config → List Act → List Act → Type 0
 Settles config log new = (n : ℕ) × SettlesIn n config log new

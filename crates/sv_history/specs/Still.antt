@@ -7,10 +7,11 @@ use Rattle.sv_layers.specs.Condition.{effective_acts}
 use Rattle.sv_history.specs.declared.event.Config.{Config}
 use Rattle.sv_history.specs.Act.{DeviceAct, wait_acts, instrument_acts, ticks}
 
--- No suspended call has a deadline within so many milliseconds (VXI-11 revision 1.0, section B.4.4).
+-- No suspended call has a deadline within `most` milliseconds (VXI-11 revision 1.0, section B.4.4).
 abbrev pub IsUnhurried : ℕ → Config → List DeviceAct → Type 0
 IsUnhurried most config acts = (c : ℕ) → IsExpired (config.clock + ticks acts + most) (wait_acts acts) c → ⊥
 
--- No suspended call has a deadline within so many milliseconds, and no scan is under way, in which each millisecond reads a channel.
+-- No suspended call has a deadline within `most` milliseconds, and no scan is under way. (During a scan a channel is read each
+-- millisecond.)
 abbrev pub IsStill : ℕ → Config → List DeviceAct → Type 0
 IsStill most config acts = (is_scanning (state (effective_acts (instrument_acts acts))) ≡ false) × IsUnhurried most config acts

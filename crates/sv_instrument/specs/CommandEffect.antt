@@ -20,22 +20,22 @@ use Rattle.sv_layers.specs.Act.{Act, Exchanged, Scanned, Held, Reported, EntryTa
 use Rattle.sv_layers.specs.Condition.{effective_acts}
 use Rattle.sv_instrument.specs.QueryResponse.{Says}
 
--- the unit is done
+-- the log after the unit is done
 abbrev pub done : List Act → List Act
 done log = Exchanged UnitDone ∷ log
 
--- An answer joins the response; if it doesn't fit, all answers of the message are dropped and -430 is reported.
+-- An answer is added to the answers of the message. If it doesn't fit, all answers of the message are dropped and -430 is reported.
 abbrev pub after_answering : List ℕ → List Act → List Act
 after_answering text log =
     if fits_response (answers (exchange_acts log)) text then Exchanged (Answered text) ∷ log
     else Reported QueryDeadlocked ∷ Exchanged AnswersDropped ∷ log
 
--- If there is an error, it is reported and the unit is done; else these acts happen.
+-- the log after this error is reported and the unit is done, if there is an error; else `acts`
 abbrev pub unless : Option Code → List Act → List Act → List Act
 unless (Some code) acts log = done (Reported code ∷ log)
 unless None acts log = acts
 
--- the scan list is set, if one is given
+-- the log after the scan list is set, if one is given
 abbrev pub set_list : Option (List ℕ) → List Act → List Act
 set_list None log = log
 set_list (Some channels) log = Scanned (scan.Configure (setting.List channels)) ∷ log
@@ -47,24 +47,24 @@ after_configure list log = set_list list
     (Scanned (scan.Configure (setting.Count 1)) ∷ Scanned (scan.Configure (setting.Source Immediate))
     ∷ Scanned (scan.Configure (setting.Range (pos 10000000))) ∷ Scanned scan.Abort ∷ log)
 
--- what a query takes or clears
+-- the log after a query: with the act by which the query takes or clears something, if it does
 abbrev pub after_query : Question → List Act → List Act
 after_query question.StandardEvents log = StandardRead ∷ log
 after_query question.Error log = EntryTaken ∷ log
 after_query (question.Events name) log = EventRead name ∷ log
 after_query asked log = log
 
--- why a query is refused: its readings aren't complete, or were aborted (-230)
+-- why a query is refused: it asks for readings, and they aren't complete or were aborted (-230)
 abbrev pub question_fault : Question → List Act → Option Code
 question_fault question.Readings log = if is_complete (effective_acts log) then None else Some DataCorruptOrStale
 question_fault asked log = None
 
--- A query answers with its text, after it took or cleared what it does; or its error is reported.
+-- A query is answered with its text. If it takes or clears something, that happens before the answer is given. Or its error is reported.
 abbrev pub Replies : Option Code → Question → List Act → List Act → Type 0
 Replies (Some code) asked log new = new ≡ done (Reported code ∷ log)
 Replies None asked log new = (text : List ℕ) × Says asked log text × (new ≡ after_answering text (done (after_query asked log)))
 
--- the effect of a command without a value
+-- the log after a command without a value
 abbrev pub after_action : Action → List Act → List Act
 after_action action.ClearStatus log = done (Cleared ∷ log)
 after_action action.Reset log = done (Scanned scan.Reset ∷ log)
@@ -78,7 +78,7 @@ after_action action.Abort log = done (Scanned scan.Abort ∷ log)
 after_action action.Read log = unless (read_fault (effective_acts log))
     (Held awaited.Readings ∷ Scanned scan.Init ∷ Scanned scan.Abort ∷ log) log
 
--- The effect of an order on the log.
+-- The order leads from `log` to `new`.
 abbrev pub Performs : Order → List Act → List Act → Type 0
 Performs (order.Do action) log new = new ≡ after_action action log
 Performs (order.Ask asked) log new = Replies (question_fault asked log) asked log new

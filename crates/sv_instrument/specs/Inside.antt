@@ -1,2 +1,2 @@
--- What only the proofs inside need.
+-- Only the proofs of this crate need these definitions.
 pub mod Acted

@@ -1,5 +1,5 @@
 -- The path before the next unit of a message (SCPI-1999, volume 1, 6.2.4). The units before it are read in order, each with the path that
--- the one before leaves.
+-- the unit before it leaves.
 use Rattle.std.specs.Prelude.{◌≡◌, ℕ, ◌+◌, List, [], ◌∷◌, Option, Some, None, Result, take, reverse}
 use Rattle.sv_errors.specs.declared.code.Code.{Code}
 use Rattle.sv_exchange.specs.Exchange.{units, message, units_done, current}
@@ -9,7 +9,7 @@ use Rattle.sv_layers.specs.declared.change.Awaited.{Awaited}
 use Rattle.sv_layers.specs.Act.{Act, exchange_acts}
 use Rattle.sv_instrument.specs.HeldUnit.{held_unit}
 
--- These units, the last one first, leave this path.
+-- These units, listed with the last one first, leave this path.
 abbrev pub Leaves : List (List ℕ) → List (List ℕ) → Type 0
 Leaves [] path = path ≡ []
 Leaves (unit ∷ before) path =
@@ -20,7 +20,7 @@ abbrev pub one_if_held : Option Awaited → ℕ
 one_if_held None = 0
 one_if_held (Some awaited) = 1
 
--- how many units of the current message began: those that are done, and the one that is held
+-- how many units of the current message began: those that are done, and the one that is held, if any
 abbrev pub units_begun : List Act → ℕ
 units_begun log = units_done (current (exchange_acts log)) + one_if_held (held_unit log)
 

@@ -1,4 +1,4 @@
--- The answer of each query (IEEE 488.2, chapter 10; SCPI-1999, volume 2): a text, by the log before the query takes or clears anything.
+-- The answer to each query (IEEE 488.2, chapter 10; SCPI-1999, volume 2): a text, by the log before the query takes or clears anything.
 use Rattle.std.specs.Prelude.{◌≡◌, ◌↔◌, ℕ, ◌<◌, true, false, List, [], ◌∷◌, Option, length, codes, decimal, unwrap_or}
 use Rattle.std.specs.List.{join_by}
 use Rattle.std.specs.Int.{bit_at}
@@ -22,7 +22,7 @@ use Rattle.sv_layers.specs.Filter.{rise, fall, enable}
 use Rattle.sv_layers.specs.Standard.{Stands, enable as standard_enable}
 use Rattle.sv_layers.specs.StatusByte.{MasterBit, service}
 
--- The text is a word of 16 bits in decimal, with exactly these bits.
+-- The text is a word of 16 bits in decimal, in which exactly those bits are set for which `Bit` holds.
 pub record IsWord (Bit : ℕ → Type 0) (text : List ℕ) : Type 0 where
   pub word : ℕ
   pub fits : word < 65536
@@ -59,7 +59,7 @@ value_text name.Limits log = switch_text (limits (effective_acts log))
 value_text name.Source log = source_text (source (effective_acts log))
 value_text name.Count log = decimal (count (effective_acts log))
 
--- The answer of a query.
+-- The text is the answer to the query.
 abbrev pub Says : Question → List Act → List ℕ → Type 0
 Says question.Identification log text = text ≡ codes "SCANVOLT,SV32,0,1.0"
 Says question.SelfTest log text = text ≡ codes "0"

@@ -1,4 +1,4 @@
--- What the instrument keeps, and which log it stands for.
+-- What the instrument keeps, and when it stands for a log.
 use Rattle.std.specs.Prelude.{◌≡◌, ℕ, ◌+◌, ◌*◌, ⊤, List, Option, Some, None}
 use Rattle.sv_scan.specs.declared.setting.State.{State}
 use Rattle.sv_scan.specs.declared.setting.State.TheVariants.{Idle, Waiting, Scanning}
@@ -16,18 +16,18 @@ pub record Kept : Type 0 where
   pub held : Option Awaited
   pub path : List (List ℕ)
 
--- What is kept stands for the log.
+-- What the instrument keeps stands for the log.
 pub record StandsFor (kept : Kept) (log : List Act) : Type 0 where
   pub layers : Layers kept.layers log
   pub held : kept.held ≡ held_unit log
   pub path : IsPath log kept.path
 
--- What is kept stands for the new log, and so many requests for service were raised on the way to it.
+-- What the instrument keeps stands for the log `new`, and `count` requests for service were raised since `log`.
 pub record Ran (kept : Kept) (count : ℕ) (log new : List Act) : Type 0 where
   pub stands : StandsFor kept new
   pub raises : Raises log new count
 
--- The step that is due was taken, and raised so many requests; or none is due.
+-- The step that is due was taken, and raised `count` requests for service; or no step is due.
 abbrev pub Takes : (List Act → List Act → Type 0) → Kept → Option ℕ → List Act → Type 0
 Takes IsNext kept None log = (new : List Act) → IsNext log new → ⊥
 Takes IsNext kept (Some count) log = (new : List Act) × IsNext log new × Ran kept count log new
@@ -43,7 +43,7 @@ waits Waiting = 1
 waits Idle = 0
 waits Scanning = 0
 
--- how much is left to do: a trigger or a step always makes it less, so repeated stepping terminates
+-- how much is left to do: a trigger or a step always makes this less, so repeated stepping terminates
 abbrev pub instrument_measure : Kept → ℕ
 instrument_measure kept = 2 * (2 * exchange_measure kept.layers.exchange + one_if_unheld kept.held)
     + waits (state_by kept.layers)

@@ -16,7 +16,7 @@ use Rattle.sv_instrument.specs.Path.{IsPath}
 use Rattle.sv_instrument.specs.QueryResponse.{readings_text}
 use Rattle.sv_instrument.specs.CommandEffect.{Performs, done, after_answering}
 
--- a held unit ends: it is done, and its answer is given
+-- the log after a held unit ends: it is done, and its answer is given
 abbrev pub after_release : Awaited → List Act → List Act
 after_release Nothing log = done log
 after_release One log = after_answering (codes "1") (done log)
@@ -32,11 +32,12 @@ abbrev pub Starts : List ℕ → List Act → List Act → Type 0
 Starts unit log new = (path behind : List (List ℕ)) × (outcome : Result Order Code) × IsPath log path × IsReadAs path unit outcome behind
     × Does outcome log new
 
--- the response is dropped, interrupted by a new message, and -410 is reported
+-- the log after a new message interrupted the response: the response is dropped, and -410 is reported
 abbrev pub after_interrupt : List Act → List Act
 after_interrupt log = Reported QueryInterrupted ∷ Exchanged Interrupted ∷ log
 
--- The step, by whether a unit is held and by what is due. A held unit ends only while no measurement is under way.
+-- The step that is due, by whether a unit is held and by what is due in message exchange. A held unit ends only while no measurement is
+-- under way.
 abbrev pub StepOf : Option Awaited → Due → List Act → List Act → Type 0
 StepOf (Some awaited) next log new = (is_idle log ≡ true) × (new ≡ after_release awaited log)
 StepOf None NothingDue log new = ⊥
@@ -45,7 +46,7 @@ StepOf None InterruptDue log new = (unit : List ℕ) × (next_unit (exchange_act
 StepOf None (UnitDue unit) log new = Starts unit log new
 StepOf None FinishDue log new = new ≡ Exchanged Finished ∷ log
 
--- The step that is due makes this log of the other.
+-- The step that is due leads from `log` to `new`.
 abbrev pub IsStep : List Act → List Act → Type 0
 IsStep log new = StepOf (held_unit log) (due (exchange_acts log)) log new
 

@@ -10,30 +10,30 @@ use Rattle.sv_scan.specs.Scan.{state}
 use Rattle.sv_layers.specs.Act.{Act, Scanned, Reported}
 use Rattle.sv_layers.specs.Condition.{effective_acts}
 
--- the controller's trigger, or the error with which it is ignored
+-- the trigger from the controller or, if it is ignored, the report of its error
 abbrev pub or_reported : Option Code → Act
 or_reported None = Scanned (Trigger Bus)
 or_reported (Some code) = Reported code
 
--- a trigger from the controller (VXI-11, device_trigger): if none from there is waited for, -211 is reported
+-- the acts of a trigger from the controller (VXI-11, device_trigger): if no such trigger is waited for, -211 is reported
 abbrev pub trigger_acts : List Act → List Act
 trigger_acts log = or_reported (trigger_fault (effective_acts log) Bus) ∷ []
 
--- the trigger input's trigger, or nothing
+-- the trigger from the trigger input; nothing if it is ignored
 abbrev pub or_nothing : Option Code → List Act
 or_nothing None = Scanned (Trigger External) ∷ []
 or_nothing (Some code) = []
 
--- a trigger at the trigger input: if none from there is waited for, nothing happens
+-- the acts of a trigger at the trigger input: if no such trigger is waited for, nothing happens
 abbrev pub external_acts : List Act → List Act
 external_acts log = or_nothing (trigger_fault (effective_acts log) External)
 
--- the next channel is read, in a scan
+-- a sample of the next channel, if a scan is under way
 abbrev pub where_scanning : State → List Act
 where_scanning Scanning = Scanned Sample ∷ []
 where_scanning _ = []
 
--- a millisecond passes: in a scan the next channel is read
+-- the acts of a millisecond: during a scan the next channel is read
 abbrev pub tick_acts : List Act → List Act
 tick_acts log = where_scanning (state (effective_acts log))
 

@@ -17,7 +17,7 @@ all_replies [] = []
 all_replies (Replied bytes ∷ acts) = all_replies acts ++ bytes
 all_replies (_ ∷ acts) = all_replies acts
 
--- all bytes that were sent on a port, by a log and what it tells interrupt channels
+-- all bytes that were sent on a port, by the log and the log of the interrupt channels
 abbrev pub all_sent : Port → List ChannelAct → List Act → List ℕ
 all_sent (Conn c) channel_log log = all_replies (of c log)
 all_sent (Intr c) channel_log log = concat (all_calls c channel_log)

@@ -22,7 +22,7 @@ use Rattle.sv_laws.specs.Adding.{Sends, Adds}
 
 -- ---- writes
 
--- The event is bytes on this connection, or a Turn of it.
+-- The event is Bytes on connection `c`, or a Turn of it.
 abbrev pub IsFeeding : ℕ → PlainEvent → Type 0
 IsFeeding c (Bytes d piece) = d ≡ c
 IsFeeding c (Turn d) = d ≡ c
@@ -33,7 +33,7 @@ abbrev pub is_piece : ConnAct → Bool
 is_piece (Piece bytes) = true
 is_piece _ = false
 
--- the acts of a connection without those
+-- the acts of a connection without the pieces of bytes that came
 abbrev pub without_pieces : List ConnAct → List ConnAct
 without_pieces = filter (λ act. not (is_piece act))
 
@@ -53,7 +53,7 @@ pub record Feeds (c : ℕ) (config : Config) (past events : List PlainEvent) (be
   pub is_log : IsLogOf config (events ++ past) log
   pub none_left : drop (records_ended (of c log)) (records_of (stream (of c log))) ≡ []
 
--- No read or write is suspended for input or output.
+-- No write is suspended until it is accepted, and no read until it is answered.
 abbrev pub NoneWaits : List WaitAct → Type 0
 NoneWaits acts = (c : ℕ) → (waits c acts ≢ Some ForInput) × (waits c acts ≢ Some ForResponse)
 
@@ -73,8 +73,8 @@ pub record AreCut (c lid : ℕ) (x y : List ℕ) (ended : Bool) (config : Config
   pub writes_first : IsWritten lid x false (without_pieces (of c before)) middle
   pub writes_second : IsWritten lid y ended middle (without_pieces (of c cut))
 
--- Then further events add the same bytes to each port after both, if both are histories. The writes themselves add the same bytes to each
--- port but their connection.
+-- If one history has a write in one piece and another has it cut in two (`AreCut`), the same further events add the same bytes to each
+-- port, provided that both are histories. The writes themselves add the same bytes to each port but their connection.
 abbrev pub WritesCut : Type 0
 WritesCut = (c lid : ℕ) (x y : List ℕ) (ended : Bool) (config : Config) (past one two events : List PlainEvent) (log other : List Act)
     → AreCut c lid x y ended config past one two → IsLogOf config (events ++ (one ++ past)) log
@@ -84,8 +84,8 @@ WritesCut = (c lid : ℕ) (x y : List ℕ) (ended : Bool) (config : Config) (pas
 
 -- ---- pieces and fragments
 
--- Two histories differ only in how adjacent bytes on a connection are split into pieces, and their records into fragments: the streams up
--- to there read as the same records and the same unfinished one.
+-- Two histories differ only in how adjacent bytes on a connection are split into pieces, and their records into fragments. Up to the end of
+-- these bytes, both streams read as the same records and the same unfinished record.
 pub data Recut (config : Config) : List PlainEvent → List PlainEvent → Type 0 where
   Nothing : Recut config [] []
   Same : {past other : List PlainEvent} (event : PlainEvent) → Recut config past other → Recut config (event ∷ past) (event ∷ other)
@@ -93,7 +93,7 @@ pub data Recut (config : Config) : List PlainEvent → List PlainEvent → Type 
       → reading (stream (of c log) ++ join_pieces pieces) ≡ reading (stream (of c log) ++ join_pieces others) → Recut config past other
       → Recut config (map (Bytes c) pieces ++ past) (map (Bytes c) others ++ other)
 
--- Then both send the same bytes on each port.
+-- Two histories that differ only in pieces and fragments (`Recut`) send the same bytes on each port.
 abbrev pub RecordsCut : Type 0
 RecordsCut = (config : Config) (history other : List PlainEvent) (log also : List Act) → Recut config history other
     → IsLogOf config history log → IsLogOf config other also → (port : Port) (bytes : List ℕ)

@@ -15,7 +15,7 @@ use Rattle.sv_history.specs.AbortChannel.{owner_of}
 use Rattle.sv_history.specs.History.{IsLogOf}
 use Rattle.sv_laws.specs.Adding.{Adds}
 
--- whether an event is of another connection than this, or of another's interrupt channel
+-- whether an event is of a connection other than `c`, or of another connection's interrupt channel
 abbrev pub is_foreign : ℕ → PlainEvent → Bool
 is_foreign c (Open d role) = not (d == c)
 is_foreign c (Bytes d piece) = not (d == c)
@@ -28,7 +28,7 @@ is_foreign c (Input channel microvolts) = false
 is_foreign c External = false
 is_foreign c Tick = false
 
--- the events without those
+-- the events without those of other connections and their interrupt channels
 abbrev pub own_events : ℕ → List PlainEvent → List PlainEvent
 own_events c = filter (λ event. not (is_foreign c event))
 
@@ -49,22 +49,23 @@ LeavesLinksAlone c (Turn d) log = (owner_of (aborted_link (next_request (of d lo
 LeavesLinksAlone c (Refuse d) log = d ≡ c → makes_link (next_request (of d log)) ≡ false
 LeavesLinksAlone c _ log = ⊤
 
--- After a history this holds of each of these events, in the log of all before it.
+-- `IsSuch` holds of each of these events, which come after the history `past`, with the log of all events before it.
 abbrev pub EachIs : (PlainEvent → List Act → Type 0) → Config → List PlainEvent → List PlainEvent → Type 0
 EachIs IsSuch config past [] = ⊤
 EachIs IsSuch config past (event ∷ events) =
     EachIs IsSuch config past events × ((log : List Act) → IsLogOf config (events ++ past) log → IsSuch event log)
 
--- The link holds the lock at each place from the end of one log to the end of another.
+-- The link holds the lock at each moment from the end of the log `before` to the end of `log`.
 abbrev pub HoldsFrom : ℕ → List Act → List Act → Type 0
 HoldsFrom lid before log = (later since : List Act) → log ≡ later ++ (since ++ before)
     → holder (link_acts (device_acts (since ++ before))) ≡ Some lid
 
--- No read or write of another connection is suspended for input or output.
+-- No write of another connection is suspended until it is accepted, and no read until it is answered.
 abbrev pub NoOtherWaits : ℕ → List WaitAct → Type 0
 NoOtherWaits c acts = (d : ℕ) → d ≢ c → (waits d acts ≢ Some ForInput) × (waits d acts ≢ Some ForResponse)
 
--- After a history these events come, during which a link of this connection holds the lock.
+-- These events follow the history `past`. During them a link of this connection holds the lock, and they leave its links alone
+-- (`LeavesLinksAlone`). When they begin, no read or write of another connection is suspended (`NoOtherWaits`).
 pub record IsLocked (c lid : ℕ) (config : Config) (past events : List PlainEvent) : Type 0 where
   pub before : List Act
   pub log : List Act
@@ -75,8 +76,8 @@ pub record IsLocked (c lid : ℕ) (config : Config) (past events : List PlainEve
   pub rest : NoOtherWaits c (wait_acts (device_acts before))
   pub left_alone : EachIs (LeavesLinksAlone c) config past events
 
--- Then the events without those of other connections are a history too, and both add the same bytes to this connection and to its interrupt
--- channel.
+-- While a link of a connection holds the lock (`IsLocked`), the events without those of other connections are a history too. With and
+-- without those, the events add the same bytes to the connection and to its interrupt channel.
 abbrev pub Isolation : Type 0
 Isolation = (c lid : ℕ) (config : Config) (past events : List PlainEvent) → IsLocked c lid config past events
     → ((log : List Act) × IsLogOf config (own_events c events ++ past) log)

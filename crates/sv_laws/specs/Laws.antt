@@ -23,19 +23,20 @@ use Rattle.sv_history.specs.History.{is_port_shut, input_refusal, last_clock, Is
 abbrev pub OneLog : Type 0
 OneLog = (config : Config) (history : List PlainEvent) (a b : List Act) → IsLogOf config history a → IsLogOf config history b → a ≡ b
 
--- While nothing waits for time, ticks change nothing but the clock, up to its last value: they are all that the log gains.
+-- While nothing waits for time, ticks change nothing but the clock, up to its last value. The log gains nothing but the ticks.
 abbrev pub TimeOnlyCounts : Type 0
 TimeOnlyCounts = (config : Config) (history : List PlainEvent) (log : List Act) (most : ℕ) → IsLogOf config history log
     → IsStill most config (device_acts log) → config.clock + ticks (device_acts log) + most ≤ last_clock
     → IsLogOf config (replicate most Tick ++ history) (replicate most (OnDevice Ticked) ++ log)
 
--- Between two events no suspended call is past its deadline, and none waits for what is there (VXI-11 revision 1.0, section B.4.4).
+-- Between two events no suspended call is past its deadline, and none waits for something that is there (VXI-11 revision 1.0, section
+-- B.4.4).
 abbrev pub NoneLate : Type 0
 NoneLate = (config : Config) (history : List PlainEvent) (log : List Act) (c : ℕ) → IsLogOf config history log
     → (IsExpired (config.clock + ticks (device_acts log)) (wait_acts (device_acts log)) c → ⊥) × (CanResume (device_acts log) c → ⊥)
 
--- The event fits the answers of the queries at this moment: an Open of a free number; Bytes that fit the room; a Took of at most what
--- waits, if anything waits; a Close of an open port; a Dialed that is waited for; an Input that isn't refused; the external trigger.
+-- The event fits the answers of the queries at this moment. It is an Open of a free number; Bytes that fit the room; a Took of at most what
+-- waits, if anything waits; a Close of an open port; a Dialed that is waited for; an Input that isn't refused; or the external trigger.
 abbrev pub Suits : PlainEvent → List ChannelAct → List Act → Type 0
 Suits (Open c role) channel_log log = (c < 16) × (is_open (of c log) ≡ false)
 Suits (Bytes c piece) channel_log log = (c < 16) × (0 < room (of c log)) × (length piece ≤ room (of c log))
@@ -47,7 +48,7 @@ Suits (Input channel microvolts) channel_log log = input_refusal channel microvo
 Suits External channel_log log = ⊤
 Suits _ channel_log log = ⊥
 
--- Such an event is never refused.
+-- An event that fits the answers of the queries (`Suits`) is never refused.
 abbrev pub NothingLost : Type 0
 NothingLost = (config : Config) (history : List PlainEvent) (event : PlainEvent) (channel_log : List ChannelAct) (log : List Act)
     (result : Result Did Refused) → IsLogOf config history log → HearsOf (device_acts log) channel_log → Suits event channel_log log
@@ -57,12 +58,13 @@ NothingLost = (config : Config) (history : List PlainEvent) (event : PlainEvent)
 abbrev pub calls_taken : List ConnAct → ℕ
 calls_taken acts = length (filter (elim [ CallTaken call ↦ true | _ ↦ false ]) (acts_since_opening acts))
 
--- 1 if so, else 0
+-- 1 for true, 0 for false
 abbrev pub one_if : Bool → ℕ
 one_if true = 1
 one_if false = 0
 
--- As many records were taken on a connection as were answered or are no calls, and one more if a call of it is suspended.
+-- The number of records taken on a connection is the number of those that were answered or aren't calls, and one more if a call of the
+-- connection is suspended.
 abbrev pub IsPaid : ℕ → List Act → Type 0
 IsPaid c log = calls_taken (of c log) ≡ records_ended (of c log) + one_if (is_some (waits c (wait_acts (device_acts log))))
 

@@ -11,7 +11,7 @@ use Rattle.sv_scan.specs.Condition as scan
 use Rattle.sv_layers.specs.Act.{Act, scan_acts}
 use Rattle.sv_layers.specs.Filter.{enable, has_bit, passes, leaves}
 
--- the acts of the scanner that count: one that is refused stands in the log, and counts for nothing
+-- the acts of the scanner that count: an act that is refused is in the log, but doesn't count
 abbrev pub effective_acts : List Act → List ScanAct
 effective_acts log = effective (scan_acts log)
 
@@ -19,22 +19,23 @@ effective_acts log = effective (scan_acts log)
 abbrev pub is_idle : List Act → Bool
 is_idle log = idles (state (effective_acts log))
 
--- the condition of a register, by the acts of the scanner
+-- the condition bits of a register that the scanner determines, by its acts that count
 abbrev pub scan_word : RegisterName → List ScanAct → ℕ
 scan_word Operation acts = scan.operation acts
 scan_word Questionable acts = scan.questionable acts
 scan_word Limit acts = scan.limit acts
 
--- the same, by the log
+-- the condition bits of a register that the scanner determines, by the log
 abbrev pub word : RegisterName → List Act → ℕ
 word name log = scan_word name (effective_acts log)
 
--- The summary of a register with none nested in it: some enabled bit passed its filter after the last clearing.
+-- The summary of a register that has no nested register: some enabled bit passed its filter after the last clearing.
 abbrev pub summary : RegisterName → List Act → Bool
 summary name log =
     list_any (λ k. is_since (passes (word name) name k) (leaves name) log && has_bit (enable name log) k) (range_with_len 0 16)
 
--- The condition of a register. Bit 9 of the questionable one is the summary of the register nested in it, that of the limits.
+-- The condition of a register. Bit 9 of the questionable condition is the summary of the limit register, which is nested in the
+-- questionable register.
 abbrev pub condition : RegisterName → List Act → ℕ
 condition Questionable log = word Questionable log + scan.bit 9 (summary Limit log)
 condition name log = word name log

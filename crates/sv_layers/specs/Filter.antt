@@ -14,11 +14,11 @@ is_same Questionable Questionable = true
 is_same Limit Limit = true
 is_same _ _ = false
 
--- the enable at power on and after a preset: 32767 of the limits, 0 of the others
+-- the enable at power on and after a preset: 32767 for the limit register, 0 for the others
 abbrev pub start : RegisterName → ℕ
 start = elim [ Limit ↦ 32767 | _ ↦ 0 ]
 
--- the mask that is set, without bit 15, if it is this register that is named
+-- the mask without bit 15, if the register that is named is this one; else `None`
 abbrev pub mask_for : RegisterName → RegisterName → ℕ → Option ℕ
 mask_for name other mask = if is_same name other then Some (without_top_bit mask) else None
 
@@ -30,7 +30,7 @@ rise name = last_given (elim [ RiseSet other mask ↦ mask_for name other mask |
 abbrev pub fall : RegisterName → List Act → ℕ
 fall name = last_given (elim [ FallSet other mask ↦ mask_for name other mask | Preset ↦ Some 0 | _ ↦ None ]) 0
 
--- the enable: as last set, or its start after power on or a preset
+-- the enable: as last set, or `start` after power on or a preset
 abbrev pub enable : RegisterName → List Act → ℕ
 enable name = last_given (elim [ Enabled other mask ↦ mask_for name other mask | Preset ↦ Some (start name) | _ ↦ None ]) (start name)
 
@@ -45,6 +45,6 @@ passes condition name k (act ∷ before) =
     (not (has_bit (condition before) k) && (has_bit (condition (act ∷ before)) k && has_bit (rise name before) k))
     || (has_bit (condition before) k && (not (has_bit (condition (act ∷ before)) k) && has_bit (fall name before) k))
 
--- whether the newest act doesn't clear the event register: it is neither `*CLS` nor a read of it
+-- whether the newest act doesn't clear the event register: it is neither `*CLS` nor a read of this register
 abbrev pub leaves : RegisterName → List Act → Bool
 leaves name = elim [ EventRead other ∷ log ↦ not (is_same name other) | Cleared ∷ log ↦ false | _ ↦ true ]

@@ -1,3 +1,3 @@
--- How the acts of each layer are drawn from those of the instrument. The laws tie this to the definitions beside it.
+-- How the log of each layer follows from the acts of the instrument. The laws tie it to the definitions outside of this module.
 pub mod LayerLogs
 pub mod Representation

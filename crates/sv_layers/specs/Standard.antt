@@ -16,22 +16,23 @@ IsAsked = elim [ OpcAsked ∷ log ↦ ⊤ | _ ↦ ⊥ ]
 abbrev pub cancels : Act → Bool
 cancels = elim [ Cleared ↦ true | Scanned Reset ↦ true | Purged ↦ true | _ ↦ false ]
 
--- At the newest act a measurement is under way, and the act doesn't cancel.
+-- At the newest act a measurement is under way, and the act doesn't cancel a pending `*OPC`.
 abbrev pub IsPending : List Act → Type 0
 IsPending [] = ⊤
 IsPending (act ∷ log) = (is_idle (act ∷ log) ≡ false) × (cancels act ≡ false)
 
--- An `*OPC` is pending: there was one, and at each place since a measurement was under way and nothing cancelled it.
+-- An `*OPC` is pending: there was one, and at each moment since then a measurement was under way and nothing cancelled the `*OPC`.
 abbrev pub Waits : List Act → Type 0
 Waits log = Since IsAsked IsPending log
 
--- At the newest act an `*OPC` completes: it is the first place since at which no measurement is under way, and it wasn't cancelled.
+-- At the newest act an `*OPC` completes: no measurement is under way. Either the act is the `*OPC`, or one was pending before and the act
+-- doesn't cancel it.
 abbrev pub Completes : List Act → Type 0
 Completes [] = ⊥
 Completes (act ∷ before) = (is_idle (act ∷ before) ≡ true) × (IsAsked (act ∷ before) ⊎ (Waits before × (cancels act ≡ false)))
 
--- An event occurs at the newest act. Bit 7: power on, before all acts. Bit 0: an operation completes. Bits 5 to 2: an error of that class
--- is reported. Bit 3 also: the error queue overflows.
+-- An event occurs at the newest act. Bit 7: power on, which occurs before all acts. Bit 0: an operation completes. Bits 5 to 2: an error of
+-- the bit's class is reported. Bit 3 also: the error queue overflows.
 abbrev pub Occurs : ℕ → List Act → Type 0
 Occurs k [] = k ≡ 7
 Occurs k (Reported code ∷ log) = (bit_at (standard_event_of code) k ≡ 1) ⊎ ((k ≡ 3) × (is_full (queue_acts log) ≡ true))
@@ -42,7 +43,7 @@ Occurs k log = (k ≡ 0) × Completes log
 abbrev pub NotCleared : List Act → Type 0
 NotCleared = elim [ StandardRead ∷ log ↦ ⊥ | Cleared ∷ log ↦ ⊥ | _ ↦ ⊤ ]
 
--- A bit is set exactly if its event occurred after the last clearing.
+-- A bit of the standard event status register is set: its event occurred after the last clearing.
 abbrev pub Stands : ℕ → List Act → Type 0
 Stands k log = Since (Occurs k) NotCleared log
 

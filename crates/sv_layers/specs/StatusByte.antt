@@ -9,8 +9,8 @@ use Rattle.sv_layers.specs.Act.{Act, ServiceEnabled, Polled, exchange_acts, queu
 use Rattle.sv_layers.specs.Event.{Summary}
 use Rattle.sv_layers.specs.Standard.{Summary as StandardSummary}
 
--- A summary bit is set: 7 the operation register, 5 the standard events, 4 a message is available, 3 the questionable register, 2 the error
--- queue isn't empty.
+-- A summary bit is set. Bit 7: the operation register. Bit 5: the standard events. Bit 4: a message is available. Bit 3: the questionable
+-- register. Bit 2: the error queue isn't empty.
 abbrev pub SummaryBit : ℕ → List Act → Type 0
 SummaryBit k log = ((k ≡ 7) × Summary Operation log) ⊎ ((k ≡ 5) × StandardSummary log)
     ⊎ ((k ≡ 4) × (is_something (response (exchange_acts log)) ≡ true)) ⊎ ((k ≡ 3) × Summary Questionable log)
@@ -33,16 +33,16 @@ abbrev pub Reason : List Act → Type 0
 Reason [] = ⊥
 Reason (act ∷ before) = (k : ℕ) × ServiceRequested k (act ∷ before) × (ServiceRequested k before → ⊥)
 
--- The newest act keeps a request: it is no poll, and the master summary is set.
+-- The newest act keeps a request: it isn't a poll, and the master summary is set.
 abbrev pub Lasts : List Act → Type 0
 Lasts (Polled ∷ log) = ⊥
 Lasts log = Master log
 
--- A request for service stands: a reason arose, and since then the master summary was set at each place and no poll came.
+-- A request for service stands: a reason arose, and at each moment since then the master summary was set and no poll came.
 abbrev pub Request : List Act → Type 0
 Request log = Since Reason Lasts log
 
--- A request is raised at the newest act: it stands there, and didn't before.
+-- A request is raised at the newest act: it stands after that act, and didn't stand before.
 abbrev pub IsRaised : List Act → Type 0
 IsRaised [] = ⊥
 IsRaised (act ∷ before) = Request (act ∷ before) × (Request before → ⊥)

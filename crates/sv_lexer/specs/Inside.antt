@@ -1,4 +1,4 @@
--- What only the code and the proofs inside need.
+-- Only the code and the proofs of this crate need these definitions.
 pub mod Stage
 pub mod Moved
 pub mod Finish

@@ -7,18 +7,19 @@ use Rattle.sv_errors.specs.declared.code.Code.TheVariants.{InvalidExpression, Sy
 use Rattle.sv_text.specs.White.{trim}
 use Rattle.sv_lexer.specs.Unit.{rest, rest_place, white_size}
 
--- whether a parenthesis is open after these bytes, which are read from the last one: the last parenthesis among them is an opening one
+-- whether a parenthesis is open after these bytes, which are listed from the last to the first: the last parenthesis among them is an
+-- opening one
 abbrev pub is_open : List ℕ → Bool
 is_open [] = false
 is_open (b ∷ before) = if b == 40 then true else if b == 41 then false else is_open before
 
--- the bytes cut at each comma outside parentheses
+-- the bytes, cut at each comma outside parentheses; `before` are the bytes before them, from the last to the first
 abbrev pub cut_outside : (before bytes : List ℕ) → List (List ℕ)
 cut_outside before [] = [] ∷ []
 cut_outside before (b ∷ bytes) = if b == 44 && not (is_open before) then []
     ∷ cut_outside (b ∷ before) bytes else onto_first b (cut_outside (b ∷ before) bytes)
 
--- the parts between these commas; none if there is no text
+-- the parts of a text between its commas outside parentheses; none if the text is empty
 abbrev pub parts : List ℕ → List (List ℕ)
 parts text = if is_empty text then [] else cut_outside [] text
 
@@ -30,7 +31,7 @@ part_place index parts = sum_by (λ part. length part + 1) (take index parts)
 abbrev pub count : List ℕ → ℕ
 count unit = length (parts (rest unit))
 
--- the part with this index, from 0
+-- the part of a unit's program data with this index, from 0
 abbrev part : List ℕ → ℕ → List ℕ
 part unit index = slice_index_or (parts (rest unit)) index []
 
@@ -53,7 +54,7 @@ parameters_fault unit =
     else if list_any is_blank (parts (rest unit)) then Some SyntaxError
     else None
 
--- whether a parenthesis is open after a byte, given whether one was before it
+-- whether a parenthesis is open after a byte, given whether one was open before it
 abbrev pub opens : Bool → ℕ → Bool
 opens inside b = if b == 40 then true else if b == 41 then false else inside
 

@@ -15,7 +15,7 @@ kind_of [] = Other
 kind_of (b ∷ text) =
     if begins_number b then Number else if b == 35 then Base else if is_letter b then Word else if b == 40 then Expression else Other
 
--- a place, in 32 bits
+-- a place, but at most 2 ^ 32 - 1
 abbrev pub in_u32 : ℕ → ℕ
 in_u32 place = min place 4294967295
 

@@ -18,7 +18,7 @@ header_size unit = position_or_len is_white (trim unit)
 abbrev pub header : List ℕ → List ℕ
 header unit = take (header_size unit) (trim unit)
 
--- where the header begins
+-- where the header begins in the unit
 abbrev pub header_place : List ℕ → ℕ
 header_place unit = white_size unit
 
@@ -38,8 +38,8 @@ rest_place unit = header_place unit + header_size unit + white_size (behind unit
 abbrev pub is_legal : ℕ → Bool
 is_legal b = is_white b || (nat_lt 32 b && nat_lt b 127)
 
--- the first fault of a unit: an illegal byte (-101), a header that isn't spelled as one (-102), a mnemonic above 12 characters (-112);
--- `None` if there is no fault
+-- the first fault of a unit: an illegal byte (-101), a text in the header's place that isn't a header (-102), a mnemonic of more than 12
+-- characters (-112); `None` if there is no fault
 abbrev pub unit_fault : List ℕ → Option Code
 unit_fault unit =
     if not (list_all is_legal unit) then Some InvalidCharacter
@@ -47,6 +47,6 @@ unit_fault unit =
     else if not (list_all (λ word. nat_le (length word) 12) (words (header unit))) then Some ProgramMnemonicTooLong
     else None
 
--- The unit as it was read: its bytes, or its fault.
+-- The outcome of reading a unit: its bytes if it has no fault, else its first fault.
 abbrev pub IsLexed : Result (List ℕ) Code → List ℕ → Type 0
 IsLexed outcome bytes = MatchResult outcome (λ unit. (unit ≡ bytes) × (unit_fault bytes ≡ None)) (λ code. unit_fault bytes ≡ Some code)

@@ -1,4 +1,4 @@
--- What is kept of interrupt channels, and which acts it stands for.
+-- What is kept of interrupt channels, and when it stands for a list of acts.
 use Rattle.std.specs.Prelude.{◌≡◌, ℕ, ◌-◌, ◌==◌, ◌<◌, ◌≤◌, nat_lt, not, Bool, true, false, List, [], ◌∷◌, length, map, filter, Option, Some, None, is_some, slice_get, slice_index_or, if◌then◌else◌, ⊤}
 use Rattle.std.specs.List.{concat, AllByRecursion}
 use Rattle.sv_links.specs.declared.enabled.Enabled.{Enabled}
@@ -32,35 +32,35 @@ is_prepared Prepared = true
 is_prepared Closed = false
 is_prepared (Open what) = false
 
--- what is left of these sizes, once so many bytes in total are taken
+-- what is left of these sizes after `count` bytes in total are taken
 abbrev pub left_in : ℕ → List ℕ → List ℕ
 left_in count [] = []
 left_in count (size ∷ sizes) = if nat_lt count size then (size - count) ∷ sizes else left_in (count - size) sizes
 
--- The channel keeps these calls, of which the peer took so many bytes, no more than there are.
+-- The channel keeps what is left of these calls after the peer took `count` of their bytes, which are no more than there are.
 abbrev pub IsQueued : Channel → ℕ → List (List ℕ) → Type 0
 IsQueued kept count calls = (kept.made ≡ length calls) × (kept.sizes ≡ map length (calls_left count calls))
     × (kept.bytes ≡ concat (calls_left count calls)) × (count ≤ length (concat calls))
 
--- If the channel is open, it keeps these calls.
+-- If the channel is open, it keeps what is left of these calls after the peer took `count` of their bytes.
 abbrev pub IsChannelFor : Option Peer → Channel → ℕ → List (List ℕ) → Type 0
 IsChannelFor (Some what) kept count calls = IsQueued kept count calls
 IsChannelFor None kept count calls = ⊤
 
--- The channel of a connection keeps what the acts say.
+-- The channel of a connection keeps what the acts determine.
 abbrev pub IsChannel : Channel → ℕ → List ChannelAct → Type 0
 IsChannel kept c acts = (opened_for kept.stage ≡ peer c acts) × IsChannelFor (peer c acts) kept (bytes_taken c acts) (calls c acts)
 
--- The links stand by rising number.
+-- The links are in rising order of their numbers.
 abbrev pub IsSorted : List Enabled → Type 0
 IsSorted [] = ⊤
 IsSorted (link ∷ links) = AllByRecursion (λ other. link.lid < other.lid) links × IsSorted links
 
--- There is room for a link to enable service requests: it has already, or fewer than 32 links have.
+-- There is room for a link to enable service requests: fewer than 32 other links have them enabled.
 abbrev pub HasRoomFor : ℕ → Channels → Type 0
 HasRoomFor lid kept = length (filter (λ other. not (other.lid == lid)) kept.enabled) < max_enabled
 
--- the links without those of these numbers
+-- the links without those with these numbers
 abbrev pub without_links : List ℕ → List Enabled → List Enabled
 without_links [] links = links
 without_links (lid ∷ lids) links = filter (λ other. not (other.lid == lid)) (without_links lids links)
@@ -82,7 +82,7 @@ bytes_of kept c = bytes_in (slice_get kept.channels c)
 abbrev pub IsReady : Channels → ℕ → Type 0
 IsReady kept c = (other : Channel) → is_prepared (slice_index_or kept.channels c other).stage ≡ true
 
--- These are kept as the acts say, and no other channel is open.
+-- Links and channels are kept as the acts determine, and no channel of a connection above 15 is open.
 pub record AreChannels (kept : Channels) (acts : List ChannelAct) : Type 0 where
   pub enabled : kept.enabled ≡ enabled_links acts
   pub each : (c : ℕ) (other : Channel) → c < max_connections → IsChannel (slice_index_or kept.channels c other) c acts

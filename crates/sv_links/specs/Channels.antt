@@ -17,7 +17,7 @@ pub data ChannelAct : Type 0 where
   Requested : ChannelAct
   ChannelTaken : (conn count : ℕ) → ChannelAct
 
--- the service requests of a link, if it has them enabled: as its newest enabling or disabling says
+-- the connection and the newest handle of a link that has service requests enabled; `None` if it hasn't
 abbrev pub srq_enabled : ℕ → List ChannelAct → Option Enabled
 srq_enabled lid [] = None
 srq_enabled lid (SrqEnabled other conn handle ∷ acts) =
@@ -35,7 +35,7 @@ past (_ ∷ acts) = past acts
 abbrev pub enabled_links : List ChannelAct → List Enabled
 enabled_links acts = filter_map (λ lid. srq_enabled lid acts) (range_with_len 0 (past acts))
 
--- the handles of those of a connection
+-- the handles of the links that belong to a connection
 abbrev pub handles_of : ℕ → List Enabled → List (List ℕ)
 handles_of c links = map (λ link. link.handle) (filter (λ link. link.conn == c) links)
 
@@ -63,7 +63,7 @@ abbrev pub calls_left : ℕ → List (List ℕ) → List (List ℕ)
 calls_left count [] = []
 calls_left count (call ∷ calls) = if nat_lt count (length call) then drop count call ∷ calls else calls_left (count - length call) calls
 
--- whether one more call may be sent: fewer than 32 aren't taken completely, and a number is left
+-- whether one more call may be sent: fewer than 32 calls aren't taken completely, and a number is left for it
 abbrev pub may_call : ℕ → List (List ℕ) → Bool
 may_call count calls = nat_lt (length (calls_left count calls)) max_calls && nat_lt (length calls) 4294967295
 
@@ -72,7 +72,8 @@ abbrev pub add_call : Option Peer → ℕ → List (List ℕ) → List ℕ → L
 add_call (Some what) count calls handle = if may_call count calls then calls ++ request (length calls + 1) what handle ∷ [] else calls
 add_call None count calls handle = calls
 
--- the calls that were sent on the channel of a connection since it was opened: one for each of its links at each request
+-- the calls that were sent on the channel of a connection since it was opened: at each service request, one for each link of the connection
+-- that has service requests enabled
 abbrev pub calls : ℕ → List ChannelAct → List (List ℕ)
 calls c [] = []
 calls c (ChannelOpened conn what ∷ acts) = if conn == c then [] else calls c acts
@@ -80,7 +81,7 @@ calls c (ChannelClosed conn ∷ acts) = if conn == c then [] else calls c acts
 calls c (Requested ∷ acts) = fold (add_call (peer c acts) (bytes_taken c acts)) (calls c acts) (handles_of c (enabled_links acts))
 calls c (_ ∷ acts) = calls c acts
 
--- all calls that were ever sent on it, also before it was opened anew
+-- all calls that were ever sent on the channel of a connection, across its openings
 abbrev pub all_calls : ℕ → List ChannelAct → List (List ℕ)
 all_calls c [] = []
 all_calls c (Requested ∷ acts) = all_calls c acts ++ drop (length (calls c acts)) (calls c (Requested ∷ acts))

@@ -9,15 +9,15 @@ max_connections = 16
 abbrev pub max_waiting : ℕ
 max_waiting = max_connections
 
--- how many links may live
+-- how many links may exist at once
 abbrev pub max_links : ℕ
 max_links = 32
 
--- how many links may have service requests enabled: all that live
+-- how many links may have service requests enabled: all that exist
 abbrev pub max_enabled : ℕ
 max_enabled = max_links
 
--- how many calls of an interrupt channel may be pending that its peer didn't take completely
+-- how many calls may wait on an interrupt channel that its peer didn't take completely
 abbrev pub max_calls : ℕ
 max_calls = 32
 
@@ -30,7 +30,7 @@ max_handle = 40
 abbrev pub longest_text : ℕ
 longest_text = 44 + max_handle
 
--- the length of its record in bytes: the header of its one fragment (4; RFC 5531, section 11), and the call
+-- the length in bytes of the record of the longest device_intr_srq: the header of its one fragment (4; RFC 5531, section 11), and the call
 abbrev pub longest_call : ℕ
 longest_call = 4 + longest_text
 

@@ -1,19 +1,19 @@
--- Links (VXI-11 revision 1.0, sections B.4.4 and B.6): which live, who owns one, and which holds the lock. Lists of acts have the newest
--- first.
+-- Links (VXI-11 revision 1.0, sections B.4.4 and B.6): which of them are live, which connection owns each, and which holds the lock. Lists
+-- of acts have the newest first.
 use Rattle.std.specs.Prelude.{ℕ, ◌+◌, ◌==◌, not, ◌&&◌, ◌||◌, Bool, true, false, List, [], ◌∷◌, ◌++◌, length, map, filter, find, reverse, option_map, Option, Some, None, nat_lt}
 use Rattle.std.specs.List.{filter_map}
 use Rattle.std.specs.Option.{option_map_or}
 use Rattle.sv_links.specs.Limits.{max_links}
 use Rattle.sv_links.specs.declared.links.Link.{Link}
 
--- what happens to links: one is made on a connection, destroyed, gets the lock, or frees it
+-- what happens to links: a link is made on a connection, is destroyed, gets the lock, or frees it
 pub data LinkAct : Type 0 where
   Made : (lid conn : ℕ) → LinkAct
   Destroyed : (lid : ℕ) → LinkAct
   Locked : (lid : ℕ) → LinkAct
   Unlocked : (lid : ℕ) → LinkAct
 
--- how many links were ever made; the number of the next is one more
+-- how many links were ever made; the next link gets the number that is one more
 abbrev pub links_made : List LinkAct → ℕ
 links_made [] = 0
 links_made (Made lid conn ∷ acts) = links_made acts + 1
@@ -26,11 +26,11 @@ live (Made lid conn ∷ acts) = live acts ++ record { lid = lid; conn = conn } �
 live (Destroyed lid ∷ acts) = filter (λ link. not (link.lid == lid)) (live acts)
 live (_ ∷ acts) = live acts
 
--- the connection that made a link; `None` if the link doesn't live
+-- the connection that made a link; `None` if the link isn't live
 abbrev pub owner : ℕ → List LinkAct → Option ℕ
 owner lid acts = option_map (λ link. link.conn) (find (λ link. link.lid == lid) (live acts))
 
--- whether this connection is the owner
+-- whether this connection is the owner; false if there is no owner
 abbrev pub is_of : ℕ → Option ℕ → Bool
 is_of conn owner = option_map_or (λ other. other == conn) owner false
 
@@ -38,7 +38,7 @@ is_of conn owner = option_map_or (λ other. other == conn) owner false
 abbrev pub links_of : ℕ → List LinkAct → List ℕ
 links_of conn acts = map (λ link. link.lid) (filter (λ link. link.conn == conn) (live acts))
 
--- the first of them; `None` if there is none
+-- the lowest number of a connection's live links; `None` if it has none
 abbrev pub lowest : ℕ → List LinkAct → Option ℕ
 lowest conn acts = find (λ lid. true) (links_of conn acts)
 
@@ -46,7 +46,7 @@ lowest conn acts = find (λ lid. true) (links_of conn acts)
 abbrev pub lids_left : List LinkAct → Bool
 lids_left acts = nat_lt (links_made acts) 2147483647
 
--- whether one more link may be made: fewer than 32 live, and a number is left
+-- whether one more link may be made: fewer than 32 links are live, and a number is left
 abbrev pub may_make : List LinkAct → Bool
 may_make acts = nat_lt (length (live acts)) max_links && lids_left acts
 
@@ -76,6 +76,6 @@ is_locked_out (Some holder) (Some lid) = not (lid == holder)
 is_locked_out (Some holder) None = true
 is_locked_out None named = false
 
--- whether it is this link
+-- whether the link that is named is this one; false if none is named
 abbrev pub is_this : ℕ → Option ℕ → Bool
 is_this lid named = option_map_or (λ other. other == lid) named false

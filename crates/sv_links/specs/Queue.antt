@@ -1,4 +1,4 @@
--- What is kept of suspended calls, and which acts it stands for.
+-- What is kept of suspended calls, and when it stands for a list of acts.
 use Rattle.std.specs.Prelude.{◌≡◌, ◌≢◌, ℕ, ◌==◌, ◌<◌, nat_le, Bool, false, List, [], ◌∷◌, Option, Some, None, is_none, option_map, find, filter, length, not, ◌&&◌, ◌+◌, if◌then◌else◌, ⊤}
 use Rattle.std.specs.List.{AllByRecursion}
 use Rattle.sv_links.specs.declared.waiting.Entry.{Entry}
@@ -6,7 +6,7 @@ use Rattle.sv_links.specs.declared.waiting.Wait.{Wait}
 use Rattle.sv_links.specs.declared.waiting.Wait.TheVariants.{Lock, Input, Response, Dial}
 use Rattle.sv_links.specs.Waiting.{WaitAct, waits, deadline, link, arrival, is_lock}
 
--- No call of this connection is kept.
+-- No entry is of this connection.
 abbrev pub IsFree : ℕ → List Entry → Type 0
 IsFree conn entries = AllByRecursion (λ entry. entry.conn ≢ conn) entries
 
@@ -15,7 +15,7 @@ abbrev pub IsOnce : List Entry → Type 0
 IsOnce [] = ⊤
 IsOnce (entry ∷ entries) = IsFree entry.conn entries × IsOnce entries
 
--- Each connection is below this number.
+-- The connection of each entry is below this number.
 abbrev pub IsBelow : ℕ → List Entry → Type 0
 IsBelow most entries = AllByRecursion (λ entry. entry.conn < most) entries
 
@@ -23,24 +23,24 @@ IsBelow most entries = AllByRecursion (λ entry. entry.conn < most) entries
 abbrev pub entry_of : ℕ → List Entry → Option Entry
 entry_of conn entries = find (λ entry. entry.conn == conn) entries
 
--- The entry is what the acts say of its connection.
+-- The entry is what the acts determine for its connection.
 abbrev pub IsEntry : List WaitAct → Entry → Type 0
 IsEntry acts entry = (waits entry.conn acts ≡ Some entry.wait) × (deadline entry.conn acts ≡ entry.deadline)
     × (link entry.conn acts ≡ entry.lid)
 
--- The entries stand in order of arrival.
+-- The entries are in order of arrival.
 abbrev pub IsOrdered : List WaitAct → List Entry → Type 0
 IsOrdered acts [] = ⊤
 IsOrdered acts (entry ∷ entries) =
     AllByRecursion (λ other. arrival entry.conn acts < arrival other.conn acts) entries × IsOrdered acts entries
 
--- These calls are suspended, and no others.
+-- The entries are exactly the suspended calls, in order of arrival.
 pub record IsQueue (entries : List Entry) (acts : List WaitAct) : Type 0 where
   pub each : AllByRecursion (IsEntry acts) entries
   pub ordered : IsOrdered acts entries
   pub all : (conn : ℕ) → waits conn acts ≡ option_map (λ entry. entry.wait) (entry_of conn entries)
 
--- an entry; if it is of this connection, suspended anew
+-- an entry, suspended anew with this wait and this deadline if it is of this connection; otherwise unchanged
 abbrev pub anew : ℕ → Wait → Option ℕ → Entry → Entry
 anew conn wait deadline entry = if entry.conn == conn then record entry { wait = wait; deadline = deadline } else entry
 
@@ -49,26 +49,26 @@ abbrev pub is_past : ℕ → Option ℕ → Bool
 is_past clock (Some deadline) = nat_le deadline clock
 is_past clock None = false
 
--- whether it is a suspended create_link
+-- whether an entry is a suspended create_link
 abbrev pub creates : Entry → Bool
 creates entry = is_lock (Some entry.wait) && is_none entry.lid
 
--- how many of these there are
+-- how many of the entries are suspended create_links
 abbrev pub creations : List Entry → ℕ
 creations entries = length (filter creates entries)
 
--- the entries without that of a connection
+-- the entries without the one of this connection
 abbrev pub without : ℕ → List Entry → List Entry
 without conn entries = filter (λ entry. not (entry.conn == conn)) entries
 
--- how often a call may still be suspended anew or leave: one that waits for the lock may be suspended once more
+-- how often a call may still be suspended anew or leave the queue: a call that waits for the lock may be suspended once more
 abbrev pub wait_measure : Wait → ℕ
 wait_measure Lock = 2
 wait_measure Input = 1
 wait_measure Response = 1
 wait_measure Dial = 1
 
--- the sum over all entries
+-- the sum of the measures of all entries
 abbrev pub queue_measure : List Entry → ℕ
 queue_measure [] = 0
 queue_measure (entry ∷ entries) = wait_measure entry.wait + queue_measure entries

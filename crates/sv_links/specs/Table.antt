@@ -1,18 +1,18 @@
--- What the table of links keeps, and which acts it stands for.
+-- What the table of links keeps, and when it stands for a list of acts.
 use Rattle.std.specs.Prelude.{◌≡◌, ℕ, ◌<◌, ◌≤◌, List, [], ◌∷◌, ◌++◌, is_some, count_by, Option, Some, None, ⊤}
 use Rattle.std.specs.List.{AllByRecursion}
 use Rattle.sv_links.specs.declared.links.Link.{Link}
 use Rattle.sv_links.specs.Links.{LinkAct, links_made, live, is_locked, is_this}
 
--- how many links were ever made; a live link or nothing at each key of the slab; the link that holds the lock; for how many more links
--- there is memory
+-- what is kept: how many links were ever made; the slots, each with a live link or empty; the link that holds the lock; for how many more
+-- links there is memory
 pub record Table : Type 0 where
   pub made : ℕ
   pub slots : List (Option Link)
   pub holder : Option ℕ
   pub spare : ℕ
 
--- how many links live
+-- how many live links the table has
 abbrev pub count_of : Table → ℕ
 count_of table = count_by is_some table.slots
 
@@ -23,12 +23,12 @@ IsKept (None ∷ slots) links = IsKept slots links
 IsKept (Some link ∷ slots) links =
     (before : List Link) × (after : List Link) × (links ≡ before ++ link ∷ after) × IsKept slots (before ++ after)
 
--- The numbers of the links rise, up to this one.
+-- The numbers of the links rise, and none is above this one.
 abbrev pub IsRising : List Link → ℕ → Type 0
 IsRising [] last = ⊤
 IsRising (link ∷ links) last = (link.lid ≤ last) × AllByRecursion (λ other. link.lid < other.lid) links × IsRising links last
 
--- The table keeps what the acts say of links: each live link at one key, and nothing else.
+-- The table keeps what the acts determine: each live link in one slot, and nothing else.
 pub record IsTable (table : Table) (acts : List LinkAct) : Type 0 where
   pub made : table.made ≡ links_made acts
   pub kept : IsKept table.slots (live acts)

@@ -22,7 +22,7 @@ waits c (Entered conn link wait deadline ∷ acts) = if conn == c then Some wait
 waits c (Again conn wait deadline ∷ acts) = if conn == c then option_map (λ before. wait) (waits c acts) else waits c acts
 waits c (Left conn ∷ acts) = if conn == c then None else waits c acts
 
--- the deadline of the newest wait of a connection; `None` without one
+-- the deadline of the newest wait of a connection; `None` if that has none
 abbrev pub deadline : ℕ → List WaitAct → Option ℕ
 deadline c [] = None
 deadline c (Entered conn link wait last ∷ acts) = if conn == c then last else deadline c acts
@@ -33,7 +33,7 @@ deadline c (Left conn ∷ acts) = deadline c acts
 abbrev pub enters : ℕ → List WaitAct → Bool
 enters c = elim [ Entered conn link wait deadline ∷ acts ↦ conn == c | _ ↦ false ]
 
--- when the call came: how many acts there were then
+-- when the call of a connection was suspended: how many acts there were then
 abbrev pub arrival : ℕ → List WaitAct → ℕ
 arrival c acts = length (newest (enters c) acts)
 
@@ -72,11 +72,11 @@ IsExpired clock acts c = (wait : Wait) × (last : ℕ) × (waits c acts ≡ Some
 abbrev pub is_creating : List WaitAct → ℕ → Bool
 is_creating acts c = is_lock (waits c acts) && is_none (link c acts)
 
--- how many connections have one
+-- how many connections have a suspended create_link
 abbrev pub creating : List WaitAct → ℕ
 creating acts = length (filter (is_creating acts) connections)
 
--- Of the connections of which this holds, it is the one whose call came first; or there is none.
+-- Of the connections for which `IsSuch` holds, this is the one whose call came first; `None` if there is none.
 abbrev pub IsOldest : List WaitAct → (ℕ → Type 0) → Option ℕ → Type 0
 IsOldest acts IsSuch None = (c : ℕ) → IsSuch c → ⊥
 IsOldest acts IsSuch (Some c) = IsSuch c × ((d : ℕ) → IsSuch d → arrival c acts ≤ arrival d acts)

@@ -1,2 +1,2 @@
--- What only private functions cite.
+-- Only the contracts of private functions use these definitions.
 pub mod Pausing

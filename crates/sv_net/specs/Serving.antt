@@ -8,8 +8,8 @@ use Rattle.sv_serve.specs.DriverView.{DriverState, Steps}
 use Rattle.sv_serve.specs.Sweep.{Sweeps}
 use Rattle.sv_net.specs.Sleep.{MaySleep}
 
--- A sweep; or a wait for reports: its limit, whether some came, and the nanosecond since the beginning at which it ended; or passing these
--- reports to a wire, as it was then.
+-- What a loop does: a sweep; or a wait for reports, with its limit, whether reports came, and the nanosecond since the beginning at which
+-- it ended; or passing the reports to a wire, which is given as it was then.
 pub data Doing (W : Type 0) : Type 0 where
   MadeSweep : Doing W
   Waited : (limit : Option Duration) (reported : Bool) (ended : ℕ) → Doing W
@@ -35,7 +35,7 @@ handed_in [] = []
 handed_in (MadeSweep ∷ doings) = ticks_between (swept_at doings) (time_of doings) ∷ handed_in doings
 handed_in (_ ∷ doings) = handed_in doings
 
--- whether the last thing was a wait, whose reports weren't passed on yet
+-- whether the last thing was a wait, whose reports weren't passed on yet, or nothing was done yet
 abbrev pub is_fresh : {W : Type 0} → List (Doing W) → Bool
 is_fresh = elim [ MadeSweep ∷ doings ↦ false | Told wire ∷ doings ↦ false | _ ↦ true ]
 
@@ -43,8 +43,8 @@ is_fresh = elim [ MadeSweep ∷ doings ↦ false | Told wire ∷ doings ↦ fals
 abbrev pub is_told : {W : Type 0} → List (Doing W) → Bool
 is_told = last_given (elim [ Waited limit true ended ↦ Some false | Told wire ↦ Some true | _ ↦ None ]) true
 
--- The loop leads from one state of the driver to another. Each sweep gets its milliseconds, which pass before what was reported meanwhile.
--- No wait is longer than it may be, and none begins before all reports were passed on.
+-- The loop leads from one state of the driver to another. Each sweep gets its milliseconds; a sweep that gets some comes before the reports
+-- of the last wait are passed on. No wait is longer than it may be, and none begins before all reports were passed on.
 abbrev pub Serves : {W : Type 0} → (W → Heard → W → Type 0) → List (Doing W) → DriverState W → DriverState W → Type 0
 Serves hears [] start now = now ≡ start
 Serves hears (MadeSweep ∷ doings) start now = let ticks = ticks_between (swept_at doings) (time_of doings) in
@@ -54,13 +54,14 @@ Serves hears (Waited limit reported ended ∷ doings) start now =
     Serves hears doings start now × MaySleep (swept_at doings) (time_of doings) limit now × (is_told doings ≡ true)
 Serves hears (Told wire ∷ doings) start now = Serves hears doings start now × (wire ≡ now.wire)
 
--- A machine was asked for these waits in order, gave these answers, and passed the reports to these wires.
+-- A machine was asked for these waits in order and gave these answers. The reports were passed to these wires.
 abbrev pub Waits : {W M : Type 0} → (M → Doing W → M → Type 0) → List (Doing W) → M → M → Type 0
 Waits answers [] start now = now ≡ start
 Waits answers (MadeSweep ∷ doings) start now = Waits answers doings start now
 Waits answers (doing ∷ doings) start now = (between : _) × Waits answers doings start between × answers between doing now
 
--- A loop with such a number of sweeps leads from one state of the driver to another; and so do sweeps with these milliseconds.
+-- A loop leads from one state of the driver to another, and `IsCount` holds of the number of its sweeps. Its sweeps alone, with their
+-- milliseconds, lead from the one state to the other, too.
 abbrev pub Served : {W : Type 0} → (W → Heard → W → Type 0) → (ℕ → Type 0) → DriverState W → DriverState W → Type 0
 Served hears IsCount old new = (doings : List (Doing _)) × IsCount (length (handed_in doings)) × Serves hears doings old new
     × Swept hears (handed_in doings) old new

@@ -14,17 +14,18 @@ abbrev pub NoneReady : {W : Type 0} → DriverState W → Type 0
 NoneReady driving = (config : Config) (history : List PlainEvent) → StandsFor driving.server config history
     → (c : ℕ) → IsReady c config (driver_view driving history) false
 
--- No connection has a call to take, and nothing waits for time within so many milliseconds.
+-- No connection has a call to take, and nothing waits for time within `most` milliseconds.
 abbrev pub IsIdle : {W : Type 0} → ℕ → DriverState W → Type 0
 IsIdle most driving = NoneReady driving × ((config : Config) (history : List PlainEvent) → StandsFor driving.server config history
     → StaysStill most config (driver_view driving history) true)
 
--- the nanoseconds from now until so many whole milliseconds have passed since that of the last sweep
+-- the nanoseconds from now until `ticks` milliseconds after the start of the millisecond in which the last sweep began
 abbrev pub left_until : ℕ → ℕ → ℕ → ℕ
 left_until ticks swept now = ticks * 1000000 - (now - swept / 1000000 * 1000000)
 
 -- The server sleeps without a limit if it is idle for as many milliseconds as a timeout may have (32 bits: VXI-11 revision 1.0, B.4.4) and
--- the scenario has no entry left; until the hundredth millisecond if it is idle for so many; else until the next one.
+-- the scenario has no entry left. If it is idle for 100 milliseconds, it sleeps at most until these have passed since the last sweep. Else
+-- it sleeps at most until the next millisecond.
 abbrev pub MaySleep : {W : Type 0} → ℕ → ℕ → Option Duration → DriverState W → Type 0
 MaySleep swept now None driving = (driving.ahead ≡ []) × IsIdle 4294967295 driving
 MaySleep swept now (Some limit) driving =

@@ -12,33 +12,33 @@ abbrev pub socket_number : Port → ℕ
 socket_number (Conn c) = c
 socket_number (Intr c) = 16 + c
 
--- A read gives the next bytes that a stream has left, and takes them out; if it gives none, they stay.
+-- A read takes the next bytes that a stream has left. If it gives no bytes, they stay.
 abbrev pub Gives : {S : Type 0} → (S → Option (List ℕ)) → Answer (List ℕ) → S → S → Type 0
 Gives left (Got bytes) old new = Consumes (left old) (left new) bytes
 Gives left answer old new = Keeps (left old) (left new)
 
--- With `drops`, a probe reads and drops what comes; else all stays.
+-- With `drops`, a probe reads and discards what came; else nothing changes.
 abbrev pub Skips : {S : Type 0} → (S → Option (List ℕ)) → Bool → S → S → Type 0
 Skips left true old new = (dropped : Answer (List ℕ)) × Gives left dropped old new
 Skips left false old new = Keeps (left old) (left new)
 
--- A write puts as many of the bytes as it answers after what the stream was sent; none if it takes none.
+-- A write that takes `n` bytes appends the first `n` to what the stream was sent. Otherwise nothing changes.
 abbrev pub Takes : {S : Type 0} → (S → Option (List ℕ)) → List ℕ → Answer ℕ → S → S → Type 0
 Takes sent bytes (Got n) old new = Appends (sent old) (sent new) (take n bytes)
 Takes sent bytes answer old new = Keeps (sent old) (sent new)
 
--- The stream in this place does this; if there is none, the call fails.
+-- The stream in this place takes the step. If there is no stream, the call fails.
 abbrev pub Does : {S A : Type 0} → (S → S → Type 0) → Answer A → Option S → Option S → Type 0
 Does step answer None after = (answer ≡ Failed) × (after ≡ None)
 Does step answer (Some old) after = (new : _) × step old new × (after ≡ Some new)
 
--- The socket of this number does this, and all others stay.
+-- The socket with this number takes the step, and all others stay.
 abbrev pub At : {S A : Type 0} → ℕ → (S → S → Type 0) → Answer A → List (Option S) → List (Option S) → Type 0
 At n step answer before after =
     (place : Option _) × Does step answer (slice_index_or before n None) place × (after ≡ slice_set before n place)
 
--- What a call of the wire and its answer lead to: only the socket of its port changes. What is known of a stream are the bytes that it has
--- left to read, and those that it was sent.
+-- What a call of the wire, with its answer, does to the sockets: only the socket of its port changes. Of a stream two things are known: the
+-- bytes that it has left to read, and the bytes that it was sent.
 abbrev pub Hears : {S : Type 0} → (S → Option (List ℕ)) → (S → Option (List ℕ)) → List (Option S) → Heard → List (Option S) → Type 0
 Hears left sent before (WasAccepted role (Some c) (Got all)) after = (stream : _) × (after ≡ slice_set before c (Some stream))
 Hears left sent before (WasAccepted role number answer) after = after ≡ before

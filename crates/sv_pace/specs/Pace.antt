@@ -1,27 +1,27 @@
--- When a server looks again without sleeping, by how its waits ended. Lists of waits have the newest first.
+-- When a server polls instead of sleeping at once, by how its earlier waits ended. Lists of waits have the newest first.
 use Rattle.std.specs.Prelude.{◌≡◌, ℕ, zero, suc, ◌-◌, ◌*◌, ◌≤◌, min, max, Bool, true, false, List, [], ◌∷◌}
 
--- How a wait ended: looking found something, or looking found nothing in its time, or the server slept at once.
+-- How a wait ended: polling found something (`Found`), polling found nothing in its time (`Missed`), or the server slept at once (`Slept`).
 pub data Wait : Type 0 where
   Found : Wait
   Missed : Wait
   Slept : Wait
 
--- how often looking found nothing since it last found something
+-- how often polling found nothing since it last found something
 abbrev pub misses : List Wait → ℕ
 misses [] = 0
 misses (Found ∷ waits) = 0
 misses (Missed ∷ waits) = suc (misses waits)
 misses (Slept ∷ waits) = misses waits
 
--- how often the server slept at once since it last looked
+-- how often the server slept at once since it last polled
 abbrev pub sleeps : List Wait → ℕ
 sleeps [] = 0
 sleeps (Found ∷ waits) = 0
 sleeps (Missed ∷ waits) = 0
 sleeps (Slept ∷ waits) = suc (sleeps waits)
 
--- twice as often as before, at least once and at most 1,024 times; but the first miss is forgiven
+-- the pause after one more miss: 0 if it is the first miss, else twice the pause before it, at least 1 and at most 1,024
 abbrev pub longer : Bool → ℕ → ℕ
 longer false pause = 0
 longer true pause = min (max (pause * 2) 1) 1024
@@ -31,21 +31,21 @@ abbrev pub is_any : ℕ → Bool
 is_any zero = false
 is_any (suc n) = true
 
--- how often the server sleeps at once before it looks again, after so many misses in a row: 0, 0, 1, 2, 4 .. times
+-- how often the server sleeps at once before it polls again, after this many misses in a row: 0, 0, 1, 2, 4 .. times
 abbrev pub pause_after : ℕ → ℕ
 pause_after zero = 0
 pause_after (suc n) = longer (is_any n) (pause_after n)
 
--- The waits, with one in which the server looked so often before it found something, or gave up. What the first look finds was there
--- already, and says nothing of looking.
+-- The waits, with one more, in which the server polled this many times before it found something or gave up. What it finds before it polls
+-- was there already, and such a wait isn't counted.
 abbrev pub after_wait : ℕ → Bool → List Wait → List Wait
 after_wait zero true waits = waits
 after_wait zero false waits = Slept ∷ waits
 after_wait (suc n) true waits = Found ∷ waits
 after_wait (suc n) false waits = Missed ∷ waits
 
--- What is kept: the nanoseconds at which the last sweep began, and at which something was reported last; whether the last look found
--- nothing; how often the server then sleeps at once; and how often of these still.
+-- What is kept: the nanosecond at which the last sweep began, and the one at which something was last reported; whether polling last found
+-- nothing; how often the server then sleeps at once, and how often of these it still has to.
 pub record Kept : Type 0 where
   pub swept : ℕ
   pub worked : ℕ
@@ -59,6 +59,6 @@ pub record StandsFor (kept : Kept) (waits : List Wait) : Type 0 where
   pub pause : kept.pause ≡ pause_after (misses waits)
   pub left : kept.left ≡ pause_after (misses waits) - sleeps waits
 
--- The server may look again: it slept at once as often as it is to.
+-- The server may poll again: it slept at once as often as it has to.
 abbrev pub IsDue : List Wait → Type 0
 IsDue waits = pause_after (misses waits) ≤ sleeps waits

@@ -25,15 +25,16 @@ pub record Recording (W : Type 0) : Type 0 where
   pub trace : List Heard
   pub is_whole : Bool
 
--- If all calls are kept, this one is too.
+-- If all calls are kept after this one, all were kept before it, and this one is kept.
 abbrev pub Keeps : {W : Type 0} → Recording W → Heard → Recording W → Type 0
 Keeps before heard after = after.is_whole ≡ true → (before.is_whole ≡ true) × (after.trace ≡ heard ∷ before.trace)
 
--- The other wire was asked, and gave this answer; and the call was kept.
+-- The recorded wire was called, and gave this answer. The call was kept, if all calls are kept.
 abbrev pub Passes : {W : Type 0} → (W → Heard → W → Type 0) → Recording W → Heard → Recording W → Type 0
 Passes hears before heard after = hears before.wire heard after.wire × Keeps before heard after
 
--- A recorder was asked what the other wire was asked; and this is what was kept, if all calls are.
+-- The calls of a recorder are made on the recorded wire, with the same answers. If all calls are kept, this trace was added to what was
+-- kept before.
 abbrev pub TraceIsKept : {W : Type 0} → (W → Heard → W → Type 0) → (Recording W → Heard → Recording W → Type 0) → Type 0
 TraceIsKept hears recorded = (trace : List Heard) (start now : Recording _) → Through recorded trace start now
     → Through hears trace start.wire now.wire × (now.is_whole ≡ true → now.trace ≡ trace ++ start.trace)

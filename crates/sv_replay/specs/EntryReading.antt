@@ -22,7 +22,7 @@ lone_stimulus_at word = if bytes_eq word (codes "external") then Some External e
 unfoldable pub worded_stimulus_at : List ℕ → List ℕ → Option Stimulus
 worded_stimulus_at word text = if bytes_eq word (codes "input") then accepted_at text else None
 
--- a stimulus, by its text and by that text cut at its first space
+-- a stimulus, from its text and from its two parts around the first space
 abbrev pub cut_stimulus_at : List ℕ → Option (List ℕ × List ℕ) → Option Stimulus
 cut_stimulus_at text None = lone_stimulus_at text
 cut_stimulus_at text (Some cut) = worded_stimulus_at cut.0 cut.1
@@ -39,7 +39,7 @@ entry_at line = do
   stimulus ← stimulus_at cut.1
   Some (record { tick = tick; stimulus = stimulus })
 
--- an entry at this tick or later, if the line isn't too long
+-- an entry at the tick `least` or later, if the line isn't too long
 unfoldable pub entry_from : ℕ → List ℕ → Option Entry
 entry_from least line =
     if nat_lt 65536 (length line) then None

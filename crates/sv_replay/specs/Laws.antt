@@ -9,10 +9,10 @@ use Rattle.sv_replay.specs.Scenario.{Tells, IsScenario}
 abbrev pub OneLine : Type 0
 OneLine = (line : List ℕ) (a b : Line) → Says line a → Says line b → a ≡ b
 
--- A text says at most one list of entries.
+-- A text has at most one reading as entries of a scenario.
 abbrev pub OneScenario : Type 0
 OneScenario = (text : List ℕ) (a b : List Entry) → Tells 0 (parts text) a → Tells 0 (parts text) b → a ≡ b
 
--- What a text says is a scenario: the server accepts each entry, and the ticks never fall.
+-- The entries that a text says are a scenario: the server accepts each of them, and the ticks never fall.
 abbrev pub ToldInOrder : Type 0
 ToldInOrder = (text : List ℕ) (entries : List Entry) → Tells 0 (parts text) entries → IsScenario 0 entries

@@ -6,17 +6,17 @@ use Rattle.sv_history.specs.declared.event.Role.TheVariants.{Core, Abort, Portma
 use Rattle.sv_history.specs.declared.event.Port.TheVariants.{Conn, Intr}
 use Rattle.sv_history.specs.Event.{PlainEvent, Open, Bytes, Turn, Refuse, Took, Close, Dialed, Input, External, Tick}
 
--- nothing, one event, or so many ticks
+-- what a line says: nothing, one event, or a number of ticks
 pub data Line : Type 0 where
   Blank : Line
   One : PlainEvent → Line
   Ticks : ℕ → Line
 
--- the number that decimal digits spell
+-- the value of decimal digits
 abbrev pub value_of : List ℕ → ℕ
 value_of digits = fold (λ n digit. 10 * n + (digit - 48)) 0 digits
 
--- At least one decimal digit, which spell this number.
+-- The text is one or more decimal digits, and this is their value.
 abbrev pub IsNumber : List ℕ → ℕ → Type 0
 IsNumber digits n = (digits ≢ []) × AllByRecursion (λ digit. (48 ≤ digit) × (digit ≤ 57)) digits × (n ≡ value_of digits)
 
@@ -25,26 +25,27 @@ abbrev pub HasNoLeadingZero : List ℕ → Type 0
 HasNoLeadingZero (digit ∷ other ∷ digits) = digit ≢ 48
 HasNoLeadingZero digits = Unit {0}
 
--- A number without leading zeros, at most this.
+-- The digits are a number without leading zeros, of at most `most`.
 abbrev pub IsPlain : ℕ → List ℕ → ℕ → Type 0
 IsPlain most digits n = IsNumber digits n × HasNoLeadingZero digits × (n ≤ most)
 
--- A hexadecimal digit, in either case, of this value.
+-- The character is a hexadecimal digit, in either case, of this value.
 abbrev pub IsHexDigit : ℕ → ℕ → Type 0
 IsHexDigit digit n = (n < 16) × (((n < 10) × (digit ≡ n + 48)) ⊎ (((10 ≤ n) × (digit ≡ n + 55)) ⊎ ((10 ≤ n) × (digit ≡ n + 87))))
 
--- Two hexadecimal digits, which spell this byte.
+-- The characters are two hexadecimal digits, and this byte is their value.
 abbrev pub IsPair : ℕ → ℕ → ℕ → Type 0
 IsPair high low byte = (h l : ℕ) × IsHexDigit high h × IsHexDigit low l × (byte ≡ 16 * h + l)
 
--- Bytes of two digits each, with at most one space between them.
+-- The text is these bytes, at least one: two hexadecimal digits for each, with at most one space between bytes.
 abbrev pub IsHex : List ℕ → List ℕ → Type 0
 IsHex text [] = ⊥
 IsHex text (byte ∷ []) = (high low : ℕ) × IsPair high low byte × (text ≡ high ∷ low ∷ [])
 IsHex text (byte ∷ other ∷ bytes) = (high low : ℕ) × (rest : List ℕ) × IsPair high low byte × IsHex rest (other ∷ bytes)
     × ((text ≡ high ∷ low ∷ rest) ⊎ (text ≡ high ∷ low ∷ 32 ∷ rest))
 
--- A voltage in microvolts: a minus if it is below zero (zero may have one too), and at most 18 digits, which may begin with zeros.
+-- The text is a voltage in microvolts: a minus if it is below zero (zero may have one too), and at most 18 digits, which may begin with
+-- zeros.
 abbrev pub IsVoltage : List ℕ → ℤ → Type 0
 IsVoltage text (pos n) = (digits : List ℕ) × IsNumber digits n × (length digits ≤ 18) × ((text ≡ digits) ⊎ ((n ≡ 0) × (text ≡ 45 ∷ digits)))
 IsVoltage text (negsuc n) = (digits : List ℕ) × IsNumber digits (n + 1) × (length digits ≤ 18) × (text ≡ 45 ∷ digits)
@@ -76,7 +77,7 @@ SaysEvent line (Input channel microvolts) = (number voltage : List ℕ) × IsPla
 SaysEvent line External = line ≡ codes "external"
 SaysEvent line Tick = line ≡ codes "tick"
 
--- The line says this.
+-- The line says this: nothing, one event, or a number of ticks.
 abbrev pub Says : List ℕ → Line → Type 0
 Says line Blank = line ≡ []
 Says line (One event) = SaysEvent line event

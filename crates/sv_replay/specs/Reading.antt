@@ -1,4 +1,4 @@
--- The function that reads a line from left to right.
+-- The function that reads a line of a replay from left to right.
 use Rattle.std.specs.Prelude.{ℕ, ◌+◌, ◌-◌, ◌*◌, ℤ, pos, neg_ℤ, Bool, true, false, ◌&&◌, List, [], ◌∷◌, length, drop, codes, Option, Some, None, option_and_then, option_map, nat_le, nat_lt, ◌==◌, if◌then◌else◌}
 use Rattle.sv_text.specs.Front.{has_minus}
 use Rattle.std.specs.Char.{is_ascii_digit}
@@ -10,12 +10,12 @@ use Rattle.sv_history.specs.declared.event.Port.TheVariants.{Conn, Intr}
 use Rattle.sv_history.specs.Event.{PlainEvent, Open, Bytes, Turn, Refuse, Close, Dialed, Input, External, Tick}
 use Rattle.sv_replay.specs.Line.{Line, Blank, One, Ticks}
 
--- a part that is read, and what is read after it; nothing if it can't be read
+-- a part that was read, and what is read after it; `None` if the part can't be read
 infixl 10 ◌>>=◌
 abbrev pub ◌>>=◌ : {A B : Type 0} → Option A → (A → Option B) → Option B
 o >>= f = option_and_then f o
 
--- the number n with these digits after it, if it is at most this
+-- the number whose decimal digits are those of `n` and then these; `None` if it is above `most`, or if one isn't a digit
 unfoldable pub digits_onto : ℕ → ℕ → List ℕ → Option ℕ
 digits_onto most n [] = Some n
 digits_onto most n (digit ∷ digits) =
@@ -23,18 +23,18 @@ digits_onto most n (digit ∷ digits) =
     then (if nat_lt most (10 * n + (digit - 48)) then None else digits_onto most (10 * n + (digit - 48)) digits)
     else None
 
--- the number that digits spell, if it is at most this
+-- the value of one or more decimal digits, if it is at most `most`
 unfoldable pub number_at : ℕ → List ℕ → Option ℕ
 number_at most [] = None
 number_at most (digit ∷ digits) = digits_onto most 0 (digit ∷ digits)
 
--- whether a zero has more digits after it
+-- whether the first of several digits is a zero
 abbrev pub has_leading_zero : List ℕ → Bool
 has_leading_zero [] = false
 has_leading_zero (digit ∷ []) = false
 has_leading_zero (digit ∷ other ∷ digits) = digit == 48
 
--- a number without leading zeros, if it is at most this
+-- a number without leading zeros, if it is at most `most`
 unfoldable pub plain_at : ℕ → List ℕ → Option ℕ
 plain_at most digits = if has_leading_zero digits then None else number_at most digits
 
@@ -61,7 +61,7 @@ pair_at high low = do
   l ← hex_digit_at low
   Some (16 * h + l)
 
--- the text without the space before it
+-- the text without a space at its front
 abbrev pub after_space : List ℕ → List ℕ
 after_space [] = []
 after_space (byte ∷ bytes) = if byte == 32 then bytes else (byte ∷ bytes)
@@ -97,7 +97,7 @@ role_at word =
 unfoldable pub ok_at : List ℕ → Option Bool
 ok_at word = if bytes_eq word (codes "ok") then Some true else (if bytes_eq word (codes "failed") then Some false else None)
 
--- a port: a letter and a number
+-- a port, from a letter and a number
 unfoldable pub port_at : List ℕ → Option Port
 port_at [] = None
 port_at (letter ∷ number) =
@@ -110,42 +110,42 @@ ticks_at number = do
   n ← plain_at 1000000 number
   if n == 0 then None else Some (Ticks n)
 
--- an Open, by the text after its word
+-- an Open event, from the text after its word
 unfoldable pub open_at : List ℕ → Option PlainEvent
 open_at text = do
   x ← numbered_at text
   role ← role_at x.1
   Some (Open x.0 role)
 
--- Bytes, likewise
+-- a Bytes event, from the text after its word
 unfoldable pub bytes_at : List ℕ → Option PlainEvent
 bytes_at text = do
   x ← numbered_at text
   piece ← hex_at x.1
   Some (Bytes x.0 piece)
 
--- a Dialed, likewise
+-- a Dialed event, from the text after its word
 unfoldable pub dialed_at : List ℕ → Option PlainEvent
 dialed_at text = do
   x ← numbered_at text
   ok ← ok_at x.1
   Some (Dialed x.0 ok)
 
--- an Input, likewise
+-- an Input event, from the text after its word
 unfoldable pub input_at : List ℕ → Option PlainEvent
 input_at text = do
   x ← numbered_at text
   microvolts ← voltage_at x.1
   Some (Input x.0 microvolts)
 
--- Bytes, a Turn or a Refuse, by the first word and the text after it
+-- a Bytes, a Turn or a Refuse event, from the first word and the text after it
 unfoldable pub traffic_at : List ℕ → List ℕ → Option PlainEvent
 traffic_at word text =
     if bytes_eq word (codes "bytes") then bytes_at text
     else (if bytes_eq word (codes "turn") then option_map Turn (plain_at 255 text)
     else (if bytes_eq word (codes "refuse") then option_map Refuse (plain_at 255 text) else None))
 
--- an event of a connection, likewise
+-- an event of a connection or an interrupt channel, from the first word and the text after it
 unfoldable pub event_at : List ℕ → List ℕ → Option PlainEvent
 event_at word text =
     if bytes_eq word (codes "open") then open_at text
@@ -159,17 +159,17 @@ lone_at word =
     else (if bytes_eq word (codes "external") then Some (One External)
     else (if bytes_eq word (codes "tick") then Some (One Tick) else None))
 
--- a line of more words, by the first word and the text after it
+-- a line of more words, from the first word and the text after it
 unfoldable pub words_at : List ℕ → List ℕ → Option Line
 words_at word text =
     if bytes_eq word (codes "tick") then ticks_at text
     else (if bytes_eq word (codes "input") then option_map One (input_at text) else option_map One (event_at word text))
 
--- a line, by the line and by it cut at its first space
+-- what a line says, from the line and from its two parts around the first space
 abbrev pub cut_line_at : List ℕ → Option (List ℕ × List ℕ) → Option Line
 cut_line_at line None = lone_at line
 cut_line_at line (Some cut) = words_at cut.0 cut.1
 
--- what a line says; `None` if nothing
+-- what a line says; `None` if it isn't a line of a replay
 unfoldable pub line_at : List ℕ → Option Line
 line_at line = cut_line_at line (cut_at line)

@@ -5,7 +5,7 @@ use Rattle.sv_replay.specs.declared.fault.RunFault.TheVariants.{Input}
 use Rattle.sv_replay.specs.declared.input.InputFault.{InputFault}
 use Rattle.sv_replay.specs.Stage.{WhileGoing}
 
--- what a read gave: so many bytes; none, at the reader's end; or a fault
+-- what a read gave: a number of bytes; `None` at the reader's end; or a fault
 abbrev pub Gave : Type 0
 Gave = Result (Option ℕ) InputFault
 
@@ -18,7 +18,7 @@ Reads gives first (gave ∷ reads) last = (between : _) × Reads gives first rea
 abbrev pub most_reads : ℕ
 most_reads = 4294967294
 
--- They did, and there are at most so many.
+-- These reads led a reader from one state to another, and they are no more than there may be.
 abbrev pub Made : {S : Type 0} → (S → Gave → S → Type 0) → S → List Gave → S → Type 0
 Made gives first reads last = Reads gives first reads last × (length reads ≤ most_reads)
 
@@ -30,21 +30,21 @@ HasFailed = elim [ Err fault ∷ reads ↦ ⊤ | _ ↦ ⊥ ]
 abbrev pub IsLast : List Gave → Type 0
 IsLast reads = HasFailed reads ⊎ (length reads ≡ most_reads)
 
--- The reader was read as often as is counted, unless it failed. A fault comes only if no read may follow.
+-- Without a fault, the reader was read `count` times. A fault comes only if no read may follow.
 abbrev pub IsReadOn : {S : Type 0} → (S → Gave → S → Type 0) → S → S → ℕ → Result Bool InputFault → Type 0
 IsReadOn gives first last count (Ok more) = (reads : List Gave) × Made gives first reads last × (length reads ≡ count)
 IsReadOn gives first last count (Err fault) = (reads : List Gave) × Made gives first reads last × IsLast reads
 
--- This holds if the result is the input's fault.
+-- `fact` holds if the result is the input's fault.
 abbrev pub OnInput : {A : Type 0} → Result A RunFault → Type 0 → Type 0
 OnInput (Err Input) fact = fact
 OnInput answer fact = ⊤
 
--- The same of one step of a run.
+-- If the run goes on after this step, the reader was read `count` times. The input's fault comes only if no read may follow.
 abbrev pub IsTurned : {S : Type 0} → (S → Gave → S → Type 0) → S → S → ℕ → Result Bool RunFault → Type 0
 IsTurned gives first last count result = (reads : List Gave) × Made gives first reads last × WhileGoing result (length reads ≡ count)
     × OnInput result (IsLast reads)
 
--- These reads were made in a run, no more than there may be. If its result is the input's fault, no further read was allowed.
+-- In a run the reader was read no more often than it may be. If the result is the input's fault, no further read was allowed.
 abbrev pub IsReadOut : {S : Type 0} → (S → Gave → S → Type 0) → S → S → Result ⊤ RunFault → Type 0
 IsReadOut gives first last result = (reads : List Gave) × Made gives first reads last × OnInput result (IsLast reads)

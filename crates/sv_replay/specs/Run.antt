@@ -18,11 +18,11 @@ run_fault Write = Output
 abbrev pub set_up : Config
 set_up = record { core = 4096; abort = 4097; clock = 0 }
 
--- What these lines say was printed, by a new server.
+-- The text is what a new server prints for the events of these lines.
 abbrev pub Printed : List (List ℕ) → List ℕ → Type 0
 Printed lines text = (events after : List PlainEvent) × IsScript lines events × Prints set_up [] events text after
 
--- What these lines say was printed, up to an event at which the replay stopped.
+-- The text is what a new server prints for the events of these lines, up to an event at which the replay stopped with this fault.
 abbrev pub PrintedUpTo : List (List ℕ) → ReplayFault → List ℕ → Type 0
 PrintedUpTo lines fault text = (events after : List PlainEvent) × IsScript lines events × Stops set_up [] events fault text after
 
@@ -30,7 +30,7 @@ PrintedUpTo lines fault text = (events after : List PlainEvent) × IsScript line
 abbrev pub IsWhole : List (List ℕ) → Option (List ℕ) → Type 0
 IsWhole behind rest = (behind ≢ []) ⊎ IsAtEnd rest
 
--- This is printed of the text that was read. Success: all that its lines say. A bad line: what the lines before it say. The input failed:
+-- What a run prints for the text that it read. Success: what all its lines say. A bad line: what the lines before it say. The input failed:
 -- what the complete lines say. Memory was refused, or the output failed, perhaps after another fault: what some first lines say, the last
 -- of them perhaps in part.
 abbrev pub Runs : List ℕ → Option (List ℕ) → Result ⊤ RunFault → List ℕ → Type 0

@@ -6,31 +6,31 @@ use Rattle.sv_replay.specs.declared.scenario.ScenarioFault.TheVariants.{BadLine,
 use Rattle.sv_replay.specs.Entry.{SaysEntry, IsAccepted}
 use Rattle.sv_replay.specs.Script.{parts}
 
--- The line has at most 65,536 bytes, and says an entry of this tick or a later one.
+-- The line has at most 65,536 bytes, and says an entry of the tick `least` or a later one.
 abbrev pub SaysFrom : ℕ → List ℕ → Entry → Type 0
 SaysFrom least line entry = (length line ≤ 65536) × SaysEntry line entry × (least ≤ entry.tick)
 
--- The lines that aren't empty say these entries. None is earlier than the one before it, and the first not earlier than this tick.
+-- The lines that aren't empty say these entries. None is earlier than the one before it, and the first isn't earlier than the tick `least`.
 abbrev pub Tells : ℕ → List (List ℕ) → List Entry → Type 0
 Tells least [] entries = entries ≡ []
 Tells least (line ∷ lines) entries = ((line ≡ []) × Tells least lines entries)
     ⊎ ((entry : Entry) × (others : List Entry) × SaysFrom least line entry × Tells entry.tick lines others × (entries ≡ entry ∷ others))
 
--- The server accepts each entry. None is earlier than the one before it, and the first not earlier than this tick.
+-- The server accepts each entry. None is earlier than the one before it, and the first isn't earlier than the tick `least`.
 abbrev pub IsScenario : ℕ → List Entry → Type 0
 IsScenario least [] = ⊤
 IsScenario least (entry ∷ entries) = (least ≤ entry.tick) × IsAccepted entry.stimulus × IsScenario entry.tick entries
 
--- the tick of the last entry; this one if there is none
+-- the tick of the last entry; `least` if there is none
 abbrev pub last_tick : ℕ → List Entry → ℕ
 last_tick least entries = fold (λ tick entry. entry.tick) least entries
 
--- The line is too long; or it isn't empty, and says no entry of this tick or a later one.
+-- The line is too long; or it isn't empty, and says no entry of the tick `least` or a later one.
 abbrev pub IsBadFrom : ℕ → List ℕ → Type 0
 IsBadFrom least line = (65536 < length line) ⊎ ((line ≢ []) × ((entry : Entry) → SaysEntry line entry → entry.tick < least))
 
--- Success: the entries that all lines of the text say. A bad line: the lines before it say entries, and it can't follow them. Memory was
--- refused: to the entry of a line that follows the lines before it.
+-- Success: the entries that all lines of the text say. A bad line: the lines before it say entries, and it can't follow them. Out of
+-- memory: memory was refused for the entry of a line that may follow the lines before it.
 abbrev pub Reads : List ℕ → Result (List Entry) ScenarioFault → Type 0
 Reads text (Ok entries) = Tells 0 (parts text) entries
 Reads text (Err (BadLine n)) = (front behind : List (List ℕ)) × (line : List ℕ) × (entries : List Entry)

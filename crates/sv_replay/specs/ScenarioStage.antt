@@ -6,14 +6,15 @@ use Rattle.sv_replay.specs.declared.scenario.ScenarioFault.TheVariants.{BadLine,
 use Rattle.sv_replay.specs.Script.{parts}
 use Rattle.sv_replay.specs.Scenario.{SaysFrom, Tells, last_tick, IsBadFrom}
 
--- What the line of this number, after an entry of this tick, does to the entries.
+-- What the line with this number does to the entries, if the entry before it is at the tick `least`.
 abbrev pub Adds : ℕ → List ℕ → ℕ → List Entry → List Entry → Result ℕ ScenarioFault → Type 0
 Adds least line number old new (Ok tick) = ((line ≡ []) × (new ≡ old) × (tick ≡ least))
     ⊎ ((entry : Entry) × SaysFrom least line entry × (new ≡ old ++ entry ∷ []) × (tick ≡ entry.tick))
 Adds least line number old new (Err (BadLine n)) = (n ≡ number) × IsBadFrom least line
 Adds least line number old new (Err Memory) = (entry : Entry) × SaysFrom least line entry
 
--- So many lines of the text were read, which say these entries, the last of them at this tick. This is left of the text.
+-- The first `number` lines of the text were read. They say these entries, of which the last is at the tick `least`. `left` is the rest of
+-- the text.
 abbrev pub IsRead : List ℕ → ℕ → List Entry → ℕ → List ℕ → Type 0
 IsRead text number entries least left = (front : List (List ℕ)) × (parts text ≡ front ++ parts left) × (number ≡ length front)
     × Tells 0 front entries × (least ≡ last_tick 0 entries)

@@ -7,7 +7,7 @@ use Rattle.sv_history.specs.Event.{PlainEvent, Tick}
 use Rattle.sv_server.specs.Replay.Replays.{Replays}
 use Rattle.sv_replay.specs.Line.{Line, Blank, One, Ticks, Says}
 
--- the text cut at each new line; the last part is what follows the last one
+-- the text cut at each new line; the last part is what follows the last new line
 abbrev pub parts : List ℕ → List (List ℕ)
 parts text = cut_at 10 text
 
@@ -23,11 +23,11 @@ IsScript [] events = events ≡ []
 IsScript (line ∷ lines) events = (said : Line) × (others : List PlainEvent) × (length line ≤ 65536) × Says line said × IsScript lines others
     × (events ≡ events_of said ++ others)
 
--- The line is too long, or says nothing.
+-- The line is too long, or isn't a line of a replay.
 abbrev pub IsBad : List ℕ → Type 0
 IsBad line = (65536 < length line) ⊎ ((said : Line) → Says line said → ⊥)
 
--- After a history these events happen in order, and this is their print.
+-- After a history these events happen in order, and the text is their print.
 abbrev pub Prints : Config → List PlainEvent → List PlainEvent → List ℕ → List PlainEvent → Type 0
 Prints config history [] text after = (text ≡ []) × (after ≡ history)
 Prints config history (event ∷ events) text after =
@@ -35,13 +35,14 @@ Prints config history (event ∷ events) text after =
     × Prints config middle events rest after
     × (text ≡ first ++ rest)
 
--- The same up to an event at which the replay stopped, with what was written of that one's print.
+-- After a history these events happen in order, up to one at which the replay stopped. The text is their print, with what was written of
+-- the print of that one.
 abbrev pub Stops : Config → List PlainEvent → List PlainEvent → ReplayFault → List ℕ → List PlainEvent → Type 0
 Stops config history events fault text after = (done others : List PlainEvent) × (event : PlainEvent) × (events ≡ done ++ event ∷ others)
     × (first last : List ℕ) × (middle : List PlainEvent) × Prints config history done first middle
     × Replays config middle event (Err fault) last after × (text ≡ first ++ last)
 
--- The events happen, and this is their print, to the last or up to one at which the replay stopped.
+-- After a history all events happen, or those up to one at which the replay stopped. The text is what was printed of them.
 abbrev pub Performs : Config → List PlainEvent → List PlainEvent → Result ⊤ ReplayFault → List ℕ → List PlainEvent → Type 0
 Performs config history events (Ok all) text after = Prints config history events text after
 Performs config history events (Err fault) text after = Stops config history events fault text after

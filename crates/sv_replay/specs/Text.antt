@@ -23,17 +23,17 @@ IsGiven more rest (Ok true) = Unit {0}
 IsGiven more rest (Ok false) = (more ≡ []) × IsAtEnd rest
 IsGiven more rest (Err fault) = more ≡ []
 
--- What the reader gave follows the text.
+-- The new text is the old one, followed by what the reader gave.
 abbrev pub Filled : Option (List ℕ) → Option (List ℕ) → List ℕ → List ℕ → Result Bool InputFault → Type 0
 Filled before rest old new result = (more : List ℕ) × Consumes before rest more × (new ≡ old ++ more) × IsGiven more rest result
 
--- What one read put at the front of a buffer's free part: so many bytes; or none, at the reader's end or after a fault.
+-- What one read put at the front of a buffer's free part: `count` bytes; or none, at the reader's end or after a fault.
 abbrev pub IsBehind : Option (List ℕ) → Option (List ℕ) → List ℕ → Result (Option ℕ) InputFault → Type 0
 IsBehind before rest free (Ok (Some count)) = (count ≤ length free) × Consumes before rest (take count free)
 IsBehind before rest free (Ok None) = Consumes before rest [] × IsAtEnd rest
 IsBehind before rest free (Err fault) = Consumes before rest []
 
--- what the fields keep
+-- the text, and the number of reads, that the fields of the buffer keep
 abbrev pub held_of : List ℕ → ℕ → ℕ → ℕ → Held
 held_of buffer start end reads = record { text = slice_range buffer start end; reads = reads }
 

@@ -16,44 +16,44 @@ pub record PlainCall : Type 0 where
   pub proc : ℕ
   pub args : List ℕ
 
--- a call of the code, as plain data
+-- a `Call` of the code, as plain data
 abbrev pub plain_call : Call → PlainCall
 plain_call call = record { xid = call.xid; prog = call.prog; vers = call.vers; proc = call.proc; args = call.args.now }
 
--- a credential or a verifier (8.2): a flavor, and a body of at most 400 bytes. Nothing depends on them.
+-- a credential or a verifier (8.2): a flavor, and a body of at most 400 bytes. Both are ignored.
 pub record Auth : Type 0 where
   pub flavor : ℕ
   pub body : List ℕ
 
--- the fields before the arguments: the message type is 0, a call, and the version of RPC is 2
+-- the fields of a call before its arguments, with message type 0 (a call) and version 2 of RPC
 abbrev pub heading : PlainCall → Auth → Auth → List Field
 heading call credential verifier =
     Unsigned call.xid ∷ Unsigned 0 ∷ Unsigned 2 ∷ Unsigned call.prog ∷ Unsigned call.vers ∷ Unsigned call.proc
     ∷ Unsigned credential.flavor ∷ Opaque credential.body ∷ Unsigned verifier.flavor ∷ Opaque verifier.body ∷ []
 
--- The record is this call, with some credential and verifier.
+-- These bytes are this call, with some credential and verifier.
 abbrev pub IsCall : List ℕ → PlainCall → Type 0
 IsCall bytes call = (credential verifier : Auth) × (length credential.body ≤ max_auth) × (length verifier.body ≤ max_auth)
     × BeginsAll bytes (heading call credential verifier) call.args
 
--- The record is a call under another version of RPC, whatever follows the version.
+-- These bytes are a call under another version of RPC than 2. Anything may follow the version.
 abbrev pub IsOtherVersion : List ℕ → ℕ → Type 0
 IsOtherVersion bytes xid = (version : ℕ) × (after : List ℕ) × (version ≢ 2)
     × BeginsAll bytes (Unsigned xid ∷ Unsigned 0 ∷ Unsigned version ∷ []) after
 
--- What a record is: this call, one under another version of RPC, or neither.
+-- What these bytes are: this call, a call under another version of RPC, or neither.
 abbrev pub CallIs : List ℕ → Result PlainCall CallFault → Type 0
 CallIs bytes (Ok call) = IsCall bytes call
 CallIs bytes (Err (Version xid)) = IsOtherVersion bytes xid
 CallIs bytes (Err BadHeader) = ((call : PlainCall) → IsCall bytes call → ⊥) × ((xid : ℕ) → IsOtherVersion bytes xid → ⊥)
 
--- a field that is read; any fault is a bad header
+-- a field that was read, and what is read after it; a field that can't be read is a bad header
 infixl 10 ◌>>=◌
 abbrev pub ◌>>=◌ : {A B : Type 0} → Result A XdrFault → (A → Result B CallFault) → Result B CallFault
 (Ok x) >>= f = f x
 (Err fault) >>= f = Err BadHeader
 
--- the part of a call after the version of RPC
+-- the call with this xid, read from the bytes after the version of RPC
 unfoldable pub body_at : ℕ → List ℕ → Result PlainCall CallFault
 body_at xid bytes = do
   prog ← unsigned_at bytes
@@ -65,7 +65,7 @@ body_at xid bytes = do
   verifier ← opaque_at max_auth kind.1
   Ok (record { xid = xid; prog = prog.0; vers = vers.0; proc = proc.0; args = verifier.1 })
 
--- the record as a call, read from left to right
+-- these bytes as a call, read from left to right
 unfoldable pub call_at : List ℕ → Result PlainCall CallFault
 call_at bytes = do
   xid ← unsigned_at bytes
@@ -74,7 +74,7 @@ call_at bytes = do
     version ← unsigned_at kind.1
     if version.0 == 2 then body_at xid.0 version.1 else Err (Version xid.0)) else Err BadHeader
 
--- what the code read, as plain data
+-- what the code returns for a record, as plain data
 abbrev pub plain_call_result : Result Call CallFault → Result PlainCall CallFault
 plain_call_result (Ok call) = Ok (plain_call call)
 plain_call_result (Err fault) = Err fault

@@ -14,34 +14,35 @@ use Rattle.sv_rpc.specs.Reply.{reply_fields}
 abbrev pub OneReading : Type 0
 OneReading = (stream : List ℕ) (a b : List (List ℕ)) (s t : Tail) → Splits stream a s → Splits stream b t → (a ≡ b) × (s ≡ t)
 
--- Every stream of bytes splits into `records_of` and `tail_of` of it.
+-- Every stream of bytes splits into its `records_of` and its `tail_of`.
 abbrev pub ReadAsSplit : Type 0
 ReadAsSplit = (stream : List ℕ) → All (λ byte. byte < 256) stream → Splits stream (records_of stream) (tail_of stream)
 
--- A stream splits into nothing else.
+-- A stream splits only into its `records_of` and its `tail_of`.
 abbrev pub ReadAlone : Type 0
 ReadAlone = (stream : List ℕ) (records : List (List ℕ)) (tail : Tail) → Splits stream records tail
     → (records ≡ records_of stream) × (tail ≡ tail_of stream)
 
--- `call_at` of a record of bytes is what the record is as a call.
+-- For any bytes, `call_at` returns what they are by `CallIs`.
 abbrev pub CallAsSpelled : Type 0
 CallAsSpelled = (bytes : List ℕ) → All (λ byte. byte < 256) bytes → CallIs bytes (call_at bytes)
 
--- `port_at` of bytes is the answer to these arguments.
+-- For any bytes as arguments, `port_at` returns the answer that `PortIs` requires.
 abbrev pub PortAsSpelled : Type 0
 PortAsSpelled = (ports : Ports) (args : List ℕ) → All (λ byte. byte < 256) args → PortIs ports args (port_at ports args)
 
--- A record is one call, or has one fault.
+-- No record is two different calls, has two different faults, or is a call and has a fault.
 abbrev pub OneCall : Type 0
 OneCall = (bytes : List ℕ) (a b : Result PlainCall CallFault) → CallIs bytes a → CallIs bytes b → a ≡ b
 
--- If two headers of calls begin the same bytes, they are the same, and so is what follows. So none is a proper prefix of another.
+-- If two headers of calls begin the same bytes, the headers are equal, and so are the bytes after them. So no header of a call is a proper
+-- prefix of another.
 abbrev pub CallsPrefixFree : Type 0
 CallsPrefixFree = (x y : PlainCall) (c d v w : Auth) (bytes after behind : List ℕ) → BeginsAll bytes (heading x c v) after
     → BeginsAll bytes (heading y d w) behind
     → (heading x c v ≡ heading y d w) × (after ≡ behind)
 
--- The same of headers of replies.
+-- If two headers of replies begin the same bytes, their xids and replies are equal, and so are the bytes after them.
 abbrev pub RepliesPrefixFree : Type 0
 RepliesPrefixFree = (x y : ℕ) (r s : Reply) (bytes after behind : List ℕ) → BeginsAll bytes (reply_fields x r) after
     → BeginsAll bytes (reply_fields y s) behind

@@ -1,11 +1,11 @@
 -- How long records and their parts may be.
 use Rattle.std.specs.Prelude.{ℕ, ◌/◌}
 
--- how many bytes the records of a buffer may take, with 4 for each
+-- how many bytes the records of a buffer may use; each uses 4 more than its length
 abbrev pub capacity : ℕ
 capacity = 16384
 
--- how many records a buffer may hold: an empty one takes 4 bytes
+-- how many records a buffer may hold, because even an empty one uses 4 bytes
 abbrev pub max_records : ℕ
 max_records = capacity / 4
 

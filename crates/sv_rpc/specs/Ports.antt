@@ -6,18 +6,19 @@ use Rattle.sv_xdr.specs.Garbage.{◌>>=◌}
 use Rattle.sv_rpc.specs.declared.ports.Ports.{Ports}
 use Rattle.sv_xdr.specs.declared.garbage.Garbage.{Garbage}
 
--- what GETPORT asks for: a program, its version and a protocol. A port follows, on which nothing depends.
+-- the arguments of GETPORT: a program, its version, a protocol, and a port, which is ignored
 pub record Mapping : Type 0 where
   pub prog : ℕ
   pub vers : ℕ
   pub prot : ℕ
   pub port : ℕ
 
--- its fields, in order
+-- the arguments of GETPORT as XDR fields, in order
 abbrev pub mapping_fields : Mapping → List Field
 mapping_fields m = Unsigned m.prog ∷ Unsigned m.vers ∷ Unsigned m.prot ∷ Unsigned m.port ∷ []
 
--- the port that is answered: of the core channel (0x0607AF) or the abort channel (0x0607B0), each at version 1 over TCP (6); 0 for all else
+-- the port in the reply: of the core channel (program 0x0607AF) or the abort channel (0x0607B0), each at version 1 over TCP (6); 0 for
+-- anything else
 abbrev pub port_of : Ports → Mapping → ℕ
 port_of ports m =
     if (m.prog == 395183) && ((m.vers == 1) && (m.prot == 6)) then ports.core
@@ -29,7 +30,7 @@ abbrev pub PortIs : Ports → List ℕ → Result ℕ Garbage → Type 0
 PortIs ports args (Ok port) = (m : Mapping) × (after : List ℕ) × BeginsAll args (mapping_fields m) after × (port ≡ port_of ports m)
 PortIs ports args (Err garbage) = (m : Mapping) (after : List ℕ) → BeginsAll args (mapping_fields m) after → ⊥
 
--- the answer, read from left to right
+-- the answer to a call with these bytes as arguments, which are read from left to right
 unfoldable pub port_at : Ports → List ℕ → Result ℕ Garbage
 port_at ports args = do
   prog ← unsigned_at args

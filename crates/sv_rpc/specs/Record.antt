@@ -12,16 +12,16 @@ header_of last size = spelling (Unsigned (if last then size + 2 ^ 31 else size))
 abbrev pub fragment : Bool → List ℕ → List ℕ
 fragment last text = header_of last (length text) ++ text
 
--- a record as it is sent: the data of all fragments but the last, and those of the last
+-- a record as it is sent: the data of each fragment but the last, and the data of the last fragment
 pub record Sent : Type 0 where
   pub front : List (List ℕ)
   pub final : List ℕ
 
--- the bytes of such a record on the stream
+-- the bytes of a sent record on the stream, with the header of each fragment
 abbrev pub bytes_of : Sent → List ℕ
 bytes_of sent = flat_map (fragment false) sent.front ++ fragment true sent.final
 
--- the record itself: the data of its fragments, joined
+-- the record that was sent: the data of its fragments, joined
 abbrev pub record_of : Sent → List ℕ
 record_of sent = concat sent.front ++ sent.final
 
@@ -29,19 +29,19 @@ record_of sent = concat sent.front ++ sent.final
 abbrev pub IsTaken : Sent → Type 0
 IsTaken sent = length (record_of sent) ≤ max_record
 
--- what follows the last complete record: an unfinished one, which lacks (the rest of) a fragment's header, or data of a fragment; or one
--- that is too long. The payload is what came of the record.
+-- what follows the last complete record of a stream: an unfinished record, which lacks bytes of a fragment's header (`Header`) or of its
+-- data (`Data`); or a record that is too long. The payload is the part of the record's data that came.
 pub data Tail : Type 0 where
   Header : (payload header : List ℕ) → Tail
   Data : (payload : List ℕ) (missing : ℕ) (last : Bool) → Tail
   TooLong : Tail
 
--- whether it is of a record that is too long
+-- whether what follows the complete records is a record that is too long
 abbrev pub ends_overlong : Tail → Bool
 ends_overlong = elim [ TooLong ↦ true | _ ↦ false ]
 
--- These bytes are that tail: complete fragments, none the last of its record; then less than a header, or a header and less than its data,
--- or a header that makes the record too long and anything after it.
+-- These bytes are this tail. First come complete fragments, none of them the last of its record. Then come fewer bytes than a header has;
+-- or a header and less data than it says; or a header that makes the record too long, and anything after it.
 abbrev pub IsTail : List ℕ → Tail → Type 0
 IsTail bytes (Header payload header) = (front : List (List ℕ)) × (bytes ≡ flat_map (fragment false) front ++ header)
     × (payload ≡ concat front) × (length header < 4) × (length payload ≤ max_record)

@@ -6,7 +6,7 @@ use Rattle.sv_rpc.specs.declared.record_buf.RpcFault.TheVariants.{RecordTooLong}
 use Rattle.sv_rpc.specs.Limits.{capacity}
 use Rattle.sv_rpc.specs.Record.{Tail, Header, Data, TooLong, Splits}
 
--- the complete records that weren't dropped, and what follows them
+-- what a buffer holds: the complete records that weren't dropped, and the tail that follows them
 pub record Records : Type 0 where
   pub records : List (List ℕ)
   pub tail : Tail
@@ -15,15 +15,15 @@ pub record Records : Type 0 where
 abbrev pub no_records : Records
 no_records = record { records = []; tail = Header [] [] }
 
--- The buffer holds the records of the stream, without the first so many, which were dropped.
+-- The buffer holds the complete records of the stream, without the first `dropped` ones, and the stream's tail.
 pub record StandsFor (held : Records) (stream : List ℕ) (dropped : ℕ) : Type 0 where
   pub all : List (List ℕ)
   pub splits : Splits stream all held.tail
   pub bounded : dropped ≤ length all
   pub kept : held.records ≡ drop dropped all
 
--- How many bytes of the capacity are used. Each complete record uses 4 more than its length. The unfinished one uses 4 and the bytes of it
--- that came, even if none did, and the bytes of an unfinished header. Once a record is too long, the whole capacity is used.
+-- How many bytes of the capacity are used. Each complete record uses 4 more than its length. The unfinished record uses 4, even if nothing
+-- of it came, and its data that came, and the bytes of an unfinished header. Once a record is too long, the whole capacity is used.
 abbrev pub used_by : List (List ℕ) → Tail → ℕ
 used_by records (Header payload header) = sum_by (λ r. 4 + length r) records + (4 + length payload + length header)
 used_by records (Data payload missing last) = sum_by (λ r. 4 + length r) records + (4 + length payload)
@@ -33,28 +33,29 @@ used_by records TooLong = capacity
 abbrev pub room_of : Records → ℕ
 room_of held = capacity - used_by held.records held.tail
 
--- what `next` answers once no complete record is left: none yet, or that a record is too long
+-- what `next` returns when no complete record is left: `None`, or the fault that a record is too long
 abbrev pub at_end : Tail → Result (Option (List ℕ)) RpcFault
 at_end (Header payload header) = Ok None
 at_end (Data payload missing last) = Ok None
 at_end TooLong = Err RecordTooLong
 
--- what `next` answers
+-- what `next` returns: the first of these records; if there is none, what `at_end` says of the tail
 abbrev pub next_among : List (List ℕ) → Tail → Result (Option (List ℕ)) RpcFault
 next_among [] tail = at_end tail
 next_among (r ∷ rs) tail = Ok (Some r)
 
--- The answer is the record of the stream that follows the dropped ones.
+-- The answer is the record that follows the first `dropped` records of the stream. If it isn't complete, the answer is `None`, or the fault
+-- that it is too long.
 abbrev pub IsNext : List ℕ → ℕ → Result (Option (List ℕ)) RpcFault → Type 0
 IsNext stream dropped answer = (all : List (List ℕ)) × (tail : Tail) × Splits stream all tail × (dropped ≤ length all)
     × (answer ≡ next_among (drop dropped all) tail)
 
--- The room is counted over the records of the stream without the dropped ones.
+-- This is the room of a buffer that holds the records of the stream without the first `dropped` ones.
 abbrev pub IsRoom : List ℕ → ℕ → ℕ → Type 0
 IsRoom stream dropped room = (all : List (List ℕ)) × (tail : Tail) × Splits stream all tail × (dropped ≤ length all)
     × (room ≡ capacity - used_by (drop dropped all) tail)
 
--- the answer of the code, as plain data
+-- a record that the code returns, or its fault, as plain data
 abbrev pub plain_record : Result (Option (Bor (List ℕ))) RpcFault → Result (Option (List ℕ)) RpcFault
 plain_record (Ok found) = Ok (option_map (λ r. r.now) found)
 plain_record (Err fault) = Err fault

@@ -1,4 +1,4 @@
--- The fields of a reply before its result, and of a call before its arguments, as they are written here (RFC 5531, section 9).
+-- The fields of a reply before its result, and of a call before its arguments, as this server writes them (RFC 5531, section 9).
 use Rattle.std.specs.Prelude.{ℕ, List, [], ◌∷◌, ◌++◌}
 use Rattle.sv_xdr.specs.Spelling.{Field, Unsigned, Opaque}
 use Rattle.sv_rpc.specs.declared.reply.Reply.{Reply}

@@ -22,28 +22,28 @@ tail_of place.TooLong payload header = TooLong
 abbrev pub held_of : List ℕ → List ℕ → List ℕ → Place → Records
 held_of bytes lengths header place = record { records = cut lengths bytes; tail = tail_of place (drop (sum lengths) bytes) header }
 
--- how many more bytes fit: before the first header of a record is complete, the 4 bytes that it counts are still free
+-- how many bytes fit beyond the counted room: 4 while the unfinished record has no data, because it counts 4 bytes that aren't used yet
 abbrev pub spare_of : List ℕ → ℕ
 spare_of [] = 4
 spare_of (b ∷ payload) = 0
 
--- So many bytes fit after this.
+-- This many more bytes fit after these records and this tail.
 abbrev pub Fits : List (List ℕ) → Tail → ℕ → Type 0
 Fits records (Header payload header) n = used_by records (Header payload header) + n ≤ capacity + spare_of payload
 Fits records (Data payload missing last) n = used_by records (Data payload missing last) + n ≤ capacity
 Fits records TooLong n = Unit {0}
 
--- What a buffer holds fits into its capacity.
+-- This many more bytes fit after what a buffer holds.
 abbrev pub InRoom : Records → ℕ → Type 0
 InRoom held n = Fits held.records held.tail n
 
--- what counts of an unfinished header; all of the room if a record is too long
+-- how many bytes of the capacity an unfinished header uses; all of the capacity if a record is too long
 abbrev pub begun_of : Place → ℕ → ℕ
 begun_of place.Header header_len = header_len
 begun_of (place.Data missing last) header_len = 0
 begun_of place.TooLong header_len = capacity
 
--- The place is possible, after so much of the record and of a header.
+-- The place is possible after this many bytes of the record's data and this many of a header.
 abbrev pub IsPlace : Place → ℕ → ℕ → Type 0
 IsPlace place.Header payload header_len = (payload ≤ max_record) × (header_len < 4)
 IsPlace (place.Data missing last) payload header_len = (0 < missing) × (payload + missing ≤ max_record) × (header_len ≡ 0)
@@ -58,19 +58,19 @@ pub record IsValid (bytes lengths header : List ℕ) (space slots payload header
   pub many : max_records ≤ slots
   pub counted : 4 * length lengths + length bytes ≤ capacity
 
--- A header comes next, or the rest of one.
+-- The next byte is part of a header.
 abbrev pub IsInHeader : Tail → Type 0
 IsInHeader (Header payload header) = Unit {0}
 IsInHeader (Data payload missing last) = ⊥
 IsInHeader TooLong = ⊥
 
--- A header comes next.
+-- The next byte begins a header.
 abbrev pub IsBeforeHeader : Tail → Type 0
 IsBeforeHeader (Header payload header) = header ≡ []
 IsBeforeHeader (Data payload missing last) = ⊥
 IsBeforeHeader TooLong = ⊥
 
--- Data come next: so many bytes, of the last fragment or not.
+-- Data come next: `n` bytes are missing from a fragment, and `b` says whether it is the last of its record.
 abbrev pub IsInData : Tail → ℕ → Bool → Type 0
 IsInData (Header payload header) n b = ⊥
 IsInData (Data payload missing last) n b = (missing ≡ n) × (last ≡ b)
@@ -82,11 +82,11 @@ payload_of (Header payload header) = payload
 payload_of (Data payload missing last) = payload
 payload_of TooLong = []
 
--- the unfinished record becomes complete
+-- what the buffer holds once the unfinished record is complete
 abbrev pub finish_record : List (List ℕ) → Tail → Records
 finish_record records tail = record { records = records ++ payload_of tail ∷ []; tail = Header [] [] }
 
--- a header is complete
+-- what the buffer holds once a header is complete, which says the size of the fragment and whether it is the last of its record
 abbrev pub after_header : List (List ℕ) → Tail → ℕ → Bool → Records
 after_header records tail size last =
     let payload = payload_of tail in
@@ -94,7 +94,7 @@ after_header records tail size last =
     else (if nat_lt 0 size then record { records = records; tail = Data payload size last }
     else (if last then finish_record records tail else record { records = records; tail = Header payload [] }))
 
--- one more byte of a header came
+-- what the buffer holds after one more byte of a header
 abbrev pub after_byte : List (List ℕ) → Tail → ℕ → Records
 after_byte records (Header payload header) byte =
     if nat_lt (length header) 3 then record { records = records; tail = Header payload (header ++ byte ∷ []) }
@@ -103,7 +103,7 @@ after_byte records (Header payload header) byte =
 after_byte records (Data payload missing last) byte = record { records = records; tail = Data payload missing last }
 after_byte records TooLong byte = record { records = records; tail = TooLong }
 
--- more of a fragment's data came
+-- what the buffer holds after more of a fragment's data
 abbrev pub after_data : List (List ℕ) → Tail → List ℕ → Records
 after_data records (Header payload header) piece = record { records = records; tail = Header payload header }
 after_data records (Data payload missing last) piece =
@@ -115,10 +115,10 @@ after_data records (Data payload missing last) piece =
     })
 after_data records TooLong piece = record { records = records; tail = TooLong }
 
--- With these bytes of the stream, the buffer stands for it as before.
+-- If the old buffer stands for a stream, the new one stands for the stream with these bytes after it.
 abbrev pub GoesOn : Records → Records → List ℕ → Type 0
 GoesOn old new front = (stream : List ℕ) (dropped : ℕ) → StandsFor old stream dropped → StandsFor new (stream ++ front) dropped
 
--- The records that were there stay, before those that came.
+-- The new buffer has the records of the old one, and perhaps more after them.
 abbrev pub Keeps : Records → Records → Type 0
 Keeps old new = (more : List (List ℕ)) × (new.records ≡ old.records ++ more)

@@ -1,5 +1,5 @@
 -- The records of a stream as a function, which reads fragment after fragment. Two laws tie it to the relation `Splits`: the stream splits
--- into what it gives, and in no other way.
+-- into what the function returns, and in no other way.
 use Rattle.std.specs.Prelude.{ℕ, zero, suc, ◌+◌, ◌-◌, ◌%◌, ◌^◌, Bool, true, false, List, [], ◌∷◌, ◌++◌, length, take, drop, nat_le, nat_lt, if◌then◌else◌}
 use Rattle.std.specs.Int.{w32, from_be_bytes}
 use Rattle.sv_rpc.specs.Limits.{max_record}
@@ -9,19 +9,19 @@ use Rattle.sv_rpc.specs.Record.{Tail, Header, Data, TooLong}
 abbrev pub Reading : Type 0
 Reading = List (List ℕ) × Tail
 
--- what follows a fragment's data, which was the last of its record or not
+-- the reading after the data of a fragment; the flag says whether it was the last of its record
 abbrev pub read_on : (List ℕ → List ℕ → Reading) → List ℕ → Bool → List ℕ → Reading
 read_on next payload true rest = (payload ∷ (next [] rest).0, (next [] rest).1)
 read_on next payload false rest = next payload rest
 
--- what follows a header: the record is too long, or data are missing, or they are there
+-- the reading after a header: the record is too long, or data are missing, or the fragment is complete
 abbrev pub read_data : (List ℕ → List ℕ → Reading) → List ℕ → Bool → ℕ → List ℕ → Reading
 read_data next payload last size rest =
     if nat_lt max_record (length payload + size) then ([], TooLong)
     else (if nat_lt (length rest) size then ([], Data (payload ++ rest) (size - length rest) last)
     else read_on next (payload ++ take size rest) last (drop size rest))
 
--- what follows this payload of an unfinished record, in at most so many fragments
+-- the reading of these bytes after this payload of an unfinished record, in at most `n` fragments
 unfoldable pub read : ℕ → List ℕ → List ℕ → Reading
 read zero payload bytes = ([], TooLong)
 read (suc n) payload bytes =
@@ -29,7 +29,7 @@ read (suc n) payload bytes =
     else (let word = from_be_bytes w32 bytes in
     read_data (read n) payload (nat_le (2 ^ 31) word) (word % 2 ^ 31) (drop 4 bytes))
 
--- a stream, read; it has at most as many fragments as bytes
+-- the reading of a whole stream, which has at most as many fragments as bytes
 abbrev pub reading : List ℕ → Reading
 reading stream = read (length stream + 1) [] stream
 

@@ -13,7 +13,7 @@ abbrev pub refused_by : Option Code → Result ⊤ Code
 refused_by None = Ok tt
 refused_by (Some code) = Err code
 
--- the answer to an act, after those that count
+-- the answer to an act that comes after these acts, which all count
 abbrev pub answer_to : List ScanAct → ScanAct → ScanAnswer
 answer_to log (Input channel microvolts) = Done
 answer_to log (Configure setting) = Answered (refused_by (setting_fault log setting))
@@ -23,6 +23,6 @@ answer_to log Reset = Done
 answer_to log (Trigger source) = Answered (refused_by (trigger_fault log source))
 answer_to log Sample = Sampled (is_scanning (state log))
 
--- The answer is that.
+-- The scanner gives this answer to an act that comes after these acts.
 abbrev pub Gives : List ScanAct → ScanAct → ScanAnswer → Type 0
 Gives acts act answer = answer ≡ answer_to (effective acts) act

@@ -7,11 +7,11 @@ use Rattle.sv_scan.specs.Setting.{limits, upper, lower, monitor, input}
 use Rattle.sv_scan.specs.Scan.{state, last_reading}
 use Rattle.sv_scan.specs.Counted.{is_idle, is_waiting, is_scanning}
 
--- a word with this bit, if so; else 0
+-- a word in which only this bit is set, if the condition holds; else 0
 abbrev pub bit : ℕ → Bool → ℕ
 bit place holds = if holds then 2 ^ place else 0
 
--- the operation word: bit 4 a scan is under way, bit 5 a trigger is waited for, bit 8 a measurement is under way
+-- the operation word; bit 4: a scan is under way; bit 5: a trigger is waited for; bit 8: a measurement is under way
 abbrev pub operation : List ScanAct → ℕ
 operation log = bit 4 (is_scanning (state log)) + bit 5 (is_waiting (state log)) + bit 8 (not (is_idle (state log)))
 
@@ -35,12 +35,12 @@ is_above _ limit = false
 abbrev pub is_outside : List ScanAct → Bool
 is_outside log = int_lt (input (monitor log) log) (lower log) || int_lt (upper log) (input (monitor log) log)
 
--- what the scanner adds to the questionable word: bit 0 the last reading is an overload
+-- what the scanner adds to the questionable word; bit 0: the last reading is an overload
 abbrev pub questionable : List ScanAct → ℕ
 questionable log = bit 0 (is_overload (last_reading log))
 
--- the word of limits, 0 while they are off: bit 0 the last reading is below the lower one, bit 1 above the upper one, bit 2 the monitored
--- input is outside
+-- the limit word, 0 while limits are off; bit 0: the last reading is below the lower limit; bit 1: it is above the upper limit; bit 2: the
+-- input of the monitored channel is outside the limits
 abbrev pub limit : List ScanAct → ℕ
 limit log = bit 0 (limits log && is_below (last_reading log) (lower log)) + bit 1 (limits log && is_above (last_reading log) (upper log))
     + bit 2 (limits log && is_outside log)

@@ -1,4 +1,4 @@
--- Which acts count. These don't: a call that is refused, a sample outside a scan, an input of a channel that there isn't.
+-- Which acts count. These don't: a call that is refused, a sample outside a scan, an input of a channel that doesn't exist.
 use Rattle.std.specs.Prelude.{◌&&◌, not, Bool, true, false, List, [], ◌∷◌, Option, Some, None, is_none, if◌then◌else◌}
 use Rattle.sv_errors.specs.declared.code.Code.{Code}
 use Rattle.sv_errors.specs.declared.code.Code.TheVariants.{DataOutOfRange, SettingsConflict, TriggerIgnored, InitIgnored, TriggerDeadlock}
@@ -25,7 +25,7 @@ is_waiting = elim [ Waiting ↦ true | _ ↦ false ]
 abbrev pub is_scanning : State → Bool
 is_scanning = elim [ Scanning ↦ true | _ ↦ false ]
 
--- whether two sources of triggers are the same
+-- whether two trigger sources are the same
 abbrev pub same_source : Source → Source → Bool
 same_source Immediate Immediate = true
 same_source Bus Bus = true
@@ -42,15 +42,15 @@ setting_fault log setting =
 abbrev pub init_fault : List ScanAct → Option Code
 init_fault log = if is_idle (state log) then None else Some InitIgnored
 
--- why a trigger is refused: -211 if none is waited for, or one from another source
+-- why a trigger is refused: -211 if no trigger is waited for, or only one from another source
 abbrev pub trigger_fault : List ScanAct → Source → Option Code
 trigger_fault log from = if is_waiting (state log) && same_source (source log) from then None else Some TriggerIgnored
 
--- why a reading can't be waited for: -214 if the controller, which would wait, would have to trigger it
+-- why a reading can't be waited for: -214 if triggers come from the controller, which would be the one that waits
 abbrev pub read_fault : List ScanAct → Option Code
 read_fault log = if same_source (source log) Bus then Some TriggerDeadlock else None
 
--- whether an act counts, after those that count
+-- whether an act counts that comes after these acts, which all count
 abbrev pub counts : List ScanAct → ScanAct → Bool
 counts log (Input channel microvolts) = is_channel channel
 counts log (Configure setting) = is_none (setting_fault log setting)
@@ -59,7 +59,7 @@ counts log (Trigger source) = is_none (trigger_fault log source)
 counts log Sample = is_scanning (state log)
 counts log _ = true
 
--- the acts that count, of all acts
+-- of all acts, those that count
 abbrev pub effective : List ScanAct → List ScanAct
 effective [] = []
 effective (act ∷ acts) = if counts (effective acts) act then act ∷ effective acts else effective acts

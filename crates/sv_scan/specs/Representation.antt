@@ -1,4 +1,4 @@
--- What is always true of what the scanner keeps.
+-- What always holds of what the scanner keeps.
 use Rattle.std.specs.Prelude.{◌≡◌, ℕ, ◌*◌, ◌==◌, ◌≤◌, ℤ, pos, int_le, unsigned_abs, Bool, true, false, List, length, Option, Some, None}
 use Rattle.std.specs.List.{list_all}
 use Rattle.sv_scan.specs.declared.setting.Setting.TheVariants.{Count}
@@ -12,25 +12,25 @@ use Rattle.sv_scan.specs.Setting.{is_possible}
 use Rattle.sv_scan.specs.Scan.{state_by, is_bounded}
 use Rattle.sv_scan.specs.Stands.{Run, Contents}
 
--- the state of a measurement after so many samples; idle without one
+-- the state of a measurement after this many samples; idle if there is no measurement
 abbrev pub run_state : Option Run → ℕ → State
 run_state None samples = Idle
 run_state (Some run) samples = state_by run.triggers samples (length run.channels) run.scans
 
--- whether each channel of each of its scans was read
+-- whether each channel of each scan of the measurement was read; false if there is no measurement
 abbrev pub run_complete : Option Run → ℕ → Bool
 run_complete None samples = false
 run_complete (Some run) samples = samples == run.scans * length run.channels
 
--- A measurement has a legal scan list, at most 16 scans, at most as many triggers as scans, and at most as many samples as its triggered
--- scans have channels.
+-- A measurement has a legal scan list, at most 16 scans, and at most as many triggers as scans. It has at most as many samples as its
+-- triggered scans have channels in total.
 pub record IsRun (run : Run) (samples : ℕ) : Type 0 where
   pub channels : is_channel_list run.channels ≡ true
   pub scans : run.scans ≤ most_scans
   pub triggers : run.triggers ≤ run.scans
   pub read : samples ≤ run.triggers * length run.channels
 
--- The same if there is a measurement; without one there are no samples.
+-- If there is a measurement, it is a valid one (`IsRun`). Without a measurement there are no samples.
 abbrev pub IsRunOf : Option Run → ℕ → Type 0
 IsRunOf None samples = samples ≡ 0
 IsRunOf (Some run) samples = IsRun run samples
@@ -50,7 +50,7 @@ pub record IsValid (contents : Contents) (capacity : ℕ) : Type 0 where
   pub run : IsRunOf contents.run (length contents.readings)
   pub readings : list_all is_bounded contents.readings ≡ true
 
--- the contents, of the fields that keep them
+-- the contents of the scanner, from the fields that keep them
 abbrev pub contents_of : List ℤ → Settings → Option Run → List Reading → Touched → Contents
 contents_of inputs settings run readings touched = record {
   inputs = inputs;

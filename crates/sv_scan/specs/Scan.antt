@@ -1,4 +1,4 @@
--- The trigger state and the readings (SCPI-1999, volume 2, chapter 24), by counts over the acts that count, the newest first.
+-- The trigger state and the readings (SCPI-1999, volume 2, chapter 24), by searches and counts of the acts that count, the newest first.
 use Rattle.std.specs.Prelude.{ℕ, ◌-◌, ◌*◌, ◌%◌, ◌==◌, ℤ, neg_ℤ, int_lt, nat_le, unsigned_abs, Bool, true, false, List, [], ◌∷◌, ◌++◌, length, filter, Option, Some, None, slice_get, slice_index_or, if◌then◌else◌}
 use Rattle.sv_errors.specs.Limits.{most_microvolts}
 use Rattle.std.specs.Option.{option_map_or}
@@ -19,20 +19,20 @@ starts_or_ends = elim [ Init ∷ log ↦ true | Abort ∷ log ↦ true | Reset �
 abbrev pub before_init : List ScanAct → Option (List ScanAct)
 before_init log = elim (newest starts_or_ends log) [ Init ∷ before ↦ Some before | _ ↦ None ]
 
--- how many triggers came since
+-- how many triggers came since a measurement last began or ended
 abbrev pub triggers : List ScanAct → ℕ
 triggers log = length (filter (elim [ Trigger source ↦ true | _ ↦ false ]) (since starts_or_ends log))
 
--- how many samples came since
+-- how many samples came since a measurement last began or ended
 abbrev pub samples : List ScanAct → ℕ
 samples log = length (filter (elim [ Sample ↦ true | _ ↦ false ]) (since starts_or_ends log))
 
--- the state of a measurement after so many triggers and samples, of so many channels and scans
+-- the state of a measurement of this many channels and scans, after this many triggers and samples
 abbrev pub state_by : ℕ → ℕ → ℕ → ℕ → State
 state_by triggers samples channels scans =
     if samples == scans * channels then Idle else if samples == triggers * channels then Waiting else Scanning
 
--- the state: that of the measurement since its initiation, with scan list and count as they were then; idle without one
+-- the state of the measurement since its initiation, with scan list and count as they were then; idle if there is no measurement
 abbrev pub state : List ScanAct → State
 state log =
     option_map_or (λ before. state_by (triggers log) (samples log) (length (scan_list before)) (count before)) (before_init log) Idle
@@ -41,12 +41,12 @@ state log =
 abbrev pub reading_in : ℤ → ℤ → Reading
 reading_in range value = if int_lt range value then Over else if int_lt value (neg_ℤ range) then Under else Value value
 
--- whether a reading is no voltage beyond 1,000 V in magnitude
+-- whether a reading is an overload, or a voltage of at most 1,000 V in magnitude
 abbrev pub is_bounded : Reading → Bool
 is_bounded (Value microvolts) = nat_le (unsigned_abs microvolts) most_microvolts
 is_bounded _ = true
 
--- the channel of the sample after so many others: the list is read over and over
+-- the channel of the next sample, by how many samples came before it: the list is read over and over
 abbrev pub channel_at : List ℕ → ℕ → ℕ
 channel_at channels before = slice_index_or channels (before % length channels) 0
 
@@ -60,7 +60,7 @@ readings [] = []
 readings (Sample ∷ log) = readings log ++ reading log ∷ []
 readings (act ∷ log) = if starts_or_ends (act ∷ log) then [] else readings log
 
--- the newest of them; `None` if there is none
+-- the newest reading of the measurement; `None` if there is none
 abbrev pub last_reading : List ScanAct → Option Reading
 last_reading log = slice_get (readings log) (length (readings log) - 1)
 

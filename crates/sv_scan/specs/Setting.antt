@@ -21,7 +21,7 @@ scan_list = last_set (elim [ SetList channels ↦ Some channels | _ ↦ None ]) 
 abbrev pub monitor : List ScanAct → ℕ
 monitor = last_set (elim [ Monitor channel ↦ Some channel | _ ↦ None ]) 1
 
--- the lowest of 1, 10 and 100 V that isn't below what was asked for
+-- the smallest of the ranges 1, 10 and 100 V that isn't below what was asked for
 abbrev pub least_range : ℤ → ℤ
 least_range wanted =
     if int_le wanted (pos 1000000) then pos 1000000 else if int_le wanted (pos 10000000) then pos 10000000 else pos 100000000

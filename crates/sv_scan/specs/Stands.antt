@@ -1,4 +1,4 @@
--- What the scanner keeps, and which acts it stands for.
+-- What the scanner keeps, and when it stands for a list of acts.
 use Rattle.std.specs.Prelude.{◌≡◌, ℕ, ◌-◌, ℤ, pos, Bool, true, List, Option, slice_index_or}
 use Rattle.std.specs.Prelude.{option_map}
 use Rattle.sv_scan.specs.declared.setting.Reading.{Reading}
@@ -37,7 +37,7 @@ pub record Contents : Type 0 where
   pub readings : List Reading
   pub touched : Touched
 
--- Each part is what a search of the acts that count finds.
+-- Each part of the contents is what a search of the acts that count finds.
 pub record Holds (contents : Contents) (log : List ScanAct) : Type 0 where
   pub inputs : (channel : ℕ) → is_channel channel ≡ true → slice_index_or contents.inputs (channel - 1) (pos 0) ≡ input channel log
   pub list : contents.list ≡ scan_list log
@@ -52,6 +52,6 @@ pub record Holds (contents : Contents) (log : List ScanAct) : Type 0 where
   pub readings : contents.readings ≡ readings log
   pub touched : IsTouched contents.touched log
 
--- What it keeps stands for all acts, of which some count.
+-- What the scanner keeps stands for these acts: it is what those of them that count determine.
 abbrev pub StandsFor : Contents → List ScanAct → Type 0
 StandsFor contents acts = Holds contents (effective acts)

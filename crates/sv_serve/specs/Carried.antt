@@ -42,23 +42,23 @@ begins port (PeerAnswered d (Got all)) = is_same port (Intr d)
 begins port (WasClosed (Conn d)) = is_same port (Conn d)
 begins _ _ = false
 
--- the bytes that were read on a port
+-- the bytes that were read on a port with this answer; none with another answer
 abbrev pub read : Port → Heard → List ℕ
 read port (WasRead d most (Got bytes)) = if is_same port (Conn d) then bytes else []
 read _ _ = []
 
--- the bytes that the wire took for a port
+-- the bytes that the wire took for a port with this answer; none with another answer
 abbrev pub taken_bytes : Port → Heard → List ℕ
 taken_bytes port (WasWritten other bytes (Got n)) = if is_same port other then take n bytes else []
 taken_bytes _ _ = []
 
--- those since the port began, the oldest first
+-- the bytes of these answers since the port began, the oldest first
 abbrev pub since : Port → (Heard → List ℕ) → List Heard → List ℕ
 since port bytes [] = []
 since port bytes (heard ∷ trace) = if begins port heard then [] else since port bytes trace ++ bytes heard
 
--- whether an answer ends a port: a read or write of it failed, or its peer is gone; of an interrupt channel also that its peer can't be
--- reached, or that its connection was closed
+-- whether an answer ends a port: a read or write of it failed, or its peer is gone; an interrupt channel also ends if its peer can't be
+-- reached, or if its connection was closed
 abbrev pub ends_port : Port → Heard → Bool
 ends_port (Conn c) (WasRead d most Failed) = d == c
 ends_port (Conn c) (WasProbed d drops Failed) = d == c
@@ -67,30 +67,30 @@ ends_port (Intr c) (PeerAnswered d Failed) = d == c
 ends_port (Intr c) (WasClosed (Conn d)) = d == c
 ends_port _ _ = false
 
--- A connection that is ended so is closed next, before anything else is asked.
+-- A connection that an answer of the wire ended (`ends_port`) is closed next, before the wire is asked anything else.
 abbrev pub ClosesAtOnce : Option Heard → List Heard → Type 0
 ClosesAtOnce next [] = ⊤
 ClosesAtOnce next (heard ∷ trace) = ((c : ℕ) → ends_port (Conn c) heard ≡ true
     → next ≡ Some (WasClosed (Conn c))) × ClosesAtOnce (Some heard) trace
 
--- This holds of each answer of a trace, with those before it.
+-- `IsSuch` holds of each answer of a trace, with the answers before it.
 abbrev pub EachHeard : (Heard → List Heard → Type 0) → List Heard → Type 0
 EachHeard IsSuch [] = ⊤
 EachHeard IsSuch (heard ∷ trace) = IsSuch heard trace × EachHeard IsSuch trace
 
--- This holds of the newest answer of a trace.
+-- The trace has a newest answer, and `is_such` holds of it.
 abbrev pub Follows : (Heard → Bool) → List Heard → Type 0
 Follows is_such trace = (last : Heard) × (older : List Heard) × (trace ≡ last ∷ older) × (is_such last ≡ true)
 
--- This held at some earlier moment of the history, when the wire had given exactly these answers.
+-- `IsSo` held at some earlier moment of the history, when the wire had given exactly the answers of this trace.
 abbrev pub Once : (List PlainEvent → Type 0) → List PlainEvent → List Heard → Type 0
 Once IsSo history trace = (later earlier : List PlainEvent) × (history ≡ later ++ earlier)
     × (filter is_outer earlier ≡ flat_map event_of trace) × IsSo earlier
 
 -- The wire's events are exactly its answers, in order. Every byte that is read enters its connection's stream, and every byte that the wire
 -- takes comes out of what the history sends: in order, none lost, invented or doubled. Each write hands over all that waits. A connection
--- is closed right after it failed, else only if it was at fault and nothing waited on it; the socket of an interrupt channel only after
--- what ends it, or if the channel isn't open.
+-- is closed right after it failed; otherwise it is only closed if it was at fault and nothing waited on it. The socket of an interrupt
+-- channel is only closed right after what ends it (`ends_port`), or if the channel isn't open.
 pub record IsCarried (config : Config) (history : List PlainEvent) (trace : List Heard) : Type 0 where
   pub events : filter is_outer history ≡ flat_map event_of trace
   pub streams : (c : ℕ) → Answered (λ log. stream (of c log)) config history (since (Conn c) (read (Conn c)) trace)
@@ -106,9 +106,9 @@ pub record IsCarried (config : Config) (history : List PlainEvent) (trace : List
   pub lets_go : EachHeard (λ heard older. (c : ℕ) → heard ≡ WasClosed (Intr c) → Follows (ends_port (Intr c)) older ⊎ Once (λ earlier.
       (log : List Act) × IsLogOf config earlier log × (is_port_shut (Intr c) log ≡ true)) history older) trace
 
--- Each sweep continues what was carried before it, with its own part of history and trace, and serves each connection. After it, time has
--- brought the milliseconds that sweeps were given, up to the end of the clock, and exactly the entries of the scenario that were due. This
--- supposes a clock in range, and a driver that counted no millisecond at the start.
+-- Each sweep continues what was carried before it, with its own part of history and trace, and serves each connection. The timed events of
+-- the history are then exactly those of the milliseconds that sweeps were given, up to the end of the clock, and of the entries of the
+-- scenario that were due. This supposes a clock in range, and a driver that had counted no millisecond at the start.
 abbrev pub InSweeps : {W : Type 0} (hears : W → Heard → W → Type 0) → Config → (start : DriverState W) (passed : List ℕ)
     (now : DriverState W)
     → Swept hears passed start now → List PlainEvent → List Heard → Type 0
@@ -119,7 +119,8 @@ InSweeps hears config start (ticks ∷ passed) now (between, swept, goes) histor
     × (config.clock ≤ last_clock → start.ticks ≡ 0 → IsScenario 0 start.ahead
     → filter is_timed history ≡ time_events (min (handed_ticks (ticks ∷ passed)) (last_clock - config.clock)) start.ahead)
 
--- This holds after any number of sweeps of a driver whose server is new, over every wire.
+-- After any number of sweeps of a driver whose server is new, over every wire, there are a trace and a history for which `IsCarried` and
+-- `InSweeps` hold.
 abbrev pub Carried : {W : Type 0} → (W → Heard → W → Type 0) → Type 0
 Carried hears = (config : Config) (passed : List ℕ) (start now : DriverState _) → StandsFor start.server config []
     → (swept : Swept hears passed start now) → (trace : List Heard) × (history : List PlainEvent) × Through hears trace start.wire now.wire

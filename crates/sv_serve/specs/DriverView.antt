@@ -6,8 +6,8 @@ use Rattle.sv_history.specs.Event.{PlainEvent}
 use Rattle.sv_server.specs.Server.State.{State, StandsFor}
 use Rattle.sv_replay.specs.declared.entry.Entry.{Entry}
 
--- The state of a driver: a server, a wire, whom it called for the interrupt channel of each connection, the entries of the scenario still
--- to come, and how many milliseconds passed.
+-- The state of a driver: a server, a wire, which peer was called for the interrupt channel of each connection, the entries of the scenario
+-- still to come, and how many milliseconds passed.
 pub record DriverState (W : Type 0) : Type 0 where
   pub server : State
   pub wire : W
@@ -15,7 +15,7 @@ pub record DriverState (W : Type 0) : Type 0 where
   pub ahead : List Entry
   pub ticks : ℕ
 
--- The same, with the history of the server in its place.
+-- The state of a driver, with the history of its server in place of the server.
 pub record DriverView (W : Type 0) : Type 0 where
   pub wire : W
   pub history : List PlainEvent
@@ -23,7 +23,7 @@ pub record DriverView (W : Type 0) : Type 0 where
   pub ahead : List Entry
   pub ticks : ℕ
 
--- a state, seen with this history
+-- the state of a driver, with this history in place of its server
 abbrev pub driver_view : {W : Type 0} → DriverState W → List PlainEvent → DriverView W
 driver_view driving history =
     record { wire = driving.wire; history = history; called = driving.called; ahead = driving.ahead; ticks = driving.ticks }

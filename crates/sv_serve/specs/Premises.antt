@@ -18,14 +18,14 @@ use Rattle.sv_serve.specs.Heard.{IsWithin}
 use Rattle.sv_serve.specs.DriverView.{DriverState, DriverView, driver_view}
 use Rattle.sv_serve.specs.Asked.{Wants, Waits}
 
--- Wherever this holds, the driver takes this step.
+-- At any moment of which `IsSo` holds, the driver takes this step.
 abbrev pub From : {W : Type 0} → (Config → DriverView W → Type 0) → (Config → DriverView W → DriverView W → Type 0) → DriverState W
     → DriverState W → Type 0
 From IsSo step old new = (config : Config) (history : List PlainEvent) → StandsFor old.server config history
     → IsSo config (driver_view old history)
     → (after : List PlainEvent) × StandsFor new.server config after × step config (driver_view old history) (driver_view new after)
 
--- The event fits the answers of the queries.
+-- The event fits the answers of the queries at this moment (`Suits`).
 abbrev pub IsSuited : {W : Type 0} → PlainEvent → Config → DriverView W → Type 0
 IsSuited event config at = (log : List Act) × (channel_log : List ChannelAct) × IsLogOf config at.history log
     × HearsOf (device_acts log) channel_log
@@ -35,7 +35,7 @@ IsSuited event config at = (log : List Act) × (channel_log : List ChannelAct) �
 abbrev pub IsAwaited : {W : Type 0} → ℕ → Config → DriverView W → Type 0
 IsAwaited c config at = (dial : Dial) × Wants c config at (Some dial)
 
--- These bytes waited, and the wire took some of them.
+-- Some bytes waited on a port, and the wire took no more than these.
 abbrev pub Handed : {W : Type 0} → Port → Answer ℕ → Config → DriverView W → Type 0
 Handed port answer config at = (bytes : List ℕ) × Waits port config at bytes × (0 < length bytes) × IsWithin answer (length bytes)
 
@@ -47,6 +47,6 @@ FoundNone c config at = (log : List Act) × IsLogOf config at.history log × Ans
 abbrev pub MayFindNone : {W : Type 0} → ℕ → Result Did Refused → Config → DriverView W → Type 0
 MayFindNone c answer config at = answer ≡ Err NoMemory → FoundNone c config at
 
--- If so, there was a call to take, and memory for it was refused.
+-- If `so` is true, there was a call to take, and memory for it was refused.
 abbrev pub FindsNoneIf : {W : Type 0} → ℕ → Bool → Config → DriverView W → Type 0
 FindsNoneIf c so config at = so ≡ true → FoundNone c config at

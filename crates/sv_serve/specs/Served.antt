@@ -17,12 +17,12 @@ use Rattle.sv_serve.specs.DriverView.{DriverState, Steps}
 use Rattle.sv_serve.specs.Sweep.{Sweeps}
 use Rattle.sv_serve.specs.Timed.{is_timed}
 
--- The wire was asked these, one after the other, and gave these answers.
+-- The wire was called as this trace says, and gave its answers.
 abbrev pub Through : {W : Type 0} → (W → Heard → W → Type 0) → List Heard → W → W → Type 0
 Through hears [] start now = now ≡ start
 Through hears (heard ∷ trace) start now = (between : _) × Through hears trace start between × hears between heard now
 
--- the event that an answer is, if it is one
+-- the event that an answer of the wire becomes, if it becomes one
 abbrev pub event_of : Heard → List PlainEvent
 event_of (WasAccepted role (Some c) (Got all)) = Open c role ∷ []
 event_of (WasRead c most (Got bytes)) = Bytes c bytes ∷ []
@@ -35,13 +35,14 @@ event_of (PeerAnswered c Failed) = Dialed c false ∷ []
 event_of (WasClosed (Conn c)) = Close (Conn c) ∷ []
 event_of _ = []
 
--- whether an event comes from the wire; a driver's own are its Turns and Refuses, and what time brings
+-- whether an event comes from the wire; Turns, Refuses and timed events are the driver's own
 abbrev pub is_outer : PlainEvent → Bool
 is_outer (Turn c) = false
 is_outer (Refuse c) = false
 is_outer event = not (is_timed event)
 
--- A Turn takes a call, or it is refused for out of memory; unless there is no call to take, or no room for a reply.
+-- The connection has a Turn. If memory for its call is refused, it has a Refuse instead. It has neither only if there is no call to take,
+-- or no room for the longest reply.
 abbrev pub Takes : Config → ℕ → List Act → List PlainEvent → Type 0
 Takes config c before turn = (turn ≡ Turn c ∷ []) ⊎ (((turn ≡ Refuse c ∷ []) × Answers config (Turn c) before (Err NoMemory))
     ⊎ ((turn ≡ []) × ((is_idle (of c before) ≡ true) ⊎ (free (of c before) < longest_reply))))
@@ -65,7 +66,7 @@ IsServed hears config old new history events piece = StandsFor old.server config
     × Through hears piece old.wire new.wire × (filter is_outer events ≡ flat_map event_of piece)
     × ((c : ℕ) → c < 16 → Serves config c history events piece)
 
--- This holds of every sweep, whatever happened before.
+-- Every sweep has events and answers of the wire for which `IsServed` holds, whatever happened before.
 abbrev pub Served : {W : Type 0} → (W → Heard → W → Type 0) → Type 0
 Served hears = (config : Config) (ticks : ℕ) (history : List PlainEvent) (old new : DriverState _) → StandsFor old.server config history
     → Steps (Sweeps hears ticks) old new → (done : List PlainEvent) × (piece : List Heard)

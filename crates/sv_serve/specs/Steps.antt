@@ -32,30 +32,30 @@ Given event result config before after = (log : List Act) × IsLogOf config befo
 abbrev pub IsApplied : {W : Type 0} → PlainEvent → Config → DriverView W → DriverView W → Type 0
 IsApplied event = Given event (Ok Done)
 
--- whom the driver called for the interrupt channel of a connection
+-- which peer the driver called for the interrupt channel of a connection; `None` if it called none
 abbrev pub called_of : {W : Type 0} → ℕ → DriverView W → Option Dial
 called_of c at = slice_index_or at.called c None
 
--- The driver keeps whom it called for the interrupt channel of a connection.
+-- The driver records which peer it called for the interrupt channel of a connection, or that it called none.
 abbrev pub Remembers : {W : Type 0} → ℕ → Option Dial → Config → DriverView W → DriverView W → Type 0
 Remembers c dial config before after = after ≡ record before { called = slice_set before.called c dial }
 
--- A connection was accepted, and opens under its number.
+-- If a connection was accepted under a number, it opens under that number.
 abbrev pub Opens : {W : Type 0} → Role → Option ℕ → Answer ⊤ → Config → DriverView W → DriverView W → Type 0
 Opens role (Some c) (Got all) = IsApplied (Open c role)
 Opens role number answer = Unchanged
 
--- A connection is accepted, under the lowest free number; if none is free, it is dropped.
+-- A connection is accepted, under the lowest free number. If no number is free, the connection is dropped.
 abbrev pub Accepts : {W : Type 0} → (W → Heard → W → Type 0) → Role → Config → DriverView W → DriverView W → Type 0
 Accepts hears role config before after = (number : Option ℕ) × (answer : Answer ⊤) × IsLowest number config before
     × (Hears hears (WasAccepted role number answer) then Opens role number answer) config before after
 
--- The socket of an interrupt channel is closed, if somebody was called.
+-- The socket of an interrupt channel is closed, if a peer was called for it.
 abbrev pub ClosesChannelOn : {W : Type 0} → (W → Heard → W → Type 0) → ℕ → Option Dial → Config → DriverView W → DriverView W → Type 0
 ClosesChannelOn hears c None = Unchanged
 ClosesChannelOn hears c (Some dial) = Hears hears (WasClosed (Intr c)) then Remembers c None
 
--- The same of a connection's channel.
+-- The socket of a connection's interrupt channel is closed, if the driver called a peer for it.
 abbrev pub ClosesChannel : {W : Type 0} → (W → Heard → W → Type 0) → ℕ → Config → DriverView W → DriverView W → Type 0
 ClosesChannel hears c config before after = ClosesChannelOn hears c (called_of c before) config before after
 
@@ -63,7 +63,7 @@ ClosesChannel hears c config before after = ClosesChannelOn hears c (called_of c
 abbrev pub Closes : {W : Type 0} → (W → Heard → W → Type 0) → ℕ → Config → DriverView W → DriverView W → Type 0
 Closes hears c = Hears hears (WasClosed (Conn c)) then ClosesChannel hears c then IsApplied (Close (Conn c))
 
--- The same, if so said.
+-- If the flag is true, a connection is closed, with its interrupt channel.
 abbrev pub ClosesIf : {W : Type 0} → (W → Heard → W → Type 0) → ℕ → Bool → Config → DriverView W → DriverView W → Type 0
 ClosesIf hears c true = Closes hears c
 ClosesIf hears c false = Unchanged
@@ -83,7 +83,7 @@ abbrev pub Drops : {W : Type 0} → (W → Heard → W → Type 0) → ℕ → A
 Drops hears c Failed = Closes hears c
 Drops hears c answer = Unchanged
 
--- If the connection is open, the wire is asked whether it is gone.
+-- If the flag is true, the connection is open, and the wire is asked whether it is gone.
 abbrev pub ProbesIf : {W : Type 0} → (W → Heard → W → Type 0) → ℕ → Bool → Config → DriverView W → DriverView W → Type 0
 ProbesIf hears c false config before after = after ≡ before
 ProbesIf hears c true config before after = (drops : Bool) × (answer : Answer ⊤) × IsOverlong c config before drops
@@ -94,17 +94,17 @@ ProbesIf hears c true config before after = (drops : Bool) × (answer : Answer �
 abbrev pub Probes : {W : Type 0} → (W → Heard → W → Type 0) → ℕ → Config → DriverView W → DriverView W → Type 0
 Probes hears c config before after = (opened : Bool) × IsOpen (Conn c) config before opened × ProbesIf hears c opened config before after
 
--- With room for so many bytes, as many are read, at most 16,384; without room the connection is probed.
+-- With room for `room` bytes, at most that many are read, and at most 16,384. Without room the connection is probed.
 abbrev pub ReadsUpTo : {W : Type 0} → (W → Heard → W → Type 0) → ℕ → ℕ → Config → DriverView W → DriverView W → Type 0
 ReadsUpTo hears room c config before after = ((room ≡ 0) × Probes hears c config before after)
     ⊎ ((0 < room) × (answer : Answer (List ℕ)) × IsPiece answer (min room longest_piece)
     × (Hears hears (WasRead c (min room longest_piece) answer) then Comes hears c answer) config before after)
 
--- A connection is read, for as many bytes as it has room.
+-- A connection is read, for at most as many bytes as it has room.
 abbrev pub ReadsFrom : {W : Type 0} → (W → Heard → W → Type 0) → ℕ → Config → DriverView W → DriverView W → Type 0
 ReadsFrom hears c config before after = (room : ℕ) × HasRoom c config before room × ReadsUpTo hears room c config before after
 
--- The call is refused with error 9, if so said.
+-- If the flag is true, the call is refused with error 9.
 abbrev pub RefusesIf : {W : Type 0} → ℕ → Bool → Config → DriverView W → DriverView W → Type 0
 RefusesIf c true = IsApplied (Refuse c)
 RefusesIf c false = Unchanged
@@ -114,12 +114,12 @@ abbrev pub EndsTurn : {W : Type 0} → ℕ → Result Did Refused → Config →
 EndsTurn c (Ok did) = Unchanged
 EndsTurn c (Err refused) = RefusesIf c (is_no_memory refused)
 
--- If a call is there, a Turn takes it.
+-- If the flag is true, there is a call, and the server is given a Turn for it.
 abbrev pub TurnsIf : {W : Type 0} → ℕ → Bool → Config → DriverView W → DriverView W → Type 0
 TurnsIf c false config before after = after ≡ before
 TurnsIf c true config before after = (result : Result Did Refused) × (Given (Turn c) result then EndsTurn c result) config before after
 
--- A connection takes its next call, if there is one.
+-- A Turn takes the next call of a connection, if there is one.
 abbrev pub Turns : {W : Type 0} → ℕ → Config → DriverView W → DriverView W → Type 0
 Turns c config before after = (ready : Bool) × IsReady c config before ready × TurnsIf c ready config before after
 
@@ -128,7 +128,7 @@ abbrev pub is_wanted : Dial → Option Dial → Bool
 is_wanted called (Some wanted) = (called.addr == wanted.addr) && (called.port == wanted.port)
 is_wanted called None = false
 
--- A peer that was called is kept or let go.
+-- A peer that was called is kept if the flag is true, and let go if it is false.
 abbrev pub KeepsCall : {W : Type 0} → (W → Heard → W → Type 0) → ℕ → Bool → Config → DriverView W → DriverView W → Type 0
 KeepsCall hears c true = Unchanged
 KeepsCall hears c false = ClosesChannel hears c
@@ -140,7 +140,7 @@ CancelsUnwanted hears c (Some called) config before after = (channel : Bool) × 
     (Intr c) config before channel
     × Wants c config before wanted × KeepsCall hears c (channel || is_wanted called wanted) config before after
 
--- The same of a connection's peer.
+-- The peer that was called for a connection's interrupt channel is let go, unless the channel is open or the peer is still wanted.
 abbrev pub LetsGo : {W : Type 0} → (W → Heard → W → Type 0) → ℕ → Config → DriverView W → DriverView W → Type 0
 LetsGo hears c config before after = CancelsUnwanted hears c (called_of c before) config before after
 
@@ -150,13 +150,13 @@ ConnectResult c dial (Got all) = Remembers c (Some dial) then IsApplied (Dialed 
 ConnectResult c dial Pending = Remembers c (Some dial)
 ConnectResult c dial Failed = IsApplied (Dialed c false)
 
--- The same answer, for a peer that is waited for.
+-- The answer about a peer that was called before: it is connected, it is still waited for, or it can't be reached.
 abbrev pub PollResult : {W : Type 0} → (W → Heard → W → Type 0) → ℕ → Answer ⊤ → Config → DriverView W → DriverView W → Type 0
 PollResult hears c (Got all) = IsApplied (Dialed c true)
 PollResult hears c Pending = Unchanged
 PollResult hears c Failed = ClosesChannel hears c then IsApplied (Dialed c false)
 
--- The peer that is wanted is called; if it was called already, the wire is asked whether it answered.
+-- The peer that is wanted is called. If one was called already, the wire is asked whether it answered.
 abbrev pub CallsFor : {W : Type 0} → (W → Heard → W → Type 0) → ℕ → Option Dial → Option Dial → Config → DriverView W → DriverView W
     → Type 0
 CallsFor hears c None called config before after = after ≡ before
@@ -165,7 +165,7 @@ CallsFor hears c (Some dial) None config before after =
 CallsFor hears c (Some dial) (Some called) config before after =
     (answer : Answer ⊤) × (Hears hears (PeerAnswered c answer) then PollResult hears c answer) config before after
 
--- The same for a connection's interrupt channel.
+-- The peer that is wanted for a connection's interrupt channel is called. If one was called already, the wire is asked whether it answered.
 abbrev pub Calls : {W : Type 0} → (W → Heard → W → Type 0) → ℕ → Config → DriverView W → DriverView W → Type 0
 Calls hears c config before after =
     (wanted : Option Dial) × Wants c config before wanted × CallsFor hears c wanted (called_of c before) config before after
@@ -174,7 +174,7 @@ Calls hears c config before after =
 abbrev pub Dials : {W : Type 0} → (W → Heard → W → Type 0) → ℕ → Config → DriverView W → DriverView W → Type 0
 Dials hears c = LetsGo hears c then Calls hears c
 
--- A connection is closed, or an interrupt channel alone.
+-- A port is closed: a connection with its interrupt channel, or an interrupt channel alone.
 abbrev pub BreaksOff : {W : Type 0} → (W → Heard → W → Type 0) → Port → Config → DriverView W → DriverView W → Type 0
 BreaksOff hears (Conn c) = Closes hears c
 BreaksOff hears (Intr c) = ClosesChannel hears c then IsApplied (Close (Intr c))
@@ -196,13 +196,13 @@ abbrev pub WritesTo : {W : Type 0} → (W → Heard → W → Type 0) → Port �
 WritesTo hears port config before after =
     (bytes : List ℕ) × Waits port config before bytes × WritesAll hears port bytes config before after
 
--- If a connection is at fault, it is closed once nothing waits on it.
+-- If the flag is true, the connection is at fault, and is closed once nothing waits on it.
 abbrev pub EndsIf : {W : Type 0} → (W → Heard → W → Type 0) → ℕ → Bool → Config → DriverView W → DriverView W → Type 0
 EndsIf hears c false config before after = after ≡ before
 EndsIf hears c true config before after =
     (bytes : List ℕ) × Waits (Conn c) config before bytes × ClosesIf hears c (length bytes == 0) config before after
 
--- The same, of what the server says of the connection.
+-- If the server says that a connection is at fault, the connection is closed once nothing waits on it.
 abbrev pub Ends : {W : Type 0} → (W → Heard → W → Type 0) → ℕ → Config → DriverView W → DriverView W → Type 0
 Ends hears c config before after =
     (faulted : Bool) × IsFaulted c config before faulted × EndsIf hears c faulted config before after

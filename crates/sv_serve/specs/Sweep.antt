@@ -22,12 +22,12 @@ PlaysOne config before after = (entry : Entry) × (others : List Entry) × (betw
     × (entry.tick ≤ before.ticks) × Applies (stimulus_event entry.stimulus) config before between
     × (after ≡ record between { ahead = others })
 
--- No entry is due after so many ticks.
+-- At this count of ticks the first entry isn't due yet, or there is none.
 abbrev pub IsNoneDue : ℕ → List Entry → Type 0
 IsNoneDue ticks [] = ⊤
 IsNoneDue ticks (entry ∷ entries) = ticks < entry.tick
 
--- The first entry happens, or none is due.
+-- If the flag is true, the first entry is due, and happens; else none is due.
 abbrev pub PlaysIf : {W : Type 0} → Bool → Config → DriverView W → DriverView W → Type 0
 PlaysIf true config before after = PlaysOne config before after
 PlaysIf false config before after = (after ≡ before) × IsNoneDue after.ticks after.ahead
@@ -50,7 +50,7 @@ Counts (Err refused) config before after = after ≡ before
 abbrev pub TicksOnce : {W : Type 0} → Config → DriverView W → DriverView W → Type 0
 TicksOnce config before after = (result : Result Did Refused) × (Given Tick result then Counts result) config before after
 
--- So many milliseconds pass; entries happen before each, and after the last one.
+-- This many milliseconds pass. The entries that are due happen before each of them, and after the last one.
 abbrev pub Passes : {W : Type 0} → ℕ → Config → DriverView W → DriverView W → Type 0
 Passes ticks = ForEach ticks (λ i. Plays then TicksOnce) then Plays
 

@@ -13,7 +13,7 @@ abbrev pub entry_events : ℕ → List Entry → List PlainEvent
 entry_events tick [] = []
 entry_events tick (entry ∷ entries) = entry_events tick entries ++ (if entry.tick == tick then stimulus_event entry.stimulus ∷ [] else [])
 
--- the events of so many milliseconds, with the entries due before each, and after the last one
+-- the events of this many milliseconds, with the entries that are due before each of them, and after the last one
 abbrev pub time_events : ℕ → List Entry → List PlainEvent
 time_events zero entries = entry_events 0 entries
 time_events (suc n) entries = entry_events (suc n) entries ++ Tick ∷ time_events n entries

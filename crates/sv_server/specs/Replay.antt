@@ -1,4 +1,4 @@
--- The replay: what it writes of an event.
+-- The replay: what it writes for an event.
 pub mod TakenByWriter
 pub mod Replays
 pub mod Inside

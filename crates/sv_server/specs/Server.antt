@@ -1,3 +1,3 @@
--- The server: what it stands for. The history itself is told in sv_history.
+-- The server: which history it stands for. Histories are defined in sv_history.
 pub mod State
 pub mod Inside

@@ -24,7 +24,7 @@ RegisterGives acts register.ReadEvent register_answer.Done = ⊥
 RegisterGives acts _ (register_answer.Event word) = ⊥
 RegisterGives acts _ register_answer.Done = ⊤
 
--- The same of the standard events.
+-- Reading the standard event status register answers the bits that are set; no other act answers anything.
 abbrev pub StandardGives : List StandardAct → StandardAct → StandardAnswer → Type 0
 StandardGives acts standard.Read (standard_answer.Event word) = (k : ℕ) → (bit_at word k ≡ 1) ↔ Stands k acts
 StandardGives acts standard.Read standard_answer.Done = ⊥

@@ -22,7 +22,7 @@ rise = last_given (elim [ SetFilter up down ↦ Some (without_top_bit up) | Pres
 abbrev pub fall : List RegisterAct → ℕ
 fall = last_given (elim [ SetFilter up down ↦ Some (without_top_bit down) | Preset ↦ Some 0 | _ ↦ None ]) 0
 
--- the enable, as last set; at first and after a preset this start
+-- the enable, as last set; `start` at first and after a preset
 abbrev pub enable : ℕ → List RegisterAct → ℕ
 enable start = last_given (elim [ SetEnable word ↦ Some (without_top_bit word) | Preset ↦ Some start | _ ↦ None ]) start
 
@@ -41,7 +41,7 @@ NotCleared = elim [ ReadEvent ∷ acts ↦ ⊥ | Clear ∷ acts ↦ ⊥ | _ ↦ 
 abbrev pub EventStands : ℕ → List RegisterAct → Type 0
 EventStands k acts = Since (Passes k) NotCleared acts
 
--- Some bit is set and enabled.
+-- Some bit of the event register is set and enabled.
 abbrev pub Summary : ℕ → List RegisterAct → Type 0
 Summary start acts = (k : ℕ) × EventStands k acts × (bit_at (enable start acts) k ≡ 1)
 
@@ -54,7 +54,7 @@ pub record Latches : Type 0 where
   pub enable : ℕ
   pub start : ℕ
 
--- What it keeps stands for the acts, if the enable has this start.
+-- What the register keeps stands for the acts, if its enable is `start` at first and after a preset.
 pub record StandsFor (start : ℕ) (latches : Latches) (acts : List RegisterAct) : Type 0 where
   pub begins : latches.start ≡ start
   pub condition : latches.condition ≡ condition acts
@@ -63,6 +63,6 @@ pub record StandsFor (start : ℕ) (latches : Latches) (acts : List RegisterAct)
   pub enable : latches.enable ≡ enable start acts
   pub event : (k : ℕ) → (bit_at latches.event k ≡ 1) ↔ EventStands k acts
 
--- The same, with the start that it keeps.
+-- What the register keeps stands for the acts, with the start value of the enable that it keeps.
 abbrev pub Stands : Latches → List RegisterAct → Type 0
 Stands latches acts = StandsFor latches.start latches acts

@@ -5,7 +5,7 @@ use Rattle.sv_logs.specs.Since.{Since, last_given}
 use Rattle.sv_status.specs.declared.standard_event.StandardAct.{StandardAct}
 use Rattle.sv_status.specs.declared.standard_event.StandardAct.TheVariants.{Occur, Read, SetEnable, Clear}
 
--- An event occurs at the newest act; power on, bit 7, before all acts.
+-- An event occurs at the newest act; power on, bit 7, occurs before all acts.
 abbrev pub Occurs : ℕ → List StandardAct → Type 0
 Occurs k [] = k ≡ 7
 Occurs k (Occur bits ∷ acts) = bit_at bits k ≡ 1
@@ -15,7 +15,7 @@ Occurs k (_ ∷ acts) = ⊥
 abbrev pub NotCleared : List StandardAct → Type 0
 NotCleared = elim [ Read ∷ acts ↦ ⊥ | Clear ∷ acts ↦ ⊥ | _ ↦ ⊤ ]
 
--- A bit is set: its event occurred after the last clearing.
+-- A bit of the standard event status register is set: its event occurred after the last clearing.
 abbrev pub Stands : ℕ → List StandardAct → Type 0
 Stands k acts = Since (Occurs k) NotCleared acts
 
@@ -32,7 +32,7 @@ pub record Latches : Type 0 where
   pub event : ℕ
   pub enable : ℕ
 
--- What it keeps stands for the acts.
+-- What the standard event status register keeps stands for the acts.
 pub record StandsFor (latches : Latches) (acts : List StandardAct) : Type 0 where
   pub enable : latches.enable ≡ enable acts
   pub event : (k : ℕ) → (bit_at latches.event k ≡ 1) ↔ Stands k acts

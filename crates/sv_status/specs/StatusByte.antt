@@ -13,11 +13,11 @@ bits = last_given (elim [ Update word mask ↦ Some word | _ ↦ None ]) 0
 abbrev pub enable : List StatusAct → ℕ
 enable = last_given (elim [ Update word mask ↦ Some mask | _ ↦ None ]) 0
 
--- A summary bit is set and enabled; bit 6 is no summary bit.
+-- This bit is a summary bit, which bit 6 isn't, and it is set and enabled.
 abbrev pub ServiceRequested : ℕ → ℕ → ℕ → Type 0
 ServiceRequested k word mask = (k ≢ 6) × (bit_at word k ≡ 1) × (bit_at mask k ≡ 1)
 
--- The same, by the acts.
+-- After these acts this bit is a summary bit, which bit 6 isn't, and it is set and enabled.
 abbrev pub ServiceRequestedAt : ℕ → List StatusAct → Type 0
 ServiceRequestedAt k acts = ServiceRequested k (bits acts) (enable acts)
 
@@ -30,16 +30,16 @@ abbrev pub Reason : List StatusAct → Type 0
 Reason [] = ⊥
 Reason (act ∷ before) = (k : ℕ) × ServiceRequestedAt k (act ∷ before) × (ServiceRequestedAt k before → ⊥)
 
--- The newest act keeps a request: it is no poll, and the master summary is set.
+-- The newest act keeps a request: it isn't a poll, and the master summary is set.
 abbrev pub Lasts : List StatusAct → Type 0
 Lasts (Poll ∷ acts) = ⊥
 Lasts acts = Master acts
 
--- A request for service stands: a reason arose, and since then the master summary was set at each place and no poll came.
+-- A request for service stands: a reason arose, and at each moment since then the master summary was set and no poll came.
 abbrev pub Request : List StatusAct → Type 0
 Request acts = Since Reason Lasts acts
 
--- A request is raised at the newest act: it stands there, and didn't before.
+-- A request is raised at the newest act: it stands after that act, and didn't stand before.
 abbrev pub IsRaised : List StatusAct → Type 0
 IsRaised [] = ⊥
 IsRaised (act ∷ before) = Request (act ∷ before) × (Request before → ⊥)
@@ -58,7 +58,7 @@ pub record Latches : Type 0 where
   pub enable : ℕ
   pub request : Bool
 
--- What it keeps stands for the acts.
+-- What the status byte keeps stands for the acts.
 pub record StandsFor (latches : Latches) (acts : List StatusAct) : Type 0 where
   pub bits : latches.bits ≡ bits acts
   pub enable : latches.enable ≡ enable acts

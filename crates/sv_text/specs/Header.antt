@@ -10,7 +10,7 @@ use Rattle.sv_text.specs.declared.header.Lead.TheVariants.{Common, Root, Onward}
 abbrev pub is_query : List ℕ → Bool
 is_query text = option_map_or (λ b. b == 63) (slice_get text (length text - 1)) false
 
--- the text without that question mark
+-- the text without the question mark at its end, if it has one
 abbrev pub unsigned : List ℕ → List ℕ
 unsigned text = if is_query text then take (length text - 1) text else text
 
@@ -19,7 +19,7 @@ abbrev pub lead : List ℕ → Lead
 lead [] = Onward
 lead (b ∷ text) = if b == 42 then Common else if b == 58 then Root else Onward
 
--- what stands between the lead and the question mark
+-- the header without the asterisk or colon that leads it and without the question mark that ends it
 abbrev pub body : List ℕ → List ℕ
 body text = drop (elim (lead text) [ Onward ↦ 0 | _ ↦ 1 ]) (unsigned text)
 

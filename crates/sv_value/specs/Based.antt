@@ -17,7 +17,7 @@ base_of letter =
 abbrev pub begins_with_digit : ℕ → List ℕ → Bool
 begins_with_digit base digits = option_map_or (λ b. is_digit b base) (slice_get digits 0) false
 
--- the value of digits in this base, or their error
+-- the value of digits in this base, or the error; the base is `None` if no letter named one
 abbrev pub read_digits : Option ℕ → List ℕ → Result ℤ Code
 read_digits None digits = Err SyntaxError
 read_digits (Some base) digits =
@@ -25,8 +25,8 @@ read_digits (Some base) digits =
     else if not (list_all (λ b. is_digit b base) digits) then Err InvalidCharacterInNumber
     else Ok (pos (digits_value base digits))
 
--- the value of a number sign, a letter for the base, and digits; or the first error: no such letter or no digit (-102), another byte than a
--- digit (-121)
+-- the value of a number sign, a letter for the base, and digits; or the first error: the letter names no base or no digit follows it
+-- (-102), a later byte isn't a digit of the base (-121)
 abbrev pub read_based : List ℕ → Result ℤ Code
 read_based (sign ∷ letter ∷ digits) = read_digits (base_of letter) digits
 read_based _ = Err SyntaxError

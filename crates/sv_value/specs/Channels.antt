@@ -1,4 +1,5 @@
--- Channel lists (SCPI-1999, volume 1, chapter 8): `(@`, items separated by commas, `)`. An item is a channel, or two with a colon between.
+-- Channel lists (SCPI-1999, volume 1, chapter 8): `(@`, items separated by commas, `)`. An item is a channel, or two channels with a colon
+-- between them.
 use Rattle.std.specs.Prelude.{ℕ, ◌+◌, ◌-◌, ◌==◌, ◌&&◌, not, Bool, false, List, [], ◌∷◌, ◌++◌, length, take, reverse, nat_le, nat_lt, slice_get, Option, Some, None, is_some, Result, Ok, Err, if◌then◌else◌}
 use Rattle.sv_text.specs.Front.{is_empty}
 use Rattle.std.specs.List.{list_all, range_with_len}
@@ -25,22 +26,22 @@ inner _ = None
 abbrev pub is_number : List ℕ → Bool
 is_number text = not (is_empty (trim text)) && list_all is_ascii_digit (trim text)
 
--- the number that it is
+-- the number that a text of digits is, with or without white space around them
 abbrev pub number : List ℕ → ℕ
 number text = digits_value 10 (trim text)
 
--- the two ends of an item
+-- the two ends of an item of a channel list
 pub record Span : Type 0 where
   pub first : ℕ
   pub last : ℕ
 
--- the ends of an item, by its parts; `None` if it isn't spelled as an item
+-- the ends of an item, from its parts between colons; `None` if these aren't one or two numbers
 abbrev pub span_of : List (List ℕ) → Option Span
 span_of (a ∷ []) = if is_number a then Some (record { first = number a; last = number a }) else None
 span_of (a ∷ b ∷ []) = if is_number a && is_number b then Some (record { first = number a; last = number b }) else None
 span_of _ = None
 
--- the ends of an item
+-- the ends of an item; `None` if the text isn't an item
 abbrev pub span : List ℕ → Option Span
 span item = span_of (cut_at 58 item)
 
@@ -49,8 +50,8 @@ abbrev pub channel_range : ℕ → ℕ → List ℕ
 channel_range first last = if nat_le first last then range_with_len first (last - first + 1) else reverse
     (range_with_len last (first - last + 1))
 
--- The channels so far and those of the next item, with those of the items after it; or its error: an end that is no channel (-222), then
--- more channels so far than a list may have (-223). Items that aren't spelled as one were refused before (-171).
+-- The channels so far, then those of the next item and of the items after it. Or the first error: an end that isn't a channel (-222), then
+-- more channels so far than a list may have (-223). Texts that aren't items (-171) are found by `read_items` before.
 abbrev pub next : Option Span → List ℕ → (List ℕ → Result (List ℕ) Code) → Result (List ℕ) Code
 next None before others = Err InvalidExpression
 next (Some ends) before others =
@@ -63,11 +64,11 @@ abbrev pub list_channels : List ℕ → List (List ℕ) → Result (List ℕ) Co
 list_channels before [] = Ok before
 list_channels before (item ∷ items) = next (span item) before (λ so_far. list_channels so_far items)
 
--- the channels of all items, or the first error
+-- the channels of the items between the parentheses, or the first error; -171 if one of them isn't an item
 abbrev pub read_items : List ℕ → Result (List ℕ) Code
 read_items text = if list_all (λ item. is_some (span item)) (cut_at 44 text) then list_channels []
     (cut_at 44 text) else Err InvalidExpression
 
--- the channels of a list, or its first error
+-- the channels of a channel list, or the first error
 abbrev pub read_list : List ℕ → Result (List ℕ) Code
 read_list text = option_map_or read_items (inner text) (Err InvalidExpression)

@@ -1,4 +1,4 @@
--- Character data: booleans and sources of triggers (IEEE 488.2, 7.7.1; SCPI-1999, volume 1, chapter 7).
+-- Character data: booleans and trigger sources (IEEE 488.2, 7.7.1; SCPI-1999, volume 1, chapter 7).
 use Rattle.std.specs.Prelude.{◌||◌, Bool, true, false, ℕ, List, codes, not, Result, Ok, Err, if◌then◌else◌}
 use Rattle.std.specs.List.{list_all}
 use Rattle.std.specs.Str.{str_eq_ignore_ascii_case as is_same}
@@ -16,7 +16,8 @@ read_switch text =
     else if is_same text (codes "OFF") then Ok false
     else Err IllegalParameterValue
 
--- a source of triggers, in short or long form and in any case, or the error, likewise
+-- a trigger source, in short or long form and in any case; or the error: -141 for a byte that character data can't have, -224 for another
+-- word
 abbrev pub read_keyword : List ℕ → Result Source Code
 read_keyword text =
     if not (list_all is_word_byte text) then Err InvalidCharacterData

@@ -14,7 +14,7 @@ digits_size text = position_or_len (λ b. not (is_ascii_digit b)) text
 abbrev pub digits_in : List ℕ → List ℕ
 digits_in text = take (digits_size text) text
 
--- the text after these digits
+-- the text after the digits that it begins with
 abbrev pub behind_digits : List ℕ → List ℕ
 behind_digits text = drop (digits_size text) text
 
@@ -28,17 +28,17 @@ abbrev pub fraction_in : List ℕ → List ℕ
 fraction_in [] = []
 fraction_in (b ∷ text) = if b == 46 then digits_in text else []
 
--- the text after that point and these digits
+-- the text after a point at its front and the digits that follow it; without a point, the whole text
 abbrev pub behind_fraction : List ℕ → List ℕ
 behind_fraction [] = []
 behind_fraction (b ∷ text) = if b == 46 then behind_digits text else b ∷ text
 
--- the text after an E at its front, and white space; empty without an E
+-- the text after an E at its front and white space behind the E; empty without an E
 abbrev pub behind_letter : List ℕ → List ℕ
 behind_letter [] = []
 behind_letter (b ∷ text) = if b == 69 || b == 101 then trim_start text else []
 
--- the same, with white space before the E
+-- the text after white space, an E and white space at its front; empty without an E
 abbrev pub behind_mark : List ℕ → List ℕ
 behind_mark text = behind_letter (trim_start text)
 
@@ -71,7 +71,7 @@ behind_whole text = behind_digits (behind_sign text)
 abbrev pub behind_mantissa : List ℕ → List ℕ
 behind_mantissa text = behind_fraction (behind_whole text)
 
--- the parts of the number that a text is
+-- the parts of a text as a number
 abbrev pub number_parts : List ℕ → Parts
 number_parts text = record {
   negative = has_minus text;
@@ -86,6 +86,6 @@ number_parts text = record {
 abbrev pub begins_well : List ℕ → Bool
 begins_well suffix = option_map_or is_ascii_alphabetic (slice_get suffix 0) true
 
--- whether the parts are those of a number: there is a digit, and its suffix begins with a letter
+-- whether the parts are those of a number: the mantissa has a digit, and the suffix is empty or begins with a letter
 abbrev pub is_spelled : Parts → Bool
 is_spelled number = not (is_empty number.whole && is_empty number.fraction) && begins_well number.suffix

@@ -14,7 +14,7 @@ nearest numerator denominator = (2 * numerator + denominator) / (2 * denominator
 abbrev pub right : Parts → ℕ
 right number = if number.down then 0 else digits_value 10 number.exponent
 
--- by how many places it moves the point to the left
+-- by how many places the exponent moves the point to the left
 abbrev pub left : Parts → ℕ
 left number = if number.down then digits_value 10 number.exponent else 0
 
@@ -31,8 +31,8 @@ signed negative n = if negative then neg_ℤ (pos n) else pos n
 abbrev pub significant_digits : List ℕ → ℕ
 significant_digits digits = length digits - position_or_len (λ b. not (b == 48)) digits
 
--- The value of a number, given the power of ten of its suffix (`None` for one that isn't allowed); or the first error: not spelled as a
--- number (-121), that of the suffix, more than 255 significant digits (-124), an exponent above 32000 (-123).
+-- The value of a number, given the power of ten of its suffix, which is `None` if the suffix isn't allowed. Or the first error: it isn't a
+-- number (-121), the suffix isn't allowed (`suffix_code`), more than 255 significant digits (-124), an exponent above 32000 (-123).
 abbrev pub read_with : Option ℕ → Code → Parts → Result ℤ Code
 read_with None suffix_code number = if not (is_spelled number) then Err InvalidCharacterInNumber else Err suffix_code
 read_with (Some power) suffix_code number =

@@ -8,7 +8,7 @@ use Rattle.sv_value.specs.Channels.{Span as Ends, is_number, number}
 use Rattle.sv_value.specs.Decimal.{Parts}
 use Rattle.sv_value.specs.Number.{signed}
 
--- the parts of a number
+-- a `Decimal` of the code, as the parts of a number
 abbrev pub plain : Decimal → Parts
 plain number = record {
   negative = number.negative;
@@ -19,16 +19,17 @@ plain number = record {
   suffix = number.suffix.now;
 }
 
--- The amount stands for a result that is a number: same sign, and same magnitude up to the bound 10 ^ 18.
+-- The amount stands for this result, which is a number. The amount has the number's sign and its magnitude, but a magnitude of at most 10 ^
+-- 18.
 abbrev pub StandsFor : Amount → Result ℤ Code → Type 0
 StandsFor amount answer = (magnitude : ℕ) × (answer ≡ Ok (signed amount.negative magnitude))
     × (amount.magnitude ≡ min magnitude 1000000000000000000)
 
--- a number of a channel list, up to that bound
+-- the number that a text in a channel list is, at most 10 ^ 18; `None` if the text isn't a number
 abbrev pub number_up_to : List ℕ → Option ℕ
 number_up_to text = if is_number text then Some (min (number text) 1000000000000000000) else None
 
--- the two ends of an item, up to that bound
+-- the two ends of an item, each at most 10 ^ 18
 abbrev pub ends_up_to : Option Ends → Option Span
 ends_up_to None = None
 ends_up_to (Some ends) = Some (record { first = min ends.first 1000000000000000000; last = min ends.last 1000000000000000000 })

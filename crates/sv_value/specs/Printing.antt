@@ -27,7 +27,7 @@ error_text code = signed_decimal (number_of code) ++ (codes ",\"" ++ (text_of co
 abbrev pub switch_text : Bool → List ℕ
 switch_text on = if on then codes "1" else codes "0"
 
--- a source of triggers, in its short form
+-- a trigger source, in its short form
 abbrev pub source_text : Source → List ℕ
 source_text Immediate = codes "IMM"
 source_text Bus = codes "BUS"

@@ -13,7 +13,7 @@ AreDigits text = list_all is_ascii_digit text ≡ true
 abbrev pub IsSpace : List ℕ → Type 0
 IsSpace text = list_all is_white text ≡ true
 
--- The text is a sign or empty; the other value says whether it is a minus.
+-- The text is a sign, or empty; `minus` says whether it is a minus sign.
 abbrev pub IsSign : List ℕ → Bool → Type 0
 IsSign text minus = ((text ≡ []) × (minus ≡ false)) ⊎ ((text ≡ 43 ∷ []) × (minus ≡ false)) ⊎ ((text ≡ 45 ∷ []) × (minus ≡ true))
 
@@ -21,7 +21,7 @@ IsSign text minus = ((text ≡ []) × (minus ≡ false)) ⊎ ((text ≡ 43 ∷ [
 abbrev pub IsFraction : List ℕ → List ℕ → Type 0
 IsFraction text digits = ((text ≡ []) × (digits ≡ [])) ⊎ ((text ≡ 46 ∷ digits) × AreDigits digits)
 
--- The text is an E with white space around it, a sign, and these digits.
+-- The text is an E, with or without white space around it, a sign or none, and these digits, of which there is at least one.
 abbrev pub IsExponent : List ℕ → Bool → List ℕ → Type 0
 IsExponent text minus digits = (before behind sign : List ℕ) × (letter : ℕ) × (text ≡ before ++ letter ∷ (behind ++ (sign ++ digits)))
     × IsSpace before × ((letter ≡ 69) ⊎ (letter ≡ 101)) × IsSpace behind × IsSign sign minus × AreDigits digits × (digits ≢ [])
@@ -34,19 +34,20 @@ NoExponent text = (exponent behind digits : List ℕ) (minus : Bool) → text �
 abbrev pub IsSuffix : List ℕ → List ℕ → Type 0
 IsSuffix text suffix = (space : List ℕ) × (text ≡ space ++ suffix) × IsSpace space × (begins_well suffix ≡ true)
 
--- The text is an exponent and a suffix, or a suffix alone, which doesn't begin with an exponent.
+-- The text is the exponent and the suffix of these parts. Or it is their suffix alone, and doesn't begin with an exponent.
 abbrev pub IsTail : List ℕ → Parts → Type 0
 IsTail text number = ((exponent behind : List ℕ) × (text ≡ exponent ++ behind) × IsExponent exponent number.down number.exponent
     × IsSuffix behind number.suffix)
     ⊎ (NoExponent text × (number.down ≡ false) × (number.exponent ≡ []) × IsSuffix text number.suffix)
 
--- The text spells a number: a sign, digits, a point and digits, of which there has to be one; then an exponent and a suffix.
+-- The text is a number with these parts: a sign or none, digits, a point and digits; then an exponent or none, and a suffix or none. The
+-- mantissa has at least one digit.
 abbrev pub Spells : List ℕ → Parts → Type 0
 Spells text number = (sign fraction tail : List ℕ) × (text ≡ sign ++ (number.whole ++ (fraction ++ tail))) × IsSign sign number.negative
     × AreDigits number.whole
     × IsFraction fraction number.fraction × ((number.whole ≢ []) ⊎ (number.fraction ≢ [])) × IsTail tail number
 
--- A text spells a number exactly if `number_parts` finds it spelled as one, and gives these parts.
+-- A text spells a number with these parts exactly if `number_parts` returns them for it and `is_spelled` holds of them.
 abbrev pub ReadAsSpelled : Type 0
 ReadAsSpelled = (text : List ℕ) (number : Parts) → Spells text number ↔ ((is_spelled (number_parts text) ≡ true)
     × (number_parts text ≡ number))

@@ -13,7 +13,7 @@ use Rattle.std.specs.Str.{str_eq_ignore_ascii_case as is_same}
 use Rattle.sv_value.specs.Choice.{read_switch, read_keyword}
 use Rattle.sv_value.specs.Channels.{read_list}
 
--- the power of ten of a suffix over the microvolt; no suffix is volts; `None` for a suffix that isn't allowed
+-- the power of ten of a suffix's unit in microvolts; no suffix means volts; `None` for a suffix that isn't allowed
 abbrev pub power_of_volts : List ℕ → Option ℕ
 power_of_volts suffix =
     if is_empty suffix || is_same suffix (codes "V") then Some 6
@@ -22,11 +22,11 @@ power_of_volts suffix =
     else if is_same suffix (codes "UV") then Some 0
     else None
 
--- the same of a number without a unit, which has no suffix
+-- the power of ten of a number that has no unit: 0; `None` if it has a suffix
 abbrev pub power_of_none : List ℕ → Option ℕ
 power_of_none suffix = if is_empty suffix then Some 0 else None
 
--- the error of data of a kind that the parameter can't have: -102 for data of no kind, else -104
+-- the error for data of a kind that the parameter can't have: -102 if the data are of no kind at all, else -104
 abbrev pub wrong_kind : Kind → Code
 wrong_kind = elim [ Other ↦ SyntaxError | _ ↦ DataTypeError ]
 
@@ -35,7 +35,7 @@ abbrev pub within_volts : Result ℤ Code → Result ℤ Code
 within_volts (Err code) = Err code
 within_volts (Ok value) = if is_within value then Ok value else Err DataOutOfRange
 
--- a voltage, in microvolts
+-- a voltage in microvolts, or the first error
 abbrev pub read_voltage : Kind → List ℕ → Result ℤ Code
 read_voltage Number text = within_volts (read_decimal power_of_volts InvalidSuffix text)
 read_voltage kind text = Err (wrong_kind kind)
@@ -46,7 +46,7 @@ within low high (Err code) = Err code
 within low high (Ok (negsuc n)) = Err DataOutOfRange
 within low high (Ok (pos n)) = if nat_le low n && nat_le n high then Ok n else Err DataOutOfRange
 
--- a whole number in this range
+-- a whole number in this range, or the first error
 abbrev pub read_whole : ℕ → ℕ → Kind → List ℕ → Result ℕ Code
 read_whole low high Number text = within low high (read_decimal power_of_none SuffixNotAllowed text)
 read_whole low high Base text = within low high (read_based text)
@@ -58,23 +58,23 @@ is_on (Err code) = Err code
 is_on (Ok (negsuc n)) = Ok true
 is_on (Ok (pos n)) = Ok (if n == 0 then false else true)
 
--- a boolean: a number, ON or OFF
+-- a boolean, from a number, ON or OFF; or the first error
 abbrev pub read_boolean : Kind → List ℕ → Result Bool Code
 read_boolean Number text = is_on (read_decimal power_of_none SuffixNotAllowed text)
 read_boolean Base text = is_on (read_based text)
 read_boolean Word text = read_switch text
 read_boolean kind text = Err (wrong_kind kind)
 
--- a source of triggers
+-- a trigger source, or the error
 abbrev pub read_source : Kind → List ℕ → Result Source Code
 read_source Word text = read_keyword text
 read_source kind text = Err (wrong_kind kind)
 
--- a channel list
+-- the channels of a channel list, or the first error
 abbrev pub read_channels : Kind → List ℕ → Result (List ℕ) Code
 read_channels Expression text = read_list text
 read_channels kind text = Err (wrong_kind kind)
 
--- What reads as a channel list is one: 1 to 128 channels.
+-- What `read_channels` returns is a valid channel list, of 1 to 128 channels.
 abbrev pub ReadIsChannelList : Type 0
 ReadIsChannelList = (kind : Kind) (text list : List ℕ) → read_channels kind text ≡ Ok list → is_channel_list list ≡ true

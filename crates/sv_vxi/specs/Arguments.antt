@@ -28,7 +28,7 @@ pub data Arguments : Type 0 where
   CreateIntrChan : (host_addr host_port prog_num prog_vers prog_family : ℕ) → Arguments
   DestroyIntrChan : Arguments
 
--- the number of the call with these arguments
+-- the number of the call that has these arguments
 abbrev pub procedure_of : Arguments → ℕ
 procedure_of (OnLink lid DeviceAbort) = 1
 procedure_of (CreateLink client_id lock_device lock_timeout device) = 10
@@ -55,7 +55,7 @@ core_calls = 10 ∷ 11 ∷ 12 ∷ 13 ∷ 14 ∷ 15 ∷ 16 ∷ 17 ∷ 18 ∷ 19 �
 abbrev pub abort_calls : List ℕ
 abort_calls = 1 ∷ []
 
--- whether a call is one of these
+-- whether the number of a call is one of these
 abbrev pub is_one_of : List ℕ → ℕ → Bool
 is_one_of calls proc = list_any (λ call. proc == call) calls
 
@@ -82,16 +82,16 @@ argument_fields (CreateIntrChan host_addr host_port prog_num prog_vers prog_fami
     Unsigned host_addr ∷ Unsigned host_port ∷ Unsigned prog_num ∷ Unsigned prog_vers ∷ Unsigned prog_family ∷ []
 argument_fields DestroyIntrChan = []
 
--- A handle has at most 40 bytes.
+-- If the arguments have a handle, it has at most 40 bytes.
 abbrev pub InBounds : Arguments → Type 0
 InBounds (OnLink lid (DeviceEnableSrq enable handle)) = length handle ≤ max_handle
 InBounds _ = Unit {0}
 
--- The bytes begin with a spelling of the arguments, and continue with these.
+-- The bytes begin with the encoded arguments, and `after` are the bytes that follow.
 abbrev pub BeginsWith : List ℕ → Arguments → List ℕ → Type 0
 BeginsWith bytes arguments after = InBounds arguments × BeginsAll bytes (argument_fields arguments) after
 
--- What the bytes are as arguments of a call. Bytes after the last field are ignored.
+-- What the bytes are as arguments of the call with this number: these arguments, or garbage. Bytes after the last field are ignored.
 abbrev pub ArgumentsAre : ℕ → List ℕ → Result Arguments Garbage → Type 0
 ArgumentsAre proc bytes (Ok arguments) = (procedure_of arguments ≡ proc) × (after : List ℕ) × BeginsWith bytes arguments after
 ArgumentsAre proc bytes (Err garbage) = (arguments : Arguments) (after : List ℕ) → procedure_of arguments ≡ proc
@@ -102,11 +102,11 @@ abbrev pub link : Arguments → Option ℤ
 link (OnLink lid call) = Some lid
 link _ = None
 
--- what flags and a timeout, in milliseconds, say of the lock: bit 0 is waitlock
+-- what flags and a timeout in milliseconds say about the lock: the call waits for it if bit 0, waitlock, is set
 abbrev pub lock_wait_of : ℕ → ℕ → Option LockWait
 lock_wait_of flags timeout = Some (record { waits = bit_at flags 0 == 1; timeout = timeout })
 
--- what a call does while another link holds the lock (section B.4.4); `None` if it is executed all the same
+-- what a call does while another link holds the lock (section B.4.4); `None` if the call is executed nevertheless
 abbrev pub lock_wait : LinkCall → Option LockWait
 lock_wait (DeviceWrite io_timeout lock_timeout flags bytes) = lock_wait_of flags lock_timeout
 lock_wait (DeviceRead request_size io_timeout lock_timeout flags term_char) = lock_wait_of flags lock_timeout

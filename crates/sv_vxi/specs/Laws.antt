@@ -1,23 +1,23 @@
--- Laws of the spelling of arguments and results.
+-- Laws of the encoding of arguments and results.
 use Rattle.std.specs.Prelude.{◌≡◌, ℕ, ◌<◌, List, ◌++◌, All, true}
 use Rattle.sv_xdr.specs.Spelling.{BeginsAll}
 use Rattle.sv_vxi.specs.Arguments.{Arguments, procedure_of, BeginsWith, ArgumentsAre, core_calls, abort_calls, is_one_of}
 use Rattle.sv_vxi.specs.Reading.{arguments_at}
 use Rattle.sv_vxi.specs.Results.{Outcome, result_fields, SameShape}
 
--- `arguments_at` of bytes, for a call of the core channel or device_abort, is what the bytes are as its arguments.
+-- For a call of the core channel or device_abort, `arguments_at` returns what the bytes are as its arguments.
 abbrev pub ArgumentsAsSpelled : Type 0
 ArgumentsAsSpelled = (proc : ℕ) (bytes : List ℕ) → All (λ byte. byte < 256) bytes → is_one_of (core_calls ++ abort_calls) proc ≡ true
     → ArgumentsAre proc bytes (arguments_at proc bytes)
 
--- If two lists of arguments of one call begin the same bytes, they are the same, and so is what follows. So none is a proper prefix of
--- another.
+-- If two lists of arguments of one call begin the same bytes, the arguments are equal, and so are the bytes after them. So no encoded
+-- arguments are a proper prefix of others.
 abbrev pub ArgumentsPrefixFree : Type 0
 ArgumentsPrefixFree = (x y : Arguments) (bytes after behind : List ℕ) → procedure_of x ≡ procedure_of y → BeginsWith bytes x after
     → BeginsWith bytes y behind
     → (x ≡ y) × (after ≡ behind)
 
--- The same of the fields of results of the same shape.
+-- If the fields of two results of the same shape begin the same bytes, the fields are equal, and so are the bytes after them.
 abbrev pub ResultsPrefixFree : Type 0
 ResultsPrefixFree = (x y : Outcome) (bytes after behind : List ℕ) → SameShape x y → BeginsAll bytes (result_fields x) after
     → BeginsAll bytes (result_fields y) behind

@@ -12,7 +12,7 @@ use Rattle.sv_vxi.specs.declared.arguments.LinkCall.TheVariants as calls
 use Rattle.sv_vxi.specs.Limits.{max_handle}
 use Rattle.sv_vxi.specs.Arguments.{LinkCall, DeviceAbort, DeviceWrite, DeviceRead, Generic, DeviceLock, DeviceUnlock, DeviceEnableSrq, DeviceDocmd, DestroyLink, Arguments, CreateLink, OnLink, CreateIntrChan, DestroyIntrChan}
 
--- the kind of a field; opaque data have at most so many bytes
+-- the kind of a field; opaque data have at most `most` bytes
 pub data Kind : Type 0 where
   signed unsigned boolean : Kind
   opaque : (most : ℕ) → Kind
@@ -21,7 +21,7 @@ pub data Kind : Type 0 where
 abbrev pub any : Kind
 any = opaque 4294967295
 
--- a function of the values of these fields
+-- a function from the values of fields of these kinds
 abbrev pub Makes : List Kind → Type 0 → Type 0
 Makes [] A = A
 Makes (signed ∷ kinds) A = ℤ → Makes kinds A
@@ -29,7 +29,7 @@ Makes (unsigned ∷ kinds) A = ℕ → Makes kinds A
 Makes (boolean ∷ kinds) A = Bool → Makes kinds A
 Makes (opaque most ∷ kinds) A = List ℕ → Makes kinds A
 
--- these fields, read in order; bytes after the last one are ignored
+-- a value made from fields of these kinds, which are read in order; bytes after the last field are ignored
 abbrev pub read : {A : Type 0} → (kinds : List Kind) → Makes kinds A → List ℕ → Result A Garbage
 read [] value bytes = Ok value
 read (signed ∷ kinds) makes bytes = signed_at bytes >>= λ x. read kinds (makes x.0) x.1
@@ -41,7 +41,7 @@ read (opaque most ∷ kinds) makes bytes = opaque_at most bytes >>= λ x. read k
 abbrev pub read_on_link : (kinds : List Kind) → Makes kinds LinkCall → List ℕ → Result Arguments Garbage
 read_on_link kinds makes bytes = signed_at bytes >>= λ x. result_map_both (OnLink x.0) (λ garbage. garbage) (read kinds makes x.1)
 
--- the arguments of the call of this number
+-- the arguments of the call with this number, read from bytes
 abbrev pub arguments_at : ℕ → List ℕ → Result Arguments Garbage
 arguments_at proc =
     if proc == 1 then read_on_link [] DeviceAbort
@@ -83,6 +83,6 @@ plain_arguments (args.CreateIntrChan host_addr host_port prog_num prog_vers prog
     CreateIntrChan host_addr host_port prog_num prog_vers prog_family
 plain_arguments args.DestroyIntrChan = DestroyIntrChan
 
--- what the code read, as plain data
+-- the result of reading arguments in the code, as plain data
 abbrev pub plain_reading : Result Args Garbage → Result Arguments Garbage
 plain_reading = result_map_both plain_arguments (λ garbage. garbage)

@@ -13,7 +13,7 @@ use Rattle.sv_words.specs.declared.words.Serve.{Serve}
 use Rattle.sv_words.specs.declared.words.Words.{Words}
 use Rattle.sv_words.specs.declared.words.Words.TheVariants.{Replay, Server}
 
--- The text has 1 to 10 decimal digits, which spell a number from 1 to this.
+-- The text is 1 to 10 decimal digits, and their value is a number from 1 to `most`.
 abbrev pub IsCount : ℕ → Text → ℕ → Type 0
 IsCount most digits n = IsNumeral 10 digits × (length digits ≤ 10) × (n ≡ digits_value 10 digits) × (1 ≤ n) × (n ≤ most)
 
@@ -21,13 +21,13 @@ IsCount most digits n = IsNumeral 10 digits × (length digits ≤ 10) × (n ≡ 
 abbrev pub option : Text → Rule
 option name = record (new_rule name) { long = Some name; action = Some Set; required = true }
 
--- the command `serve`, with five such options
+-- the command `serve`, with five required options of one value each
 abbrev pub serve_command : App
 serve_command =
     with_rule (with_rule (with_rule (with_rule (with_rule (new_app (codes "serve"))
     (option (codes "core"))) (option (codes "abort"))) (option (codes "portmap"))) (option (codes "scenario"))) (option (codes "sweeps"))
 
--- There is a value, of which this holds.
+-- There is a value, and `P` holds of it.
 abbrev pub IfGiven : Option Text → (Text → Type 0) → Type 0
 IfGiven (Some text) P = P text
 IfGiven None P = ⊥
@@ -51,14 +51,14 @@ AsksFor words Replay = words ≡ codes "replay" ∷ []
 AsksFor [] (Server serve) = ⊥
 AsksFor (word ∷ words) (Server serve) = (word ≡ codes "serve") × Serves (word ∷ words) serve
 
--- What reading the words returns.
+-- What reading the words returns: what they ask for; or `BadWords`, if they ask for nothing; or out of memory.
 abbrev pub ReadsWords : {A : Type 0} → (A → Type 0) → Result A ProgramFault → Type 0
 ReadsWords P (Ok asked) = P asked
 ReadsWords {A} P (Err BadWords) = (asked : A) → P asked → ⊥
 ReadsWords P (Err (Run fault)) = fault ≡ Memory
 ReadsWords P (Err Socket) = ⊥
 
--- If there is something of which this holds, it is found.
+-- What was found: something of which `P` holds; or `None`, if `P` holds of nothing.
 abbrev pub Finds : {A : Type 0} → (A → Type 0) → Option A → Type 0
 Finds P (Some found) = P found
 Finds {A} P None = (other : A) → P other → ⊥

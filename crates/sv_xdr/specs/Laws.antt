@@ -1,4 +1,4 @@
--- Laws of the spelling of fields.
+-- Laws of the encoding of fields.
 use Rattle.std.specs.Prelude.{◌≡◌, ℕ, List, ◌++◌}
 use Rattle.sv_xdr.specs.Spelling.{Field, Unsigned, Signed, Boolean, Opaque, Spells, spelling}
 
@@ -10,11 +10,12 @@ SameKind (Boolean b) (Boolean c) = Unit {0}
 SameKind (Opaque s) (Opaque t) = Unit {0}
 SameKind _ _ = ⊥
 
--- If two spellings of one kind begin the same bytes, they are the same, and so are their values. So none is a proper prefix of another.
+-- If the encodings of two fields of one kind begin the same bytes, the encodings are equal, and so are the fields. So no encoding is a
+-- proper prefix of another.
 abbrev pub PrefixFree : Type 0
 PrefixFree = (x y : Field) (a b after behind : List ℕ) → SameKind x y → Spells a x → Spells b y → a ++ after ≡ b ++ behind
     → (a ≡ b) × (x ≡ y)
 
--- A field has one spelling, that of the function.
+-- A field has at most one encoding: the one that the function `spelling` gives.
 abbrev pub OneSpelling : Type 0
 OneSpelling = (x : Field) (bytes : List ℕ) → Spells bytes x → bytes ≡ spelling x

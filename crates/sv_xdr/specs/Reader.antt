@@ -6,13 +6,13 @@ use Rattle.sv_xdr.specs.declared.fault.XdrFault.{XdrFault}
 use Rattle.sv_xdr.specs.declared.fault.XdrFault.TheVariants.{Short, BadPad, BadBool, TooLong}
 use Rattle.sv_xdr.specs.Spelling.{pad_len}
 
--- what is read, and then what is read after it, unless there was a fault
+-- a field that was read, and what is read after it; or the first fault
 infixl 10 ◌>>=◌
 abbrev pub ◌>>=◌ : {A B : Type 0} → Result A XdrFault → (A → Result B XdrFault) → Result B XdrFault
 (Ok x) >>= f = f x
 (Err fault) >>= f = Err fault
 
--- What a read returned and the place after it are what the function gives; a fault leaves the place.
+-- What a read of the code returned, and the bytes left after it, are what the function gives. A fault leaves all bytes.
 abbrev pub IsRead : {X Y : Type 0} → (X → Y) → Result X XdrFault → List ℕ → List ℕ → Result (Y × List ℕ) XdrFault → Type 0
 IsRead view (Ok x) old new read = read ≡ Ok (view x, new)
 IsRead view (Err fault) old new read = (read ≡ Err fault) × (new ≡ old)
@@ -21,13 +21,13 @@ IsRead view (Err fault) old new read = (read ≡ Err fault) × (new ≡ old)
 abbrev pub unsigned_at : List ℕ → Result (ℕ × List ℕ) XdrFault
 unsigned_at bytes = if nat_lt (length bytes) 4 then Err Short else Ok (from_be_bytes w32 (take 4 bytes), drop 4 bytes)
 
--- a signed integer, likewise
+-- a signed integer at the front of bytes, and the bytes after it
 unfoldable pub signed_at : List ℕ → Result (ℤ × List ℕ) XdrFault
 signed_at bytes = do
   n ← unsigned_at bytes
   Ok (cast_signed w32 n.0, n.1)
 
--- a boolean, likewise
+-- a boolean at the front of bytes, and the bytes after it
 unfoldable pub boolean_at : List ℕ → Result (Bool × List ℕ) XdrFault
 boolean_at bytes = do
   n ← unsigned_at bytes
@@ -42,7 +42,7 @@ padded_at n bytes =
       drop (n + pad_len n) bytes,
     ) else Err BadPad)
 
--- opaque data of at most `max` bytes, likewise
+-- opaque data of at most `max` bytes at the front of bytes, and the bytes after them and their padding
 unfoldable pub opaque_at : ℕ → List ℕ → Result (List ℕ × List ℕ) XdrFault
 opaque_at max bytes = do
   n ← unsigned_at bytes

@@ -20,7 +20,7 @@ pub record Appends (bytes : List ℕ) (old new : Writer) : Type 0 where
   pub rest : rest_of old ≡ take (length bytes) (rest_of old) ++ rest_of new
   pub fits : length bytes ≤ length (rest_of old)
 
--- A spelling of the field follows what was written before.
+-- The encoded field follows what was written before; the rest of the buffer is unchanged.
 abbrev pub AppendsField : Field → Writer → Writer → Type 0
 AppendsField field old new = (bytes : List ℕ) × Spells bytes field × Appends bytes old new
 
@@ -34,7 +34,7 @@ abbrev pub Writes : List ℕ → Result Unit XdrFault → Writer → Writer → 
 Writes bytes (Ok done) old new = Appends bytes old new
 Writes bytes (Err fault) old new = (fault ≡ NoRoom) × (length (rest_of old) < length bytes) × Stays old new
 
--- The pieces are written in order. If one doesn't fit, those before it stay written, and nothing else is.
+-- The pieces are written in order. If one doesn't fit, the pieces before it are written, and nothing else.
 abbrev pub WritesEach : List (List ℕ) → Result Unit XdrFault → Writer → Writer → Type 0
 WritesEach pieces (Ok done) old new = Appends (concat pieces) old new
 WritesEach pieces (Err fault) old new = (fault ≡ NoRoom) × (front behind : List (List ℕ)) × (piece : List ℕ)

@@ -7,20 +7,20 @@ use Rattle.sv_header.specs.Pattern.{Part, IsForm}
 use Rattle.sv_header.specs.Plain.{part, left_of}
 use Rattle.sv_header.specs.Inside.Tree.{command_of}
 
--- The first mnemonic is a node's, and these are the others.
+-- The first mnemonic is a form of the node, and `others` are the mnemonics after it.
 abbrev pub Takes : List (List ℕ) → Part → List (List ℕ) → Type 0
 Takes [] part others = ⊥
 Takes (first ∷ behind) part others = IsForm first part × (others ≡ behind)
 
--- None is left, and this is the command.
+-- No mnemonic is left, and the command that ends here is this one.
 abbrev pub Ends : List (List ℕ) → Option CommandId → CommandId → Type 0
 Ends left ending command = (left ≡ []) × (ending ≡ Some command)
 
--- What is left after a node leads to its own command, or to one below it.
+-- The mnemonics left after a node lead to its own command, or to a command below it.
 abbrev pub LeadsBelow : Bool → Branch → (List (List ℕ) → Type 0) → List (List ℕ) → CommandId → Type 0
 LeadsBelow query branch Below left command = Ends left (command_of query branch) command ⊎ Below left
 
--- A node is there, or absent where it may be, and what is left after it is so.
+-- A mnemonic of the node is there, or the node is optional and absent. `Behind` holds of the mnemonics left after it.
 abbrev pub Passes : Part → (List (List ℕ) → Type 0) → List (List ℕ) → Type 0
 Passes part Behind left = ((others : List (List ℕ)) × Takes left part others × Behind others) ⊎ ((part.optional ≡ true) × Behind left)
 
@@ -33,22 +33,22 @@ Leads (suc fuel) query (branch ∷ behind) left command =
     (λ others. LeadsBelow query branch (λ rest. Leads fuel query (take branch.below behind) rest command) others command) left
     ⊎ Leads fuel query (drop branch.below behind) left command
 
--- What the code found: a command that is so, or none, and then none is so.
+-- What the code found: a command for which `P` holds; or `None`, if `P` holds for no command.
 abbrev pub IsFound : Option CommandId → (CommandId → Type 0) → Type 0
 IsFound None P = (command : CommandId) → P command → ⊥
 IsFound (Some command) P = P command
 
--- Something is left, and it is so.
+-- Some mnemonics are left, and `P` holds of them.
 abbrev pub OnLeft : Option Mnemonics → (List (List ℕ) → Type 0) → Type 0
 OnLeft None P = ⊥
 OnLeft (Some left) P = P (left_of left)
 
--- What is left after the first mnemonic where that is a node's; else nothing is.
+-- The mnemonics left after the first one, if that is a form of the node; else `None`.
 abbrev pub IsBehind : List (List ℕ) → Part → Option Mnemonics → Type 0
 IsBehind left part None = (others : List (List ℕ)) → Takes left part others → ⊥
 IsBehind left part (Some others) = Takes left part (left_of others)
 
--- All that is left where a node may be absent; else nothing is.
+-- All mnemonics that are left, if the node is optional; else `None`.
 abbrev pub IsAllOf : List (List ℕ) → Part → Option Mnemonics → Type 0
 IsAllOf left part None = part.optional ≡ false
 IsAllOf left part (Some others) = (part.optional ≡ true) × (left_of others ≡ left)

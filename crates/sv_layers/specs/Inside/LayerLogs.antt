@@ -1,6 +1,6 @@
--- What each layer sees of the instrument's acts. An act begins in its own layer. Then it ends, in one register after the other: a register
--- is told its condition, which passes by the filters as they stand, and then the act does to it what it does to a register itself. So the
--- summary of a nested register is there before the register above it is told its condition.
+-- The log of each layer, from the instrument's acts. An act begins in its own layer. Then it ends, in one register after the other: first
+-- the register gets its condition, whose changes pass the filters as they are; then the act changes the register itself. So the summary of
+-- a nested register is there before the register above it gets its condition.
 use Rattle.std.specs.Prelude.{◌≡◌, ℕ, Bool, true, false, not, ◌&&◌, List, [], ◌∷◌, if◌then◌else◌}
 use Rattle.sv_errors.specs.Code.{standard_event_of}
 use Rattle.sv_errors.specs.ErrorQueue.{is_full}
@@ -36,7 +36,7 @@ abbrev pub resets : ScanAct → Bool
 resets scan.Reset = true
 resets _ = false
 
--- the standard events of a report: that of its class, and bit 3 of an overflow
+-- the standard events after a report: that of the error's class, and bit 3 if the queue overflows
 abbrev pub report_bits : Code → Bool → List StandardAct → List StandardAct
 report_bits code overflow acts = standard.Occur (bit 3 overflow) ∷ standard.Occur (standard_event_of code) ∷ acts
 
@@ -55,18 +55,18 @@ after_begin OpcAsked at = record at { waits = true }
 after_begin (ServiceEnabled mask) at = record at { service = mask }
 after_begin _ at = at
 
--- no measurement is under way
+-- whether no measurement is under way
 abbrev pub idles : LayerLogs → Bool
 idles at = is_idle (state (effective at.scanner))
 
--- An `*OPC` completes where no measurement is under way.
+-- A pending `*OPC` completes if no measurement is under way.
 abbrev pub after_complete : LayerLogs → LayerLogs
 after_complete at = record at {
   standard = standard.Occur (bit 0 (at.waits && idles at)) ∷ at.standard;
   waits = at.waits && not (idles at);
 }
 
--- an act of a register after others, if it is the one that is named
+-- the acts of a register, with one more if the register is the one that is named
 abbrev pub where_same : RegisterName → RegisterName → RegisterAct → List RegisterAct → List RegisterAct
 where_same name other act acts = if is_same name other then act ∷ acts else acts
 
@@ -87,12 +87,12 @@ own_standard StandardRead acts = standard.Read ∷ acts
 own_standard (StandardEnabled mask) acts = standard.SetEnable mask ∷ acts
 own_standard _ acts = acts
 
--- An act does to the registers themselves what another one does.
+-- Both acts do the same to the registers themselves and to the standard events themselves.
 abbrev pub EndsAs : Act → Act → Type 0
 EndsAs other act = ((name : RegisterName) (acts : List RegisterAct) → own name other acts ≡ own name act acts)
     × ((acts : List StandardAct) → own_standard other acts ≡ own_standard act acts)
 
--- an act ends after those before it: each register is told its condition, and ends the act itself
+-- the logs after an act ends: each register gets its condition, and then what the act does to the register itself
 abbrev pub after_end : Act → List Act → LayerLogs → LayerLogs
 after_end act log at = record (after_complete at) {
   registers = λ name. own name act (register.Condition (condition name (act ∷ log)) ∷ at.registers name);
@@ -102,7 +102,7 @@ after_end act log at = record (after_complete at) {
 abbrev pub register_acts : RegisterName → LayerLogs → List RegisterAct
 register_acts name at = at.registers name
 
--- what all layers see of the acts
+-- the logs of all layers, from the acts of the instrument
 abbrev pub layer_logs : List Act → LayerLogs
 layer_logs [] = record {
   exchange = [];

@@ -1,4 +1,4 @@
--- What the layers keep, and that it stands for a log.
+-- What the layers keep, and when it stands for a log.
 use Rattle.std.specs.Prelude.{◌≡◌, ◌↔◌, ℕ, ◌+◌, min, Bool, true, List, [], ◌∷◌, length}
 use Rattle.sv_errors.specs.declared.code.Code.{Code}
 use Rattle.sv_errors.specs.ErrorQueue.{entries, StandsFor as Queues}
@@ -42,7 +42,7 @@ pub record LayerState : Type 0 where
   pub waits : Bool
   pub requests : ℕ
 
--- a word has the summary bits of what the layers see
+-- The word has the summary bits that these logs of the layers determine.
 pub record IsSummary (word : ℕ) (at : LayerLogs) : Type 0 where
   pub operates : Bool
   pub happened : Bool
@@ -53,22 +53,22 @@ pub record IsSummary (word : ℕ) (at : LayerLogs) : Type 0 where
   pub word_is : word ≡ bit 7 operates + bit 5 happened + bit 4 (is_something (response at.exchange)) + bit 3 questioned
       + bit 2 (is_something (entries at.errors))
 
--- a poll comes before the status byte is told
+-- the acts of the status byte, with a poll if this act is one; the summary bits are updated after that
 abbrev pub own_status : Act → List StatusAct → List StatusAct
 own_status Polled acts = Poll ∷ acts
 own_status _ acts = acts
 
--- The status byte sees these acts: after each act it is told the summary bits and the enable.
+-- These are the acts of the status byte: after each act of the instrument it gets the summary bits and the enable.
 abbrev pub IsStatus : List Act → List StatusAct → Type 0
 IsStatus [] acts = acts ≡ []
 IsStatus (act ∷ log) acts = (word : ℕ) × (before : List StatusAct) × IsSummary word (layer_logs (act ∷ log)) × IsStatus log before
     × (acts ≡ Update word (layer_logs (act ∷ log)).service ∷ own_status act before)
 
--- A request is raised at the newest act, as the status byte sees it.
+-- By the acts of the status byte, a request is raised at the newest act.
 abbrev pub RaisedAt : List Act → Type 0
 RaisedAt log = (acts : List StatusAct) × IsStatus log acts × IsRaisedAsTold acts
 
--- What is kept stands for what the layers saw, and for what the status byte was told.
+-- What the layers keep stands for the logs of the layers and for the acts of the status byte.
 pub record Represents (layered : LayerState) (at : LayerLogs) (status_log : List StatusAct) : Type 0 where
   pub exchange : Exchanges layered.exchange at.exchange
   pub errors : Queues layered.errors at.errors
@@ -79,28 +79,29 @@ pub record Represents (layered : LayerState) (at : LayerLogs) (status_log : List
   pub service : layered.service ≡ at.service
   pub waits : layered.waits ≡ at.waits
 
--- What is kept stands for the log.
+-- What the layers keep stands for the log.
 pub record StandsFor (layered : LayerState) (log : List Act) : Type 0 where
   pub status_log : List StatusAct
   pub are : IsStatus log status_log
   pub joined : Represents layered (layer_logs log) status_log
 
--- The newest act has happened to its own layer, and to nothing else yet.
+-- The act that follows the log has changed its own layer, and if it is a poll, the status byte; but nothing else yet.
 pub record Begun (layered : LayerState) (act : Act) (log : List Act) : Type 0 where
   pub status_log : List StatusAct
   pub are : IsStatus log status_log
   pub joined : Represents layered (after_begin act (layer_logs log)) (own_status act status_log)
 
--- What is kept stands for the log, and each request that was counted is read.
+-- What the layers keep stands for the log, and no counted request is left to be read.
 pub record AllRead (layered : LayerState) (log : List Act) : Type 0 where
   pub stands : StandsFor layered log
   pub none : layered.requests ≡ 0
 
--- where the count of requests stays
+-- the highest count of requests; it doesn't rise above that
 abbrev pub max_count : ℕ
 max_count = 255
 
--- What is kept stands for the log, and where a request was raised at its newest act, that is counted beside those before.
+-- What the layers keep stands for the log. If a request was raised at its newest act, it is counted besides the `before` earlier ones, up
+-- to the highest count.
 pub record IsApplied (before : ℕ) (layered : LayerState) (log : List Act) : Type 0 where
   pub stands : StandsFor layered log
   pub raised : Bool

@@ -1,4 +1,4 @@
--- A unit that ends here.
+-- What is wrong with a unit that ends here, and where its parts are.
 use Rattle.std.specs.Prelude.{◌≡◌, ℕ, ◌+◌, max, List, length, Option, Some, None, nat_le, if◌then◌else◌}
 use Rattle.sv_errors.specs.declared.code.Code.{Code}
 use Rattle.sv_errors.specs.declared.code.Code.TheVariants.{InvalidCharacter, SyntaxError, ProgramMnemonicTooLong}
@@ -7,7 +7,8 @@ use Rattle.sv_lexer.specs.declared.stage.Stage.{Stage}
 use Rattle.sv_lexer.specs.declared.stage.Stage.TheVariants.{CommonMnemonic, Mnemonic, QuerySign, HeaderSeparator, ProgramData, DataSpace, Illegal}
 use Rattle.sv_lexer.specs.Partial.{Progress}
 
--- what is wrong with it if it ends here
+-- the error of a unit that ends here: a mnemonic of more than 12 characters, an illegal byte, or a header that isn't complete or is
+-- misspelled; `None` if there is none
 abbrev pub length_fault_of : Progress → Option Code
 length_fault_of p = if nat_le (max p.longest p.mnemonic) 12 then None else Some ProgramMnemonicTooLong
 
@@ -21,7 +22,7 @@ fault_of DataSpace p = length_fault_of p
 fault_of Illegal p = Some InvalidCharacter
 fault_of _ p = Some SyntaxError
 
--- where its program data begin or end then: after the header, if there are none
+-- where the program data of a unit that ends at this stage begin or end; if it has none, the place after its header
 abbrev pub data_of : Stage → (behind_header in_data : ℕ) → ℕ
 data_of ProgramData behind_header in_data = in_data
 data_of DataSpace behind_header in_data = in_data

@@ -1,14 +1,14 @@
--- One byte more of a unit.
+-- How one more byte changes what is known of a unit.
 use Rattle.std.specs.Prelude.{ℕ, ◌+◌, ◌-◌, ◌^◌, min, max}
 use Rattle.sv_lexer.specs.declared.stage.Stage.{Stage}
 use Rattle.sv_lexer.specs.declared.stage.Stage.TheVariants.{WhiteSpace, Asterisk, Colon, CommonMnemonic, Mnemonic, QuerySign, HeaderSeparator, ProgramData}
 use Rattle.sv_lexer.specs.Partial.{Progress}
 
--- one more, in 64 bits
+-- one more, but at most 2 ^ 64 - 1
 abbrev pub one_more : ℕ → ℕ
 one_more n = min (n + 1) (2 ^ 64 - 1)
 
--- each of these where the unit ends in this and has so many bytes, if it was that before
+-- for each field of `Progress` that changes: its new value, from the stage at which the unit now ends, the new size, and the old value
 abbrev pub header_start_in : Stage → ℕ → ℕ → ℕ
 header_start_in WhiteSpace size before = size
 header_start_in _ size before = before
@@ -39,7 +39,7 @@ abbrev pub data_end_in : Stage → ℕ → ℕ → ℕ
 data_end_in ProgramData size before = size
 data_end_in _ size before = before
 
--- the unit ends in this, with one byte more
+-- the progress after one more byte, with which the unit ends at this stage
 abbrev pub progress_to : Stage → Progress → Progress
 progress_to stage p = record {
   stage = stage;

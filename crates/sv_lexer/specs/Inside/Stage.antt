@@ -1,4 +1,4 @@
--- What a unit ends in, and what it ends in with one byte more (IEEE 488.2, 7.3 and 7.6).
+-- The stage at which a unit ends, and the stage after one more byte (IEEE 488.2, 7.3 and 7.6).
 use Rattle.std.specs.Prelude.{ℕ, ◌==◌, if◌then◌else◌}
 use Rattle.std.specs.Char.{is_ascii_graphic, is_ascii_alphabetic as is_letter}
 use Rattle.sv_text.specs.White.{is_white}
@@ -6,7 +6,7 @@ use Rattle.sv_lexer.specs.Spelled.{is_word_byte}
 use Rattle.sv_lexer.specs.declared.stage.Stage.{Stage}
 use Rattle.sv_lexer.specs.declared.stage.Stage.TheVariants.{WhiteSpace, Asterisk, Colon, CommonMnemonic, Mnemonic, QuerySign, HeaderSeparator, ProgramData, DataSpace, Misspelled, Illegal}
 
--- white space more
+-- the stage after one more byte of white space
 abbrev pub behind_space : Stage → Stage
 behind_space WhiteSpace = WhiteSpace
 behind_space Asterisk = Misspelled
@@ -20,11 +20,11 @@ behind_space DataSpace = DataSpace
 behind_space Misspelled = Misspelled
 behind_space Illegal = Illegal
 
--- a letter begins a mnemonic
+-- the stage after a byte that has to be the letter which begins a mnemonic
 abbrev pub letter_stage : Stage → ℕ → Stage
 letter_stage mnemonic b = if is_letter b then mnemonic else Misspelled
 
--- a graphic character more
+-- the stage after one more graphic character
 abbrev pub behind_graphic : Stage → ℕ → Stage
 behind_graphic WhiteSpace b = if b == 42 then Asterisk else if b == 58 then Colon else letter_stage Mnemonic b
 behind_graphic Asterisk b = letter_stage CommonMnemonic b
@@ -38,6 +38,6 @@ behind_graphic DataSpace b = ProgramData
 behind_graphic Misspelled b = Misspelled
 behind_graphic Illegal b = Illegal
 
--- a byte more
+-- the stage after one more byte
 abbrev pub next : Stage → ℕ → Stage
 next stage b = if is_white b then behind_space stage else if is_ascii_graphic b then behind_graphic stage b else Illegal

@@ -4,12 +4,13 @@ use Rattle.sv_serve.specs.Heard.{Heard}
 use Rattle.sv_serve.specs.DriverView.{DriverState}
 use Rattle.sv_net.specs.Serving.{Doing, Waited, time_of, swept_at, ticks_between, handed_in, is_fresh, is_told, Serves, Waits}
 
--- whether the last thing was a wait in which nothing was reported, so all is told
+-- whether the last thing was a wait in which nothing was reported, and all earlier reports were passed on
 abbrev pub is_quiet : {W : Type 0} → List (Doing W) → Bool
 is_quiet (Waited limit false ended ∷ doings) = is_told doings
 is_quiet _ = false
 
--- So many sweeps were made, and waits, as the machine answered: the last sweep began at `swept`, it is `time`, and this is so.
+-- A loop made `many` sweeps, and waits as the machine answered. The last sweep began at `swept`, the time is `time`, and `is_so` holds of
+-- what was done.
 pub record Running {W M : Type 0} (hears : W → Heard → W → Type 0) (answers : M → Doing W → M → Type 0) (is_so : List (Doing W) → Bool)
     (many swept time : ℕ) (old new : DriverState W) (first now : M) : Type 0 where
   pub doings : List (Doing W)
@@ -20,20 +21,21 @@ pub record Running {W M : Type 0} (hears : W → Heard → W → Type 0) (answer
   pub serves : Serves hears doings old new
   pub waits : Waits answers doings first now
 
--- A sweep is made, with so many milliseconds.
+-- One more sweep is made, with `ticks` milliseconds.
 pub record Rounds {W M : Type 0} (hears : W → Heard → W → Type 0) (answers : M → Doing W → M → Type 0) (ticks : ℕ) (old new : DriverState W)
     (first now : M) : Type 0 where
   pub goes : (many swept time : ℕ) (start : DriverState W) (machine : M) → ticks ≡ ticks_between swept time
       → Running hears answers is_fresh many swept time start old machine first
       → Running hears answers is_told (many + 1) time time start new machine now
 
--- After a sweep waits follow alone: it was `began`, and this was so; and it is `time`, and that is so.
+-- After a sweep only waits follow. Before them the time was `began`, and `was` held of what was done. After them the time is `time`, and
+-- `is_so` holds of it.
 pub record Pauses {W M : Type 0} (hears : W → Heard → W → Type 0) (answers : M → Doing W → M → Type 0) (driver : DriverState W)
     (was is_so : List (Doing W) → Bool) (swept began time : ℕ) (old now : M) : Type 0 where
   pub goes : (many : ℕ) (start : DriverState W) (first : M) → Running hears answers was many swept began start driver first old
       → Running hears answers is_so many swept time start driver first now
 
--- It ran so many sweeps, at some times.
+-- A loop ran `many` sweeps, at some times.
 abbrev pub Ran : {W M : Type 0} → (W → Heard → W → Type 0) → (M → Doing W → M → Type 0) → ℕ → DriverState W → DriverState W → M → M → Type 0
 Ran hears answers many old new first now =
     (swept : ℕ) × (time : ℕ) × Running hears answers is_fresh many swept time old new first now

@@ -1,4 +1,4 @@
--- What contracts of private functions alone speak of. Nothing here has to be believed.
+-- Only the contracts of private functions use these definitions. Nothing in them has to be taken on trust.
 pub mod NextCall
 pub mod Requests
 pub mod Replies

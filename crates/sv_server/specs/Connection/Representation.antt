@@ -1,12 +1,12 @@
--- What the server keeps of a connection, and which acts that stands for.
+-- What the server keeps of a connection, and when it stands for the acts of the connection.
 use Rattle.std.specs.Prelude.{◌≡◌, ℕ, ◌≤◌, Bool, true, List, length, Option, slice_get, is_some}
 use Rattle.sv_rpc.specs.RecordBuf.{Records, StandsFor}
 use Rattle.sv_history.specs.declared.event.Role.{Role}
 use Rattle.sv_history.specs.Act.{ConnAct}
 use Rattle.sv_history.specs.Connection.{bytes_left, records_ended, bytes_taken, open_role, bytes_sent, stream, took_no_call, is_busy, pending_call}
 
--- what is kept: its role; the records that came and aren't done; the bytes that wait to be sent; whether a record was taken that is no
--- call; whether its first record is a call that was taken
+-- what is kept of a connection: its role; the records that came and aren't done; the bytes that wait to be sent; whether a record was taken
+-- that isn't a call; whether the first record is a call that was taken
 pub record Connection : Type 0 where
   pub role : Option Role
   pub input : Records
@@ -14,7 +14,7 @@ pub record Connection : Type 0 where
   pub faulted : Bool
   pub busy : Bool
 
--- The connection keeps what its acts say.
+-- What is kept of the connection is what its acts determine.
 pub record IsConnection (kept : Connection) (acts : List ConnAct) : Type 0 where
   pub role : kept.role ≡ open_role acts
   pub input : StandsFor kept.input (stream acts) (records_ended acts)

@@ -1,4 +1,4 @@
--- What the server keeps of the device, and which acts that stands for.
+-- What the server keeps of the device, and when it stands for the acts of the device.
 use Rattle.std.specs.Prelude.{◌≡◌, ℕ, ◌+◌, ◌<◌, ◌≤◌, true, List, [], ◌++◌, length, Some}
 use Rattle.std.specs.List.{AllByRecursion}
 use Rattle.sv_links.specs.declared.waiting.Entry.{Entry}
@@ -26,34 +26,34 @@ pub record Device : Type 0 where
   pub config : Config
   pub clock : ℕ
 
--- There are places, and memory, for the links of all suspended create_links.
+-- There are places, and there is memory, for the links of all suspended create_links.
 abbrev pub IsReserved : Device → List DeviceAct → Type 0
 IsReserved kept acts = (length (live (link_acts acts)) + creations kept.waiting ≤ max_links) × (creations kept.waiting ≤ kept.links.spare)
 
--- There is a place, and memory, for one more.
+-- There is a place, and memory, for one more link, besides those of all suspended create_links.
 abbrev pub HasPlace : Device → List DeviceAct → Type 0
 HasPlace kept acts = (length (live (link_acts acts)) + creations kept.waiting < max_links) × (creations kept.waiting < kept.links.spare)
 
--- Each link that has service requests enabled lives, on its connection.
+-- Each link with service requests enabled exists, and its connection is the one that is kept with it.
 abbrev pub AreOwned : List Enabled → List LinkAct → Type 0
 AreOwned links acts = AllByRecursion (λ link. owner link.lid acts ≡ Some link.conn) links
 
--- The interrupt channels keep what they were told.
+-- The interrupt channels keep what their log says, and each link with service requests enabled belongs to its connection.
 abbrev pub AreTold : Channels → List DeviceAct → Type 0
 AreTold kept acts = (channel_log : List ChannelAct) × HearsOf acts channel_log × AreChannels kept channel_log
     × AreOwned kept.enabled (link_acts acts)
 
--- The channel of each suspended create_intr_chan can be opened.
+-- Each connection whose create_intr_chan is suspended has a prepared channel, which can be opened.
 abbrev pub AreReady : Channels → List WaitAct → Type 0
 AreReady kept acts = (c : ℕ) → is_dialing c acts ≡ true → IsReady kept c
 
--- The device keeps what its acts say, under a configuration; the instrument has done these acts besides, which may have raised requests
--- that interrupt channels weren't told yet.
+-- The device keeps what its acts determine, under a configuration. Besides, the instrument has done the acts `adds`, which may have raised
+-- service requests that weren't passed to the interrupt channels yet.
 abbrev pub HasDone : List InstrumentAct → Device → Config → List DeviceAct → Type 0
 HasDone adds kept config acts = IsTable kept.links (link_acts acts) × StandsFor kept.instrument (adds ++ instrument_acts acts)
     × (kept.config ≡ config) × (kept.clock ≡ config.clock + ticks acts) × IsQueue kept.waiting (wait_acts acts) × IsReserved kept acts
     × AreTold kept.intr acts × AreReady kept.intr (wait_acts acts)
 
--- The device keeps what its acts say.
+-- The device keeps what its acts determine.
 abbrev pub IsDevice : Device → Config → List DeviceAct → Type 0
 IsDevice kept config acts = HasDone [] kept config acts

@@ -1,3 +1,3 @@
--- What contracts of private functions alone speak of. Nothing here has to be believed.
+-- Only the contracts of private functions use these definitions. Nothing in them has to be taken on trust.
 pub mod Ending
 pub mod Acting

@@ -1,4 +1,4 @@
--- What a call is answered, as the code says it.
+-- The reply to a call, by the types of the code.
 use Rattle.std.specs.Prelude.{ℕ, ◌≤◌, List, [], ◌∷◌, ◌++◌, length, map, ⊤}
 use Rattle.std.specs.List.{concat}
 use Rattle.sv_xdr.specs.Spelling.{Unsigned, Field, spelling}
@@ -11,7 +11,7 @@ use Rattle.sv_history.specs.Reply.{reply_record}
 use Rattle.sv_server.specs.declared.connection.reply.Answer.{Answer}
 use Rattle.sv_server.specs.declared.connection.reply.Answer.TheVariants as answers
 
--- the reply of an answer, and the fields after it
+-- for an answer: its reply, the fields after the reply's header, its bytes, and its bytes as a record
 abbrev pub reply_of : Answer → Reply
 reply_of (answers.Header reply) = reply
 reply_of (answers.Port port) = Success
@@ -28,12 +28,12 @@ answer_text xid answer = concat (map spelling (reply_fields xid (reply_of answer
 abbrev pub answer_bytes : ℕ → Answer → List ℕ
 answer_bytes xid answer = reply_record xid (reply_of answer) (fields_of answer)
 
--- an answer with at most so many bytes of data
+-- The answer has at most `most` bytes of data.
 abbrev pub HasAtMost : ℕ → Answer → Type 0
 HasAtMost most (answers.Header reply) = ⊤
 HasAtMost most (answers.Port port) = ⊤
 HasAtMost most (answers.Result outcome) = length (data_of (plain_result outcome)) ≤ most
 
--- an answer whose data have room in a reply
+-- The data of the answer have room in a reply.
 abbrev pub IsShort : Answer → Type 0
 IsShort answer = HasAtMost max_read answer

@@ -1,4 +1,4 @@
--- What a record asks for, as the code says it.
+-- What a record asks for, by the types of the code.
 use Rattle.std.specs.Prelude.{ℕ}
 use Rattle.sv_vxi.specs.Reading.{plain_arguments}
 use Rattle.sv_history.specs.CoreCall.{CoreCall}
@@ -18,7 +18,7 @@ plain_request (requests.Core call) = CoreRequest (plain_core_call call)
 plain_request (requests.Abort xid lid) = AbortRequest xid lid
 plain_request (requests.Port xid args) = PortRequest xid args.now
 
--- its transaction
+-- the xid of a request; 0 if the record isn't a call
 abbrev pub xid_of : Request → ℕ
 xid_of NoCall = 0
 xid_of (Decided xid reply) = xid

@@ -1,4 +1,4 @@
--- What becomes of a call that begins, or of one that was suspended, as the code says it.
+-- The outcome of a call that begins, or of one that was suspended, by the types of the code.
 use Rattle.std.specs.Prelude.{◌≡◌, ◌⊎◌, ℕ, ◌+◌, ◌<◌, ◌≤◌, List, [], ◌∷◌, ◌++◌, map, Bool, true, false, Option, Some, None, Result, IfOk, OnErr, ⊤}
 use Rattle.sv_vxi.specs.Arguments.{Arguments, CreateLink, is_create_link}
 use Rattle.sv_vxi.specs.Results.{Outcome as VxiOutcome, plain_result, data_of}
@@ -32,23 +32,24 @@ abbrev pub plain_stop : StoppedBy → Stop
 plain_stop (stops.Fails error) = Fails error
 plain_stop (stops.Awaits wait timeout) = Awaits wait timeout
 
--- ---- what comes of a call
+-- ---- the outcome of a call
 
--- The device keeps what its acts say, and a poll would give this.
+-- The device keeps what its acts determine, and a poll after these acts would return `polled`.
 abbrev pub IsDeviceAt : Device → Config → ℕ → List DeviceAct → Type 0
 IsDeviceAt kept config polled acts = IsDevice kept config acts × IsPolled polled acts
 
--- A result has no data, but for what is to be read of the response.
+-- The outcome has no data of its own. Only reading the response gives data.
 abbrev pub IsBrief : Outcome → Type 0
 IsBrief (outcomes.Result given) = data_of (plain_result given) ≡ []
 IsBrief _ = ⊤
 
--- A call has this result.
+-- A call has a result, and it is this one.
 abbrev pub IsResult : Option VxiOutcome → VxiOutcome → Type 0
 IsResult (Some encoded) result = encoded ≡ result
 IsResult None result = ⊥
 
--- A call comes to this. What it reads of the response is still to be read.
+-- The outcome in the code is this outcome of a call, and the device has the acts that it adds. If the call reads the response, this is
+-- still to be read.
 abbrev pub OutcomeIs : Outcome → Device → Config → List DeviceAct → CallOutcome → Type 0
 OutcomeIs (outcomes.Result given) device config acts what = IsResult what.result (plain_result given)
     × IsDevice device config (what.adds ++ acts)
@@ -56,7 +57,7 @@ OutcomeIs (outcomes.Reads most term) device config acts what = (what ≡ reads (
     × IsDevice device config acts
 OutcomeIs outcomes.Suspended device config acts what = (what.result ≡ None) × IsDevice device config (what.adds ++ acts)
 
--- Where a call makes a link, there is a place for it, and the lock is free where it asks for it.
+-- If the call is create_link, there is a place for its link; and if it asks for the lock, the lock is free.
 abbrev pub IsGranted : Arguments → Device → List DeviceAct → Type 0
 IsGranted (CreateLink client_id lock_device lock_timeout device) kept acts =
     HasPlace kept acts × (lock_device ≡ true → is_locked_out (holder (link_acts acts)) None ≡ false)
@@ -64,16 +65,16 @@ IsGranted _ kept acts = ⊤
 
 -- ---- a call that begins
 
--- A call that waits follows all that wait, and waits for the lock where it makes a link.
+-- The call is suspended, in the queue behind all others. If it is create_link, it waits for the lock.
 abbrev pub IsBehind : ℕ → Bool → List Entry → List Entry → Type 0
 IsBehind c makes old new =
     (entry : Entry) × (entry.conn ≡ c) × (new ≡ without c old ++ entry ∷ []) × (makes ≡ true → creates entry ≡ true)
 
--- The queue is as it was; or, if this is so, the call follows all that wait.
+-- The queue is unchanged; or `IsSuspended` holds, and the call is in the queue behind all others.
 abbrev pub MayWait : Type 0 → ℕ → Bool → List Entry → List Entry → Type 0
 MayWait IsSuspended c makes old new = (new ≡ old) ⊎ (IsSuspended × IsBehind c makes old new)
 
--- A call or a record has this outcome, which is as brief as this; or out of memory, and nothing changed.
+-- The result is an outcome for which `IsSo` and `IsShort` hold. Or it is out of memory: `Wants` holds, and nothing changed.
 pub record Does {O : Type 0} (IsSo : Config → ℕ → List DeviceAct → O → Type 0) (Wants : Config → ℕ → List DeviceAct → Type 0)
     (IsShort : O → Type 0) {E : Type 0} (result : Result O E) (old new : Device) : Type 0 where
   pub does : (config : Config) (polled : ℕ) (acts : List DeviceAct) → IsDeviceAt old config polled acts
@@ -83,7 +84,7 @@ pub record Does {O : Type 0} (IsSo : Config → ℕ → List DeviceAct → O →
   pub brief : IfOk result (λ outcome. IsShort outcome)
   pub err : OnErr result (new ≡ old)
 
--- The call begins, where at these acts it is stopped so.
+-- The call begins, after acts for which `IsAt` holds: any acts (`Admits`), or those after which `stop` is what stops the call (`AdmitsAt`).
 abbrev pub Begins : (List DeviceAct → Type 0) → {E : Type 0} → Result Outcome E → ℕ → Arguments → Device → Device → Type 0
 Begins IsAt result c arguments old new =
     Does (λ config polled acts outcome. IsAt acts
@@ -100,35 +101,37 @@ AdmitsAt stop result c arguments old new = Begins (λ acts. stop_of c arguments 
 
 -- ---- a call that was suspended
 
--- Where a call that waits makes a link, its place is there, and the lock is free.
+-- If a suspended call is create_link, a place is reserved for its link, and the lock is free.
 abbrev pub MayMake : Arguments → ℕ → Device → List DeviceAct → Type 0
 MayMake (CreateLink client_id lock_device lock_timeout device) c kept acts =
     (creations (without c kept.waiting) < creations kept.waiting) × (is_locked_out (holder (link_acts acts)) None ≡ false)
 MayMake _ c kept acts = ⊤
 
--- It is suspended anew for this; or it is executed, and not suspended any more.
+-- The resumed call is suspended again, for `wait`. Or, if it waits for nothing more, it leaves the queue and is executed.
 abbrev pub ResumedAs : Option (Wait × ℕ) → Outcome → Device → Config → ℕ → ℕ → Arguments → List DeviceAct → Type 0
 ResumedAs (Some wait) outcome device config polled c arguments acts =
     OutcomeIs outcome device config acts (resume_outcome config polled c arguments (Some wait) acts)
 ResumedAs None outcome device config polled c arguments acts =
     OutcomeIs outcome device config (Waited (Left c) ∷ acts) (own_call config polled c arguments (Waited (Left c) ∷ acts))
 
--- The call waits no more; or, if this is so, it waits anew in its place, and makes no link.
+-- The call leaves the queue; or `IsSuspended` holds, and the call waits again at its place in the queue, and makes no link.
 abbrev pub MayWaitAnew : Type 0 → ℕ → Bool → List Entry → List Entry → Type 0
 MayWaitAnew IsSuspended c makes old new = (new ≡ without c old)
     ⊎ (IsSuspended × (wait : Wait) × (deadline : Option ℕ) × (new ≡ map (anew c wait deadline) old) × (makes ≡ false))
 
--- It is taken up again for this: what it waits for is there, its peer was called, or it fails.
+-- whether a suspended call resumes because what it waits for is there; otherwise its peer was called, or it fails
 abbrev pub is_able : Cause → Bool
 is_able (causes.Able wait) = true
 is_able _ = false
 
--- One that can go on comes nearer to its end.
+-- If a suspended call resumes because what it waits for is there, its measure and that of the other calls are at most the measure of the
+-- queue.
 abbrev pub IsNearer : Cause → ℕ → List Entry → Type 0
 IsNearer (causes.Able wait) c old = queue_measure (without c old) + wait_measure wait ≤ queue_measure old
 IsNearer _ c old = ⊤
 
--- It may be taken up for this, if a link that it makes has its place.
+-- A call may resume for this cause. If what it waits for is there, it is suspended, and `HasPlaceOfLink` holds. If its peer was called, it
+-- waits for that. If it fails, nothing is needed.
 abbrev pub MayResume : Cause → ℕ → Type 0 → List DeviceAct → Type 0
 MayResume (causes.Able wait) c HasPlaceOfLink acts = (waits c (wait_acts acts) ≡ None → ⊥) × HasPlaceOfLink
 MayResume (causes.Dialed ok) c HasPlaceOfLink acts = is_dialing c (wait_acts acts) ≡ true
@@ -144,7 +147,7 @@ GoesOnAs (causes.Failed error) outcome device config polled c arguments acts =
 
 -- ---- a step of the instrument
 
--- A step of this kind is taken, or there is none and nothing changes.
+-- A step for which `IsSuch` holds is taken; or, if the flag is false, there is no such step, and nothing changes.
 abbrev pub InstrumentSteps : (List InstrumentAct → List InstrumentAct → Type 0) → Bool → Config → List DeviceAct → Device → Device → Type 0
 InstrumentSteps IsSuch true config acts old new = (adds : List InstrumentAct)
     × IsSuch (instrument_acts acts) (adds ++ instrument_acts acts) × IsDevice new config (map Applied adds ++ acts)

@@ -1,9 +1,9 @@
--- A call that waits, as it is kept.
+-- A suspended call, as the queue keeps it.
 use Rattle.std.specs.Prelude.{◌≡◌, ◌+◌, ◌<◌, ◌≤◌, List, Some}
 use Rattle.sv_links.specs.declared.waiting.Entry.{Entry}
 use Rattle.sv_links.specs.Queue.{entry_of, without, wait_measure, queue_measure}
 
--- The call is one of those that wait, of a connection that there may be.
+-- The call is in the queue, for a connection below 16. Its measure and that of the other calls are at most the measure of the queue.
 abbrev pub IsKept : Entry → List Entry → Type 0
 IsKept entry entries = (entry.conn < 16) × (entry_of entry.conn entries ≡ Some entry)
     × (queue_measure (without entry.conn entries) + wait_measure entry.wait ≤ queue_measure entries)

@@ -1,4 +1,4 @@
--- What becomes of a record that was taken, or of a call that was suspended, on its connection and of the device.
+-- How a record that was taken, or a call that was suspended, changes its connection and the device.
 use Rattle.std.specs.Prelude.{◌≡◌, ◌⊎◌, ℕ, ◌<◌, List, [], ◌∷◌, ◌++◌, map, true, false, Option, None, Result, ⊤}
 use Rattle.sv_vxi.specs.Arguments.{is_create_link}
 use Rattle.sv_vxi.specs.Results.{plain_result, data_of}
@@ -31,9 +31,9 @@ use Rattle.sv_server.specs.Connection.Inside.Replies.{answer_bytes, IsShort}
 use Rattle.sv_server.specs.Device.Representation.{Device, IsDevice}
 use Rattle.sv_server.specs.Device.Inside.Outcome.{IsBrief, MayWait, MayWaitAnew, Does}
 
--- ---- how it ends
+-- ---- how a call or a record ends
 
--- A call ends so. What it reads of the response is still to be read.
+-- A call with this outcome in the code has this effect. If it reads the response, this is still to be read.
 abbrev pub CallEndsAs : Outcome → ℕ → Device → Config → List DeviceAct → Effect → Type 0
 CallEndsAs (outcomes.Result given) xid device config acts effect = (effect.own ≡ Replied (answer_bytes xid (Told given)) ∷ [])
     × IsDevice device config (effect.adds ++ acts)
@@ -41,7 +41,7 @@ CallEndsAs (outcomes.Reads most term) xid device config acts effect =
     (effect ≡ call_effect xid (reads (response (exchange_acts acts)) most term)) × IsDevice device config acts
 CallEndsAs outcomes.Suspended xid device config acts effect = (effect.own ≡ []) × IsDevice device config (effect.adds ++ acts)
 
--- And so does a record.
+-- A record that the code executed, with this outcome, has this effect.
 abbrev pub EndsAs : Executed → ℕ → Device → Config → List DeviceAct → Effect → Type 0
 EndsAs executions.NoCall xid device config acts effect = (effect.own ≡ Faulted ∷ []) × IsDevice device config (effect.adds ++ acts)
 EndsAs (executions.Answered answer) xid device config acts effect = (effect.own ≡ Replied (answer_bytes xid answer) ∷ [])
@@ -50,35 +50,35 @@ EndsAs (executions.Aborts aborted) xid device config acts effect =
     (effect.own ≡ Replied (answer_bytes xid (Told aborted.result)) ∷ []) × IsDevice device config (effect.adds ++ acts)
 EndsAs (executions.Call outcome) xid device config acts effect = CallEndsAs outcome xid device config acts effect
 
--- What it is answered has room in a reply.
+-- The answer to the record has room in a reply.
 abbrev pub IsBriefly : Executed → Type 0
 IsBriefly executions.NoCall = ⊤
 IsBriefly (executions.Answered answer) = IsShort answer
 IsBriefly (executions.Aborts aborted) = data_of (plain_result aborted.result) ≡ []
 IsBriefly (executions.Call outcome) = IsBrief outcome
 
--- the connection whose suspended call it ends beside
+-- the connection whose suspended call the record aborts, if it aborts one
 abbrev pub aborted_by : Executed → Option ℕ
 aborted_by (executions.Aborts aborted) = aborted.conn
 aborted_by _ = None
 
--- The call that was taken comes to this.
+-- The call that was taken has this effect: it adds acts of the connection and acts of the device.
 abbrev pub Concludes : Effect → Config → List ConnAct → List DeviceAct → Connection → Device → Type 0
 Concludes effect config acts before connection device =
     IsConnection connection (effect.own ++ acts) × IsDevice device config (effect.adds ++ before)
 
 -- ---- a record that was taken
 
--- whether it asks for a create_link
+-- whether a record asks for a create_link
 abbrev pub asks_for_link : Request → Bool
 asks_for_link (CoreRequest call) = is_create_link call.arguments
 asks_for_link _ = false
 
--- It asks for a call, and this is suspended.
+-- The record asks for a call of the core channel, and the call is suspended.
 abbrev pub IsSuspended : Executed → Request → Type 0
 IsSuspended executed request = (executed ≡ executions.Call outcomes.Suspended) × (call : CoreCall) × (request ≡ CoreRequest call)
 
--- What a record asks for is done.
+-- What a record asks for is executed, or memory that it needs was refused.
 abbrev pub Executes : Request → {E : Type 0} → Result Executed E → ℕ → Device → Device → Type 0
 Executes request result c old new =
     Does (λ config polled acts executed. EndsAs executed (xid_of request) new config acts (request_effect config polled c request acts)
@@ -88,18 +88,18 @@ Executes request result c old new =
 
 -- ---- a call that was suspended
 
--- Where it makes a link, it waits for the lock as a create_link does, and the lock is free.
+-- If the suspended call is create_link, a place is reserved for its link, and the lock is free.
 abbrev pub HasPlaceOfLink : Option CoreCall → ℕ → Device → List DeviceAct → Type 0
 HasPlaceOfLink call c kept acts = creates_link call ≡ true
     → (creations (without c kept.waiting) < creations kept.waiting) × (is_locked_out (holder (link_acts acts)) None ≡ false)
 
--- What comes of it.
+-- The effect of a suspended call that resumes for this cause.
 abbrev pub taken_up : Cause → Config → ℕ → ℕ → Option CoreCall → List DeviceAct → Effect
 taken_up (causes.Able wait) config polled c call acts = resume_effect config polled c wait call acts
 taken_up (causes.Dialed ok) config polled c call acts = connect_effect c ok call
 taken_up (causes.Failed error) config polled c call acts = failure_effect error c call
 
--- A suspended call that was taken up ends so, or waits anew.
+-- A suspended call that resumed has this effect: it ends, or waits again.
 abbrev pub ConcludesResumed : Effect → ℕ → Option CoreCall → Config → List ConnAct → List DeviceAct → List Entry → Connection → Device
     → Type 0
 ConcludesResumed effect c call config acts before old connection device =
