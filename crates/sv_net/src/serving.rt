@@ -21,8 +21,8 @@ use sv_serve::Driver;
 /// The most polls in one pause before it sleeps.
 const LOOKS: u32 = 1_000;
 
-/// Makes so many sweeps. Between two sweeps it waits until a socket is reported or something is due. Each
-/// sweep gets the whole milliseconds since the one before, at most 1,000.
+/// Makes so many sweeps. Between two sweeps it waits until a socket is reported or something is
+/// due. Each sweep gets the whole milliseconds since the one before, at most 1,000.
 ///
 /// A wait ends at the next whole millisecond, or at the hundredth if nothing waits for time in
 /// these. If nothing ever waits for time, and more than a million sweeps are left, it ends at a

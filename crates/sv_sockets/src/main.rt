@@ -1,8 +1,8 @@
 //! Plays the rows of the standard input, each with a new server over real sockets of 127.0.0.1 and
 //! with peers in the same process, and prints after the title of each what the peers get.
 //!
-//! The server makes some sweeps between two polls of a peer. The print doesn't depend on the speed of
-//! the machine: only lower bounds of times are checked. The program ends with a fault if nothing
+//! The server makes some sweeps between two polls of a peer. The print doesn't depend on the speed
+//! of the machine: only lower bounds of times are checked. The program ends with a fault if nothing
 //! comes to a peer for ten seconds.
 //!
 //! A row has these lines, of which most name a peer by a letter:

@@ -1,5 +1,5 @@
-//! Reads lines from the standard input, and prints each with its answer. A line asks one part of the
-//! instrument, or the whole. Empty lines and those that begin with `#` are skipped.
+//! Reads lines from the standard input, and prints each with its answer. A line asks one part of
+//! the instrument, or the whole. Empty lines and those that begin with `#` are skipped.
 //!
 //! | Line | Answer |
 //! |---|---|
