@@ -1,5 +1,5 @@
 -- What a private function that executes an event leaves.
-use Rattle.std.specs.Prelude.{◌≡◌, ℕ, ℤ, true, Bool, false, List, ◌∷◌, ◌++◌, Some, None, Result, Ok, Err, Option, ⊤}
+use Rattle.std.specs.Prelude.{◌≡◌, ℕ, ℤ, true, Bool, false, List, [], ◌∷◌, ◌++◌, Some, None, Result, Ok, Err, Option, ⊤}
 use Rattle.sv_errors.specs.Limits.{is_channel}
 use Rattle.sv_links.specs.declared.waiting.Entry.{Entry}
 use Rattle.sv_history.specs.declared.event.Config.{Config}

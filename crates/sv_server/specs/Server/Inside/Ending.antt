@@ -1,5 +1,5 @@
 -- How a record that was taken, or a call that was suspended, changes its connection and the device.
-use Rattle.std.specs.Prelude.{◌≡◌, ◌⊎◌, ℕ, ◌<◌, List, [], ◌∷◌, ◌++◌, map, true, false, Option, None, Result, ⊤}
+use Rattle.std.specs.Prelude.{◌≡◌, ◌⊎◌, ℕ, ◌<◌, List, [], ◌∷◌, ◌++◌, map, Bool, true, false, Option, None, Result, ⊤}
 use Rattle.sv_vxi.specs.Arguments.{is_create_link}
 use Rattle.sv_vxi.specs.Results.{plain_result, data_of}
 use Rattle.sv_links.specs.declared.waiting.Entry.{Entry}
