@@ -185,10 +185,6 @@ not_none : (b : Bool) → not b ≡ false → b ≡ true
 not_none true e = refl
 not_none false e = absurd cc
 
-either_false : (a b : Bool) → (a || b) ≡ false → (a ≡ false) × (b ≡ false)
-either_false true b e = absurd cc
-either_false false b e = (refl, e)
-
 pub nothing_lost : NothingLost
 nothing_lost config history (Open c role) channel_log log result was tells suits (also, hears, h) =
     let free : refusal config also (Open c role) log ≡ None =

@@ -28,17 +28,10 @@ pub record SameConnection (acts others : List ConnAct) : Type 0 where
   pub streams : SameRecords (stream acts) (stream others)
 
 pub connection_none : SameConnection [] []
-connection_none = record { role = refl; call = refl; count = refl; no_call = refl; replies = refl; streams = same_stream [] no_bytes }
+connection_none = assumption (same_stream [] no_bytes)
 
 pub connection_back : (acts others : List ConnAct) → SameConnection acts others → SameConnection others acts
-connection_back acts others v = record {
-  role = sym v.role;
-  call = sym v.call;
-  count = sym v.count;
-  no_call = sym v.no_call;
-  replies = sym v.replies;
-  streams = same_back (stream acts) (stream others) v.streams;
-}
+connection_back acts others v = search (sym, same_back)
 
 connection_moved : (acts others a b : List ConnAct) → a ≡ acts → b ≡ others → SameConnection acts others → SameConnection a b
 connection_moved acts others a b x y v =
@@ -52,38 +45,12 @@ HasBytes _ = ⊤
 -- the same act
 same_act : (act : ConnAct) (acts others : List ConnAct) → HasBytes act → SameConnection acts others
     → SameConnection (act ∷ acts) (act ∷ others)
-same_act (Opened role) acts others fits v =
-    record { role = refl; call = refl; count = refl; no_call = refl; replies = v.replies; streams = same_stream [] no_bytes }
-same_act (Piece bytes) acts others fits v = record {
-  role = v.role;
-  call = v.call;
-  count = v.count;
-  no_call = v.no_call;
-  replies = v.replies;
-  streams = same_more (stream acts) (stream others) bytes fits v.streams;
-}
-same_act (CallTaken call) acts others fits v =
-    record { role = v.role; call = refl; count = v.count; no_call = v.no_call; replies = v.replies; streams = v.streams }
-same_act Faulted acts others fits v = record {
-  role = v.role;
-  call = refl;
-  count = ap suc v.count;
-  no_call = refl;
-  replies = v.replies;
-  streams = v.streams;
-}
-same_act (Replied bytes) acts others fits v = record {
-  role = v.role;
-  call = refl;
-  count = ap suc v.count;
-  no_call = v.no_call;
-  replies = ap (λ (l : List ℕ). l ++ bytes) v.replies;
-  streams = v.streams;
-}
-same_act (BytesTaken count) acts others fits v =
-    record { role = v.role; call = v.call; count = v.count; no_call = v.no_call; replies = v.replies; streams = v.streams }
-same_act PortClosed acts others fits v =
-    record { role = refl; call = refl; count = refl; no_call = refl; replies = v.replies; streams = same_stream [] no_bytes }
+same_act (Opened role) acts others fits v = assumption (same_stream [] no_bytes)
+same_act (Piece bytes) acts others fits v = assumption (same_more (stream acts) (stream others) bytes fits v.streams)
+same_act Faulted acts others fits v = assumption (ap suc v.count)
+same_act (Replied bytes) acts others fits v = assumption (ap suc v.count, ap (λ (l : List ℕ). l ++ bytes) v.replies)
+same_act PortClosed acts others fits v = assumption (same_stream [] no_bytes)
+same_act _ acts others fits v = assumption
 
 same_acts : (new acts others : List ConnAct) → AllByRecursion HasBytes new → SameConnection acts others
     → SameConnection (new ++ acts) (new ++ others)
@@ -100,18 +67,10 @@ pub record Came (acts base : List ConnAct) (bytes : List ℕ) : Type 0 where
   pub streams : stream acts ≡ stream base ++ bytes
 
 pub came : (pieces : List (List ℕ)) (base : List ConnAct) → Came (map Piece pieces ++ base) base (join_pieces pieces)
-came [] base =
-    record { role = refl; call = refl; count = refl; no_call = refl; replies = refl; streams = sym (append-nil (stream base)) }
+came [] base = assumption (sym (append-nil (stream base)))
 came (piece ∷ pieces) base =
     let so = came pieces base in
-    record {
-      role = so.role;
-      call = so.call;
-      count = so.count;
-      no_call = so.no_call;
-      replies = so.replies;
-      streams = ap (λ (l : List ℕ). l ++ piece) so.streams ∙ append_assoc (stream base) (join_pieces pieces) piece;
-    }
+    assumption (ap (λ (l : List ℕ). l ++ piece) so.streams ∙ append_assoc (stream base) (join_pieces pieces) piece)
 
 same_pieces : (pieces others : List (List ℕ)) (acts also : List ConnAct)
     → SameRecords (stream acts ++ join_pieces pieces) (stream also ++ join_pieces others)
@@ -130,21 +89,11 @@ same_pieces pieces others acts also streams v =
 
 -- ---- the next call
 
-abbrev next_by : Bool → Option (List ℕ) → List (List ℕ) → ℕ → Option (List ℕ)
-next_by no_call call records n = if no_call || is_some call then None else slice_get records n
-
 pub next_call_same : (acts others : List ConnAct) → SameConnection acts others → next_call acts ≡ next_call others
-next_call_same acts others v =
-    ap (λ (b : Bool). next_by b (pending_call acts) (records_of (stream acts)) (records_ended acts)) v.no_call
-    ∙ ap (λ (o : Option (List ℕ)). next_by (took_no_call others) o (records_of (stream acts)) (records_ended acts)) v.call
-    ∙ ap (λ (l : List (List ℕ)). next_by (took_no_call others) (pending_call others) l (records_ended acts))
-    (same_reading (stream acts) (stream others) v.streams).0
-    ∙ ap (λ (n : ℕ). next_by (took_no_call others) (pending_call others) (records_of (stream others)) n) v.count
+next_call_same acts others v = rw (v.no_call, v.call, (same_reading (stream acts) (stream others) v.streams).0, v.count) refl
 
 pub next_request_same : (acts others : List ConnAct) → SameConnection acts others → next_request acts ≡ next_request others
-next_request_same acts others v =
-    ap (λ (o : Option (List ℕ)). request_for (open_role acts) o) (next_call_same acts others v)
-    ∙ ap (λ (r : Option Role). request_for r (next_call others)) v.role
+next_request_same acts others v = rw (next_call_same acts others v, v.role) refl
 
 pub refusable_same : (acts others : List ConnAct) → SameConnection acts others → refusable acts ≡ refusable others
 refusable_same acts others v = ap (λ (o : Option Request). refusable_call o) (next_request_same acts others v)

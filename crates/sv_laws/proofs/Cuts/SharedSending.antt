@@ -23,9 +23,7 @@ ahead_back first second acts others v = record {
   call = sym v.call;
   no_call = sym v.no_call;
   ahead = λ more. sym (v.ahead more);
-  sent = v.sent;
-  one = v.two;
-  two = v.one;
+  sends = (v.sends.0, v.sends.2, v.sends.1);
 }
 
 pub logs_back : (first second : ℕ → List ℕ) (log other : List Act) → SameLogs first second log other → SameLogs second first other log
@@ -81,25 +79,24 @@ adds_to (Conn d) config first second one two events log also bytes h x y
     let v = behind_same config first second one two events log also h x y in
     let here : before ≡ first d =
     so ∙ ap (λ (l : List Act). all_replies (of d l)) (one_log config one found h.a is_found h.was) ∙ h.one_sent d in
-    let all : before ++ bytes ≡ first d ++ (v.each d).sent =
-    then_so ∙ ap (λ (l : List Act). all_replies (of d l)) (one_log config (events ++ one) later log is_later x) ∙ (v.each d).one in
-    let same : bytes ≡ (v.each d).sent =
-    append_cancel_left (first d) bytes (v.each d).sent (ap (λ (l : List ℕ). l ++ bytes) (sym here) ∙ all) in (
+    let all : before ++ bytes ≡ first d ++ (v.each d).sends.0 =
+    then_so ∙ ap (λ (l : List Act). all_replies (of d l)) (one_log config (events ++ one) later log is_later x) ∙ (v.each d).sends.1 in
+    let same : bytes ≡ (v.each d).sends.0 =
+    append_cancel_left (first d) bytes (v.each d).sends.0 (ap (λ (l : List ℕ). l ++ bytes) (sym here) ∙ all) in (
       second d,
       (
         h.b,
         channel_log,
         h.also,
         h.same.tells channel_log (hears_in config one found h.a channel_log is_found h.was hears),
-        sym
-            (h.two_sent d),
+        sym (h.two_sent d),
       ),
       (
         also,
         heard,
         y,
         v.tells heard (hears_in config (events ++ one) later log heard is_later x hearing),
-        ap (λ (l : List ℕ). second d ++ l) same ∙ sym (v.each d).two,
+        ap (λ (l : List ℕ). second d ++ l) same ∙ sym (v.each d).sends.2,
       ),
     )
 adds_to (Intr d) config first second one two events log also bytes h x y

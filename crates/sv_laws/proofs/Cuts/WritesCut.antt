@@ -130,9 +130,7 @@ ahead_same acts others same = subst (λ (l : List ConnAct). SameAhead (all_repli
   call = refl;
   no_call = refl;
   ahead = λ more. refl;
-  sent = [];
-  one = sym (append-nil (all_replies acts));
-  two = sym (append-nil (all_replies acts));
+  sends = ([], sym (append-nil (all_replies acts)), sym (append-nil (all_replies acts)));
 })
 
 sent_beside : (c : ℕ) (port : Port) (log other : List Act) → port ≢ Conn c → Beside c log other → (channel_log : List ChannelAct)
@@ -243,9 +241,7 @@ module _ (c lid : ℕ) (x y : List ℕ) (ended : Bool) (config : Config) (past o
         ahead = same_behind (stream acts) (stream others) (records_ended acts) (records_ended others)
             (fed_all c config past h.whole _ _ rest fed_both h.one_feeds.none_left)
             (fed_all c config past h.cut _ _ h.middle fed_other h.two_feeds.none_left) h.same_tail;
-        sent = [];
-        one = sym (append-nil (all_replies acts));
-        two = sym (append-nil (all_replies others));
+        sends = ([], sym (append-nil (all_replies acts)), sym (append-nil (all_replies others)));
       }
 
   each_ahead : (d : ℕ) → SameAhead (all_replies (of d h.whole)) (all_replies (of d h.cut)) (of d h.whole) (of d h.cut)
