@@ -27,42 +27,29 @@ pub record SameAhead (first second : List ℕ) (acts others : List ConnAct) : Ty
   pub sends : Sends first second (all_replies acts) (all_replies others)
 
 
-suc_is : (n : ℕ) → n + 1 ≡ suc n
-suc_is n = omega arith
-
 one_more : (n : ℕ) (a : List (List ℕ)) → drop 1 (drop n a) ≡ drop (suc n) a
-one_more n a = drop-drop 1 n a ∙ ap (λ (k : ℕ). drop k a) (suc_is n)
+one_more n a = drop-drop 1 n a ∙ ap (λ (k : ℕ). drop k a) (let next : n + 1 ≡ suc n = omega arith in next)
 
-one_fewer : (n m : ℕ) (a b : List (List ℕ)) → drop n a ≡ drop m b → drop (suc n) a ≡ drop (suc m) b
-one_fewer n m a b same = sym (one_more n a) ∙ ap (λ (l : List (List ℕ)). drop 1 l) same ∙ one_more m b
+-- a record more has ended
+one_fewer : (acts others : List ConnAct) → Ahead acts others → Ahead (Faulted ∷ acts) (Faulted ∷ others)
+one_fewer acts others same more = sym (one_more (records_ended acts) (records_of (stream acts ++ more)))
+    ∙ ap (λ (l : List (List ℕ)). drop 1 l) (same more) ∙ one_more (records_ended others) (records_of (stream others ++ more))
 
 -- the same act
 pub ahead_act : (first second : List ℕ) (act : ConnAct) (acts others : List ConnAct) → SameAhead first second acts others
     → SameAhead first second (act ∷ acts) (act ∷ others)
-ahead_act first second (Opened role) acts others v =
-    let ahead : Ahead (Opened role ∷ acts) (Opened role ∷ others) = λ more. refl in assumption ahead
-ahead_act first second PortClosed acts others v =
-    let ahead : Ahead (PortClosed ∷ acts) (PortClosed ∷ others) = λ more. refl in assumption ahead
-ahead_act first second (Piece bytes) acts others v =
-    let ahead : Ahead (Piece bytes ∷ acts) (Piece bytes ∷ others) = λ more.
+ahead_act first second (Piece bytes) acts others v = assumption (λ (more : List ℕ).
     ap (λ (l : List ℕ). drop (records_ended acts) (records_of l)) (append_assoc (stream acts) bytes more)
     ∙ v.ahead (bytes ++ more)
-    ∙ ap (λ (l : List ℕ). drop (records_ended others) (records_of l)) (sym (append_assoc (stream others) bytes more)) in
-    assumption ahead
-ahead_act first second Faulted acts others v =
-    let ahead : Ahead (Faulted ∷ acts) (Faulted ∷ others) = λ more. one_fewer (records_ended acts) (records_ended others) _ _ (v.ahead more) in
-    assumption ahead
-ahead_act first second (Replied bytes) acts others v = record {
-  role = v.role;
-  call = refl;
-  no_call = v.no_call;
-  ahead = λ more. one_fewer (records_ended acts) (records_ended others) _ _ (v.ahead more);
-  sends = (
-    v.sends.0 ++ bytes,
-    ap (λ (l : List ℕ). l ++ bytes) v.sends.1 ∙ append_assoc first v.sends.0 bytes,
-    ap (λ (l : List ℕ). l ++ bytes) v.sends.2 ∙ append_assoc second v.sends.0 bytes,
-  );
-}
+    ∙ ap (λ (l : List ℕ). drop (records_ended others) (records_of l)) (sym (append_assoc (stream others) bytes more)))
+ahead_act first second Faulted acts others v = assumption (one_fewer acts others v.ahead)
+ahead_act first second (Replied bytes) acts others v =
+    let sends : Sends first second (all_replies acts ++ bytes) (all_replies others ++ bytes) = (
+      v.sends.0 ++ bytes,
+      ap (λ (l : List ℕ). l ++ bytes) v.sends.1 ∙ append_assoc first v.sends.0 bytes,
+      ap (λ (l : List ℕ). l ++ bytes) v.sends.2 ∙ append_assoc second v.sends.0 bytes,
+    ) in
+    assumption (one_fewer acts others v.ahead, sends)
 ahead_act first second _ acts others v = assumption
 
 -- ---- the next call
