@@ -137,7 +137,7 @@ says_same question.StatusByte log other v bytes h = word_same _ _ bytes (λ k. m
 says_same question.Error log other v bytes h = h ∙ ap (λ (l : List QueueAct). oldest_text (oldest l)) v.queued
 says_same question.ErrorCount log other v bytes h = h ∙ ap (λ (l : List QueueAct). decimal (length (entries l))) v.queued
 says_same (question.Events name) log other v bytes h = word_same _ _ bytes (v.events name) h
-says_same (question.Condition name) log other v bytes h = h ∙ ap decimal (status_condition name log other v)
+says_same (question.Condition name) log other v bytes h = h ∙ ap decimal (status_condition name log other v.parts)
 says_same question.Readings log other v bytes h = rw v.scanned at h
 says_same (question.Value what) log other v bytes h = h ∙ value_same what log other v
 
