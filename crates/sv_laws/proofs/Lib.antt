@@ -2,7 +2,6 @@ mod ChannelsAlike
 mod LinksAlike
 mod CallsAlike
 mod Closed
-mod ReadOn
 mod Stillness
 pub mod OneLog
 mod EveryLog

@@ -12,7 +12,8 @@ use Rattle.sv_laws.proofs.Cuts.SameExchange.{text_cut}
 use Rattle.sv_laws.proofs.Cuts.SameStatus.{SameStatus, status_same, status_act, status_accepted, status_back}
 use Rattle.sv_laws.proofs.Cuts.SameDevice.{SameDevice, device_back, Tells, tells_happened, accepts, tells_accepted, tells_also}
 use Rattle.sv_laws.proofs.Cuts.SharedEvents.{calls_behind}
-use Rattle.sv_laws.proofs.Cuts.SharedLogs.{device_front, tells_front, IsKept}
+use Rattle.sv_laws.proofs.Cuts.SharedLogs.{device_front, tells_front}
+use Rattle.sv_laws.proofs.Cuts.KeptLogs.{IsKept}
 use Rattle.sv_laws.proofs.Cuts.NoCallTaken.{of_append}
 use Rattle.sv_laws.proofs.Cuts.BytesBehind.{CameBehind, behind_device, behind_others, behind_call}
 use Rattle.sv_laws.proofs.Cuts.Written.{wrote}

@@ -21,7 +21,7 @@ use Rattle.sv_history.specs.CoreChannel.{owns, link_call, own_call}
 use Rattle.sv_history.specs.Admission.{device_wait, stop_of}
 use Rattle.sv_laws.proofs.Cuts.SameExchange.{ended_same, response_same}
 use Rattle.sv_laws.proofs.Cuts.SameStatus.{SameStatus, raised_same, never_raised, polled_same}
-use Rattle.sv_laws.proofs.Cuts.SameInstrument.{SameInstrument, instrument_act, instrument_back}
+use Rattle.sv_laws.proofs.Cuts.SameInstrument.{SameInstrument, instrument_same, instrument_act, instrument_back}
 
 pub record SameDevice (acts other : List DeviceAct) : Type 0 where
   pub links : link_acts acts ≡ link_acts other
@@ -29,6 +29,9 @@ pub record SameDevice (acts other : List DeviceAct) : Type 0 where
   pub channels : channel_acts acts ≡ channel_acts other
   pub instrument : SameInstrument (instrument_acts acts) (instrument_acts other)
   pub clock : ticks acts ≡ ticks other
+
+pub device_same : (acts : List DeviceAct) → SameDevice acts acts
+device_same acts = assumption (instrument_same (instrument_acts acts))
 
 -- the same act
 pub device_act : (act : DeviceAct) (acts other : List DeviceAct) → SameDevice acts other → SameDevice (act ∷ acts) (act ∷ other)

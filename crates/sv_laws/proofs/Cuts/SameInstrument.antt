@@ -30,7 +30,7 @@ use Rattle.sv_instrument.specs.QueryResponse.{IsWord, readings_text, oldest_text
 use Rattle.sv_instrument.specs.CommandEffect.{after_answering, unless, after_configure, after_query, question_fault, Replies, after_action, Performs}
 use Rattle.sv_instrument.specs.Step.{after_release, Does, Starts, StepOf, IsStep}
 use Rattle.sv_laws.proofs.Cuts.SameExchange.{text_act, answers_same, message_same, next_unit_same, due_same}
-use Rattle.sv_laws.proofs.Cuts.SameStatus.{SameStatus, status_act, status_back, status_condition, idle_same, master_same}
+use Rattle.sv_laws.proofs.Cuts.SameStatus.{SameStatus, status_same, status_act, status_back, status_condition, idle_same, master_same}
 
 -- ---- two logs
 
@@ -51,6 +51,9 @@ holds_act (Exchanged UnitDone) log other same = refl
 holds_act (Exchanged TextDropped) log other same = refl
 holds_act Purged log other same = refl
 holds_act _ log other same = same
+
+pub instrument_same : (log : List Act) → SameInstrument log log
+instrument_same log = record { status = status_same log; texts = refl; holds = refl }
 
 pub instrument_act : (act : Act) (log other : List Act) → SameInstrument log other → SameInstrument (act ∷ log) (act ∷ other)
 instrument_act act log other v = record {

@@ -14,7 +14,8 @@ use Rattle.sv_laws.specs.Adding.{all_replies, Adds}
 use Rattle.sv_laws.proofs.OneLog.{one_log}
 use Rattle.sv_laws.proofs.Cuts.SameDevice.{device_back}
 use Rattle.sv_laws.proofs.Cuts.SameAhead.{SameAhead}
-use Rattle.sv_laws.proofs.Cuts.SharedLogs.{SameLogs, logs_moved, events_same}
+use Rattle.sv_laws.proofs.Cuts.KeptLogs.{moved}
+use Rattle.sv_laws.proofs.Cuts.SharedLogs.{SameLogs, events_same}
 
 ahead_back : (first second : List ℕ) (acts others : List ConnAct) → SameAhead first second acts others
     → SameAhead second first others acts
@@ -68,7 +69,7 @@ behind_same : (config : Config) (first second : ℕ → List ℕ) (one two event
     → SameLogs first second log also
 behind_same config first second one two events log also h x y =
     events_same config first second one two events
-    (λ a b p q. logs_moved first second h.a h.b a b (one_log config one a h.a p h.was) (one_log config two b h.b q h.also) h.same)
+    (λ a b p q. moved (SameLogs first second) h.a h.b a b (one_log config one a h.a p h.was) (one_log config two b h.b q h.also) h.same)
     log also x y
 
 adds_to : (port : Port) (config : Config) (first second : ℕ → List ℕ) (one two events : List PlainEvent) (log also : List Act)

@@ -29,7 +29,7 @@ use Rattle.sv_laws.proofs.EveryLog.Steps.{log_settled}
 use Rattle.sv_laws.proofs.Cuts.ReadsOn.{same_behind}
 use Rattle.sv_laws.proofs.Cuts.SameDevice.{Tells, accepts}
 use Rattle.sv_laws.proofs.Cuts.SameAhead.{SameAhead}
-use Rattle.sv_laws.proofs.Cuts.SharedLogs.{settles_so}
+use Rattle.sv_laws.proofs.Cuts.KeptLogs.{settles_so}
 use Rattle.sv_laws.proofs.Cuts.SharedSending.{Begun, adds_same}
 use Rattle.sv_laws.proofs.Cuts.BytesBehind.{CameBehind, behind_device, behind_others}
 use Rattle.sv_laws.proofs.Cuts.Fed.{Fed, fed, only_bytes}
