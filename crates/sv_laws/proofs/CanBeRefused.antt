@@ -29,6 +29,7 @@ use Rattle.sv_history.specs.Execution.{request_effect, aborts}
 use Rattle.sv_history.specs.Refusing.{takes_memory, refusable_call, refusable}
 use Rattle.sv_history.specs.Resuming.{failure_effect}
 use Rattle.sv_history.specs.History.{taken_acts, turn_acts, refuse_acts, is_shut, wants_memory}
+use Rattle.sv_laws.proofs.Facts.{some_same}
 use Rattle.sv_laws.proofs.Brought.{CanBeRefused}
 use Rattle.sv_history.proofs.Projections.{device_effect}
 use Rattle.sv_laws.proofs.EveryLog.Done.{IsDone, each_done}
@@ -57,9 +58,6 @@ creates_not _ e = refl
 -- for something else than a peer, or than the lock with no link to name
 abbrev IsModest : Wait → Option ℕ → Type 0
 IsModest wait named = (is_dial (Some wait) ≡ false) × ((is_lock (Some wait) && is_none named) ≡ false)
-
-some_stop : (a b : Stop) → Some a ≡ Some b → a ≡ b
-some_stop a b e = cc
 
 device_modest : (call : LinkCall) (acts : List DeviceAct) (wait : Wait) (until named : Option ℕ)
     → option_map (λ (wait : Wait × ℕ). Awaits wait.0 (Some wait.1)) (device_wait call acts) ≡ Some (Awaits wait until) → IsModest wait named

@@ -1,3 +1,4 @@
+mod Facts
 mod ChannelsAlike
 mod LinksAlike
 mod CallsAlike

@@ -5,14 +5,12 @@ use Rattle.std.proofs.lemmas.Bool.{ne_eqb, cases_Bool, cases_eq, eqb-true, eqb-f
 use Rattle.sv_links.specs.declared.links.Link.{Link}
 use Rattle.sv_links.specs.Links.{LinkAct, Made, Destroyed, Locked, Unlocked, live, owner, is_of, lock_order, is_locked, holder}
 use Rattle.sv_links.proofs.Tables.{other_than}
+use Rattle.sv_laws.proofs.Facts.{some_same}
 
 -- ---- the owner of a number
 
 abbrev owner_in : ℕ → List Link → Option ℕ
 owner_in n xs = option_map (λ link. link.conn) (find (λ link. eqb link.lid n) xs)
-
-some_number : (a b : ℕ) → Some a ≡ Some b → a ≡ b
-some_number a b e = cc
 
 -- a link more at the end
 pushed : (n c : ℕ) (xs : List Link) (link : Link) → owner_in n xs ≡ Some c → owner_in n (xs ++ link ∷ []) ≡ Some c
@@ -65,7 +63,7 @@ owner_made_other n lid conn acts ne = pushed_other n (live acts) (record { lid =
 -- an owner behind that act was one in front of it, or is the connection that made the link
 made_in : (n c : ℕ) (xs : List Link) (link : Link) → owner_in n (xs ++ link ∷ []) ≡ Some c → (owner_in n xs ≡ Some c) ⊎ (c ≡ link.conn)
 made_in n c [] link h = elim (cases_Bool (eqb link.lid n)) [
-  | inl e ↦ inr (sym (some_number link.conn c (rw e at h)))
+  | inl e ↦ inr (sym (some_same link.conn c (rw e at h)))
   | inr e ↦ absurd (let z : None ≡ Some c = rw e at h in cc)
 ]
 made_in n c (x ∷ xs) link h = elim (cases_Bool (eqb x.lid n)) [
@@ -147,7 +145,7 @@ links_same c (Unlocked lid) acts other h alike = alike
 find_true : (test : ℕ → Bool) (m : ℕ) (xs : List ℕ) → find test xs ≡ Some m → test m ≡ true
 find_true test m [] h = absurd cc
 find_true test m (x ∷ xs) h = elim (cases_Bool (test x)) [
-  | inl e ↦ ap test (sym (some_number x m (rw e at h))) ∙ e
+  | inl e ↦ ap test (sym (some_same x m (rw e at h))) ∙ e
   | inr e ↦ find_true test m xs (rw e at h)
 ]
 
@@ -157,7 +155,7 @@ find_narrow : (wide narrow : ℕ → Bool) (m : ℕ) (xs : List ℕ) → ((x : �
 find_narrow wide narrow m [] so is h = absurd cc
 find_narrow wide narrow m (x ∷ xs) so is h = elim (cases_Bool (wide x)) [
   | inl e ↦
-      let same : x ≡ m = some_number x m (rw e at h) in
+      let same : x ≡ m = some_same x m (rw e at h) in
       let here : narrow x ≡ true = ap narrow same ∙ is in
       rw here (ap (λ (n : ℕ). Some n) same)
   | inr e ↦ elim (cases_Bool (narrow x)) [

@@ -1,7 +1,7 @@
 -- An event tells to each interrupt channel its own act, and behind it a channel is closed, or calls are added to it.
 use Rattle.std.proofs.Common.{◌≡◌, ℕ, Bool, true, false, eqb, cond, List, [], ◌∷◌, ◌++◌, length, nat_lt, Option, Some, None, refl, sym, ap, subst, ◌∙◌, inl, inr, append_assoc, append-nil, add-zero, ◌+◌}
 use Rattle.std.specs.Prelude.{map, pos, negsuc, ⊤}
-use Rattle.std.specs.List.{fold}
+use Rattle.std.specs.List.{fold, AllByRecursion}
 use Rattle.std.proofs.lemmas.Bool.{cases_Bool}
 use Rattle.sv_vxi.specs.declared.error_code.ErrorCode.TheVariants.{Abort}
 use Rattle.sv_vxi.specs.declared.arguments.GenericCall.TheVariants.{Readstb, Trigger, Clear, Remote, Local}
@@ -41,37 +41,29 @@ use Rattle.sv_scan.specs.Condition.{bit}
 use Rattle.sv_history.proofs.Projections.{device_effect, device_shared}
 use Rattle.sv_history.proofs.Telling.{tells_once}
 use Rattle.sv_laws.proofs.OneLog.{one_log}
+use Rattle.sv_laws.proofs.Facts.{all_join}
+use Rattle.sv_laws.proofs.EveryLog.Done.{IsDone, each_done}
+use Rattle.sv_logs.proofs.Each.{Each}
 use Rattle.sv_laws.proofs.EveryLog.EachEvent.{each_settled, turn_parts}
 
 -- ---- acts that open no channel, and of which no peer takes bytes
 
-abbrev ArePlain : List DeviceAct → Type 0
-ArePlain [] = ⊤
-ArePlain (Channel (ChannelOpened conn what) ∷ acts) = ⊥
-ArePlain (Channel (ChannelTaken conn count) ∷ acts) = ⊥
-ArePlain (Ticked ∷ acts) = ⊥
-ArePlain (act ∷ acts) = ArePlain acts
+abbrev IsPlain : DeviceAct → Type 0
+IsPlain (Channel (ChannelOpened conn what)) = ⊥
+IsPlain (Channel (ChannelTaken conn count)) = ⊥
+IsPlain Ticked = ⊥
+IsPlain act = ⊤
 
-plain_join : (one other : List DeviceAct) → ArePlain one → ArePlain other → ArePlain (one ++ other)
-plain_join [] other h k = k
-plain_join (Channel (ChannelOpened conn what) ∷ one) other h k = absurd h
-plain_join (Channel (ChannelTaken conn count) ∷ one) other h k = absurd h
-plain_join (Channel (SrqEnabled lid conn handle) ∷ one) other h k = plain_join one other h k
-plain_join (Channel (SrqDisabled lid) ∷ one) other h k = plain_join one other h k
-plain_join (Channel (ChannelClosed conn) ∷ one) other h k = plain_join one other h k
-plain_join (Channel Requested ∷ one) other h k = plain_join one other h k
-plain_join (Linked act ∷ one) other h k = plain_join one other h k
-plain_join (Waited act ∷ one) other h k = plain_join one other h k
-plain_join (Applied act ∷ one) other h k = plain_join one other h k
-plain_join (Ticked ∷ one) other h k = absurd h
+abbrev ArePlain : List DeviceAct → Type 0
+ArePlain = AllByRecursion IsPlain
 
 plain_happened : (adds : List InstrumentAct) → ArePlain (map Applied adds)
 plain_happened [] = tt
-plain_happened (act ∷ adds) = plain_happened adds
+plain_happened (act ∷ adds) = (tt, plain_happened adds)
 
 plain_links : (links : List LinkAct) → ArePlain (map Linked links)
 plain_links [] = tt
-plain_links (act ∷ links) = plain_links links
+plain_links (act ∷ links) = (tt, plain_links links)
 
 -- ---- what they tell
 
@@ -116,104 +108,59 @@ adds_requested c true channel_log = λ opened.
     (opened, refl, more.0, more.1)
 adds_requested c false channel_log = adds_none c channel_log
 
-adds_closed : (c conn : ℕ) (channel_log : List ChannelAct) → OnlyAdds c channel_log (ChannelClosed conn ∷ channel_log)
-adds_closed c conn channel_log = elim (cases_Bool (eqb conn c)) [
+adds_channel : (c : ℕ) (act : ChannelAct) (channel_log : List ChannelAct) → IsPlain (Channel act) → OnlyAdds c channel_log (act ∷ channel_log)
+adds_channel c (ChannelOpened conn what) channel_log h = absurd h
+adds_channel c (ChannelTaken conn count) channel_log h = absurd h
+adds_channel c (ChannelClosed conn) channel_log h = elim (cases_Bool (eqb conn c)) [
   | inl e ↦ λ opened. absurd (let z : false ≡ true = rw e at opened in cc)
   | inr e ↦ rw e (adds_none c channel_log)
 ]
+adds_channel c Requested channel_log h = adds_requested c true channel_log
+adds_channel c _ channel_log h = adds_none c channel_log
 
 pub plain_tells : (c : ℕ) (adds acts : List DeviceAct) (channel_log later : List ChannelAct) → ArePlain adds → HearsOf acts channel_log
     → HearsOf (adds ++ acts) later → OnlyAdds c channel_log later
 plain_tells c [] acts channel_log later h x y = subst (OnlyAdds c channel_log) (tells_once acts channel_log later x y)
     (adds_none c channel_log)
-plain_tells c (Channel (ChannelOpened conn what) ∷ adds) acts channel_log later h x y = absurd h
-plain_tells c (Channel (ChannelTaken conn count) ∷ adds) acts channel_log later h x y = absurd h
-plain_tells c (Channel (SrqEnabled lid conn handle) ∷ adds) acts channel_log later h x (before, y, is) =
-    subst (OnlyAdds c channel_log) (sym is) (plain_tells c adds acts channel_log before h x y)
-plain_tells c (Channel (SrqDisabled lid) ∷ adds) acts channel_log later h x (before, y, is) =
-    subst (OnlyAdds c channel_log) (sym is) (plain_tells c adds acts channel_log before h x y)
-plain_tells c (Channel (ChannelClosed conn) ∷ adds) acts channel_log later h x (before, y, is) =
-    subst (OnlyAdds c channel_log) (sym is)
-    (adds_then c channel_log before (ChannelClosed conn ∷ before) (plain_tells c adds acts channel_log before h x y)
-    (adds_closed c conn before))
-plain_tells c (Channel Requested ∷ adds) acts channel_log later h x (before, y, is) =
-    subst (OnlyAdds c channel_log) (sym is)
-    (adds_then c channel_log before (Requested ∷ before) (plain_tells c adds acts channel_log before h x y)
-    (adds_requested c true before))
+plain_tells c (Channel act ∷ adds) acts channel_log later h x (before, y, is) = subst (OnlyAdds c channel_log) (sym is)
+    (adds_then c channel_log before (act ∷ before) (plain_tells c adds acts channel_log before h.1 x y) (adds_channel c act before h.0))
 plain_tells c (Linked act ∷ adds) acts channel_log later h x (before, y, is) =
     subst (OnlyAdds c channel_log) (sym is)
-    (adds_then c channel_log before (link_told act before) (plain_tells c adds acts channel_log before h x y)
+    (adds_then c channel_log before (link_told act before) (plain_tells c adds acts channel_log before h.1 x y)
     (adds_linked c act before))
 plain_tells c (Applied act ∷ adds) acts channel_log later h x (before, raised, y, so, is) =
     subst (OnlyAdds c channel_log) (sym is)
-    (adds_then c channel_log before (request_told raised before) (plain_tells c adds acts channel_log before h x y)
+    (adds_then c channel_log before (request_told raised before) (plain_tells c adds acts channel_log before h.1 x y)
     (adds_requested c raised before))
-plain_tells c (Waited act ∷ adds) acts channel_log later h x y = plain_tells c adds acts channel_log later h x y
-plain_tells c (Ticked ∷ adds) acts channel_log later h x y = absurd h
+plain_tells c (Waited act ∷ adds) acts channel_log later h x y = plain_tells c adds acts channel_log later h.1 x y
+plain_tells c (Ticked ∷ adds) acts channel_log later h x y = absurd h.0
 
 plain_ticks : (adds acts : List DeviceAct) → ArePlain adds → ticks (adds ++ acts) ≡ ticks acts
 plain_ticks [] acts h = refl
-plain_ticks (Channel (ChannelOpened conn what) ∷ adds) acts h = absurd h
-plain_ticks (Channel (ChannelTaken conn count) ∷ adds) acts h = absurd h
-plain_ticks (Channel (SrqEnabled lid conn handle) ∷ adds) acts h = plain_ticks adds acts h
-plain_ticks (Channel (SrqDisabled lid) ∷ adds) acts h = plain_ticks adds acts h
-plain_ticks (Channel (ChannelClosed conn) ∷ adds) acts h = plain_ticks adds acts h
-plain_ticks (Channel Requested ∷ adds) acts h = plain_ticks adds acts h
-plain_ticks (Linked act ∷ adds) acts h = plain_ticks adds acts h
-plain_ticks (Waited act ∷ adds) acts h = plain_ticks adds acts h
-plain_ticks (Applied act ∷ adds) acts h = plain_ticks adds acts h
-plain_ticks (Ticked ∷ adds) acts h = absurd h
+plain_ticks (Ticked ∷ adds) acts h = absurd h.0
+plain_ticks (_ ∷ adds) acts h = plain_ticks adds acts h.1
 
 -- ---- calls of the core channel
 
+plain_done : (c : ℕ) (arguments : Arguments) (adds acts : List DeviceAct) → Each (IsDone c arguments) adds acts → ArePlain adds
+plain_done c arguments [] acts h = tt
+plain_done c arguments (act ∷ adds) acts h = (one act h.0, plain_done c arguments adds acts h.1)
+  where
+    one : (act : DeviceAct) → IsDone c arguments (adds ++ acts) act → IsPlain act
+    one (Channel (ChannelOpened conn what)) h = h
+    one (Channel (ChannelTaken conn count)) h = h
+    one Ticked h = h
+    one _ h = tt
+
 plain_own : (config : Config) (polled c : ℕ) (arguments : Arguments) (acts : List DeviceAct)
     → ArePlain (own_call config polled c arguments acts).adds
-plain_own config polled c (CreateLink client_id true lock_timeout device) acts = elim (cases_Bool (lids_left (link_acts acts))) [
-  | inl e ↦ rw e tt
-  | inr e ↦ rw e tt
-]
-plain_own config polled c (CreateLink client_id false lock_timeout device) acts = elim (cases_Bool (lids_left (link_acts acts))) [
-  | inl e ↦ rw e tt
-  | inr e ↦ rw e tt
-]
-plain_own config polled c (OnLink (pos n) (DeviceWrite io_timeout lock_timeout flags bytes)) acts =
-    elim (cases_Bool (nat_lt max_message (length bytes))) [
-      | inl e ↦ rw e tt
-      | inr e ↦ elim (cases_Bool (has_ended (exchange_acts acts))) [ inl k ↦ rw (e, k) tt | inr k ↦ rw (e, k) tt ]
-    ]
-plain_own config polled c (OnLink (pos n) (DeviceRead request_size io_timeout lock_timeout flags term_char)) acts =
-    elim (cases_Bool (is_answerable (instrument_acts acts))) [
-      | inl k ↦ elim (cases_Bool (is_something (response (exchange_acts acts)))) [ inl e ↦ rw (k, e) tt | inr e ↦ rw (k, e) tt ]
-      | inr k ↦ elim (cases_Bool (is_something (response (exchange_acts acts)))) [ inl e ↦ rw (k, e) tt | inr e ↦ rw (k, e) tt ]
-    ]
-plain_own config polled c (OnLink (pos n) (Generic Readstb flags lock_timeout io_timeout)) acts = tt
-plain_own config polled c (OnLink (pos n) (Generic Trigger flags lock_timeout io_timeout)) acts =
-    plain_happened (trigger_acts (instrument_acts acts))
-plain_own config polled c (OnLink (pos n) (Generic Clear flags lock_timeout io_timeout)) acts = tt
-plain_own config polled c (OnLink (pos n) (DeviceLock flags lock_timeout)) acts =
-    elim (cases_Bool (is_locked_out (holder (link_acts acts)) (Some n))) [ inl e ↦ rw e tt | inr e ↦ rw e tt ]
-plain_own config polled c (OnLink (pos n) DeviceUnlock) acts =
-    elim (cases_Bool (is_this n (holder (link_acts acts)))) [ inl e ↦ rw e tt | inr e ↦ rw e tt ]
-plain_own config polled c (OnLink (pos n) (DeviceEnableSrq true handle)) acts = elim (cases_Bool (is_of c (owner n (link_acts acts)))) [
-  | inl e ↦ elim (cases_Bool (nat_lt max_handle (length handle))) [ inl k ↦ rw (e, k) tt | inr k ↦ rw (e, k) tt ]
-  | inr e ↦ rw e tt
-]
-plain_own config polled c (OnLink (pos n) (DeviceEnableSrq false handle)) acts =
-    elim (cases_Bool (is_of c (owner n (link_acts acts)))) [ inl e ↦ rw e tt | inr e ↦ rw e tt ]
-plain_own config polled c (OnLink (pos n) DestroyLink) acts = tt
-plain_own config polled c DestroyIntrChan acts = elim (cases_Bool (has_channel c acts)) [ inl e ↦ rw e tt | inr e ↦ rw e tt ]
-plain_own config polled c (OnLink (negsuc n) call) acts = tt
-plain_own config polled c (OnLink (pos n) (Generic Remote flags lock_timeout io_timeout)) acts = tt
-plain_own config polled c (OnLink (pos n) (Generic Local flags lock_timeout io_timeout)) acts = tt
-plain_own config polled c (OnLink (pos n) DeviceAbort) acts = tt
-plain_own config polled c (OnLink (pos n) (DeviceDocmd flags io_timeout lock_timeout cmd network_order datasize bytes)) acts = tt
-plain_own config polled c (CreateIntrChan host_addr host_port prog_num prog_vers prog_family) acts = tt
+plain_own config polled c arguments acts = plain_done c arguments _ acts (each_done config polled c arguments acts)
 
 plain_admitted : (config : Config) (polled c : ℕ) (arguments : Arguments) (stop : Option Stop) (acts : List DeviceAct)
     → ArePlain (admission config polled c arguments stop acts).adds
 plain_admitted config polled c arguments None acts = plain_own config polled c arguments acts
 plain_admitted config polled c arguments (Some (Fails error)) acts = tt
-plain_admitted config polled c arguments (Some (Awaits wait timeout)) acts = tt
+plain_admitted config polled c arguments (Some (Awaits wait timeout)) acts = (tt, tt)
 
 plain_request : (config : Config) (polled c : ℕ) (request : Request) (acts : List DeviceAct)
     → ArePlain (request_effect config polled c request acts).adds
@@ -225,15 +172,15 @@ plain_request config polled c (PortRequest xid args) acts = tt
 
 plain_continued : (config : Config) (polled c : ℕ) (arguments : Arguments) (next : Option (Wait × ℕ)) (acts : List DeviceAct)
     → ArePlain (resume_outcome config polled c arguments next acts).adds
-plain_continued config polled c arguments (Some wait) acts = tt
+plain_continued config polled c arguments (Some wait) acts = (tt, tt)
 plain_continued config polled c arguments None acts =
-    plain_join (own_call config polled c arguments (Waited (Left c) ∷ acts)).adds (Waited (Left c) ∷ [])
-    (plain_own config polled c arguments (Waited (Left c) ∷ acts)) tt
+    all_join IsPlain (own_call config polled c arguments (Waited (Left c) ∷ acts)).adds (Waited (Left c) ∷ [])
+    (plain_own config polled c arguments (Waited (Left c) ∷ acts)) (tt, tt)
 
 plain_ended : (c : ℕ) (does : Arguments → CallOutcome) (call : Option CoreCall) → ((arguments : Arguments) → ArePlain (does arguments).adds)
     → ArePlain (effect_of c does call).adds
 plain_ended c does (Some call) h = h call.arguments
-plain_ended c does None h = tt
+plain_ended c does None h = (tt, tt)
 
 -- ---- acts behind these
 
@@ -244,14 +191,14 @@ behind_effect : (base : List DeviceAct) (c : ℕ) (effect : Effect) (log : List 
     → Behind base (acts_of c effect ++ log)
 behind_effect base c effect log h (adds, k, is) = (
   effect.adds ++ adds,
-  plain_join effect.adds adds h k,
+  all_join IsPlain effect.adds adds h k,
   device_effect c effect log ∙ ap (λ (l : List DeviceAct). effect.adds ++ l) is ∙ sym (append_assoc effect.adds adds base),
 )
 
 behind_shared : (base more : List DeviceAct) (log : List Act) → ArePlain more → Behind base log → Behind base (map OnDevice more ++ log)
 behind_shared base more log h (adds, k, is) = (
   more ++ adds,
-  plain_join more adds h k,
+  all_join IsPlain more adds h k,
   device_shared more log ∙ ap (λ (l : List DeviceAct). more ++ l) is ∙ sym (append_assoc more adds base),
 )
 
@@ -270,7 +217,7 @@ behind_step base config log new all (inr (none, inr (still, inl step))) =
     subst (Behind base) (sym step.2) (behind_shared base (map Applied step.0) log (plain_happened step.0) all)
 behind_step base config log new all (inr (none, inr (still, inr (idle, (c, wait, oldest, for, is))))) =
     subst (Behind base) (sym is) (behind_ended base c (λ arguments. leaving c (only (failure arguments (late wait))))
-    (core_call_in (pending_call (of c log))) log (λ arguments. tt) all)
+    (core_call_in (pending_call (of c log))) log (λ arguments. (tt, tt)) all)
 
 -- ---- an event's own acts
 
@@ -279,7 +226,7 @@ behind_none log = ([], tt, refl)
 
 behind_abort : (base : List DeviceAct) (aborts : Option ℕ) (log : List Act) → Behind base log → Behind base (abort_acts aborts log ++ log)
 behind_abort base (Some d) log = behind_ended base d (λ arguments. leaving d (only (failure arguments Abort)))
-    (core_call_in (pending_call (of d log))) log (λ arguments. tt)
+    (core_call_in (pending_call (of d log))) log (λ arguments. (tt, tt))
 behind_abort base None log = λ all. all
 
 behind_turn : (config : Config) (polled c : ℕ) (found : Option (List ℕ)) (request : Option Request) (log : List Act)
@@ -316,7 +263,7 @@ begins_dialed : (c : ℕ) (ok : Bool) (call : Option CoreCall) (log : List Act) 
     → HearsOf base ((cond ok (opened_to c (peer_in call)) []) ++ channel_log))
     × (ticks base ≡ ticks (device_acts log) + 0)
 begins_dialed c ok None log e =
-    (device_acts log, behind_effect (device_acts log) c (connect_effect c ok None) log tt (behind_none log), by ok, no_tick log)
+    (device_acts log, behind_effect (device_acts log) c (connect_effect c ok None) log (tt, tt) (behind_none log), by ok, no_tick log)
   where
     by : (ok : Bool) (channel_log : List ChannelAct) → HearsOf (device_acts log) channel_log
         → HearsOf (device_acts log) (cond ok [] [] ++ channel_log)
@@ -338,21 +285,21 @@ begins_dialed c ok (Some call) log e = rw (dialed_is c ok call.arguments) (by ok
     )
     by false (Some one) = (
       device_acts log,
-      behind_effect (device_acts log) c (effect_of c (λ arguments. leaving c (dialed_to c false arguments (Some one))) (Some call)) log tt
+      behind_effect (device_acts log) c (effect_of c (λ arguments. leaving c (dialed_to c false arguments (Some one))) (Some call)) log (tt, tt)
           (behind_none log),
       (λ channel_log x. x),
       no_tick log,
     )
     by true None = (
       device_acts log,
-      behind_effect (device_acts log) c (effect_of c (λ arguments. leaving c (dialed_to c true arguments None)) (Some call)) log tt
+      behind_effect (device_acts log) c (effect_of c (λ arguments. leaving c (dialed_to c true arguments None)) (Some call)) log (tt, tt)
           (behind_none log),
       (λ channel_log x. x),
       no_tick log,
     )
     by false None = (
       device_acts log,
-      behind_effect (device_acts log) c (effect_of c (λ arguments. leaving c (dialed_to c false arguments None)) (Some call)) log tt
+      behind_effect (device_acts log) c (effect_of c (λ arguments. leaving c (dialed_to c false arguments None)) (Some call)) log (tt, tt)
           (behind_none log),
       (λ channel_log x. x),
       no_tick log,
@@ -373,14 +320,14 @@ begins config (Close (Conn c)) polled log =
       device_acts log,
       (subst (Behind (device_acts log)) (sym (append_assoc (map OnDevice adds) (On c PortClosed ∷ []) log))
           (behind_shared (device_acts log) adds (On c PortClosed ∷ log)
-          (plain_join (map Linked (closing c (link_acts (device_acts log)))) (Waited (Left c) ∷ [])
-          (plain_links (closing c (link_acts (device_acts log)))) tt) ([], tt, refl))),
+          (tt, all_join IsPlain (map Linked (closing c (link_acts (device_acts log)))) (Waited (Left c) ∷ [])
+          (plain_links (closing c (link_acts (device_acts log)))) (tt, tt)) ([], tt, refl))),
       (λ channel_log x. x),
       no_tick log,
     )
 begins config (Close (Intr c)) polled log = (
   device_acts log,
-  (behind_shared (device_acts log) (Channel (ChannelClosed c) ∷ []) log tt (behind_none log)),
+  (behind_shared (device_acts log) (Channel (ChannelClosed c) ∷ []) log (tt, tt) (behind_none log)),
   (λ channel_log x. x),
   no_tick log,
 )
@@ -388,7 +335,7 @@ begins config (Dialed c true) polled log = begins_dialed c true (core_call_in (p
 begins config (Dialed c false) polled log = begins_dialed c false (core_call_in (pending_call (of c log))) log refl
 begins config (Input channel microvolts) polled log = (
   device_acts log,
-  (behind_shared (device_acts log) (Applied (Scanned (InputTo channel microvolts)) ∷ []) log tt (behind_none log)),
+  (behind_shared (device_acts log) (Applied (Scanned (InputTo channel microvolts)) ∷ []) log (tt, tt) (behind_none log)),
   (λ channel_log x. x),
   no_tick log,
 )

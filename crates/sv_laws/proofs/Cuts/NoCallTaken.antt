@@ -22,6 +22,7 @@ use Rattle.sv_history.specs.Settling.{IsNext, SettlesIn}
 use Rattle.sv_history.specs.History.{abort_acts, taken_acts}
 use Rattle.sv_laws.specs.Cuts.{is_piece, without_pieces}
 use Rattle.sv_history.proofs.Projections.{of_mine}
+use Rattle.sv_laws.proofs.Facts.{all_join}
 
 -- ---- acts that take no call
 
@@ -33,10 +34,6 @@ abbrev pub IsNoCall : Act → Type 0
 IsNoCall (On c act) = IsOther act
 IsNoCall (OnDevice act) = ⊤
 
-none_join : (a b : List Act) → AllByRecursion IsNoCall a → AllByRecursion IsNoCall b → AllByRecursion IsNoCall (a ++ b)
-none_join [] b h k = k
-none_join (act ∷ a) b h k = (h.0, none_join a b h.1 k)
-
 none_shared : (adds : List DeviceAct) → AllByRecursion IsNoCall (map OnDevice adds)
 none_shared [] = tt
 none_shared (act ∷ adds) = (tt, none_shared adds)
@@ -46,7 +43,7 @@ none_own c [] h = tt
 none_own c (act ∷ own) h = (h.0, none_own c own h.1)
 
 none_effect : (c : ℕ) (effect : Effect) → AllByRecursion IsOther effect.own → AllByRecursion IsNoCall (acts_of c effect)
-none_effect c effect h = none_join (map (On c) effect.own) (map OnDevice effect.adds) (none_own c effect.own h) (none_shared effect.adds)
+none_effect c effect h = all_join IsNoCall (map (On c) effect.own) (map OnDevice effect.adds) (none_own c effect.own h) (none_shared effect.adds)
 
 none_replies : (xid : ℕ) (result : Option Outcome) → AllByRecursion IsOther (replies xid result)
 none_replies xid (Some result) = (tt, tt)
@@ -76,7 +73,7 @@ pub adds_then : (log mid new : List Act) → AddsNoCall log mid → AddsNoCall m
 adds_then log mid new one other = (
   other.0 ++ one.0,
   other.1 ∙ ap (λ (l : List Act). other.0 ++ l) one.1 ∙ sym (append_assoc other.0 one.0 log),
-  none_join other.0 one.0 other.2 one.2,
+  all_join IsNoCall other.0 one.0 other.2 one.2,
 )
 
 next_none : (config : Config) (log new : List Act) → IsNext config log new → AddsNoCall log new
@@ -119,7 +116,7 @@ taking_none config polled c bytes request found log =
     let ends = abort_acts found (acts ++ log) in (
       ends ++ acts_of c effect,
       simp append_assoc,
-      none_join ends (acts_of c effect) (none_aborted found (acts ++ log))
+      all_join IsNoCall ends (acts_of c effect) (none_aborted found (acts ++ log))
           (none_effect c effect (none_request config polled c request (device_acts log))),
     )
 

@@ -38,7 +38,7 @@ use Rattle.sv_history.specs.Resuming.{effect_of, leaving, next_wait, resume_outc
 use Rattle.sv_history.specs.Settling.{IsNext}
 use Rattle.sv_history.specs.History.{abort_acts, turn_acts, refuse_acts, own_acts, refusal, IsLogOf}
 use Rattle.sv_history.proofs.Projections.{of_mine, of_other, of_shared, of_effect, others_effect, device_shared, device_effect, wait_acts-links, wait_acts-happened}
-use Rattle.sv_laws.proofs.EveryLog.Done.{each_done}
+use Rattle.sv_laws.proofs.EveryLog.Done.{each_done, own_told}
 use Rattle.sv_laws.proofs.EveryLog.Taken.{within}
 use Rattle.sv_laws.proofs.EveryLog.Fit.{Fit}
 use Rattle.sv_laws.proofs.EveryLog.EachEvent.{each_log, done_waits, turn_parts, fit_request, close_adds, device_closed, of_closed, fit_event, fit_step, fit_none}
@@ -49,46 +49,6 @@ HasWait c log = waits c (wait_acts (device_acts log)) ≡ None → pending_call 
 
 abbrev AllWait : List Act → Type 0
 AllWait log = (c : ℕ) → HasWait c log
-
--- ---- a call that is done has a result
-
-own_told : (config : Config) (polled c : ℕ) (arguments : Arguments) (acts : List DeviceAct)
-    → is_some (own_call config polled c arguments acts).result ≡ true
-own_told config polled c (CreateLink client_id lock_device lock_timeout device) acts = elim (cases_Bool (lids_left (link_acts acts))) [
-  | inl e ↦ rw e refl
-  | inr e ↦ rw e refl
-]
-own_told config polled c (OnLink (pos n) (DeviceWrite io_timeout lock_timeout flags bytes)) acts =
-    elim (cases_Bool (nat_lt max_message (length bytes))) [
-      | inl e ↦ rw e refl
-      | inr e ↦ elim (cases_Bool (has_ended (exchange_acts acts))) [ inl k ↦ rw (e, k) refl | inr k ↦ rw (e, k) refl ]
-    ]
-own_told config polled c (OnLink (pos n) (DeviceRead request_size io_timeout lock_timeout flags term_char)) acts =
-    elim (cases_Bool (is_answerable (instrument_acts acts))) [
-      | inl k ↦ elim (cases_Bool (is_something (response (exchange_acts acts)))) [ inl e ↦ rw (k, e) refl | inr e ↦ rw (k, e) refl ]
-      | inr k ↦ elim (cases_Bool (is_something (response (exchange_acts acts)))) [ inl e ↦ rw (k, e) refl | inr e ↦ rw (k, e) refl ]
-    ]
-own_told config polled c (OnLink (pos n) (DeviceLock flags lock_timeout)) acts =
-    elim (cases_Bool (is_locked_out (holder (link_acts acts)) (Some n))) [ inl e ↦ rw e refl | inr e ↦ rw e refl ]
-own_told config polled c (OnLink (pos n) DeviceUnlock) acts =
-    elim (cases_Bool (is_this n (holder (link_acts acts)))) [ inl e ↦ rw e refl | inr e ↦ rw e refl ]
-own_told config polled c (OnLink (pos n) (DeviceEnableSrq true handle)) acts = elim (cases_Bool (is_of c (owner n (link_acts acts)))) [
-  | inl e ↦ elim (cases_Bool (nat_lt max_handle (length handle))) [ inl k ↦ rw (e, k) refl | inr k ↦ rw (e, k) refl ]
-  | inr e ↦ rw e refl
-]
-own_told config polled c (OnLink (pos n) (DeviceEnableSrq false handle)) acts =
-    elim (cases_Bool (is_of c (owner n (link_acts acts)))) [ inl e ↦ rw e refl | inr e ↦ rw e refl ]
-own_told config polled c DestroyIntrChan acts = elim (cases_Bool (has_channel c acts)) [ inl e ↦ rw e refl | inr e ↦ rw e refl ]
-own_told config polled c (OnLink (pos n) DestroyLink) acts = refl
-own_told config polled c (OnLink (negsuc n) call) acts = refl
-own_told config polled c (OnLink (pos n) (Generic Readstb flags lock_timeout io_timeout)) acts = refl
-own_told config polled c (OnLink (pos n) (Generic Trigger flags lock_timeout io_timeout)) acts = refl
-own_told config polled c (OnLink (pos n) (Generic Clear flags lock_timeout io_timeout)) acts = refl
-own_told config polled c (OnLink (pos n) (Generic Remote flags lock_timeout io_timeout)) acts = refl
-own_told config polled c (OnLink (pos n) (Generic Local flags lock_timeout io_timeout)) acts = refl
-own_told config polled c (OnLink (pos n) DeviceAbort) acts = refl
-own_told config polled c (OnLink (pos n) (DeviceDocmd flags io_timeout lock_timeout cmd network_order datasize bytes)) acts = refl
-own_told config polled c (CreateIntrChan host_addr host_port prog_num prog_vers prog_family) acts = refl
 
 replies_free : (xid : ℕ) (result : Option Outcome) (acts : List ConnAct) → is_some result ≡ true
     → pending_call (replies xid result ++ acts) ≡ None

@@ -13,6 +13,7 @@ use Rattle.sv_links.specs.declared.waiting.Wait.TheVariants.{Lock, Input as ForI
 use Rattle.sv_links.specs.Links.{LinkAct, Made, Destroyed, Locked, Unlocked, owner, closing}
 use Rattle.sv_links.specs.Waiting.{WaitAct, Entered, Left, waits, link as named_link}
 use Rattle.sv_links.specs.Channels.{ChannelAct, SrqEnabled, ChannelClosed, ChannelTaken}
+use Rattle.sv_laws.proofs.Facts.{some_same}
 use Rattle.sv_laws.proofs.LinksAlike.{MakesNone}
 use Rattle.sv_laws.proofs.CallsAlike.{call_foreign}
 use Rattle.sv_laws.proofs.Closed.{closed_before, closed_makes_none}
@@ -122,9 +123,6 @@ fit_connected c ok None log fit = fit_free c (connect_effect c ok None) log fit 
     (left_none c (wait_acts (device_acts log)))
 
 -- ---- a call that resumes
-
-some_wait : (a b : Wait) → Some a ≡ Some b → a ≡ b
-some_wait a b e = cc
 
 -- a create_link doesn't wait anew
 pub no_next : (wait : Wait) (arguments : Arguments) (acts : List DeviceAct) (next : Wait × ℕ) → is_create_link arguments ≡ true
@@ -237,7 +235,7 @@ fit_admitted config polled c bytes call (Some (Awaits wait until)) log fit lt no
     ((refl, lt, (λ n is. waits_own c call.arguments (device_acts log) wait until n e is)), tt) refl
     (λ other is.
     let now = entered_waits c (lid_of (link call.arguments)) wait _ (wait_acts (device_acts log)) in
-    let same : wait ≡ other = some_wait wait other (sym now.0 ∙ is) in (
+    let same : wait ≡ other = some_same wait other (sym now.0 ∙ is) in (
       core,
       (
         call,

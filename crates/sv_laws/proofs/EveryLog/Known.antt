@@ -11,6 +11,7 @@ use Rattle.sv_links.specs.Table.{IsRising}
 use Rattle.sv_links.specs.Waiting.{Entered, Again, Left, waits, link, is_there}
 use Rattle.sv_links.specs.Channels.{ChannelAct, SrqEnabled, SrqDisabled, ChannelOpened, ChannelClosed, Requested, ChannelTaken, srq_enabled}
 use Rattle.sv_links.proofs.Tables.{rising-push, rising-filter, other_than}
+use Rattle.sv_laws.proofs.Facts.{some_same}
 use Rattle.sv_laws.proofs.LinksAlike.{owner_made, owner_made_other, owner_destroyed_other, owner_before, is_of_owner}
 use Rattle.sv_laws.proofs.ChannelsAlike.{AsksElsewhere}
 use Rattle.sv_history.specs.Act.{DeviceAct, Linked, Waited, Channel, Applied, Ticked, link_acts, wait_acts}
@@ -18,9 +19,6 @@ use Rattle.sv_history.specs.Requests.{HearsOf}
 use Rattle.sv_history.specs.Settling.{CanResume}
 use Rattle.sv_laws.specs.Isolation.{NoOtherWaits}
 use Rattle.sv_laws.proofs.EveryLog.Fit.{AllSuit}
-
-some_number : (a b : ℕ) → Some a ≡ Some b → a ≡ b
-some_number a b e = cc
 
 -- ---- numbers of links rise
 
@@ -74,7 +72,7 @@ wait_link (Waited (Entered conn named wait last) ∷ acts) all d n h = elim (cas
   | inl e ↦
       let owns : owner n (link_acts acts) ≡ Some conn = all.0.1 n (rw e at h) in (
         owner_within n conn acts all.1 owns,
-        (λ other is. some_number other conn (sym is ∙ owns) ∙ eqb-true conn d e),
+        (λ other is. some_same other conn (sym is ∙ owns) ∙ eqb-true conn d e),
       )
   | inr e ↦ wait_link acts all.1 d n (rw e at h)
 ]
@@ -117,16 +115,13 @@ waits_within (Ticked ∷ acts) all d wait h = waits_within acts all.1 d wait h
 abbrev AskOwned : List DeviceAct → List ChannelAct → Type 0
 AskOwned acts channel_log = (lid : ℕ) (one : Enabled) → srq_enabled lid channel_log ≡ Some one → owner lid (link_acts acts) ≡ Some one.conn
 
-some_enabled : (a b : Enabled) → Some a ≡ Some b → a ≡ b
-some_enabled a b e = cc
-
 enabled_owned : (acts : List DeviceAct) (before : List ChannelAct) (other conn : ℕ) (handle : List ℕ)
     → owner other (link_acts acts) ≡ Some conn → AskOwned acts before → AskOwned acts (SrqEnabled other conn handle ∷ before)
 enabled_owned acts before other conn handle owns owned lid one h = elim (cases_Bool (eqb other lid)) [
   | inl e ↦
       let this : Enabled = record { lid = lid; conn = conn; handle = handle } in
       ap (λ (n : ℕ). owner n (link_acts acts)) (sym (eqb-true other lid e)) ∙ owns
-      ∙ ap (λ (x : Enabled). Some x.conn) (some_enabled this one (rw e at h))
+      ∙ ap (λ (x : Enabled). Some x.conn) (some_same this one (rw e at h))
   | inr e ↦ owned lid one (rw e at h)
 ]
 

@@ -8,6 +8,7 @@ use Rattle.sv_links.specs.declared.waiting.Wait.TheVariants.{Input as ForInput, 
 use Rattle.sv_links.specs.Links.{LinkAct, Made, Destroyed, Locked, Unlocked, owner, is_of, holder}
 use Rattle.sv_links.specs.Waiting.{WaitAct, Entered, Again, Left}
 use Rattle.sv_links.specs.Channels.{ChannelAct, SrqEnabled, SrqDisabled, ChannelOpened, ChannelClosed, Requested, ChannelTaken, peer}
+use Rattle.sv_laws.proofs.Facts.{some_same}
 use Rattle.sv_laws.proofs.LinksAlike.{OwnsAlike, IsForeignLink, MakesNone, links_foreign, links_same, holder_same, owner_kept, is_of_owner, owner_is_of}
 use Rattle.sv_laws.proofs.CallsAlike.{SameCall, conn_of, call_foreign, call_sym, call_same}
 use Rattle.sv_laws.proofs.ChannelsAlike.{SameChannel, IsForeignChannel, channel_foreign, channel_same, channel_sym}
@@ -65,13 +66,10 @@ IsOwn c Ticked = ⊤
 
 -- ---- no other connection waits for the device
 
-some_wait : (a b : Wait) → Some a ≡ Some b → a ≡ b
-some_wait a b e = cc
-
 rest_entered : (c conn : ℕ) (named : Option ℕ) (wait : Wait) (last : Option ℕ) (acts : List WaitAct) → wait ≢ ForInput → wait ≢ Response
     → NoOtherWaits c acts → NoOtherWaits c (Entered conn named wait last ∷ acts)
 rest_entered c conn named wait last acts input response rest d ne = elim (cases_Bool (eqb conn d)) [
-  | inl e ↦ rw e ((λ is. input (some_wait wait ForInput is)), (λ is. response (some_wait wait Response is)))
+  | inl e ↦ rw e ((λ is. input (some_same wait ForInput is)), (λ is. response (some_same wait Response is)))
   | inr e ↦ rw e (rest d ne)
 ]
 

@@ -1,0 +1,11 @@
+-- Facts of lists and options.
+use Rattle.std.proofs.Common.{◌≡◌, List, [], ◌∷◌, ◌++◌, Some}
+use Rattle.std.specs.List.{AllByRecursion}
+
+pub some_same : {A : Type 0} (a b : A) → Some a ≡ Some b → a ≡ b
+some_same a b e = cc
+
+-- What holds of all in two lists holds of all in both together.
+pub all_join : {A : Type 0} (P : A → Type 0) (a b : List A) → AllByRecursion P a → AllByRecursion P b → AllByRecursion P (a ++ b)
+all_join P [] b h k = k
+all_join P (x ∷ a) b h k = (h.0, all_join P a b h.1 k)
