@@ -44,7 +44,7 @@ use Rattle.sv_laws.proofs.OneLog.{one_log}
 use Rattle.sv_laws.proofs.Facts.{all_join}
 use Rattle.sv_laws.proofs.EveryLog.Done.{IsDone, each_done}
 use Rattle.sv_logs.proofs.Each.{Each}
-use Rattle.sv_laws.proofs.EveryLog.EachEvent.{each_settled, turn_parts}
+use Rattle.sv_laws.proofs.EveryLog.EachEvent.{each_settled, StepsKeep, step_keeps, turn_keeps, refuse_keeps}
 
 -- ---- acts that open no channel, and of which no peer takes bytes
 
@@ -202,169 +202,115 @@ behind_shared base more log h (adds, k, is) = (
   device_shared more log ∙ ap (λ (l : List DeviceAct). more ++ l) is ∙ sym (append_assoc more adds base),
 )
 
-behind_ended : (base : List DeviceAct) (c : ℕ) (does : Arguments → CallOutcome) (call : Option CoreCall) (log : List Act)
-    → ((arguments : Arguments) → ArePlain (does arguments).adds) → Behind base log → Behind base (acts_of c (effect_of c does call) ++ log)
-behind_ended base c does call log h = behind_effect base c (effect_of c does call) log (plain_ended c does call h)
+behind_ended : (base : List DeviceAct) (c : ℕ) (does : Arguments → CallOutcome) (log : List Act)
+    → ((arguments : Arguments) → ArePlain (does arguments).adds) → Behind base log
+    → Behind base (acts_of c (effect_of c does (core_call_in (pending_call (of c log)))) ++ log)
+behind_ended base c does log h =
+    behind_effect base c (effect_of c does (core_call_in (pending_call (of c log)))) log (plain_ended c does _ h)
 
-behind_step : (base : List DeviceAct) (config : Config) (log new : List Act) → Behind base log → IsNext config log new → Behind base new
-behind_step base config log new all (inl fires) =
-    subst (Behind base) (sym fires.2) (behind_shared base (map Applied fires.0) log (plain_happened fires.0) all)
-behind_step base config log new all (inr (none, inl (c, wait, polled, oldest, for, said, is))) =
-    subst (Behind base) (sym is) (behind_ended base c (λ arguments. resume_outcome config polled c arguments
-    (next_wait wait arguments (device_acts log)) (device_acts log)) (core_call_in (pending_call (of c log))) log
-    (λ arguments. plain_continued config polled c arguments (next_wait wait arguments (device_acts log)) (device_acts log)) all)
-behind_step base config log new all (inr (none, inr (still, inl step))) =
-    subst (Behind base) (sym step.2) (behind_shared base (map Applied step.0) log (plain_happened step.0) all)
-behind_step base config log new all (inr (none, inr (still, inr (idle, (c, wait, oldest, for, is))))) =
-    subst (Behind base) (sym is) (behind_ended base c (λ arguments. leaving c (only (failure arguments (late wait))))
-    (core_call_in (pending_call (of c log))) log (λ arguments. (tt, tt)) all)
+steps_keep : (base : List DeviceAct) (config : Config) → StepsKeep config (Behind base)
+steps_keep base config = record {
+  happened = λ adds log. behind_shared base (map Applied adds) log (plain_happened adds);
+  resumed = λ polled c wait log for. behind_ended base c (λ arguments. resume_outcome config polled c arguments
+      (next_wait wait arguments (device_acts log)) (device_acts log)) log
+      (λ arguments. plain_continued config polled c arguments (next_wait wait arguments (device_acts log)) (device_acts log));
+  failed = λ error c log. behind_ended base c (λ arguments. leaving c (only (failure arguments error))) log (λ arguments. (tt, tt));
+}
 
 -- ---- an event's own acts
 
 behind_none : (log : List Act) → Behind (device_acts log) log
 behind_none log = ([], tt, refl)
 
-behind_abort : (base : List DeviceAct) (aborts : Option ℕ) (log : List Act) → Behind base log → Behind base (abort_acts aborts log ++ log)
-behind_abort base (Some d) log = behind_ended base d (λ arguments. leaving d (only (failure arguments Abort)))
-    (core_call_in (pending_call (of d log))) log (λ arguments. (tt, tt))
-behind_abort base None log = λ all. all
-
-behind_turn : (config : Config) (polled c : ℕ) (found : Option (List ℕ)) (request : Option Request) (log : List Act)
-    → Behind (device_acts log) (turn_acts config polled c found request log ++ log)
-behind_turn config polled c (Some bytes) (Some request) log =
-    let effect = request_effect config polled c request (device_acts log) in
-    subst (Behind (device_acts log)) (sym (turn_parts c bytes effect (aborts request (device_acts log)) log))
-    (behind_abort (device_acts log) (aborts request (device_acts log)) (acts_of c effect ++ On c (CallTaken bytes) ∷ log)
-    (behind_effect (device_acts log) c effect (On c (CallTaken bytes) ∷ log) (plain_request config polled c request (device_acts log))
-    ([], tt, refl)))
-behind_turn config polled c (Some bytes) None log = behind_none log
-behind_turn config polled c None (Some request) log = behind_none log
-behind_turn config polled c None None log = behind_none log
-
-behind_refuse : (c : ℕ) (found : Option (List ℕ)) (call : Option CoreCall) (log : List Act)
-    → Behind (device_acts log) (refuse_acts c found call ++ log)
-behind_refuse c (Some bytes) (Some call) log = ([], tt, refl)
-behind_refuse c (Some bytes) None log = behind_none log
-behind_refuse c None (Some call) log = behind_none log
-behind_refuse c None None log = behind_none log
-
 no_tick : (log : List Act) → ticks (device_acts log) ≡ ticks (device_acts log) + 0
 no_tick log = sym (add-zero (ticks (device_acts log)))
 
--- what is told to channels of a list of acts that an event begins with
-abbrev Begins : PlainEvent → List Act → List Act → Type 0
-Begins event log new = (base : List DeviceAct) × Behind base new
-    × ((channel_log : List ChannelAct) → HearsOf (device_acts log) channel_log → HearsOf base (tells event log ++ channel_log))
-    × (ticks base ≡ ticks (device_acts log) + bit 0 (is_tick event))
+-- what is told to channels, and how many milliseconds pass, before the acts that a list of acts begins with
+record BeginsBy (told : List ChannelAct) (passed : ℕ) (log new : List Act) : Type 0 where
+  base : List DeviceAct
+  behind : Behind base new
+  hears : (channel_log : List ChannelAct) → HearsOf (device_acts log) channel_log → HearsOf base (told ++ channel_log)
+  time : ticks base ≡ ticks (device_acts log) + passed
 
-begins_dialed : (c : ℕ) (ok : Bool) (call : Option CoreCall) (log : List Act) → core_call_in (pending_call (of c log)) ≡ call
-    → (base : List DeviceAct) × Behind base (acts_of c (connect_effect c ok call) ++ log)
-    × ((channel_log : List ChannelAct) → HearsOf (device_acts log) channel_log
-    → HearsOf base ((cond ok (opened_to c (peer_in call)) []) ++ channel_log))
-    × (ticks base ≡ ticks (device_acts log) + 0)
-begins_dialed c ok None log e =
-    (device_acts log, behind_effect (device_acts log) c (connect_effect c ok None) log (tt, tt) (behind_none log), by ok, no_tick log)
-  where
-    by : (ok : Bool) (channel_log : List ChannelAct) → HearsOf (device_acts log) channel_log
-        → HearsOf (device_acts log) (cond ok [] [] ++ channel_log)
-    by true channel_log x = x
-    by false channel_log x = x
-begins_dialed c ok (Some call) log e = rw (dialed_is c ok call.arguments) (by ok (peer_by call.arguments))
-  where
-    by : (ok : Bool) (found : Option Peer)
-        → (base : List DeviceAct)
-        × Behind base (acts_of c (effect_of c (λ arguments. leaving c (dialed_to c ok arguments found)) (Some call)) ++ log)
-        × ((channel_log : List ChannelAct) → HearsOf (device_acts log) channel_log
-        → HearsOf base ((cond ok (opened_to c found) []) ++ channel_log))
-        × (ticks base ≡ ticks (device_acts log) + 0)
-    by true (Some one) = (
-      Channel (ChannelOpened c one) ∷ Waited (Left c) ∷ device_acts log,
-      ([], tt, device_effect c (effect_of c (λ arguments. leaving c (dialed_to c true arguments (Some one))) (Some call)) log),
-      (λ channel_log x. (channel_log, x, refl)),
-      no_tick log,
-    )
-    by false (Some one) = (
-      device_acts log,
-      behind_effect (device_acts log) c (effect_of c (λ arguments. leaving c (dialed_to c false arguments (Some one))) (Some call)) log (tt, tt)
-          (behind_none log),
-      (λ channel_log x. x),
-      no_tick log,
-    )
-    by true None = (
-      device_acts log,
-      behind_effect (device_acts log) c (effect_of c (λ arguments. leaving c (dialed_to c true arguments None)) (Some call)) log (tt, tt)
-          (behind_none log),
-      (λ channel_log x. x),
-      no_tick log,
-    )
-    by false None = (
-      device_acts log,
-      behind_effect (device_acts log) c (effect_of c (λ arguments. leaving c (dialed_to c false arguments None)) (Some call)) log (tt, tt)
-          (behind_none log),
-      (λ channel_log x. x),
-      no_tick log,
-    )
+-- at most events nothing is told, and no time passes
+at_once : (log new : List Act) → Behind (device_acts log) new → BeginsBy [] 0 log new
+at_once log new all = record { base = device_acts log; behind = all; hears = λ channel_log x. x; time = no_tick log }
 
-begins : (config : Config) (event : PlainEvent) (polled : ℕ) (log : List Act) → Begins event log (own_acts config polled event log ++ log)
-begins config (Open c role) polled log = (device_acts log, ([], tt, refl), (λ channel_log x. x), no_tick log)
-begins config (Bytes c piece) polled log = (device_acts log, ([], tt, refl), (λ channel_log x. x), no_tick log)
+abbrev dialed : ℕ → Bool → CoreCall → Option Peer → Effect
+dialed c ok call found = effect_of c (λ arguments. leaving c (dialed_to c ok arguments found)) (Some call)
+
+begins_peer : (c : ℕ) (ok : Bool) (call : CoreCall) (found : Option Peer) (log : List Act)
+    → BeginsBy (cond ok (opened_to c found) []) 0 log (acts_of c (dialed c ok call found) ++ log)
+begins_peer c true call (Some one) log = record {
+  base = Channel (ChannelOpened c one) ∷ Waited (Left c) ∷ device_acts log;
+  behind = ([], tt, device_effect c (dialed c true call (Some one)) log);
+  hears = λ channel_log x. (channel_log, x, refl);
+  time = no_tick log;
+}
+begins_peer c false call (Some one) log =
+    at_once log _ (behind_effect (device_acts log) c (dialed c false call (Some one)) log (tt, tt) (behind_none log))
+begins_peer c true call None log =
+    at_once log _ (behind_effect (device_acts log) c (dialed c true call None) log (tt, tt) (behind_none log))
+begins_peer c false call None log =
+    at_once log _ (behind_effect (device_acts log) c (dialed c false call None) log (tt, tt) (behind_none log))
+
+begins_dialed : (c : ℕ) (ok : Bool) (call : Option CoreCall) (log : List Act)
+    → BeginsBy (cond ok (opened_to c (peer_in call)) []) 0 log (acts_of c (connect_effect c ok call) ++ log)
+begins_dialed c true None log =
+    at_once log _ (behind_effect (device_acts log) c (connect_effect c true None) log (tt, tt) (behind_none log))
+begins_dialed c false None log =
+    at_once log _ (behind_effect (device_acts log) c (connect_effect c false None) log (tt, tt) (behind_none log))
+begins_dialed c ok (Some call) log = rw (dialed_is c ok call.arguments) (begins_peer c ok call (peer_by call.arguments) log)
+
+begins : (config : Config) (event : PlainEvent) (polled : ℕ) (log : List Act)
+    → BeginsBy (tells event log) (bit 0 (is_tick event)) log (own_acts config polled event log ++ log)
+begins config (Open c role) polled log = at_once log _ ([], tt, refl)
+begins config (Bytes c piece) polled log = at_once log _ ([], tt, refl)
 begins config (Turn c) polled log =
-    (device_acts log, (behind_turn config polled c (next_call (of c log)) (next_request (of c log)) log), (λ channel_log x. x), no_tick log)
-begins config (Refuse c) polled log =
-    (device_acts log, (behind_refuse c (next_call (of c log)) (refusable (of c log)) log), (λ channel_log x. x), no_tick log)
-begins config (Took (Conn c) count) polled log = (device_acts log, ([], tt, refl), (λ channel_log x. x), no_tick log)
+    let base = device_acts log in
+    at_once log _ (turn_keeps config (Behind base) (steps_keep base config) polled c (next_call (of c log)) (next_request (of c log)) log
+    (behind_none log) (λ bytes request next asks. behind_effect base c (request_effect config polled c request base)
+    (On c (CallTaken bytes) ∷ log) (plain_request config polled c request base) ([], tt, refl)))
+begins config (Refuse c) polled log = at_once log _ (refuse_keeps (Behind (device_acts log)) c (next_call (of c log))
+    (refusable (of c log)) log (behind_none log) (λ bytes call next can. ([], tt, refl)))
+begins config (Took (Conn c) count) polled log = at_once log _ ([], tt, refl)
 begins config (Took (Intr c) count) polled log =
-    (Channel (ChannelTaken c count) ∷ device_acts log, ([], tt, refl), (λ channel_log x. (channel_log, x, refl)), no_tick log)
+    let base = Channel (ChannelTaken c count) ∷ device_acts log in
+    record { base = base; behind = ([], tt, refl); hears = λ channel_log x. (channel_log, x, refl); time = no_tick log }
 begins config (Close (Conn c)) polled log =
-    let adds = Channel (ChannelClosed c) ∷ (map Linked (closing c (link_acts (device_acts log))) ++ Waited (Left c) ∷ []) in (
-      device_acts log,
-      (subst (Behind (device_acts log)) (sym (append_assoc (map OnDevice adds) (On c PortClosed ∷ []) log))
-          (behind_shared (device_acts log) adds (On c PortClosed ∷ log)
-          (tt, all_join IsPlain (map Linked (closing c (link_acts (device_acts log)))) (Waited (Left c) ∷ [])
-          (plain_links (closing c (link_acts (device_acts log)))) (tt, tt)) ([], tt, refl))),
-      (λ channel_log x. x),
-      no_tick log,
-    )
-begins config (Close (Intr c)) polled log = (
-  device_acts log,
-  (behind_shared (device_acts log) (Channel (ChannelClosed c) ∷ []) log (tt, tt) (behind_none log)),
-  (λ channel_log x. x),
-  no_tick log,
-)
-begins config (Dialed c true) polled log = begins_dialed c true (core_call_in (pending_call (of c log))) log refl
-begins config (Dialed c false) polled log = begins_dialed c false (core_call_in (pending_call (of c log))) log refl
-begins config (Input channel microvolts) polled log = (
-  device_acts log,
-  (behind_shared (device_acts log) (Applied (Scanned (InputTo channel microvolts)) ∷ []) log (tt, tt) (behind_none log)),
-  (λ channel_log x. x),
-  no_tick log,
-)
-begins config External polled log = (
-  device_acts log,
-  (behind_shared (device_acts log)
-      (map Applied (external_acts (instrument_acts (device_acts log)))) log
-      (plain_happened (external_acts (instrument_acts (device_acts log)))) (behind_none log)),
-  (λ channel_log x. x),
-  no_tick log,
-)
+    let links = closing c (link_acts (device_acts log)) in
+    let adds = Channel (ChannelClosed c) ∷ (map Linked links ++ Waited (Left c) ∷ []) in
+    at_once log _ (subst (Behind (device_acts log)) (sym (append_assoc (map OnDevice adds) (On c PortClosed ∷ []) log))
+    (behind_shared (device_acts log) adds (On c PortClosed ∷ log)
+    (tt, all_join IsPlain (map Linked links) (Waited (Left c) ∷ []) (plain_links links) (tt, tt)) ([], tt, refl)))
+begins config (Close (Intr c)) polled log =
+    at_once log _ (behind_shared (device_acts log) (Channel (ChannelClosed c) ∷ []) log (tt, tt) (behind_none log))
+begins config (Dialed c true) polled log = begins_dialed c true (core_call_in (pending_call (of c log))) log
+begins config (Dialed c false) polled log = begins_dialed c false (core_call_in (pending_call (of c log))) log
+begins config (Input channel microvolts) polled log = at_once log _
+    (behind_shared (device_acts log) (Applied (Scanned (InputTo channel microvolts)) ∷ []) log (tt, tt) (behind_none log))
+begins config External polled log =
+    let adds = external_acts (instrument_acts (device_acts log)) in
+    at_once log _ (behind_shared (device_acts log) (map Applied adds) log (plain_happened adds) (behind_none log))
 begins config Tick polled log =
-    let adds = map Applied (tick_acts (instrument_acts (device_acts log))) in (
-      Ticked ∷ device_acts log,
-      subst (Behind (Ticked ∷ device_acts log)) (sym (append_assoc (map OnDevice adds) (OnDevice Ticked ∷ []) log))
-          (behind_shared (Ticked ∷ device_acts log) adds (OnDevice Ticked ∷ log)
-          (plain_happened (tick_acts (instrument_acts (device_acts log)))) ([], tt, refl)),
-      (λ channel_log x. x),
-      refl,
-    )
+    let adds = tick_acts (instrument_acts (device_acts log)) in
+    record {
+      base = Ticked ∷ device_acts log;
+      behind = subst (Behind (Ticked ∷ device_acts log))
+          (sym (append_assoc (map OnDevice (map Applied adds)) (OnDevice Ticked ∷ []) log))
+          (behind_shared (Ticked ∷ device_acts log) (map Applied adds) (OnDevice Ticked ∷ log) (plain_happened adds) ([], tt, refl));
+      hears = λ channel_log x. x;
+      time = refl;
+    }
 
 from_log : (config : Config) (event : PlainEvent) (polled : ℕ) (before log : List Act) (channel_log later : List ChannelAct) (c : ℕ)
     → HearsOf (device_acts before) channel_log → (n : ℕ) → SettlesIn n config (own_acts config polled event before ++ before) log
     → HearsOf (device_acts log) later → OnlyAdds c (tells event before ++ channel_log) later
 from_log config event polled before log channel_log later c x n settles y =
     let start = begins config event polled before in
-    let end = each_settled config (Behind start.0) (behind_step start.0 config) n (own_acts config polled event before ++ before) log
-    start.1 settles in
-    plain_tells c end.0 start.0 (tells event before ++ channel_log) later end.1 (start.2 channel_log x)
+    let end = each_settled config (Behind start.base) (step_keeps config _ (steps_keep start.base config)) n (own_acts config polled event before ++ before) log
+    start.behind settles in
+    plain_tells c end.0 start.base (tells event before ++ channel_log) later end.1 (start.hears channel_log x)
     (subst (λ (acts : List DeviceAct). HearsOf acts later) end.2 y)
 
 pub only_requests : OnlyRequests
@@ -380,6 +326,6 @@ pub ticks_event : (config : Config) (event : PlainEvent) (polled : ℕ) (before 
     → ticks (device_acts log) ≡ ticks (device_acts before) + bit 0 (is_tick event)
 ticks_event config event polled before log n settles =
     let start = begins config event polled before in
-    let end = each_settled config (Behind start.0) (behind_step start.0 config) n (own_acts config polled event before ++ before) log
-    start.1 settles in
-    ap ticks end.2 ∙ plain_ticks end.0 start.0 end.1 ∙ start.3
+    let end = each_settled config (Behind start.base) (step_keeps config _ (steps_keep start.base config)) n (own_acts config polled event before ++ before) log
+    start.behind settles in
+    ap ticks end.2 ∙ plain_ticks end.0 start.base end.1 ∙ start.time

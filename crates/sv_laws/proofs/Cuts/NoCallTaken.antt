@@ -1,5 +1,5 @@
 -- What follows a call in its event takes no call: neither what the call does, nor the steps that are due then.
-use Rattle.std.proofs.Common.{◌≡◌, ℕ, zero, suc, List, [], ◌∷◌, ◌++◌, Option, Some, None, refl, sym, ap, ◌∙◌, inl, inr, append_assoc}
+use Rattle.std.proofs.Common.{◌≡◌, ℕ, zero, suc, List, [], ◌∷◌, ◌++◌, Option, Some, None, refl, sym, ap, subst, ◌∙◌, inl, inr, append_assoc}
 use Rattle.std.specs.Prelude.{map, not, ⊤, ◌==◌}
 use Rattle.std.specs.List.{AllByRecursion}
 use Rattle.std.proofs.lemmas.Bool.{cases_Bool}
@@ -23,6 +23,7 @@ use Rattle.sv_history.specs.History.{abort_acts, taken_acts}
 use Rattle.sv_laws.specs.Cuts.{is_piece, without_pieces}
 use Rattle.sv_history.proofs.Projections.{of_mine}
 use Rattle.sv_laws.proofs.Facts.{all_join}
+use Rattle.sv_laws.proofs.EveryLog.EachEvent.{each_settled, StepsKeep, ends_keep, step_keeps, abort_keeps, turn_parts}
 
 -- ---- acts that take no call
 
@@ -53,16 +54,6 @@ none_ended : (c : ℕ) (does : Arguments → CallOutcome) (call : Option CoreCal
 none_ended c does (Some call) = none_replies call.xid (does call.arguments).result
 none_ended c does None = tt
 
-none_failed : (error : ErrorCode) (d : ℕ) (log : List Act)
-    → AllByRecursion IsNoCall (acts_of d (failure_effect error d (core_call_in (pending_call (of d log)))))
-none_failed error d log =
-    let call = core_call_in (pending_call (of d log)) in
-    none_effect d (failure_effect error d call) (none_ended d (λ arguments. leaving d (only (failure arguments error))) call)
-
-none_aborted : (d : Option ℕ) (log : List Act) → AllByRecursion IsNoCall (abort_acts d log)
-none_aborted None log = tt
-none_aborted (Some d) log = none_failed Abort d log
-
 -- ---- steps
 
 -- Acts that take no call make one log of another.
@@ -76,25 +67,19 @@ adds_then log mid new one other = (
   all_join IsNoCall other.0 one.0 other.2 one.2,
 )
 
-next_none : (config : Config) (log new : List Act) → IsNext config log new → AddsNoCall log new
-next_none config log new (inl fires) = (map OnDevice (map Applied fires.0), fires.2, none_shared (map Applied fires.0))
-next_none config log new (inr (none, inl (c, wait, polled, oldest, for, said, is))) =
-    let call = core_call_in (pending_call (of c log)) in
-    let acts = device_acts log in
-    let effect = resume_effect config polled c wait call acts in (
-      acts_of c effect,
-      is,
-      none_effect c effect (none_ended c (λ arguments. resume_outcome config polled c arguments (next_wait wait arguments acts) acts) call),
-    )
-next_none config log new (inr (none, inr (still, inl step))) =
-    (map OnDevice (map Applied step.0), step.2, none_shared (map Applied step.0))
-next_none config log new (inr (none, inr (still, inr (idle, (c, wait, oldest, for, is))))) =
-    (acts_of c (failure_effect (late wait) c (core_call_in (pending_call (of c log)))), is, none_failed (late wait) c log)
+-- behind such acts come such
+adds_more : (base adds log : List Act) → AllByRecursion IsNoCall adds → AddsNoCall base log → AddsNoCall base (adds ++ log)
+adds_more base adds log none so = adds_then base log (adds ++ log) so (adds, refl, none)
+
+steps_keep : (config : Config) (base : List Act) → StepsKeep config (AddsNoCall base)
+steps_keep config base = ends_keep config (AddsNoCall base)
+    (λ adds log. adds_more base (map OnDevice (map Applied adds)) log (none_shared (map Applied adds)))
+    (λ c does log. adds_more base (acts_of c (effect_of c does (core_call_in (pending_call (of c log))))) log
+    (none_effect c _ (none_ended c does (core_call_in (pending_call (of c log))))))
 
 pub settles_none : (n : ℕ) (config : Config) (log new : List Act) → SettlesIn n config log new → AddsNoCall log new
-settles_none zero config log new (none, same) = ([], same, tt)
-settles_none (suc n) config log new (middle, next, more) =
-    adds_then log middle new (next_none config log middle next) (settles_none n config middle new more)
+settles_none n config log new =
+    each_settled config (AddsNoCall log) (step_keeps config _ (steps_keep config log)) n log new ([], refl, tt)
 
 -- ---- what a call does
 
@@ -112,13 +97,9 @@ pub taking_none : (config : Config) (polled c : ℕ) (bytes : List ℕ) (request
     (taken_acts c bytes (request_effect config polled c request (device_acts log)) found log ++ log)
 taking_none config polled c bytes request found log =
     let effect = request_effect config polled c request (device_acts log) in
-    let acts = acts_of c effect ++ On c (CallTaken bytes) ∷ [] in
-    let ends = abort_acts found (acts ++ log) in (
-      ends ++ acts_of c effect,
-      simp append_assoc,
-      all_join IsNoCall ends (acts_of c effect) (none_aborted found (acts ++ log))
-          (none_effect c effect (none_request config polled c request (device_acts log))),
-    )
+    let taken = On c (CallTaken bytes) ∷ log in
+    subst (AddsNoCall taken) (sym (turn_parts c bytes effect found log)) (abort_keeps config _ (steps_keep config taken) found _
+    (acts_of c effect, refl, none_effect c effect (none_request config polled c request (device_acts log))))
 
 -- ---- the acts of a connection
 

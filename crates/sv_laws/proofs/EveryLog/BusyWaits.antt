@@ -41,7 +41,7 @@ use Rattle.sv_history.proofs.Projections.{of_mine, of_other, of_shared, of_effec
 use Rattle.sv_laws.proofs.EveryLog.Done.{each_done, own_told}
 use Rattle.sv_laws.proofs.EveryLog.Taken.{within}
 use Rattle.sv_laws.proofs.EveryLog.Fit.{Fit}
-use Rattle.sv_laws.proofs.EveryLog.EachEvent.{each_log, done_waits, turn_parts, fit_request, close_adds, device_closed, of_closed, fit_event, fit_step, fit_none}
+use Rattle.sv_laws.proofs.EveryLog.EachEvent.{each_log, StepsKeep, step_keeps, turn_keeps, refuse_keeps, done_waits, fit_request, fit_keeps, close_adds, device_closed, of_closed, fit_event, fit_none}
 
 -- If no call of a connection waits, none is without an answer.
 abbrev HasWait : ℕ → List Act → Type 0
@@ -162,15 +162,20 @@ all_continued config polled c wait call None log all for =
     all_left c call.xid outcome log all (own_told config polled c call.arguments before)
     (done_waits c call.arguments outcome.adds before (each_done config polled c call.arguments before))
 
-all_step : (config : Config) (log new : List Act) → Fit log → AllWait log → IsNext config log new → AllWait new
-all_step config log new fit all (inl fires) = subst AllWait (sym fires.2) (all_happened fires.0 log all)
-all_step config log new fit all (inr (none, inl (c, wait, polled, oldest, for, said, is))) =
-    subst AllWait (sym is) (all_ended c (λ arguments. resume_outcome config polled c arguments (next_wait wait arguments (device_acts log))
-    (device_acts log)) log fit all
-    (λ call. all_continued config polled c wait call (next_wait wait call.arguments (device_acts log)) log all for))
-all_step config log new fit all (inr (none, inr (still, inl step))) = subst AllWait (sym step.2) (all_happened step.0 log all)
-all_step config log new fit all (inr (none, inr (still, inr (idle, (c, wait, oldest, for, is))))) =
-    subst AllWait (sym is) (all_failed (late wait) c log fit all)
+-- both are kept together
+abbrev IsSound : List Act → Type 0
+IsSound log = Fit log × AllWait log
+
+steps_keep : (config : Config) → StepsKeep config IsSound
+steps_keep config = record {
+  happened = λ adds log so. ((fit_keeps config).happened adds log so.0, all_happened adds log so.1);
+  resumed = λ polled c wait log for so. (
+    (fit_keeps config).resumed polled c wait log for so.0,
+    all_ended c (λ arguments. resume_outcome config polled c arguments (next_wait wait arguments (device_acts log)) (device_acts log)) log
+        so.0 so.1 (λ call. all_continued config polled c wait call (next_wait wait call.arguments (device_acts log)) log so.1 for),
+  );
+  failed = λ error c log so. ((fit_keeps config).failed error c log so.0, all_failed error c log so.0 so.1);
+}
 
 -- ---- an event's own acts
 
@@ -206,32 +211,15 @@ all_request config polled c (AbortRequest xid lid) log all =
 all_request config polled c (PortRequest xid args) log all =
     all_effect c (request_effect config polled c (PortRequest xid args) (device_acts log)) log all (λ d ne. refl) (λ none. refl)
 
-all_abort : (aborts : Option ℕ) (log : List Act) → Fit log → AllWait log → AllWait (abort_acts aborts log ++ log)
-all_abort (Some d) log fit all = all_failed Abort d log fit all
-all_abort None log fit all = all
-
-all_turn : (config : Config) (polled c : ℕ) (found : Option (List ℕ)) (request : Option Request) (log : List Act) → Fit log → AllWait log
-    → c < 16 → next_call (of c log) ≡ found → next_request (of c log) ≡ request
-    → AllWait (turn_acts config polled c found request log ++ log)
-all_turn config polled c (Some bytes) (Some request) log fit all lt next asks =
-    let effect = request_effect config polled c request (device_acts log) in
-    let taken = On c (CallTaken bytes) ∷ log in
-    subst AllWait (sym (turn_parts c bytes effect (aborts request (device_acts log)) log))
-    (all_abort (aborts request (device_acts log)) (acts_of c effect ++ taken)
-    (fit_request config polled c bytes request log fit lt next asks)
-    (all_request config polled c request taken (λ d ne none. ap pending_call (of_other c d (CallTaken bytes) log ne) ∙ all d none)))
-all_turn config polled c (Some bytes) None log fit all lt next asks = all
-all_turn config polled c None (Some request) log fit all lt next asks = all
-all_turn config polled c None None log fit all lt next asks = all
-
-all_refuse : (c : ℕ) (found : Option (List ℕ)) (call : Option CoreCall) (log : List Act) → AllWait log
-    → AllWait (refuse_acts c found call ++ log)
-all_refuse c (Some bytes) (Some call) log all =
-    all_effect c (record { own = Replied (refused_reply call) ∷ CallTaken bytes ∷ []; adds = [] }) log (λ d ne. all d) (λ d ne. refl)
-    (λ none. refl)
-all_refuse c (Some bytes) None log all = all
-all_refuse c None (Some call) log all = all
-all_refuse c None None log all = all
+all_turn : (config : Config) (polled c : ℕ) (log : List Act) → IsSound log → c < 16
+    → IsSound (turn_acts config polled c (next_call (of c log)) (next_request (of c log)) log ++ log)
+all_turn config polled c log so lt =
+    turn_keeps config IsSound (steps_keep config) polled c (next_call (of c log)) (next_request (of c log)) log so
+    (λ bytes request next asks. (
+      fit_request config polled c bytes request log so.0 lt next asks,
+      all_request config polled c request (On c (CallTaken bytes) ∷ log)
+          (λ d ne none. ap pending_call (of_other c d (CallTaken bytes) log ne) ∙ so.1 d none),
+    ))
 
 all_close : (c : ℕ) (log : List Act) → AllWait log → AllWait (map OnDevice (close_adds c (device_acts log)) ++ On c PortClosed ∷ log)
 all_close c log all d none =
@@ -252,9 +240,11 @@ all_event config (Open c role) polled channel_log log free fit all =
     all_effect c (record { own = Opened role ∷ []; adds = [] }) log (λ d ne. all d) (λ d ne. refl) (λ none. refl)
 all_event config (Bytes c piece) polled channel_log log free fit all =
     all_effect c (record { own = Piece piece ∷ []; adds = [] }) log (λ d ne. all d) (λ d ne. refl) (all c)
-all_event config (Turn c) polled channel_log log free fit all =
-    all_turn config polled c (next_call (of c log)) (next_request (of c log)) log fit all (within c log _ free) refl refl
-all_event config (Refuse c) polled channel_log log free fit all = all_refuse c (next_call (of c log)) (refusable (of c log)) log all
+all_event config (Turn c) polled channel_log log free fit all = (all_turn config polled c log (fit, all) (within c log _ free)).1
+all_event config (Refuse c) polled channel_log log free fit all =
+    refuse_keeps AllWait c (next_call (of c log)) (refusable (of c log)) log all (λ bytes call next can.
+    all_effect c (record { own = Replied (refused_reply call) ∷ CallTaken bytes ∷ []; adds = [] }) log (λ d ne. all d) (λ d ne. refl)
+    (λ none. refl))
 all_event config (Took (Conn c) count) polled channel_log log free fit all =
     all_effect c (record { own = BytesTaken count ∷ []; adds = [] }) log (λ d ne. all d) (λ d ne. refl) (all c)
 all_event config (Took (Intr c) count) polled channel_log log free fit all = all_shared (Channel (ChannelTaken c count) ∷ []) log all refl
@@ -274,9 +264,9 @@ all_event config Tick polled channel_log log free fit all =
 pub busy_waits : (config : Config) (history : List PlainEvent) (log : List Act) → IsLogOf config history log → (c : ℕ)
     → waits c (wait_acts (device_acts log)) ≡ None → pending_call (of c log) ≡ None
 busy_waits config history log was =
-    (each_log config (λ now. Fit now × AllWait now) (fit_none, (λ c none. refl))
+    (each_log config IsSound (fit_none, (λ c none. refl))
     (λ event polled channel_log now is free so. (
       fit_event config event polled channel_log now free so.0,
       all_event config event polled channel_log now free so.0 so.1,
     ))
-    (λ now new so next. (fit_step config now new so.0 next, all_step config now new so.0 so.1 next)) history log was).1
+    (step_keeps config IsSound (steps_keep config)) history log was).1

@@ -44,7 +44,7 @@ use Rattle.sv_history.specs.Refusing.{takes_memory, refusable_call, refusable, r
 use Rattle.sv_history.specs.Settling.{IsNext}
 use Rattle.sv_history.specs.History.{abort_acts, turn_acts, refuse_acts, own_acts, unless_shut, refusal, IsLogOf}
 use Rattle.sv_history.proofs.Projections.{of_mine, of_shared, of_effect, others_effect}
-use Rattle.sv_laws.proofs.EveryLog.EachEvent.{each_log, turn_parts}
+use Rattle.sv_laws.proofs.EveryLog.EachEvent.{each_log, StepsKeep, ends_keep, step_keeps, turn_keeps, refuse_keeps}
 
 -- ---- when an act can come
 
@@ -171,33 +171,21 @@ came_replies : (xid : ℕ) (result : Option Outcome) (acts : List ConnAct) (call
 came_replies xid (Some result) acts call busy is all = ((call, busy, told_result call xid result is), all)
 came_replies xid None acts call busy is all = all
 
-all_ended : (c : ℕ) (does : Arguments → CallOutcome) (call : Option CoreCall) (log : List Act)
-    → core_call_in (pending_call (of c log)) ≡ call
-    → Everywhere log → Everywhere (acts_of c (effect_of c does call) ++ log)
-all_ended c does (Some call) log e all =
-    let known = core_known (pending_call (of c log)) call e in
-    all_effect c (effect_of c does (Some call)) log all
-    (came_replies call.xid (does call.arguments).result (of c log) known.0 known.1 known.2 (all c))
-all_ended c does None log e all = all_effect c (effect_of c does None) log all (all c)
+all_ended : (c : ℕ) (does : Arguments → CallOutcome) (log : List Act) → Everywhere log
+    → Everywhere (acts_of c (effect_of c does (core_call_in (pending_call (of c log)))) ++ log)
+all_ended c does log all = by (core_call_in (pending_call (of c log))) refl
+  where
+    by : (call : Option CoreCall) → core_call_in (pending_call (of c log)) ≡ call → Everywhere (acts_of c (effect_of c does call) ++ log)
+    by (Some call) e =
+        let known = core_known (pending_call (of c log)) call e in
+        all_effect c (effect_of c does (Some call)) log all
+        (came_replies call.xid (does call.arguments).result (of c log) known.0 known.1 known.2 (all c))
+    by None e = all_effect c (effect_of c does None) log all (all c)
 
-all_step : (config : Config) (log new : List Act) → Everywhere log → IsNext config log new → Everywhere new
-all_step config log new all (inl fires) = subst Everywhere (sym fires.2) (all_shared (map Applied fires.0) log all)
-all_step config log new all (inr (none, inl (c, wait, polled, oldest, for, said, is))) =
-    subst Everywhere (sym is) (all_ended c
-    (λ arguments. resume_outcome config polled c arguments (next_wait wait arguments (device_acts log))
-    (device_acts log)) (core_call_in (pending_call (of c log))) log refl all)
-all_step config log new all (inr (none, inr (still, inl step))) =
-    subst Everywhere (sym step.2) (all_shared (map Applied step.0) log all)
-all_step config log new all (inr (none, inr (still, inr (idle, (c, wait, oldest, for, is))))) =
-    subst Everywhere (sym is) (all_ended c (λ arguments. leaving c (only (failure arguments (late wait))))
-    (core_call_in (pending_call (of c log))) log refl all)
+steps_keep : (config : Config) → StepsKeep config Everywhere
+steps_keep config = ends_keep config Everywhere (λ adds log. all_shared (map Applied adds) log) all_ended
 
 -- ---- an event's own acts
-
-all_abort : (aborts : Option ℕ) (log : List Act) → Everywhere log → Everywhere (abort_acts aborts log ++ log)
-all_abort (Some d) log all =
-    all_ended d (λ arguments. leaving d (only (failure arguments Aborted))) (core_call_in (pending_call (of d log))) log refl all
-all_abort None log all = all
 
 port_replied : (call : List ℕ) (xid : ℕ) (port : Result ℕ Garbage) → xid_of (call_at call) ≡ Some xid
     → IsReplyTo call (port_reply xid port)
@@ -216,20 +204,15 @@ came_request config polled c bytes (AbortRequest xid lid) acts own is all =
 came_request config polled c bytes (PortRequest xid args) acts own is all =
     ((bytes, refl, port_replied bytes xid (port_at (record { core = config.core; abort = config.abort }) args) is), all)
 
-all_turn : (config : Config) (polled c : ℕ) (found : Option (List ℕ)) (request : Option Request) (log : List Act) → Everywhere log
-    → is_open (of c log) ≡ true → next_call (of c log) ≡ found → next_request (of c log) ≡ request
-    → Everywhere (turn_acts config polled c found request log ++ log)
-all_turn config polled c (Some bytes) (Some request) log all opened next asks =
-    let effect = request_effect config polled c request (device_acts log) in
-    let taken = all_on c (CallTaken bytes) log all (opened, next) in
-    subst Everywhere (sym (turn_parts c bytes effect (aborts request (device_acts log)) log))
-    (all_abort (aborts request (device_acts log)) _ (all_effect c effect (On c (CallTaken bytes) ∷ log) taken
-    (subst (λ (l : List ConnAct). AllCame (effect.own ++ l)) (sym (of_mine c (CallTaken bytes) log))
+all_turn : (config : Config) (polled c : ℕ) (log : List Act) → Everywhere log → is_open (of c log) ≡ true
+    → Everywhere (turn_acts config polled c (next_call (of c log)) (next_request (of c log)) log ++ log)
+all_turn config polled c log all opened =
+    turn_keeps config Everywhere (steps_keep config) polled c (next_call (of c log)) (next_request (of c log)) log all
+    (λ bytes request next asks.
+    all_effect c (request_effect config polled c request (device_acts log)) (On c (CallTaken bytes) ∷ log)
+    (all_on c (CallTaken bytes) log all (opened, next)) (rw (of_mine c (CallTaken bytes) log)
     (came_request config polled c bytes request (device_acts log) (of c log) (xid_next (of c log) bytes request next asks)
-    ((opened, next), all c)))))
-all_turn config polled c (Some bytes) None log all opened next asks = all
-all_turn config polled c None (Some request) log all opened next asks = all
-all_turn config polled c None None log all opened next asks = all
+    ((opened, next), all c))))
 
 -- a call that may be refused
 refusable_is : (request : Option Request) (call : CoreCall) → refusable_call request ≡ Some call → request ≡ Some (CoreRequest call)
@@ -244,17 +227,12 @@ refusable_is (Some (AbortRequest xid lid)) call e = absurd cc
 refusable_is (Some (PortRequest xid args)) call e = absurd cc
 refusable_is None call e = absurd cc
 
-all_refuse : (c : ℕ) (found : Option (List ℕ)) (call : Option CoreCall) (log : List Act) → Everywhere log → is_open (of c log) ≡ true
-    → next_call (of c log) ≡ found → refusable (of c log) ≡ call → Everywhere (refuse_acts c found call ++ log)
-all_refuse c (Some bytes) (Some call) log all opened next can =
+all_refuse : (c : ℕ) (log : List Act) → Everywhere log → is_open (of c log) ≡ true
+    → Everywhere (refuse_acts c (next_call (of c log)) (refusable (of c log)) ++ log)
+all_refuse c log all opened = refuse_keeps Everywhere c (next_call (of c log)) (refusable (of c log)) log all (λ bytes call next can.
     let is = xid_next (of c log) bytes (CoreRequest call) next (refusable_is (next_request (of c log)) call can) in
-    let taken = all_on c (CallTaken bytes) log all (opened, next) in
-    all_on c (Replied (refused_reply call)) (On c (CallTaken bytes) ∷ log) taken
-    (subst (CanCome (Replied (refused_reply call))) (sym (of_mine c (CallTaken bytes) log))
-    (bytes, refl, told_result bytes call.xid (failure call.arguments OutOfResources) is))
-all_refuse c (Some bytes) None log all opened next can = all
-all_refuse c None (Some call) log all opened next can = all
-all_refuse c None None log all opened next can = all
+    all_on c (Replied (refused_reply call)) (On c (CallTaken bytes) ∷ log) (all_on c (CallTaken bytes) log all (opened, next))
+    (rw (of_mine c (CallTaken bytes) log) (bytes, refl, told_result bytes call.xid (failure call.arguments OutOfResources) is)))
 
 open_by : (far opened : Bool) (other : Option Refused) → cond (far || not opened) (Some NoConn) other ≡ None → opened ≡ true
 open_by true opened other e = absurd cc
@@ -271,9 +249,9 @@ all_event config (Open c role) polled channel_log log is free all = all_on c (Op
 all_event config (Bytes c piece) polled channel_log log is free all =
     all_on c (Piece piece) log all (open_unless c log _ free, bytes_are piece is.1)
 all_event config (Turn c) polled channel_log log is free all =
-    all_turn config polled c (next_call (of c log)) (next_request (of c log)) log all (open_unless c log _ free) refl refl
+    all_turn config polled c log all (open_unless c log _ free)
 all_event config (Refuse c) polled channel_log log is free all =
-    all_refuse c (next_call (of c log)) (refusable (of c log)) log all (open_unless c log _ free) refl refl
+    all_refuse c log all (open_unless c log _ free)
 all_event config (Took (Conn c) count) polled channel_log log is free all = all_on c (BytesTaken count) log all (open_unless c log _ free)
 all_event config (Took (Intr c) count) polled channel_log log is free all = all_shared (Channel (ChannelTaken c count) ∷ []) log all
 all_event config (Close (Conn c)) polled channel_log log is free all =
@@ -282,7 +260,7 @@ all_event config (Close (Conn c)) polled channel_log log is free all =
     (all_shared adds (On c PortClosed ∷ log) (all_on c PortClosed log all tt))
 all_event config (Close (Intr c)) polled channel_log log is free all = all_shared (Channel (ChannelClosed c) ∷ []) log all
 all_event config (Dialed c ok) polled channel_log log is free all =
-    all_ended c (λ arguments. leaving c (connect_outcome c ok arguments)) (core_call_in (pending_call (of c log))) log refl all
+    all_ended c (λ arguments. leaving c (connect_outcome c ok arguments)) log all
 all_event config (Input channel microvolts) polled channel_log log is free all =
     all_shared (Applied (Scanned (InputTo channel microvolts)) ∷ []) log all
 all_event config External polled channel_log log is free all =
@@ -294,4 +272,5 @@ all_event config Tick polled channel_log log is free all =
 
 -- in every log of a history
 pub all_came : (config : Config) (history : List PlainEvent) (log : List Act) (c : ℕ) → IsLogOf config history log → AllCame (of c log)
-all_came config history log c was = each_log config Everywhere (λ d. tt) (all_event config) (all_step config) history log was c
+all_came config history log c was = each_log config Everywhere (λ d. tt) (all_event config)
+    (step_keeps config Everywhere (steps_keep config)) history log was c

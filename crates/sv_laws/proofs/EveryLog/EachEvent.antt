@@ -28,15 +28,16 @@ use Rattle.sv_history.specs.declared.event.Role.TheVariants.{Core}
 use Rattle.sv_history.specs.Event.{PlainEvent, Open, Bytes, Turn, Refuse, Took, Close, Dialed, Input, External, Tick, IsEvent}
 use Rattle.sv_history.specs.Act.{Act, ConnAct, DeviceAct, Opened, Piece, CallTaken, Replied, BytesTaken, PortClosed, Linked, Waited, Channel, Applied, Ticked, On, OnDevice, of, device_acts, link_acts, wait_acts, instrument_acts}
 use Rattle.sv_history.specs.Connection.{next_call, open_role, pending_call}
-use Rattle.sv_history.specs.CoreCall.{CoreCall, lid_of}
+use Rattle.sv_history.specs.CoreCall.{CoreCall, lid_of, failure}
 use Rattle.sv_history.specs.CoreChannel.{own_call}
 use Rattle.sv_history.specs.Effect.{Effect, acts_of, replies, call_effect}
 use Rattle.sv_history.specs.Request.{Request, NoCall, Decided, CoreRequest, AbortRequest, PortRequest, core_call_in, next_request}
 use Rattle.sv_history.proofs.Dialing.{peer_by, dialed_to, dialed_is}
 use Rattle.sv_history.specs.Admission.{Stop, Fails, Awaits, stop_of, admission}
 use Rattle.sv_history.specs.Execution.{request_effect, aborts}
-use Rattle.sv_history.specs.Resuming.{leaving, next_wait, resume_outcome, resume_effect, failure_effect, connect_effect, late}
-use Rattle.sv_history.specs.Refusing.{refusable}
+use Rattle.sv_history.specs.CallOutcome.{CallOutcome, only}
+use Rattle.sv_history.specs.Resuming.{effect_of, leaving, next_wait, resume_outcome, resume_effect, failure_effect, connect_effect, late}
+use Rattle.sv_history.specs.Refusing.{refusable, refused_reply}
 use Rattle.sv_history.specs.Settling.{IsNext, SettlesIn, InstrumentDoes}
 use Rattle.sv_history.specs.History.{abort_acts, taken_acts, turn_acts, refuse_acts, own_acts, refusal, IsLogOf}
 use Rattle.sv_history.proofs.Projections.{of_mine, of_other, of_shared, device_shared, link_acts-links, wait_acts-links, link_acts-happened, wait_acts-happened}
@@ -62,6 +63,73 @@ each_log config IsSo empty acts step [] log (given, none) = subst IsSo (sym none
 each_log config IsSo empty acts step (event ∷ history) log (before, polled, channel_log, is_event, was, hears, free, said, settles) =
     each_settled config IsSo step settles.0 (own_acts config polled event before ++ before) log
     (acts event polled channel_log before is_event free (each_log config IsSo empty acts step history before was)) settles.1
+
+-- ---- steps, and calls
+
+-- What happens to the instrument keeps it, and so does a call that resumes, and one that ends with an error.
+pub record StepsKeep (config : Config) (IsSo : List Act → Type 0) : Type 0 where
+  pub happened : (adds : List InstrumentAct) (log : List Act) → IsSo log → IsSo (map OnDevice (map Applied adds) ++ log)
+  pub resumed : (polled c : ℕ) (wait : Wait) (log : List Act) → waits c (wait_acts (device_acts log)) ≡ Some wait → IsSo log
+      → IsSo (acts_of c (resume_effect config polled c wait (core_call_in (pending_call (of c log))) (device_acts log)) ++ log)
+  pub failed : (error : ErrorCode) (c : ℕ) (log : List Act) → IsSo log
+      → IsSo (acts_of c (failure_effect error c (core_call_in (pending_call (of c log)))) ++ log)
+
+-- where each call that ends does
+pub ends_keep : (config : Config) (IsSo : List Act → Type 0)
+    → ((adds : List InstrumentAct) (log : List Act) → IsSo log → IsSo (map OnDevice (map Applied adds) ++ log))
+    → ((c : ℕ) (does : Arguments → CallOutcome) (log : List Act) → IsSo log
+    → IsSo (acts_of c (effect_of c does (core_call_in (pending_call (of c log)))) ++ log)) → StepsKeep config IsSo
+ends_keep config IsSo happened ended = record {
+  happened = happened;
+  resumed = λ polled c wait log for so. ended c (λ arguments. resume_outcome config polled c arguments
+      (next_wait wait arguments (device_acts log)) (device_acts log)) log so;
+  failed = λ error c log so. ended c (λ arguments. leaving c (only (failure arguments error))) log so;
+}
+
+pub step_keeps : (config : Config) (IsSo : List Act → Type 0) → StepsKeep config IsSo → (log new : List Act) → IsSo log
+    → IsNext config log new → IsSo new
+step_keeps config IsSo keep log new so (inl (adds, such, is)) = subst IsSo (sym is) (keep.happened adds log so)
+step_keeps config IsSo keep log new so (inr (none, inl (c, wait, polled, oldest, for, said, is))) =
+    subst IsSo (sym is) (keep.resumed polled c wait log for so)
+step_keeps config IsSo keep log new so (inr (none, inr (still, inl (adds, such, is)))) = subst IsSo (sym is) (keep.happened adds log so)
+step_keeps config IsSo keep log new so (inr (none, inr (still, inr (idle, (c, wait, oldest, for, is))))) =
+    subst IsSo (sym is) (keep.failed (late wait) c log so)
+
+pub abort_keeps : (config : Config) (IsSo : List Act → Type 0) → StepsKeep config IsSo → (found : Option ℕ) (log : List Act) → IsSo log
+    → IsSo (abort_acts found log ++ log)
+abort_keeps config IsSo keep (Some d) log so = keep.failed Abort d log so
+abort_keeps config IsSo keep None log so = so
+
+-- the acts of a Turn in their order
+pub turn_parts : (c : ℕ) (bytes : List ℕ) (effect : Effect) (aborts : Option ℕ) (log : List Act)
+    → let taken = acts_of c effect ++ On c (CallTaken bytes) ∷ log in
+    taken_acts c bytes effect aborts log ++ log ≡ abort_acts aborts taken ++ taken
+turn_parts c bytes effect aborts log =
+    let acts = acts_of c effect ++ On c (CallTaken bytes) ∷ [] in
+    let same : acts ++ log ≡ acts_of c effect ++ On c (CallTaken bytes) ∷ log =
+    append_assoc (acts_of c effect) (On c (CallTaken bytes) ∷ []) log in
+    append_assoc (abort_acts aborts (acts ++ log)) acts log ∙ ap (λ (l : List Act). abort_acts aborts l ++ l) same
+
+-- a Turn, where what the request does leaves it so
+pub turn_keeps : (config : Config) (IsSo : List Act → Type 0) → StepsKeep config IsSo → (polled c : ℕ) (found : Option (List ℕ))
+    (request : Option Request) (log : List Act) → IsSo log
+    → ((bytes : List ℕ) (asked : Request) → found ≡ Some bytes → request ≡ Some asked
+    → IsSo (acts_of c (request_effect config polled c asked (device_acts log)) ++ On c (CallTaken bytes) ∷ log))
+    → IsSo (turn_acts config polled c found request log ++ log)
+turn_keeps config IsSo keep polled c (Some bytes) (Some request) log so does =
+    let effect = request_effect config polled c request (device_acts log) in
+    subst IsSo (sym (turn_parts c bytes effect (aborts request (device_acts log)) log))
+    (abort_keeps config IsSo keep (aborts request (device_acts log)) _ (does bytes request refl refl))
+turn_keeps config IsSo keep polled c (Some bytes) None log so does = so
+turn_keeps config IsSo keep polled c None request log so does = so
+
+-- a Refuse, where the reply does
+pub refuse_keeps : (IsSo : List Act → Type 0) (c : ℕ) (found : Option (List ℕ)) (call : Option CoreCall) (log : List Act) → IsSo log
+    → ((bytes : List ℕ) (asked : CoreCall) → found ≡ Some bytes → call ≡ Some asked
+    → IsSo (On c (Replied (refused_reply asked)) ∷ On c (CallTaken bytes) ∷ log)) → IsSo (refuse_acts c found call ++ log)
+refuse_keeps IsSo c (Some bytes) (Some call) log so does = does bytes call refl refl
+refuse_keeps IsSo c (Some bytes) None log so does = so
+refuse_keeps IsSo c None call log so does = so
 
 -- ---- a call that is done, or waits no more
 
@@ -176,19 +244,17 @@ fit_happened : (adds : List InstrumentAct) (log : List Act) → Fit log → Fit 
 fit_happened adds log fit = fit_shared (map Applied adds) log fit (suits_happened adds (device_acts log) fit.suits)
     (link_acts-happened adds (device_acts log)) (wait_acts-happened adds (device_acts log))
 
-fit_does : (IsSuch : List InstrumentAct → List InstrumentAct → Type 0) (log new : List Act) → Fit log → InstrumentDoes IsSuch log new
-    → Fit new
-fit_does IsSuch log new fit (adds, such, is) = subst Fit (sym is) (fit_happened adds log fit)
-
 -- ---- a step
 
+pub fit_keeps : (config : Config) → StepsKeep config Fit
+fit_keeps config = record {
+  happened = fit_happened;
+  resumed = λ polled c wait log for fit. fit_resumed config polled c wait log fit for;
+  failed = λ error c log fit. fit_failed error c (core_call_in (pending_call (of c log))) log fit;
+}
+
 pub fit_step : (config : Config) (log new : List Act) → Fit log → IsNext config log new → Fit new
-fit_step config log new fit (inl fires) = fit_does IsFired log new fit fires
-fit_step config log new fit (inr (none, inl (c, wait, polled, oldest, for, said, is))) =
-    subst Fit (sym is) (fit_resumed config polled c wait log fit for)
-fit_step config log new fit (inr (none, inr (still, inl step))) = fit_does IsStep log new fit step
-fit_step config log new fit (inr (none, inr (still, inr (idle, (c, wait, oldest, for, is))))) =
-    subst Fit (sym is) (fit_failed (late wait) c (core_call_in (pending_call (of c log))) log fit)
+fit_step config = step_keeps config Fit (fit_keeps config)
 
 -- ---- an event's own acts
 
@@ -273,38 +339,15 @@ fit_request config polled c bytes request log fit lt next asks =
         fit_free c (request_effect config polled c (PortRequest xid args) (device_acts log)) (On c (CallTaken bytes) ∷ log) taken tt refl
         none
 
-fit_abort : (aborts : Option ℕ) (log : List Act) → Fit log → Fit (abort_acts aborts log ++ log)
-fit_abort (Some d) log fit = fit_failed Abort d (core_call_in (pending_call (of d log))) log fit
-fit_abort None log fit = fit
+fit_turn : (config : Config) (polled c : ℕ) (log : List Act) → Fit log → c < 16
+    → Fit (turn_acts config polled c (next_call (of c log)) (next_request (of c log)) log ++ log)
+fit_turn config polled c log fit lt = turn_keeps config Fit (fit_keeps config) polled c (next_call (of c log)) (next_request (of c log)) log
+    fit (λ bytes request next asks. fit_request config polled c bytes request log fit lt next asks)
 
--- the acts of a Turn in their order
-pub turn_parts : (c : ℕ) (bytes : List ℕ) (effect : Effect) (aborts : Option ℕ) (log : List Act)
-    → let taken = acts_of c effect ++ On c (CallTaken bytes) ∷ log in
-    taken_acts c bytes effect aborts log ++ log ≡ abort_acts aborts taken ++ taken
-turn_parts c bytes effect aborts log =
-    let acts = acts_of c effect ++ On c (CallTaken bytes) ∷ [] in
-    let same : acts ++ log ≡ acts_of c effect ++ On c (CallTaken bytes) ∷ log =
-    append_assoc (acts_of c effect) (On c (CallTaken bytes) ∷ []) log in
-    append_assoc (abort_acts aborts (acts ++ log)) acts log ∙ ap (λ (l : List Act). abort_acts aborts l ++ l) same
-
-fit_turn : (config : Config) (polled c : ℕ) (found : Option (List ℕ)) (request : Option Request) (log : List Act) → Fit log → c < 16
-    → next_call (of c log) ≡ found → next_request (of c log) ≡ request → Fit (turn_acts config polled c found request log ++ log)
-fit_turn config polled c (Some bytes) (Some request) log fit lt next asks =
-    subst Fit (sym (turn_parts c bytes (request_effect config polled c request (device_acts log)) (aborts request (device_acts log)) log))
-    (fit_abort (aborts request (device_acts log)) _ (fit_request config polled c bytes request log fit lt next asks))
-fit_turn config polled c (Some bytes) None log fit lt next asks = fit
-fit_turn config polled c None (Some request) log fit lt next asks = fit
-fit_turn config polled c None None log fit lt next asks = fit
-
-fit_refuse : (c : ℕ) (found : Option (List ℕ)) (call : Option CoreCall) (log : List Act) → Fit log → next_call (of c log) ≡ found
-    → Fit (refuse_acts c found call ++ log)
-fit_refuse c (Some bytes) (Some call) log fit next =
+fit_refuse : (c : ℕ) (log : List Act) → Fit log → Fit (refuse_acts c (next_call (of c log)) (refusable (of c log)) ++ log)
+fit_refuse c log fit = refuse_keeps Fit c (next_call (of c log)) (refusable (of c log)) log fit (λ bytes call next can.
     let none = idle_free c log bytes fit next in
-    fit_on_free c (Replied _) (On c (CallTaken bytes) ∷ log) (fit_taken c bytes log fit none) refl
-    none
-fit_refuse c (Some bytes) None log fit next = fit
-fit_refuse c None (Some call) log fit next = fit
-fit_refuse c None None log fit next = fit
+    fit_on_free c (Replied _) (On c (CallTaken bytes) ∷ log) (fit_taken c bytes log fit none) refl none)
 
 -- a connection opens
 shut_before : (far : Bool) (role : Option Role)
@@ -386,8 +429,8 @@ fit_event config (Open c role) polled channel_log log free fit =
     fit_open c role log fit (shut_before (nat_lt 15 c) (open_role (of c log)) free)
 fit_event config (Bytes c piece) polled channel_log log free fit = fit_on c (Piece piece) log fit refl (fit.held c)
 fit_event config (Turn c) polled channel_log log free fit =
-    fit_turn config polled c (next_call (of c log)) (next_request (of c log)) log fit (within c log _ free) refl refl
-fit_event config (Refuse c) polled channel_log log free fit = fit_refuse c (next_call (of c log)) (refusable (of c log)) log fit refl
+    fit_turn config polled c log fit (within c log _ free)
+fit_event config (Refuse c) polled channel_log log free fit = fit_refuse c log fit
 fit_event config (Took (Conn c) count) polled channel_log log free fit = fit_on c (BytesTaken count) log fit refl (fit.held c)
 fit_event config (Took (Intr c) count) polled channel_log log free fit =
     fit_shared (Channel (ChannelTaken c count) ∷ []) log fit (tt, fit.suits) refl refl
