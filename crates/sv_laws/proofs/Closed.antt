@@ -34,8 +34,7 @@ owned_has c n (x ∷ xs) h = elim (cases_Bool (eqb x.lid n)) [
 either : (a b : Bool) (found : Option ℕ) → cond b None (cond a None found) ≡ cond (a || b) None found
 either true true found = refl
 either true false found = refl
-either false true found = refl
-either false false found = refl
+either false b found = refl
 
 owner_gone : (n : ℕ) (ys : List Link) (acts : List LinkAct) → owner n (gone ys acts) ≡ cond (has n ys) None (owner n acts)
 owner_gone n [] acts = refl

@@ -48,15 +48,7 @@ pub is_done : (config : Config) (channel_log : List ChannelAct) (event : PlainEv
     → AnswersBy config channel_log event log result → result ≡ Ok Done
 is_done config channel_log event log (Ok what) free does modest h = ap Ok (h.1 ∙ does)
 is_done config channel_log event log (Err NoMemory) free does modest h = not_both _ (modest h.1) h.3
-is_done config channel_log event log (Err ConnInUse) free does modest h = some_none _ ConnInUse free h
-is_done config channel_log event log (Err NoConn) free does modest h = some_none _ NoConn free h
-is_done config channel_log event log (Err NoRoom) free does modest h = some_none _ NoRoom free h
-is_done config channel_log event log (Err NotSent) free does modest h = some_none _ NotSent free h
-is_done config channel_log event log (Err NoDial) free does modest h = some_none _ NoDial free h
-is_done config channel_log event log (Err NotRefusable) free does modest h = some_none _ NotRefusable free h
-is_done config channel_log event log (Err BadChannel) free does modest h = some_none _ BadChannel free h
-is_done config channel_log event log (Err BadInput) free does modest h = some_none _ BadInput free h
-is_done config channel_log event log (Err TimeOver) free does modest h = some_none _ TimeOver free h
+is_done config channel_log event log (Err _) free does modest h = some_none _ _ free h
 
 -- ---- which want none
 
@@ -79,9 +71,7 @@ left_modest c acts no_link is =
 made_none : (links before : List LinkAct) → Each (λ before act. MakesNone act) links before → links_made links ≡ 0
 made_none [] before h = refl
 made_none (Made lid conn ∷ links) before h = absurd h.0
-made_none (Destroyed lid ∷ links) before h = made_none links before h.1
-made_none (Locked lid ∷ links) before h = made_none links before h.1
-made_none (Unlocked lid ∷ links) before h = made_none links before h.1
+made_none (_ ∷ links) before h = made_none links before h.1
 
 close_modest : (c : ℕ) (log : List Act)
     → wants_memory (device_acts (map OnDevice
@@ -217,10 +207,8 @@ nothing_lost config history (Dialed c ok) channel_log log result was tells suits
     let free : refusal config also (Dialed c ok) log ≡ None =
     rw (not_shut c log suits.0 (open_dialing config history log c suits.1 was both.1), both.0) refl in
     is_done config also (Dialed c ok) log result free refl (λ polled. dialed_modest c ok (core_call_in (pending_call (of c log)))) h
-nothing_lost config history (Turn c) channel_log log result was tells suits answers = absurd suits
-nothing_lost config history (Refuse c) channel_log log result was tells suits answers = absurd suits
 nothing_lost config history (Input channel microvolts) channel_log log result was tells suits (also, hears, h) =
     is_done config also (Input channel microvolts) log result suits refl (λ polled. refl) h
 nothing_lost config history External channel_log log result was tells suits (also, hears, h) =
     is_done config also External log result refl refl (λ polled. happened_modest (external_acts (instrument_acts (device_acts log)))) h
-nothing_lost config history Tick channel_log log result was tells suits answers = absurd suits
+nothing_lost config history _ channel_log log result was tells suits answers = absurd suits

@@ -36,10 +36,7 @@ calls_join [] other h k = k
 calls_join (CallTaken call ∷ one) other h k = calls_join one other h k
 calls_join (Faulted ∷ one) other h k = calls_join one other h k
 calls_join (Replied bytes ∷ one) other h k = calls_join one other h k
-calls_join (Opened role ∷ one) other h k = absurd h
-calls_join (Piece bytes ∷ one) other h k = absurd h
-calls_join (BytesTaken count ∷ one) other h k = absurd h
-calls_join (PortClosed ∷ one) other h k = absurd h
+calls_join (_ ∷ one) other h k = absurd h
 
 replies_calls : (xid : ℕ) (result : Option Outcome) → AreCalls (replies xid result)
 replies_calls xid (Some result) = tt
@@ -93,11 +90,8 @@ steps_keep base config =
 
 pub request_calls : (config : Config) (polled c : ℕ) (request : Request) (acts : List DeviceAct)
     → AreCalls (request_effect config polled c request acts).own
-request_calls config polled c NoCall acts = tt
-request_calls config polled c (Decided xid reply) acts = tt
 request_calls config polled c (CoreRequest call) acts = replies_calls call.xid _
-request_calls config polled c (AbortRequest xid lid) acts = tt
-request_calls config polled c (PortRequest xid args) acts = tt
+request_calls config polled c _ acts = tt
 
 -- the act that an event is
 on_mine : (c d : ℕ) (act : ConnAct) (log : List Act) (brought : List ConnAct) → (eqb c d ≡ true → brought ≡ act ∷ [])

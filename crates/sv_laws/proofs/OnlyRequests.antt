@@ -97,9 +97,7 @@ adds_then c a b d x y = λ opened.
 
 adds_linked : (c : ℕ) (act : LinkAct) (channel_log : List ChannelAct) → OnlyAdds c channel_log (link_told act channel_log)
 adds_linked c (Destroyed lid) channel_log = λ opened. (opened, refl, [], sym (append-nil (calls c channel_log)))
-adds_linked c (Made lid conn) channel_log = adds_none c channel_log
-adds_linked c (Locked lid) channel_log = adds_none c channel_log
-adds_linked c (Unlocked lid) channel_log = adds_none c channel_log
+adds_linked c _ channel_log = adds_none c channel_log
 
 adds_requested : (c : ℕ) (raised : Bool) (channel_log : List ChannelAct) → OnlyAdds c channel_log (request_told raised channel_log)
 adds_requested c true channel_log = λ opened.
@@ -164,11 +162,8 @@ plain_admitted config polled c arguments (Some (Awaits wait timeout)) acts = (tt
 
 plain_request : (config : Config) (polled c : ℕ) (request : Request) (acts : List DeviceAct)
     → ArePlain (request_effect config polled c request acts).adds
-plain_request config polled c NoCall acts = tt
-plain_request config polled c (Decided xid reply) acts = tt
 plain_request config polled c (CoreRequest call) acts = plain_admitted config polled c call.arguments (stop_of c call.arguments acts) acts
-plain_request config polled c (AbortRequest xid lid) acts = tt
-plain_request config polled c (PortRequest xid args) acts = tt
+plain_request config polled c _ acts = tt
 
 plain_continued : (config : Config) (polled c : ℕ) (arguments : Arguments) (next : Option (Wait × ℕ)) (acts : List DeviceAct)
     → ArePlain (resume_outcome config polled c arguments next acts).adds

@@ -86,15 +86,11 @@ next_bytes acts call all next =
     (ap (λ (l : List (List ℕ)). slice_get l (records_ended acts)) s.records_are ∙ found)
 
 call_bytes : (acts : List ConnAct) (call : List ℕ) → AllCame acts → pending_call acts ≡ Some call → IsBytes call
-call_bytes [] call all busy = absurd cc
-call_bytes (Opened role ∷ acts) call all busy = absurd cc
-call_bytes (PortClosed ∷ acts) call all busy = absurd cc
-call_bytes (Faulted ∷ acts) call all busy = absurd cc
-call_bytes (Replied reply ∷ acts) call all busy = absurd cc
 call_bytes (CallTaken taken ∷ acts) call all busy =
     subst IsBytes (some_bytes taken call busy) (next_bytes acts taken all.1 all.0.1)
 call_bytes (Piece bytes ∷ acts) call all busy = call_bytes acts call all.1 busy
 call_bytes (BytesTaken count ∷ acts) call all busy = call_bytes acts call all.1 busy
+call_bytes _ call all busy = absurd cc
 
 -- ---- it begins with its xid, and so does its reply
 

@@ -89,11 +89,9 @@ stands_request : (config : Config) (polled c : ℕ) (call : List ℕ) (before : 
     → xid_of (call_at call) ≡ xid_in request
     → Stands call before ((request_effect config polled c request acts).own ++ CallTaken call ∷ before)
 stands_request config polled c call before NoCall acts is = inr (inl (refl, none_bad (call_at call) is))
-stands_request config polled c call before (Decided xid reply) acts is = inl (_, refl)
 stands_request config polled c call before (CoreRequest request_for) acts is =
     stands_replies request_for.xid _ call before (CallTaken call ∷ before) refl
-stands_request config polled c call before (AbortRequest xid lid) acts is = inl (_, refl)
-stands_request config polled c call before (PortRequest xid args) acts is = inl (_, refl)
+stands_request config polled c call before _ acts is = inl (_, refl)
 
 in_turn : (config : Config) (polled c : ℕ) (call : List ℕ) (request : Request) (log : List Act) → next_call (of c log) ≡ Some call
     → next_request (of c log) ≡ Some request → StandsIn c call (of c log) (turn_acts config polled c (Some call) (Some request) log ++ log)

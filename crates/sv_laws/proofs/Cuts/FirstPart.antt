@@ -50,11 +50,9 @@ pub record Resting (config : Config) (log : List Act) : Type 0 where
 
 there_same : (holds named : Option ℕ) (wait : Option Wait) (writes reads also likewise : Bool) → wait ≢ Some ForInput
     → wait ≢ Some ForResponse → is_there holds writes reads named wait ≡ is_there holds also likewise named wait
-there_same holds named (Some Lock) writes reads also likewise input response = refl
 there_same holds named (Some ForInput) writes reads also likewise input response = absurd (input refl)
 there_same holds named (Some ForResponse) writes reads also likewise input response = absurd (response refl)
-there_same holds named (Some Dial) writes reads also likewise input response = refl
-there_same holds named None writes reads also likewise input response = refl
+there_same holds named _ writes reads also likewise input response = refl
 
 abbrev may_resume : List DeviceAct → ℕ → Bool
 may_resume acts c = is_there (holder (link_acts acts)) (not (has_ended (exchange_acts acts))) (is_answerable (instrument_acts acts))

@@ -85,12 +85,9 @@ settles_none n config log new =
 
 none_request : (config : Config) (polled c : ℕ) (request : Request) (acts : List DeviceAct)
     → AllByRecursion IsOther (request_effect config polled c request acts).own
-none_request config polled c NoCall acts = (tt, tt)
-none_request config polled c (Decided xid reply) acts = (tt, tt)
 none_request config polled c (CoreRequest call) acts =
     none_replies call.xid (admission config polled c call.arguments (stop_of c call.arguments acts) acts).result
-none_request config polled c (AbortRequest xid lid) acts = (tt, tt)
-none_request config polled c (PortRequest xid args) acts = (tt, tt)
+none_request config polled c _ acts = (tt, tt)
 
 pub taking_none : (config : Config) (polled c : ℕ) (bytes : List ℕ) (request : Request) (found : Option ℕ) (log : List Act)
     → AddsNoCall (On c (CallTaken bytes) ∷ log)
@@ -150,12 +147,7 @@ taken_once (act ∷ []) bytes reply call base rest none same =
     let first : act ≡ Replied reply = cc in
     (ap (λ (a : ConnAct). a ∷ []) first, cc, cc)
 taken_once (act ∷ CallTaken other ∷ acts) bytes reply call base rest none same = absurd none.1.0
-taken_once (act ∷ Opened role ∷ acts) bytes reply call base rest none same = absurd cc
-taken_once (act ∷ Piece piece ∷ acts) bytes reply call base rest none same = absurd cc
-taken_once (act ∷ Faulted ∷ acts) bytes reply call base rest none same = absurd cc
-taken_once (act ∷ Replied other ∷ acts) bytes reply call base rest none same = absurd cc
-taken_once (act ∷ BytesTaken count ∷ acts) bytes reply call base rest none same = absurd cc
-taken_once (act ∷ PortClosed ∷ acts) bytes reply call base rest none same = absurd cc
+taken_once (act ∷ _ ∷ acts) bytes reply call base rest none same = absurd cc
 
 -- a connection's acts without pieces, behind others
 pub bare_of : (c : ℕ) (adds log : List Act)

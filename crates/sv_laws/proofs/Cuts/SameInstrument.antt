@@ -121,20 +121,10 @@ value_same name.ServiceEnable log other v = ap decimal v.serves
 value_same (name.Enable register) log other v = ap decimal (v.enables register)
 value_same (name.Rise register) log other v = ap decimal (v.rises register)
 value_same (name.Fall register) log other v = ap decimal (v.falls register)
-value_same name.ScanList log other v = rw v.scanned refl
-value_same name.Monitor log other v = rw v.scanned refl
-value_same name.Range log other v = rw v.scanned refl
-value_same name.UpperLimit log other v = rw v.scanned refl
-value_same name.LowerLimit log other v = rw v.scanned refl
-value_same name.Limits log other v = rw v.scanned refl
-value_same name.Source log other v = rw v.scanned refl
-value_same name.Count log other v = rw v.scanned refl
+value_same _ log other v = rw v.scanned refl
 
 says_same : (asked : Question) (log other : List Act) → SameStatus log other → (bytes : List ℕ) → Says asked log bytes
     → Says asked other bytes
-says_same question.Identification log other v bytes h = h
-says_same question.SelfTest log other v bytes h = h
-says_same question.Version log other v bytes h = h
 says_same question.StandardEvents log other v bytes h = word_same _ _ bytes v.stands h
 says_same question.StatusByte log other v bytes h = word_same _ _ bytes (λ k. master_same k log other v) h
 says_same question.Error log other v bytes h = h ∙ ap (λ (l : List QueueAct). oldest_text (oldest l)) v.queued
@@ -143,6 +133,7 @@ says_same (question.Events name) log other v bytes h = word_same _ _ bytes (v.ev
 says_same (question.Condition name) log other v bytes h = h ∙ ap decimal (status_condition name log other v.parts)
 says_same question.Readings log other v bytes h = rw v.scanned at h
 says_same (question.Value what) log other v bytes h = h ∙ value_same what log other v
+says_same _ log other v bytes h = h
 
 question_fault_same : (asked : Question) (log other : List Act) → SameStatus log other
     → question_fault asked log ≡ question_fault asked other

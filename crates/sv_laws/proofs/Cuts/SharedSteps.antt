@@ -52,10 +52,7 @@ request_alike config polled c (CoreRequest call) acts other v =
     ∙ ap (λ (o : CallOutcome). call_effect call.xid o)
     (admitted_alike config polled c call.arguments (stop_of c call.arguments other) acts other v)
 request_alike config polled c (AbortRequest xid (pos n)) acts other v = rw v.links refl
-request_alike config polled c (AbortRequest xid (negsuc n)) acts other v = refl
-request_alike config polled c NoCall acts other v = refl
-request_alike config polled c (Decided xid reply) acts other v = refl
-request_alike config polled c (PortRequest xid args) acts other v = refl
+request_alike config polled c _ acts other v = refl
 
 where_alike : (found : Option ℕ) (n : ℕ) (acts other : List DeviceAct) → SameDevice acts other
     → if_waiting found (Some n) acts ≡ if_waiting found (Some n) other
@@ -72,10 +69,7 @@ aborts_alike _ acts other v = refl
 next_wait_alike : (wait : Wait) (arguments : Arguments) (acts other : List DeviceAct) → SameDevice acts other
     → next_wait wait arguments acts ≡ next_wait wait arguments other
 next_wait_alike Lock (OnLink lid call) acts other v = wait_alike call acts other v
-next_wait_alike Lock _ acts other v = refl
-next_wait_alike Input arguments acts other v = refl
-next_wait_alike Response arguments acts other v = refl
-next_wait_alike Dial arguments acts other v = refl
+next_wait_alike _ _ acts other v = refl
 
 continued_alike : (config : Config) (polled c : ℕ) (arguments : Arguments) (next : Option (Wait × ℕ)) (acts other : List DeviceAct)
     → SameDevice acts other → resume_outcome config polled c arguments next acts ≡ resume_outcome config polled c arguments next other

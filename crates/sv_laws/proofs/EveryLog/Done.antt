@@ -26,14 +26,12 @@ use Rattle.sv_history.specs.Admission.{Stop, Fails, Awaits, stop_of}
 -- next; a link that begins to ask is the connection's; no call begins or ends to wait, no channel opens, and no peer takes bytes.
 abbrev pub IsDone : ℕ → Arguments → List DeviceAct → DeviceAct → Type 0
 IsDone c arguments acts (Linked (Made lid conn)) = (lid ≡ links_made (link_acts acts) + 1) × (conn ≡ c) × (is_create_link arguments ≡ true)
-IsDone c arguments acts (Linked act) = ⊤
 IsDone c arguments acts (Waited act) = ⊥
 IsDone c arguments acts (Channel (SrqEnabled lid conn handle)) = (conn ≡ c) × (owner lid (link_acts acts) ≡ Some conn)
 IsDone c arguments acts (Channel (ChannelOpened conn what)) = ⊥
 IsDone c arguments acts (Channel (ChannelTaken conn count)) = ⊥
-IsDone c arguments acts (Channel act) = ⊤
-IsDone c arguments acts (Applied act) = ⊤
 IsDone c arguments acts Ticked = ⊥
+IsDone c arguments acts _ = ⊤
 
 -- Such are its acts, and it has a result.
 abbrev AreDone : Config → ℕ → ℕ → Arguments → List DeviceAct → Type 0

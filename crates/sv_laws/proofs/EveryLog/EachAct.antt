@@ -131,10 +131,7 @@ xid_call (CoreRequest found) call e = ap (λ (k : Option CoreCall). by k) e
     by : Option CoreCall → Option ℕ
     by (Some call) = Some call.xid
     by None = None
-xid_call NoCall call e = absurd cc
-xid_call (Decided xid reply) call e = absurd cc
-xid_call (AbortRequest xid lid) call e = absurd cc
-xid_call (PortRequest xid args) call e = absurd cc
+xid_call _ call e = absurd cc
 
 -- the call of the core channel that has no answer
 pub core_known : (found : Option (List ℕ)) (call : CoreCall) → core_call_in found ≡ Some call
@@ -221,11 +218,7 @@ refusable_is (Some (CoreRequest found)) call e = by (takes_memory found.argument
     by : (b : Bool) → cond b (Some found) None ≡ Some call → Some (CoreRequest found) ≡ Some (CoreRequest call)
     by true e = ap (λ (k : CoreCall). Some (CoreRequest k)) (let same : found ≡ call = cc in same)
     by false e = absurd cc
-refusable_is (Some NoCall) call e = absurd cc
-refusable_is (Some (Decided xid reply)) call e = absurd cc
-refusable_is (Some (AbortRequest xid lid)) call e = absurd cc
-refusable_is (Some (PortRequest xid args)) call e = absurd cc
-refusable_is None call e = absurd cc
+refusable_is _ call e = absurd cc
 
 all_refuse : (c : ℕ) (log : List Act) → Everywhere log → is_open (of c log) ≡ true
     → Everywhere (refuse_acts c (next_call (of c log)) (refusable (of c log)) ++ log)

@@ -143,23 +143,15 @@ done_by c May arguments (act ∷ adds) acts may h = (one act (adds ++ acts) h.0,
   where
     one : (act : DeviceAct) (acts : List DeviceAct) → IsDone c arguments acts act → IsBy c May acts act
     one (Linked (Made lid conn)) acts h = (h.0, h.1, may)
-    one (Linked (Destroyed lid)) acts h = tt
-    one (Linked (Locked lid)) acts h = tt
-    one (Linked (Unlocked lid)) acts h = tt
     one (Waited act) acts h = absurd h
     one (Channel (SrqEnabled lid conn handle)) acts h = h.1
-    one (Channel _) acts h = tt
-    one (Applied act) acts h = tt
-    one Ticked acts h = tt
+    one _ acts h = tt
 
 pub done_waits : (c : ℕ) (arguments : Arguments) (adds acts : List DeviceAct) → Each (IsDone c arguments) adds acts
     → wait_acts (adds ++ acts) ≡ wait_acts acts
 done_waits c arguments [] acts h = refl
-done_waits c arguments (Linked act ∷ adds) acts h = done_waits c arguments adds acts h.1
 done_waits c arguments (Waited act ∷ adds) acts h = absurd h.0
-done_waits c arguments (Channel act ∷ adds) acts h = done_waits c arguments adds acts h.1
-done_waits c arguments (Applied act ∷ adds) acts h = done_waits c arguments adds acts h.1
-done_waits c arguments (Ticked ∷ adds) acts h = done_waits c arguments adds acts h.1
+done_waits c arguments (_ ∷ adds) acts h = done_waits c arguments adds acts h.1
 
 replies_role : (xid : ℕ) (result : Option Outcome) (own : List ConnAct) → open_role (replies xid result ++ own) ≡ open_role own
 replies_role xid (Some result) own = refl
@@ -378,9 +370,7 @@ suits_links : (links : List LinkAct) (acts : List DeviceAct) (before : List Link
     → AllSuit acts → AllSuit (map Linked links ++ acts)
 suits_links [] acts before h all = all
 suits_links (Made lid conn ∷ links) acts before h all = absurd h.0
-suits_links (Destroyed lid ∷ links) acts before h all = (tt, suits_links links acts before h.1 all)
-suits_links (Locked lid ∷ links) acts before h all = (tt, suits_links links acts before h.1 all)
-suits_links (Unlocked lid ∷ links) acts before h all = (tt, suits_links links acts before h.1 all)
+suits_links (_ ∷ links) acts before h all = (tt, suits_links links acts before h.1 all)
 
 abbrev pub close_adds : ℕ → List DeviceAct → List DeviceAct
 close_adds c acts = Channel (ChannelClosed c) ∷ (map Linked (closing c (link_acts acts)) ++ Waited (Left c) ∷ [])

@@ -45,24 +45,19 @@ mine_also c lid acts other view = owner_is_of c (owner lid (link_acts other))
 abbrev pub IsForeign : ℕ → List DeviceAct → DeviceAct → Type 0
 IsForeign c acts (Linked act) = IsForeignLink c act (link_acts acts)
 IsForeign c acts (Waited (Entered conn named wait last)) = (conn ≢ c) × (wait ≢ ForInput) × (wait ≢ Response)
-IsForeign c acts (Waited (Again conn wait last)) = ⊥
 IsForeign c acts (Waited (Left conn)) = conn ≢ c
 IsForeign c acts (Channel (SrqEnabled lid conn handle)) = (conn ≢ c) × (is_of c (owner lid (link_acts acts)) ≡ false)
 IsForeign c acts (Channel (SrqDisabled lid)) = is_of c (owner lid (link_acts acts)) ≡ false
 IsForeign c acts (Channel (ChannelOpened conn what)) = conn ≢ c
 IsForeign c acts (Channel (ChannelClosed conn)) = conn ≢ c
-IsForeign c acts (Channel Requested) = ⊥
 IsForeign c acts (Channel (ChannelTaken conn count)) = conn ≢ c
-IsForeign c acts (Applied act) = ⊥
-IsForeign c acts Ticked = ⊥
+IsForeign c acts _ = ⊥
 
 -- an act of this connection, or of none, that makes no link
 abbrev pub IsOwn : ℕ → DeviceAct → Type 0
 IsOwn c (Linked act) = MakesNone act
 IsOwn c (Waited act) = conn_of act ≡ c
-IsOwn c (Channel act) = ⊤
-IsOwn c (Applied act) = ⊤
-IsOwn c Ticked = ⊤
+IsOwn c _ = ⊤
 
 -- ---- no other connection waits for the device
 
@@ -102,14 +97,12 @@ view_foreign c lid (Waited (Entered conn named wait last)) acts other h now view
   call_foreign c (Entered conn named wait last) (wait_acts acts) (wait_acts other) h.0 view.call,
   rest_entered c conn named wait last (wait_acts acts) h.1 h.2 view.rests,
 )
-view_foreign c lid (Waited (Again conn wait last)) acts other h now view = absurd h
 view_foreign c lid (Waited (Left conn)) acts other h now view = assumption (
   call_foreign c (Left conn) (wait_acts acts) (wait_acts other) h view.call,
   rest_left c conn (wait_acts acts) view.rests,
 )
 view_foreign c lid (Channel act) acts other h now view = assumption (peer_foreign c acts act (channel_acts acts) h ∙ view.opened)
-view_foreign c lid (Applied act) acts other h now view = absurd h
-view_foreign c lid Ticked acts other h now view = absurd h
+view_foreign c lid _ acts other h now view = absurd h
 
 -- in the other log, the call of another connection ends to wait
 pub view_left : (c lid d : ℕ) (acts other : List DeviceAct) → d ≢ c → View c lid acts other → View c lid acts (Waited (Left d) ∷ other)

@@ -82,10 +82,7 @@ where_owner (Some d) (Some n) acts e h = elim (cases_Bool (is_some (waits d (wai
 aborts_owner : (request : Request) (acts : List DeviceAct) (e : ℕ) → aborts request acts ≡ Some e
     → owner_of (aborted_link (Some request)) acts ≡ Some e
 aborts_owner (AbortRequest xid lid) acts e h = where_owner (owner_of (lid_of (Some lid)) acts) (lid_of (Some lid)) acts e h
-aborts_owner NoCall acts e h = absurd cc
-aborts_owner (Decided xid reply) acts e h = absurd cc
-aborts_owner (CoreRequest call) acts e h = absurd cc
-aborts_owner (PortRequest xid args) acts e h = absurd cc
+aborts_owner _ acts e h = absurd cc
 
 foreign_abort : (c : ℕ) (found : Option ℕ) (log : List Act) → found ≢ Some c → Each (IsForeignAct c) (abort_acts found log) log
 foreign_abort c (Some e) log ne =
@@ -97,10 +94,7 @@ foreign_request : (config : Config) (polled c d lid : ℕ) (request : Request) (
     → Each (IsForeign c) (request_effect config polled d request acts).adds acts
 foreign_request config polled c d lid (CoreRequest call) acts held mine ne =
     call_foreign config polled c d lid call.arguments acts held mine ne
-foreign_request config polled c d lid NoCall acts held mine ne = tt
-foreign_request config polled c d lid (Decided xid reply) acts held mine ne = tt
-foreign_request config polled c d lid (AbortRequest xid named) acts held mine ne = tt
-foreign_request config polled c d lid (PortRequest xid args) acts held mine ne = tt
+foreign_request config polled c d lid _ acts held mine ne = tt
 
 foreign_turn : (config : Config) (polled c d lid : ℕ) (found : Option (List ℕ)) (request : Option Request) (log : List Act)
     → holder (link_acts (device_acts log)) ≡ Some lid → owner lid (link_acts (device_acts log)) ≡ Some c → d ≢ c
@@ -168,6 +162,4 @@ foreign_event config polled c lid (Close (Conn d)) log fit held mine other left_
 foreign_event config polled c lid (Close (Intr d)) log fit held mine other left_alone = (other_number d c other, tt)
 foreign_event config polled c lid (Dialed d ok) log fit held mine other left_alone =
     foreign_connected c d ok (core_call_in (pending_call (of d log))) log (other_number d c other)
-foreign_event config polled c lid (Input channel microvolts) log fit held mine other left_alone = absurd cc
-foreign_event config polled c lid External log fit held mine other left_alone = absurd cc
-foreign_event config polled c lid Tick log fit held mine other left_alone = absurd cc
+foreign_event config polled c lid _ log fit held mine other left_alone = absurd cc

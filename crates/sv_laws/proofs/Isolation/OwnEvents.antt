@@ -189,8 +189,6 @@ no_close c lid log mine locks =
 pub own_event : (config : Config) (polled c lid : ℕ) (log other : List Act) (event : PlainEvent) → Fit log → Pair c lid log other
     → is_foreign c event ≡ false → LeavesLinksAlone c event log → Each (Locks lid) (own_acts config polled event log) log
     → OwnActs config polled c log other event
-own_event config polled c lid log other (Open d role) fit pair own left_alone locks = (refl, (tt, tt))
-own_event config polled c lid log other (Bytes d piece) fit pair own left_alone locks = (refl, (tt, tt))
 own_event config polled c lid log other (Turn d) fit pair own left_alone locks =
     let same = own_number d c own in
     subst (λ (n : ℕ). OwnActs config polled c log other (Turn n)) (sym same)
@@ -201,19 +199,15 @@ own_event config polled c lid log other (Refuse d) fit pair own left_alone locks
       ap (λ (l : List ConnAct). refuse_acts c (next_call l) (refusable l)) pair.own,
       own_refuse c (next_call (of c log)) (refusable (of c log)) log,
     )
-own_event config polled c lid log other (Took (Conn d) count) fit pair own left_alone locks = (refl, (tt, tt))
-own_event config polled c lid log other (Took (Intr d) count) fit pair own left_alone locks = (refl, (tt, tt))
 own_event config polled c lid log other (Close (Conn d)) fit pair own left_alone locks =
     let same = own_number d c own in
     absurd (no_close c lid log pair.view.mine
     (subst (λ (n : ℕ). Each (Locks lid) (map OnDevice (close_adds n (device_acts log)) ++ On n PortClosed ∷ []) log) same locks))
-own_event config polled c lid log other (Close (Intr d)) fit pair own left_alone locks = (refl, (tt, tt))
 own_event config polled c lid log other (Dialed d ok) fit pair own left_alone locks =
     subst (λ (n : ℕ). OwnActs config polled c log other (Dialed n ok)) (sym (own_number d c own)) (
       ap (λ (l : List ConnAct). acts_of c (connect_effect c ok (core_call_in (pending_call l)))) pair.own,
       own_connected c ok (core_call_in (pending_call (of c log))) log,
     )
-own_event config polled c lid log other (Input channel microvolts) fit pair own left_alone locks = (refl, (tt, tt))
 own_event config polled c lid log other External fit pair own left_alone locks = (
   ap (λ (l : List InstrumentAct). map OnDevice (map Applied (external_acts l))) pair.view.instrument,
   own_happened c (external_acts (instrument_acts (device_acts log))) log,
@@ -224,3 +218,5 @@ own_event config polled c lid log other Tick fit pair own left_alone locks =
       each_join (IsOwnAct c) adds (OnDevice Ticked ∷ []) log
           (own_happened c (tick_acts (instrument_acts (device_acts log))) (OnDevice Ticked ∷ log)) (tt, tt),
     )
+own_event config polled c lid log other (Took (Conn d) count) fit pair own left_alone locks = (refl, (tt, tt))
+own_event config polled c lid log other _ fit pair own left_alone locks = (refl, (tt, tt))

@@ -86,10 +86,7 @@ admitted_same config polled c lid arguments acts other makes view =
 next_same : (c lid : ℕ) (wait : Wait) (arguments : Arguments) (acts other : List DeviceAct) → View c lid acts other
     → next_wait wait arguments acts ≡ next_wait wait arguments other
 next_same c lid Lock (OnLink named call) acts other view = wait_same c lid call acts other view
-next_same c lid Lock _ acts other view = refl
-next_same c lid ForInput arguments acts other view = refl
-next_same c lid Response arguments acts other view = refl
-next_same c lid Dial arguments acts other view = refl
+next_same c lid _ _ acts other view = refl
 
 continued_by : (config : Config) (polled c lid : ℕ) (arguments : Arguments) (next : Option (Wait × ℕ)) (acts other : List DeviceAct)
     → is_create_link arguments ≡ false → View c lid acts other
@@ -117,10 +114,5 @@ done_own c arguments (act ∷ adds) acts makes h = (one act (adds ++ acts) h.0, 
   where
     one : (act : DeviceAct) (acts : List DeviceAct) → IsDone c arguments acts act → IsOwn c act
     one (Linked (Made lid conn)) acts h = let z : true ≡ false = sym h.2 ∙ makes in cc
-    one (Linked (Destroyed lid)) acts h = tt
-    one (Linked (Locked lid)) acts h = tt
-    one (Linked (Unlocked lid)) acts h = tt
     one (Waited act) acts h = absurd h
-    one (Channel act) acts h = tt
-    one (Applied act) acts h = tt
-    one Ticked acts h = tt
+    one _ acts h = tt
