@@ -6,17 +6,17 @@ use Rattle.sv_logs.proofs.Each.{Each}
 use Rattle.sv_vxi.specs.declared.error_code.ErrorCode.TheVariants.{Abort, InvalidLink, ParameterError}
 use Rattle.sv_vxi.specs.declared.error_code.ErrorCode.TheVariants.{Locked as DeviceLocked}
 use Rattle.sv_vxi.specs.declared.arguments.LockWait.{LockWait}
-use Rattle.sv_vxi.specs.Arguments.{LinkCall, DeviceWrite, DeviceRead, Arguments, CreateLink, OnLink, CreateIntrChan, DestroyIntrChan, link, lock_wait, is_create_link}
+use Rattle.sv_vxi.specs.Arguments.{LinkCall, DeviceWrite, DeviceRead, Arguments, CreateLink, OnLink, link, lock_wait, is_create_link}
 use Rattle.sv_links.specs.declared.waiting.Wait.{Wait}
-use Rattle.sv_links.specs.declared.waiting.Wait.TheVariants.{Lock, Input as ForInput, Response, Dial}
-use Rattle.sv_links.specs.Links.{Made, Destroyed, Locked, Unlocked, links_made}
+use Rattle.sv_links.specs.declared.waiting.Wait.TheVariants.{Lock, Input as ForInput, Response}
+use Rattle.sv_links.specs.Links.{Made, links_made}
 use Rattle.sv_links.specs.Waiting.{WaitAct, Entered, Left, is_lock, is_creating, creating, connections}
 use Rattle.sv_exchange.specs.Exchange.{has_ended}
 use Rattle.sv_instrument.specs.Step.{is_answerable}
 use Rattle.sv_history.specs.declared.event.Config.{Config}
 use Rattle.sv_history.specs.declared.event.Refused.TheVariants.{NoConn, NoRoom, NotRefusable}
 use Rattle.sv_history.specs.Event.{Refuse}
-use Rattle.sv_history.specs.Act.{Act, DeviceAct, CallTaken, Replied, Linked, Waited, Channel, Applied, Ticked, On, of, device_acts, link_acts, wait_acts, instrument_acts, exchange_acts}
+use Rattle.sv_history.specs.Act.{Act, DeviceAct, CallTaken, Replied, Linked, Waited, On, of, device_acts, link_acts, wait_acts, instrument_acts, exchange_acts}
 use Rattle.sv_history.specs.Connection.{next_call, is_idle, free, pending_call}
 use Rattle.sv_history.specs.Limits.{longest_reply}
 use Rattle.sv_history.specs.CoreCall.{CoreCall, lid_of, is_too_long}
@@ -29,7 +29,6 @@ use Rattle.sv_history.specs.Execution.{request_effect, aborts}
 use Rattle.sv_history.specs.Refusing.{takes_memory, refusable_call, refusable}
 use Rattle.sv_history.specs.Resuming.{failure_effect}
 use Rattle.sv_history.specs.History.{taken_acts, turn_acts, refuse_acts, is_shut, wants_memory}
-use Rattle.sv_laws.proofs.Facts.{some_same}
 use Rattle.sv_laws.proofs.Brought.{CanBeRefused}
 use Rattle.sv_history.proofs.Projections.{device_effect}
 use Rattle.sv_laws.proofs.EveryLog.Done.{IsDone, each_done}

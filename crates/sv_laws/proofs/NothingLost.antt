@@ -4,7 +4,7 @@ use Rattle.std.specs.Prelude.{map, not, is_some, ◌||◌, Result, Ok, Err}
 use Rattle.std.proofs.lemmas.Bool.{cases_Bool}
 use Rattle.sv_logs.proofs.Each.{Each}
 use Rattle.sv_links.specs.declared.request.Peer.{Peer}
-use Rattle.sv_links.specs.Links.{LinkAct, Made, Destroyed, Locked, Unlocked, closing, links_made}
+use Rattle.sv_links.specs.Links.{LinkAct, Made, closing, links_made}
 use Rattle.sv_links.specs.Waiting.{Left, waits, is_creating, creating, connections}
 use Rattle.sv_links.specs.Channels.{ChannelAct, ChannelClosed, is_channel_open, waiting as channel_waiting}
 use Rattle.sv_laws.proofs.LinksAlike.{MakesNone}
@@ -18,8 +18,8 @@ use Rattle.sv_history.specs.declared.event.Port.TheVariants.{Conn, Intr}
 use Rattle.sv_history.specs.declared.event.Did.{Did}
 use Rattle.sv_history.specs.declared.event.Did.TheVariants.{Done}
 use Rattle.sv_history.specs.declared.event.Refused.{Refused}
-use Rattle.sv_history.specs.declared.event.Refused.TheVariants.{NoMemory, ConnInUse, NoConn, NoRoom, NotSent, NoDial, NotRefusable, BadChannel, BadInput, TimeOver}
-use Rattle.sv_history.specs.Event.{PlainEvent, Open, Bytes, Turn, Refuse, Took, Close, Dialed, Input, External, Tick}
+use Rattle.sv_history.specs.declared.event.Refused.TheVariants.{NoMemory}
+use Rattle.sv_history.specs.Event.{PlainEvent, Open, Bytes, Took, Close, Dialed, Input, External}
 use Rattle.sv_history.specs.Act.{Act, ConnAct, DeviceAct, Linked, Waited, Channel, Applied, Ticked, PortClosed, On, OnDevice, of, device_acts, link_acts, wait_acts, instrument_acts}
 use Rattle.sv_history.specs.Connection.{is_open, room, waiting, open_role, pending_call}
 use Rattle.sv_history.specs.CoreCall.{CoreCall}

@@ -2,7 +2,6 @@
 use Rattle.std.proofs.Common.{◌≡◌, ℕ, eqb, true, false, List, [], ◌∷◌, ◌++◌, Option, Some, None, refl, sym, ap, subst, ◌∙◌, inl, inr, append_assoc}
 use Rattle.std.specs.Prelude.{map}
 use Rattle.std.proofs.lemmas.Bool.{cases_eq, cases_Bool}
-use Rattle.sv_vxi.specs.declared.error_code.ErrorCode.TheVariants.{Abort}
 use Rattle.sv_vxi.specs.Arguments.{Arguments}
 use Rattle.sv_vxi.specs.Results.{Outcome}
 use Rattle.sv_links.specs.Links.{closing}
@@ -16,16 +15,15 @@ use Rattle.sv_history.specs.declared.event.Port.TheVariants.{Conn, Intr}
 use Rattle.sv_history.specs.Event.{PlainEvent, Open, Bytes, Turn, Refuse, Took, Close, Dialed, Input, External, Tick}
 use Rattle.sv_history.specs.Act.{Act, ConnAct, DeviceAct, Opened, Piece, CallTaken, Faulted, Replied, BytesTaken, PortClosed, Linked, Waited, Channel, Applied, Ticked, On, OnDevice, of, device_acts, link_acts, instrument_acts}
 use Rattle.sv_history.specs.Connection.{next_call, pending_call}
-use Rattle.sv_history.specs.CallOutcome.{CallOutcome, only}
-use Rattle.sv_history.specs.CoreCall.{CoreCall, failure}
+use Rattle.sv_history.specs.CallOutcome.{CallOutcome}
+use Rattle.sv_history.specs.CoreCall.{CoreCall}
 use Rattle.sv_history.specs.Effect.{Effect, acts_of, replies}
-use Rattle.sv_history.specs.Request.{Request, NoCall, Decided, CoreRequest, AbortRequest, PortRequest, core_call_in, next_request}
-use Rattle.sv_history.specs.Execution.{request_effect, aborts}
+use Rattle.sv_history.specs.Request.{Request, CoreRequest, core_call_in, next_request}
+use Rattle.sv_history.specs.Execution.{request_effect}
 use Rattle.sv_history.specs.Interrupts.{connect_outcome}
-use Rattle.sv_history.specs.Resuming.{effect_of, leaving, next_wait, resume_outcome, late}
+use Rattle.sv_history.specs.Resuming.{effect_of, leaving}
 use Rattle.sv_history.specs.Refusing.{refusable}
-use Rattle.sv_history.specs.Settling.{IsNext}
-use Rattle.sv_history.specs.History.{abort_acts, turn_acts, refuse_acts, own_acts}
+use Rattle.sv_history.specs.History.{own_acts}
 use Rattle.sv_laws.proofs.Brought.{brings, AreCalls, OnlyCalls}
 use Rattle.sv_history.proofs.Projections.{of_shared, of_effect, others_effect}
 use Rattle.sv_laws.proofs.OneLog.{one_log}
@@ -144,7 +142,7 @@ behind_event config Tick polled log =
 pub only_calls : OnlyCalls
 only_calls config event history before log c was is =
     let same = one_log config history is.0 before is.4 was in
-    let grown = each_settled config (Behind (λ d. brings d event ++ of d is.0)) 
+    let grown = each_settled config (Behind (λ d. brings d event ++ of d is.0))
     (step_keeps config _ (steps_keep (λ d. brings d event ++ of d is.0) config))
     is.8.0 (own_acts config is.1 event is.0 ++ is.0) log (behind_event config event is.1 is.0) is.8.1 in
     subst (λ (l : List Act). (calls : List ConnAct) × AreCalls calls × (of c log ≡ calls ++ (brings c event ++ of c l))) same (grown c)

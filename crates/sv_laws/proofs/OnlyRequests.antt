@@ -1,41 +1,35 @@
 -- An event tells to each interrupt channel its own act, and behind it a channel is closed, or calls are added to it.
-use Rattle.std.proofs.Common.{◌≡◌, ℕ, Bool, true, false, eqb, cond, List, [], ◌∷◌, ◌++◌, length, nat_lt, Option, Some, None, refl, sym, ap, subst, ◌∙◌, inl, inr, append_assoc, append-nil, add-zero, ◌+◌}
-use Rattle.std.specs.Prelude.{map, pos, negsuc, ⊤}
+use Rattle.std.proofs.Common.{◌≡◌, ℕ, Bool, true, false, eqb, cond, List, [], ◌∷◌, ◌++◌, Option, Some, None, refl, sym, ap, subst, ◌∙◌, inl, inr, append_assoc, append-nil, add-zero, ◌+◌}
+use Rattle.std.specs.Prelude.{map, ⊤}
 use Rattle.std.specs.List.{fold, AllByRecursion}
 use Rattle.std.proofs.lemmas.Bool.{cases_Bool}
-use Rattle.sv_vxi.specs.declared.error_code.ErrorCode.TheVariants.{Abort}
-use Rattle.sv_vxi.specs.declared.arguments.GenericCall.TheVariants.{Readstb, Trigger, Clear, Remote, Local}
-use Rattle.sv_vxi.specs.Arguments.{DeviceAbort, DeviceWrite, DeviceRead, Generic, DeviceLock, DeviceUnlock, DeviceEnableSrq, DeviceDocmd, DestroyLink, Arguments, CreateLink, OnLink, CreateIntrChan, DestroyIntrChan, max_handle}
+use Rattle.sv_vxi.specs.Arguments.{Arguments}
 use Rattle.sv_links.specs.declared.request.Peer.{Peer}
 use Rattle.sv_links.specs.declared.waiting.Wait.{Wait}
-use Rattle.sv_links.specs.Links.{LinkAct, Made, Destroyed, Locked, Unlocked, closing, owner, is_of, holder, is_locked_out, is_this, lids_left}
+use Rattle.sv_links.specs.Links.{LinkAct, Destroyed, closing}
 use Rattle.sv_links.specs.Waiting.{Left}
-use Rattle.sv_links.specs.Channels.{ChannelAct, SrqEnabled, SrqDisabled, ChannelOpened, ChannelClosed, Requested, ChannelTaken, peer, bytes_taken, may_call, add_call, calls, handles_of, enabled_links}
-use Rattle.sv_exchange.specs.Exchange.{has_ended, response, is_something}
-use Rattle.sv_exchange.specs.Limits.{max_message}
+use Rattle.sv_links.specs.Channels.{ChannelAct, ChannelOpened, ChannelClosed, Requested, ChannelTaken, peer, bytes_taken, may_call, add_call, calls, handles_of, enabled_links}
 use Rattle.sv_scan.specs.declared.acts.ScanAct.TheVariants.{Input as InputTo}
 use Rattle.sv_layers.specs.Act.{Act as InstrumentAct, Scanned}
-use Rattle.sv_instrument.specs.Step.{is_answerable}
-use Rattle.sv_instrument.specs.Stimulus.{external_acts, tick_acts, trigger_acts}
+use Rattle.sv_instrument.specs.Stimulus.{external_acts, tick_acts}
 use Rattle.sv_history.specs.declared.event.Config.{Config}
 use Rattle.sv_history.specs.declared.event.Port.TheVariants.{Conn, Intr}
 use Rattle.sv_history.specs.Event.{PlainEvent, Open, Bytes, Turn, Refuse, Took, Close, Dialed, Input, External, Tick}
-use Rattle.sv_history.specs.Act.{Act, DeviceAct, CallTaken, PortClosed, Linked, Waited, Channel, Applied, Ticked, On, OnDevice, of, device_acts, link_acts, instrument_acts, exchange_acts, ticks}
+use Rattle.sv_history.specs.Act.{Act, DeviceAct, CallTaken, PortClosed, Linked, Waited, Channel, Applied, Ticked, On, OnDevice, of, device_acts, link_acts, instrument_acts, ticks}
 use Rattle.sv_history.specs.Connection.{next_call, pending_call}
 use Rattle.sv_history.specs.CallOutcome.{CallOutcome, only}
 use Rattle.sv_history.specs.CoreCall.{CoreCall, failure}
 use Rattle.sv_history.specs.CoreChannel.{own_call}
 use Rattle.sv_history.specs.Effect.{Effect, acts_of}
-use Rattle.sv_history.specs.Request.{Request, NoCall, Decided, CoreRequest, AbortRequest, PortRequest, core_call_in, next_request}
+use Rattle.sv_history.specs.Request.{Request, CoreRequest, core_call_in, next_request}
 use Rattle.sv_history.specs.Requests.{HearsOf, link_told, request_told}
 use Rattle.sv_history.specs.Admission.{Stop, Fails, Awaits, stop_of, admission}
-use Rattle.sv_history.specs.Execution.{request_effect, aborts}
-use Rattle.sv_history.specs.Interrupts.{has_channel}
+use Rattle.sv_history.specs.Execution.{request_effect}
 use Rattle.sv_history.proofs.Dialing.{peer_by, dialed_to, dialed_is}
-use Rattle.sv_history.specs.Resuming.{effect_of, leaving, next_wait, resume_outcome, connect_effect, late}
+use Rattle.sv_history.specs.Resuming.{effect_of, leaving, next_wait, resume_outcome, connect_effect}
 use Rattle.sv_history.specs.Refusing.{refusable}
-use Rattle.sv_history.specs.Settling.{IsNext, SettlesIn}
-use Rattle.sv_history.specs.History.{abort_acts, turn_acts, refuse_acts, own_acts}
+use Rattle.sv_history.specs.Settling.{SettlesIn}
+use Rattle.sv_history.specs.History.{own_acts}
 use Rattle.sv_laws.proofs.Brought.{opened_to, peer_in, tells, OnlyAdds, OnlyRequests, is_tick}
 use Rattle.sv_scan.specs.Condition.{bit}
 use Rattle.sv_history.proofs.Projections.{device_effect, device_shared}

@@ -15,7 +15,7 @@ use Rattle.sv_rpc.specs.Record.{header_of, fragment, Sent, bytes_of, record_of}
 use Rattle.sv_rpc.specs.Stream.{records_of}
 use Rattle.sv_rpc.proofs.Calls.{call_is}
 use Rattle.sv_rpc.proofs.EveryStream.{every_stream}
-use Rattle.sv_history.specs.Act.{ConnAct, Opened, Piece, CallTaken, Faulted, Replied, BytesTaken, PortClosed}
+use Rattle.sv_history.specs.Act.{ConnAct, Opened, Piece, CallTaken, Replied, BytesTaken, PortClosed}
 use Rattle.sv_history.specs.Connection.{next_call, stream, pending_call, records_ended, took_no_call, is_busy}
 use Rattle.sv_history.specs.Reply.{reply_record}
 use Rattle.sv_laws.specs.Laws.{HasXidOf, RepliesMatch}

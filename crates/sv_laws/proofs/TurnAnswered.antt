@@ -4,7 +4,6 @@ use Rattle.std.specs.Prelude.{map, is_some, Err}
 use Rattle.std.proofs.lemmas.Bool.{cases_eq}
 use Rattle.sv_rpc.specs.declared.call.CallFault.TheVariants.{BadHeader}
 use Rattle.sv_rpc.specs.Call.{call_at}
-use Rattle.sv_vxi.specs.declared.error_code.ErrorCode.TheVariants.{Abort}
 use Rattle.sv_vxi.specs.Arguments.{Arguments}
 use Rattle.sv_vxi.specs.Results.{Outcome}
 use Rattle.sv_links.specs.declared.waiting.Wait.{Wait}
@@ -14,14 +13,13 @@ use Rattle.sv_history.specs.declared.event.Role.{Role}
 use Rattle.sv_history.specs.Event.{PlainEvent, Turn}
 use Rattle.sv_history.specs.Act.{Act, ConnAct, DeviceAct, CallTaken, Faulted, Replied, Applied, On, OnDevice, of, device_acts, wait_acts}
 use Rattle.sv_history.specs.Connection.{is_open, next_call, open_role, pending_call}
-use Rattle.sv_history.specs.CallOutcome.{CallOutcome, only}
-use Rattle.sv_history.specs.CoreCall.{CoreCall, failure}
+use Rattle.sv_history.specs.CallOutcome.{CallOutcome}
+use Rattle.sv_history.specs.CoreCall.{CoreCall}
 use Rattle.sv_history.specs.Effect.{acts_of, replies, result_reply}
-use Rattle.sv_history.specs.Request.{Request, NoCall, Decided, CoreRequest, AbortRequest, PortRequest, core_call_in, request_of, request_for, next_request}
+use Rattle.sv_history.specs.Request.{Request, NoCall, CoreRequest, core_call_in, request_of, request_for, next_request}
 use Rattle.sv_history.specs.Execution.{request_effect, aborts}
-use Rattle.sv_history.specs.Resuming.{effect_of, leaving, next_wait, resume_outcome, late}
-use Rattle.sv_history.specs.Settling.{IsNext}
-use Rattle.sv_history.specs.History.{abort_acts, turn_acts, own_acts, IsLogOf}
+use Rattle.sv_history.specs.Resuming.{effect_of}
+use Rattle.sv_history.specs.History.{turn_acts, own_acts, IsLogOf}
 use Rattle.sv_laws.specs.Laws.{TurnAnswered}
 use Rattle.sv_history.proofs.Projections.{of_mine, of_shared, of_effect, others_effect}
 use Rattle.sv_laws.proofs.OneLog.{one_log}
@@ -131,7 +129,7 @@ turn_answered config history before log c call was now next =
     ∙ request.1 in
     let begins : StandsIn c call (of c now.0) (own_acts config now.1 (Turn c) now.0 ++ now.0) =
     rw (first, asks) (in_turn config now.1 c call request.0 now.0 first request.1) in
-    let ends = each_settled config (StandsIn c call (of c now.0)) 
+    let ends = each_settled config (StandsIn c call (of c now.0))
     (step_keeps config _ (steps_keep c call (of c now.0) config)) now.8.0 (own_acts config now.1 (Turn c) now.0 ++ now.0) log begins now.8.1 in
     elim (subst (λ (l : List Act). Stands call (of c l) (of c log)) same ends) [
       | inl answered ↦ inl answered

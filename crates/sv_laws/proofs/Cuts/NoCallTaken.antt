@@ -1,25 +1,23 @@
 -- What follows a call in its event takes no call: neither what the call does, nor the steps that are due then.
-use Rattle.std.proofs.Common.{◌≡◌, ℕ, zero, suc, List, [], ◌∷◌, ◌++◌, Option, Some, None, refl, sym, ap, subst, ◌∙◌, inl, inr, append_assoc}
+use Rattle.std.proofs.Common.{◌≡◌, ℕ, List, [], ◌∷◌, ◌++◌, Option, Some, None, refl, sym, ap, subst, ◌∙◌, inl, inr, append_assoc}
 use Rattle.std.specs.Prelude.{map, not, ⊤, ◌==◌}
 use Rattle.std.specs.List.{AllByRecursion}
 use Rattle.std.proofs.lemmas.Bool.{cases_Bool}
 use Rattle.std.proofs.lemmas.List.Elements.{filter-append}
-use Rattle.sv_vxi.specs.declared.error_code.ErrorCode.{ErrorCode}
-use Rattle.sv_vxi.specs.declared.error_code.ErrorCode.TheVariants.{Abort}
 use Rattle.sv_vxi.specs.Arguments.{Arguments}
 use Rattle.sv_vxi.specs.Results.{Outcome}
 use Rattle.sv_history.specs.declared.event.Config.{Config}
-use Rattle.sv_history.specs.Act.{Act, ConnAct, DeviceAct, Opened, Piece, CallTaken, Faulted, Replied, BytesTaken, PortClosed, Applied, On, OnDevice, of, device_acts}
+use Rattle.sv_history.specs.Act.{Act, ConnAct, DeviceAct, Piece, CallTaken, Replied, Applied, On, OnDevice, of, device_acts}
 use Rattle.sv_history.specs.Connection.{pending_call}
-use Rattle.sv_history.specs.CallOutcome.{CallOutcome, only}
-use Rattle.sv_history.specs.CoreCall.{CoreCall, failure}
-use Rattle.sv_history.specs.Request.{Request, NoCall, Decided, CoreRequest, AbortRequest, PortRequest, core_call_in}
+use Rattle.sv_history.specs.CallOutcome.{CallOutcome}
+use Rattle.sv_history.specs.CoreCall.{CoreCall}
+use Rattle.sv_history.specs.Request.{Request, CoreRequest, core_call_in}
 use Rattle.sv_history.specs.Effect.{Effect, acts_of, replies}
 use Rattle.sv_history.specs.Admission.{stop_of, admission}
 use Rattle.sv_history.specs.Execution.{request_effect}
-use Rattle.sv_history.specs.Resuming.{effect_of, leaving, resume_outcome, next_wait, resume_effect, failure_effect, late}
-use Rattle.sv_history.specs.Settling.{IsNext, SettlesIn}
-use Rattle.sv_history.specs.History.{abort_acts, taken_acts}
+use Rattle.sv_history.specs.Resuming.{effect_of}
+use Rattle.sv_history.specs.Settling.{SettlesIn}
+use Rattle.sv_history.specs.History.{taken_acts}
 use Rattle.sv_laws.specs.Cuts.{is_piece, without_pieces}
 use Rattle.sv_history.proofs.Projections.{of_mine}
 use Rattle.sv_laws.proofs.Facts.{all_join}

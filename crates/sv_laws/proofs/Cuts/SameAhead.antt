@@ -1,12 +1,11 @@
 -- Two connections that took a different number of calls, and are the same ahead of these: the same calls come next, whatever comes.
-use Rattle.std.proofs.Common.{inl, inr, ◌≡◌, ℕ, zero, suc, ◌+◌, Bool, List, [], ◌∷◌, ◌++◌, drop, Option, None, slice_get, refl, sym, ap, ◌∙◌, append_assoc, append-nil, drop-drop, arith}
-use Rattle.std.specs.Prelude.{◌||◌, is_some, ◌==◌, if◌then◌else◌}
+use Rattle.std.proofs.Common.{inl, inr, ◌≡◌, ℕ, zero, suc, ◌+◌, List, [], ◌∷◌, ◌++◌, drop, slice_get, refl, sym, ap, ◌∙◌, append_assoc, append-nil, drop-drop, arith}
+use Rattle.std.specs.Prelude.{◌==◌}
 use Rattle.std.proofs.lemmas.Bool.{cases_Bool}
 use Rattle.sv_rpc.specs.Stream.{records_of}
-use Rattle.sv_history.specs.declared.event.Role.{Role}
-use Rattle.sv_history.specs.Act.{Act, ConnAct, Opened, Piece, CallTaken, Faulted, Replied, BytesTaken, PortClosed, On, OnDevice, of}
+use Rattle.sv_history.specs.Act.{Act, ConnAct, Piece, Faulted, Replied, On, OnDevice, of}
 use Rattle.sv_history.specs.Connection.{next_call, open_role, pending_call, records_ended, took_no_call, stream}
-use Rattle.sv_history.specs.Request.{request_for, next_request}
+use Rattle.sv_history.specs.Request.{next_request}
 use Rattle.sv_laws.specs.Adding.{all_replies}
 
 -- Whatever comes, the same records are not ended.
@@ -25,7 +24,6 @@ pub record SameAhead (first second : List ℕ) (acts others : List ConnAct) : Ty
   pub no_call : took_no_call acts ≡ took_no_call others
   pub ahead : Ahead acts others
   pub sends : Sends first second (all_replies acts) (all_replies others)
-
 
 one_more : (n : ℕ) (a : List (List ℕ)) → drop 1 (drop n a) ≡ drop (suc n) a
 one_more n a = drop-drop 1 n a ∙ ap (λ (k : ℕ). drop k a) (let next : n + 1 ≡ suc n = omega arith in next)

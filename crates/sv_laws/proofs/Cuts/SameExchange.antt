@@ -1,10 +1,8 @@
 -- Two lists of what happened to messages that are the same but for where program text was accepted.
-use Rattle.std.proofs.Common.{◌≡◌, ℕ, suc, ◌+◌, Bool, false, cond, List, [], ◌∷◌, ◌++◌, length, drop, map, Option, refl, sym, ap, ◌∙◌, inl, inr, append_assoc, append-nil}
-use Rattle.std.specs.Prelude.{slice_index_or, slice_get, nat_lt, not, ◌&&◌, ◌==◌, None, if◌then◌else◌}
+use Rattle.std.proofs.Common.{◌≡◌, ℕ, suc, ◌+◌, Bool, false, cond, List, [], ◌∷◌, ◌++◌, map, refl, sym, ap, ◌∙◌, inl, inr, append_assoc, append-nil}
 use Rattle.std.proofs.lemmas.Bool.{cases_Bool}
 use Rattle.std.proofs.lemmas.List.{map-append}
-use Rattle.sv_exchange.specs.Exchange.{ExchangeAct, Accepted, TextDropped, Overran, UnitDone, Answered, AnswersDropped, Finished, Interrupted, ResponseRead, Symbol, Byte, end_mark, text, messages, messages_finished, current, units_done, has_overrun, has_dropped, all_answers, answers, message, has_ended, joined_answers, renews, new_response, bytes_read, response, is_something, units, next_unit, Due, OverrunDue, due_unit, due}
-use Rattle.sv_exchange.specs.Limits.{max_message}
+use Rattle.sv_exchange.specs.Exchange.{ExchangeAct, Accepted, TextDropped, UnitDone, Answered, Finished, ResponseRead, Symbol, Byte, end_mark, text, messages_finished, current, units_done, has_overrun, has_dropped, all_answers, answers, message, has_ended, joined_answers, renews, new_response, bytes_read, response, is_something, next_unit, due}
 use Rattle.sv_logs.specs.Since.{since, newest}
 
 -- the response as it was when it began, and how many bytes were read since

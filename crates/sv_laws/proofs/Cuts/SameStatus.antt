@@ -1,6 +1,6 @@
 -- Two logs of the instrument that are the same but for where program text was accepted: no search of its status tells them apart.
 use Rattle.std.proofs.Common.{◌≡◌, ℕ, Bool, true, false, List, [], ◌∷◌, refl, sym, ap, ◌∙◌, inl, inr, arith}
-use Rattle.std.specs.Prelude.{◌↔◌, ◌&&◌, ◌||◌, not, unwrap_or}
+use Rattle.std.specs.Prelude.{◌↔◌, ◌&&◌, ◌||◌}
 use Rattle.std.specs.Int.{bit_at}
 use Rattle.sv_errors.specs.declared.error_queue.QueueAct.{QueueAct}
 use Rattle.sv_errors.specs.declared.error_queue.QueueAct.TheVariants as queue_act
@@ -10,13 +10,12 @@ use Rattle.sv_logs.specs.Since.{is_since}
 use Rattle.sv_logs.proofs.Since.{since_empty, since_alike, since_over, then_same}
 use Rattle.sv_status.specs.declared.register_name.RegisterName.{RegisterName}
 use Rattle.sv_status.specs.declared.register_name.RegisterName.TheVariants.{Operation, Questionable}
-use Rattle.sv_scan.specs.declared.acts.ScanAct.{ScanAct}
 use Rattle.sv_scan.specs.Counted.{effective}
-use Rattle.sv_exchange.specs.Exchange.{Accepted, TextDropped, Interrupted, response, is_something}
-use Rattle.sv_layers.specs.Act.{Act, Exchanged, Purged, Scanned, Reported, EntryTaken, Cleared, Preset, OpcAsked, StandardRead, StandardEnabled, EventRead, Enabled, RiseSet, FallSet, ServiceEnabled, Polled, exchange_acts, scan_acts, queue_acts}
-use Rattle.sv_layers.specs.Filter.{is_same, mask_for, rise, fall, enable, has_bit, passes, leaves}
+use Rattle.sv_exchange.specs.Exchange.{Accepted, TextDropped, Interrupted, is_something}
+use Rattle.sv_layers.specs.Act.{Act, Exchanged, Purged, Reported, EntryTaken, Cleared, OpcAsked, StandardRead, EventRead, Polled, exchange_acts, scan_acts, queue_acts}
+use Rattle.sv_layers.specs.Filter.{rise, fall, enable, has_bit, passes, leaves}
 use Rattle.sv_layers.specs.Condition.{word, summary, condition, effective_acts, is_idle}
-use Rattle.sv_layers.specs.Event.{EventStands, Summary}
+use Rattle.sv_layers.specs.Event.{EventStands}
 use Rattle.sv_layers.specs.Standard as standard
 use Rattle.sv_layers.specs.StatusByte.{SummaryBit, service, ServiceRequested, Master, Reason, Lasts, Request, IsRaised, PolledBit, MasterBit}
 use Rattle.sv_layers.proofs.Either.{unchanged, either_same, both_same, equal_same}

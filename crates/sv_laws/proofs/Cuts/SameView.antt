@@ -1,19 +1,16 @@
 -- Two logs that are the same but for the pieces in which bytes came, and the fragments of records: over the same acts, and over other
 -- pieces.
-use Rattle.std.proofs.Common.{◌≡◌, ℕ, suc, Bool, List, [], ◌∷◌, ◌++◌, Option, None, refl, sym, ap, subst, ◌∙◌, inl, inr, append_assoc, append-nil}
-use Rattle.std.specs.Prelude.{map, ⊤, ◌||◌, is_some, slice_get, ◌==◌, if◌then◌else◌}
-use Rattle.std.specs.List.{AllByRecursion}
+use Rattle.std.proofs.Common.{◌≡◌, ℕ, suc, List, [], ◌∷◌, ◌++◌, refl, sym, ap, ◌∙◌, inl, inr, append_assoc, append-nil}
+use Rattle.std.specs.Prelude.{map, ◌==◌}
 use Rattle.std.proofs.lemmas.Bool.{cases_eq, cases_Bool}
 use Rattle.sv_rpc.specs.Stream.{Reading, reading}
-use Rattle.sv_history.specs.declared.event.Role.{Role}
-use Rattle.sv_history.specs.Act.{Act, ConnAct, DeviceAct, Opened, Piece, CallTaken, Faulted, Replied, BytesTaken, PortClosed, On, OnDevice, of, device_acts}
+use Rattle.sv_history.specs.Act.{Act, ConnAct, DeviceAct, Piece, Faulted, Replied, On, OnDevice, of, device_acts}
 use Rattle.sv_history.specs.Connection.{join_pieces, next_call, open_role, pending_call, records_ended, took_no_call, stream}
-use Rattle.sv_history.specs.Request.{Request, request_for, next_request}
-use Rattle.sv_history.specs.Refusing.{refusable_call, refusable}
+use Rattle.sv_history.specs.Request.{next_request}
 use Rattle.sv_history.specs.Effect.{Effect, acts_of}
 use Rattle.sv_laws.specs.Adding.{all_replies}
 use Rattle.sv_laws.proofs.Cuts.ReadsOn.{read_alike}
-use Rattle.sv_history.proofs.Projections.{of_shared, device_shared, of_effect, others_effect, device_effect}
+use Rattle.sv_history.proofs.Projections.{of_effect, others_effect, device_effect}
 
 -- ---- the acts of a connection
 

@@ -10,10 +10,10 @@ use Rattle.sv_scan.specs.Counted.{effective, trigger_fault}
 use Rattle.sv_scan.specs.Scan.{state}
 use Rattle.sv_errors.specs.declared.source.Source.TheVariants.{External as ByInput}
 use Rattle.sv_instrument.specs.Stimulus.{or_nothing, where_scanning}
-use Rattle.sv_history.specs.declared.event.Port.TheVariants.{Conn, Intr}
+use Rattle.sv_history.specs.declared.event.Port.TheVariants.{Conn}
 use Rattle.sv_history.specs.declared.event.Config.{Config}
-use Rattle.sv_history.specs.Event.{PlainEvent, Open, Bytes, Turn, Refuse, Took, Close, Dialed, Input, External, Tick}
-use Rattle.sv_history.specs.Act.{Act, ConnAct, Opened, Piece, CallTaken, Faulted, Replied, BytesTaken, PortClosed, Linked, Waited, Channel, Applied, Ticked, On, OnDevice, of, device_acts}
+use Rattle.sv_history.specs.Event.{PlainEvent, Turn, Refuse, Took, Close, Dialed, External, Tick}
+use Rattle.sv_history.specs.Act.{Act, ConnAct, Piece, CallTaken, BytesTaken, PortClosed, Linked, Waited, Channel, Applied, Ticked, On, OnDevice, of, device_acts}
 use Rattle.sv_history.specs.Connection.{next_call, pending_call}
 use Rattle.sv_history.specs.Request.{Request, core_call_in, next_request}
 use Rattle.sv_history.specs.Refusing.{refusable_call}

@@ -1,6 +1,6 @@
 -- Behind two histories whose logs are the same but for where text was accepted, and for calls that came before, the same events add the
 -- same.
-use Rattle.std.proofs.Common.{◌≡◌, ℕ, List, [], ◌∷◌, ◌++◌}
+use Rattle.std.proofs.Common.{ℕ, List, [], ◌∷◌, ◌++◌}
 use Rattle.sv_history.specs.declared.event.Config.{Config}
 use Rattle.sv_history.specs.Event.{PlainEvent}
 use Rattle.sv_history.specs.Act.{Act, On, OnDevice, of, device_acts}

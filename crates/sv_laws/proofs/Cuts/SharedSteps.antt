@@ -5,7 +5,7 @@ use Rattle.std.proofs.lemmas.List.{append_cancel_right}
 use Rattle.sv_errors.specs.declared.source.Source.TheVariants.{Immediate}
 use Rattle.sv_vxi.specs.Arguments.{Arguments, OnLink, link}
 use Rattle.sv_links.specs.declared.waiting.Wait.{Wait}
-use Rattle.sv_links.specs.declared.waiting.Wait.TheVariants.{Lock, Input, Response, Dial}
+use Rattle.sv_links.specs.declared.waiting.Wait.TheVariants.{Lock}
 use Rattle.sv_links.specs.Links.{LinkAct, owner, holder}
 use Rattle.sv_links.specs.Waiting.{WaitAct, Entered, Again, Left, waits, IsAble, IsExpired, IsOldest}
 use Rattle.sv_scan.specs.declared.acts.ScanAct.{ScanAct}
@@ -20,7 +20,7 @@ use Rattle.sv_history.specs.Act.{Act, DeviceAct, Waited, Applied, OnDevice, of, 
 use Rattle.sv_history.specs.Connection.{pending_call}
 use Rattle.sv_history.specs.CallOutcome.{CallOutcome, suspend_by}
 use Rattle.sv_history.specs.CoreCall.{CoreCall, lid_of}
-use Rattle.sv_history.specs.Request.{Request, NoCall, Decided, CoreRequest, AbortRequest, PortRequest, core_call_in}
+use Rattle.sv_history.specs.Request.{Request, CoreRequest, AbortRequest, core_call_in}
 use Rattle.sv_history.specs.Effect.{Effect, acts_of, call_effect}
 use Rattle.sv_history.specs.Admission.{Stop, Fails, Awaits, deadline, admission, stop_of}
 use Rattle.sv_history.specs.AbortChannel.{owner_of, if_waiting}

@@ -28,7 +28,7 @@ use Rattle.sv_history.specs.declared.event.Role.TheVariants.{Core, Abort, Portma
 use Rattle.sv_history.specs.Act.{DeviceAct, Applied, link_acts, instrument_acts, exchange_acts}
 use Rattle.sv_history.specs.CallOutcome.{CallOutcome, answer_with, only, suspend_by}
 use Rattle.sv_history.specs.CoreCall.{CoreCall}
-use Rattle.sv_history.specs.Request.{Request, NoCall, Decided, CoreRequest, AbortRequest, PortRequest, program_of, request_of, core_call_of, core_call, request_for}
+use Rattle.sv_history.specs.Request.{Request, Decided, CoreRequest, program_of, request_of, core_call_of, core_call, request_for}
 use Rattle.sv_history.proofs.Deciding.{header_reply, unless_decided, request_is}
 use Rattle.sv_history.specs.CoreChannel.{device_write}
 use Rattle.sv_history.specs.Admission.{stop_of, admission}

@@ -1,42 +1,36 @@
 -- In every log a call that has no answer waits.
-use Rattle.std.proofs.Common.{◌≡◌, ◌≢◌, ℕ, ◌<◌, Bool, true, false, List, [], ◌∷◌, ◌++◌, length, nat_lt, Option, Some, None, refl, sym, ap, subst, ◌∙◌, inl, inr, append_assoc, eq-eqb}
-use Rattle.std.specs.Prelude.{map, is_some, pos, negsuc}
-use Rattle.std.proofs.lemmas.Bool.{cases_eq, cases_Bool}
+use Rattle.std.proofs.Common.{◌≡◌, ◌≢◌, ℕ, ◌<◌, Bool, true, false, List, [], ◌∷◌, ◌++◌, Option, Some, None, refl, sym, ap, subst, ◌∙◌, inl, inr, append_assoc, eq-eqb}
+use Rattle.std.specs.Prelude.{map, is_some}
+use Rattle.std.proofs.lemmas.Bool.{cases_eq}
 use Rattle.sv_vxi.specs.declared.error_code.ErrorCode.{ErrorCode}
-use Rattle.sv_vxi.specs.declared.error_code.ErrorCode.TheVariants.{Abort}
-use Rattle.sv_vxi.specs.declared.arguments.GenericCall.TheVariants.{Readstb, Trigger, Clear, Remote, Local}
-use Rattle.sv_vxi.specs.Arguments.{DeviceAbort, DeviceWrite, DeviceRead, Generic, DeviceLock, DeviceUnlock, DeviceEnableSrq, DeviceDocmd, DestroyLink, Arguments, CreateLink, OnLink, CreateIntrChan, DestroyIntrChan, link, max_handle}
+use Rattle.sv_vxi.specs.Arguments.{Arguments, link}
 use Rattle.sv_vxi.specs.Results.{Outcome}
 use Rattle.sv_links.specs.declared.request.Peer.{Peer}
 use Rattle.sv_links.specs.declared.waiting.Wait.{Wait}
-use Rattle.sv_links.specs.Links.{owner, is_of, holder, is_this, is_locked_out, lids_left, closing}
+use Rattle.sv_links.specs.Links.{closing}
 use Rattle.sv_links.specs.Waiting.{WaitAct, Entered, Again, Left, waits}
 use Rattle.sv_links.specs.Channels.{ChannelAct, ChannelClosed, ChannelTaken}
 use Rattle.sv_laws.proofs.CallsAlike.{conn_of, call_foreign}
-use Rattle.sv_exchange.specs.Exchange.{has_ended, response, is_something}
-use Rattle.sv_exchange.specs.Limits.{max_message}
 use Rattle.sv_scan.specs.declared.acts.ScanAct.TheVariants.{Input as InputTo}
 use Rattle.sv_layers.specs.Act.{Act as InstrumentAct, Scanned}
-use Rattle.sv_instrument.specs.Step.{is_answerable}
 use Rattle.sv_instrument.specs.Stimulus.{external_acts, tick_acts}
 use Rattle.sv_history.specs.declared.event.Config.{Config}
 use Rattle.sv_history.specs.declared.event.Port.TheVariants.{Conn, Intr}
 use Rattle.sv_history.specs.Event.{PlainEvent, Open, Bytes, Turn, Refuse, Took, Close, Dialed, Input, External, Tick}
-use Rattle.sv_history.specs.Act.{Act, ConnAct, DeviceAct, Opened, Piece, CallTaken, Replied, BytesTaken, PortClosed, Waited, Channel, Applied, Ticked, On, OnDevice, of, device_acts, link_acts, wait_acts, instrument_acts, exchange_acts}
+use Rattle.sv_history.specs.Act.{Act, ConnAct, DeviceAct, Opened, Piece, CallTaken, Replied, BytesTaken, PortClosed, Waited, Channel, Applied, Ticked, On, OnDevice, of, device_acts, link_acts, wait_acts, instrument_acts}
 use Rattle.sv_history.specs.Connection.{next_call, pending_call}
 use Rattle.sv_history.specs.CallOutcome.{CallOutcome, only}
 use Rattle.sv_history.specs.CoreCall.{CoreCall, lid_of, failure}
 use Rattle.sv_history.specs.CoreChannel.{own_call}
 use Rattle.sv_history.specs.Effect.{Effect, acts_of, replies, call_effect}
 use Rattle.sv_history.specs.Request.{Request, NoCall, Decided, CoreRequest, AbortRequest, PortRequest, core_call_in, next_request}
-use Rattle.sv_history.specs.Interrupts.{has_channel, connect_outcome}
+use Rattle.sv_history.specs.Interrupts.{connect_outcome}
 use Rattle.sv_history.proofs.Dialing.{peer_by, dialed_to, dialed_is}
 use Rattle.sv_history.specs.Admission.{Stop, Fails, Awaits, stop_of, admission, deadline}
-use Rattle.sv_history.specs.Execution.{request_effect, aborts}
+use Rattle.sv_history.specs.Execution.{request_effect}
 use Rattle.sv_history.specs.Refusing.{refusable, refused_reply}
-use Rattle.sv_history.specs.Resuming.{effect_of, leaving, next_wait, resume_outcome, failure_effect, late}
-use Rattle.sv_history.specs.Settling.{IsNext}
-use Rattle.sv_history.specs.History.{abort_acts, turn_acts, refuse_acts, own_acts, refusal, IsLogOf}
+use Rattle.sv_history.specs.Resuming.{effect_of, leaving, next_wait, resume_outcome, failure_effect}
+use Rattle.sv_history.specs.History.{turn_acts, own_acts, refusal, IsLogOf}
 use Rattle.sv_history.proofs.Projections.{of_mine, of_other, of_shared, of_effect, others_effect, device_shared, device_effect, wait_acts-links, wait_acts-happened}
 use Rattle.sv_laws.proofs.EveryLog.Done.{each_done, own_told}
 use Rattle.sv_laws.proofs.EveryLog.Taken.{within}

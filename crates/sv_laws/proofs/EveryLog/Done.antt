@@ -1,11 +1,11 @@
 -- What a call of the core channel adds to what all connections share, act by act.
 use Rattle.std.proofs.Common.{◌≡◌, ℕ, ◌+◌, Bool, true, false, cond, List, length, nat_lt, Option, Some, None, refl, sym, ap, ◌∙◌, inl, inr}
-use Rattle.std.specs.Prelude.{pos, negsuc, not, is_some, ◌&&◌, ⊤}
+use Rattle.std.specs.Prelude.{pos, not, is_some, ◌&&◌, ⊤}
 use Rattle.std.proofs.lemmas.Bool.{cases_Bool}
 use Rattle.sv_logs.proofs.Each.{Each}
 use Rattle.sv_vxi.specs.declared.error_code.ErrorCode.TheVariants.{InvalidLink, NotAccessible, OutOfResources}
-use Rattle.sv_vxi.specs.declared.arguments.GenericCall.TheVariants.{Readstb, Trigger, Clear, Remote, Local}
-use Rattle.sv_vxi.specs.Arguments.{DeviceAbort, DeviceWrite, DeviceRead, Generic, DeviceLock, DeviceUnlock, DeviceEnableSrq, DeviceDocmd, DestroyLink, Arguments, CreateLink, OnLink, CreateIntrChan, DestroyIntrChan, link, max_handle, is_create_link}
+use Rattle.sv_vxi.specs.declared.arguments.GenericCall.TheVariants.{Readstb, Trigger, Clear}
+use Rattle.sv_vxi.specs.Arguments.{DeviceWrite, DeviceRead, Generic, DeviceLock, DeviceUnlock, DeviceEnableSrq, DestroyLink, Arguments, CreateLink, OnLink, DestroyIntrChan, link, max_handle, is_create_link}
 use Rattle.sv_links.specs.declared.waiting.Wait.{Wait}
 use Rattle.sv_links.specs.declared.waiting.Wait.TheVariants.{Lock}
 use Rattle.sv_links.specs.Links.{Made, links_made, owner, is_of, holder, is_this, is_locked_out, lids_left}
@@ -16,7 +16,7 @@ use Rattle.sv_exchange.specs.Exchange.{has_ended, response, is_something}
 use Rattle.sv_exchange.specs.Limits.{max_message}
 use Rattle.sv_instrument.specs.Step.{is_answerable}
 use Rattle.sv_history.specs.declared.event.Config.{Config}
-use Rattle.sv_history.specs.Act.{DeviceAct, Linked, Waited, Channel, Applied, Ticked, link_acts, instrument_acts, exchange_acts}
+use Rattle.sv_history.specs.Act.{DeviceAct, Linked, Waited, Channel, Ticked, link_acts, instrument_acts, exchange_acts}
 use Rattle.sv_history.specs.CoreCall.{lid_of}
 use Rattle.sv_history.specs.CoreChannel.{owns, own_call}
 use Rattle.sv_history.specs.Interrupts.{has_channel}

@@ -11,7 +11,7 @@ use Rattle.sv_rpc.specs.declared.call.CallFault.{CallFault}
 use Rattle.sv_rpc.specs.declared.call.CallFault.TheVariants.{BadHeader, Version}
 use Rattle.sv_rpc.specs.Ports.{port_at}
 use Rattle.sv_rpc.specs.Call.{PlainCall, call_at}
-use Rattle.sv_vxi.specs.declared.error_code.ErrorCode.TheVariants.{Abort as Aborted, OutOfResources}
+use Rattle.sv_vxi.specs.declared.error_code.ErrorCode.TheVariants.{OutOfResources}
 use Rattle.sv_vxi.specs.Arguments.{Arguments, OnLink}
 use Rattle.sv_vxi.specs.Reading.{arguments_at}
 use Rattle.sv_vxi.specs.Results.{Outcome, result_fields}
@@ -30,19 +30,18 @@ use Rattle.sv_history.specs.declared.event.Port.TheVariants.{Conn, Intr}
 use Rattle.sv_history.specs.Event.{PlainEvent, Open, Bytes, Turn, Refuse, Took, Close, Dialed, Input, External, Tick, IsEvent}
 use Rattle.sv_history.specs.Act.{Act, ConnAct, DeviceAct, Opened, Piece, CallTaken, Faulted, Replied, BytesTaken, PortClosed, Linked, Waited, Channel, Applied, Ticked, On, OnDevice, of, device_acts, link_acts, instrument_acts}
 use Rattle.sv_history.specs.Connection.{is_open, next_call, open_role, pending_call}
-use Rattle.sv_history.specs.CallOutcome.{CallOutcome, only}
+use Rattle.sv_history.specs.CallOutcome.{CallOutcome}
 use Rattle.sv_history.specs.CoreCall.{CoreCall, lid_of, failure}
 use Rattle.sv_history.specs.Reply.{reply_record}
 use Rattle.sv_history.specs.Effect.{Effect, acts_of, replies, result_reply}
 use Rattle.sv_history.specs.Request.{Request, NoCall, Decided, CoreRequest, AbortRequest, PortRequest, core_request, abort_request, procedure_request, request_of, core_call_of, core_call_in, request_for, next_request}
 use Rattle.sv_history.proofs.Deciding.{unless_decided, header_reply, request_is}
 use Rattle.sv_history.specs.AbortChannel.{abort_result}
-use Rattle.sv_history.specs.Execution.{port_reply, request_effect, aborts}
+use Rattle.sv_history.specs.Execution.{port_reply, request_effect}
 use Rattle.sv_history.specs.Interrupts.{connect_outcome}
-use Rattle.sv_history.specs.Resuming.{effect_of, leaving, next_wait, resume_outcome, late}
+use Rattle.sv_history.specs.Resuming.{effect_of, leaving}
 use Rattle.sv_history.specs.Refusing.{takes_memory, refusable_call, refusable, refused_reply}
-use Rattle.sv_history.specs.Settling.{IsNext}
-use Rattle.sv_history.specs.History.{abort_acts, turn_acts, refuse_acts, own_acts, unless_shut, refusal, IsLogOf}
+use Rattle.sv_history.specs.History.{turn_acts, refuse_acts, own_acts, unless_shut, refusal, IsLogOf}
 use Rattle.sv_history.proofs.Projections.{of_mine, of_shared, of_effect, others_effect}
 use Rattle.sv_laws.proofs.EveryLog.EachEvent.{each_log, StepsKeep, ends_keep, step_keeps, turn_keeps, refuse_keeps}
 

@@ -10,7 +10,7 @@ use Rattle.sv_vxi.specs.Results.{Outcome}
 use Rattle.sv_links.specs.declared.request.Peer.{Peer}
 use Rattle.sv_links.specs.declared.waiting.Wait.{Wait}
 use Rattle.sv_links.specs.declared.waiting.Wait.TheVariants.{Lock, Input as ForInput, Response, Dial}
-use Rattle.sv_links.specs.Links.{LinkAct, Made, Destroyed, Locked, Unlocked, owner, closing}
+use Rattle.sv_links.specs.Links.{LinkAct, Made, owner, closing}
 use Rattle.sv_links.specs.Waiting.{WaitAct, Entered, Left, waits, link as named_link}
 use Rattle.sv_links.specs.Channels.{ChannelAct, SrqEnabled, ChannelClosed, ChannelTaken}
 use Rattle.sv_laws.proofs.Facts.{some_same}
@@ -18,8 +18,7 @@ use Rattle.sv_laws.proofs.LinksAlike.{MakesNone}
 use Rattle.sv_laws.proofs.CallsAlike.{call_foreign}
 use Rattle.sv_laws.proofs.Closed.{closed_before, closed_makes_none}
 use Rattle.sv_layers.specs.Act.{Act as InstrumentAct}
-use Rattle.sv_instrument.specs.Stimulus.{IsFired, external_acts, tick_acts}
-use Rattle.sv_instrument.specs.Step.{IsStep}
+use Rattle.sv_instrument.specs.Stimulus.{external_acts, tick_acts}
 use Rattle.sv_history.specs.declared.event.Config.{Config}
 use Rattle.sv_history.specs.declared.event.Port.TheVariants.{Conn, Intr}
 use Rattle.sv_history.specs.declared.event.Refused.TheVariants.{NoConn, ConnInUse}
@@ -38,7 +37,7 @@ use Rattle.sv_history.specs.Execution.{request_effect, aborts}
 use Rattle.sv_history.specs.CallOutcome.{CallOutcome, only}
 use Rattle.sv_history.specs.Resuming.{effect_of, leaving, next_wait, resume_outcome, resume_effect, failure_effect, connect_effect, late}
 use Rattle.sv_history.specs.Refusing.{refusable, refused_reply}
-use Rattle.sv_history.specs.Settling.{IsNext, SettlesIn, InstrumentDoes}
+use Rattle.sv_history.specs.Settling.{IsNext, SettlesIn}
 use Rattle.sv_history.specs.History.{abort_acts, taken_acts, turn_acts, refuse_acts, own_acts, refusal, IsLogOf}
 use Rattle.sv_history.proofs.Projections.{of_mine, of_other, of_shared, device_shared, link_acts-links, wait_acts-links, link_acts-happened, wait_acts-happened}
 use Rattle.sv_laws.proofs.EveryLog.Done.{IsDone, each_done, waits_own, creating_waits}

@@ -6,13 +6,13 @@ use Rattle.sv_logs.proofs.Each.{Each}
 use Rattle.sv_vxi.specs.Arguments.{is_create_link}
 use Rattle.sv_links.specs.declared.waiting.Wait.{Wait}
 use Rattle.sv_links.specs.declared.waiting.Wait.TheVariants.{Lock}
-use Rattle.sv_links.specs.Links.{Made, Destroyed, Locked, Unlocked, links_made, owner}
-use Rattle.sv_links.specs.Waiting.{WaitAct, Entered, Again, Left, waits, link}
+use Rattle.sv_links.specs.Links.{Made, Destroyed, links_made, owner}
+use Rattle.sv_links.specs.Waiting.{WaitAct, Entered, waits, link}
 use Rattle.sv_links.specs.Channels.{SrqEnabled}
 use Rattle.sv_laws.proofs.LinksAlike.{owner_before, owner_of_made}
 use Rattle.sv_laws.proofs.CallsAlike.{SameCall, conn_of, call_foreign}
 use Rattle.sv_history.specs.declared.event.Role.TheVariants.{Core}
-use Rattle.sv_history.specs.Act.{Act, ConnAct, DeviceAct, Linked, Waited, Channel, Applied, Ticked, On, OnDevice, of, device_acts, link_acts, wait_acts}
+use Rattle.sv_history.specs.Act.{Act, ConnAct, DeviceAct, Linked, Waited, Channel, On, OnDevice, of, device_acts, link_acts, wait_acts}
 use Rattle.sv_history.specs.Connection.{open_role, pending_call}
 use Rattle.sv_history.specs.CoreCall.{CoreCall}
 use Rattle.sv_history.specs.Request.{core_call_in}

@@ -6,15 +6,15 @@ use Rattle.sv_links.specs.declared.links.Link.{Link}
 use Rattle.sv_links.specs.declared.enabled.Enabled.{Enabled}
 use Rattle.sv_links.specs.declared.waiting.Wait.{Wait}
 use Rattle.sv_links.specs.declared.waiting.Wait.TheVariants.{Lock, Input as ForInput, Response, Dial}
-use Rattle.sv_links.specs.Links.{LinkAct, Made, Destroyed, Locked, Unlocked, links_made, live, owner, is_of, holder}
+use Rattle.sv_links.specs.Links.{LinkAct, Made, Destroyed, links_made, live, owner, is_of, holder}
 use Rattle.sv_links.specs.Table.{IsRising}
 use Rattle.sv_links.specs.Waiting.{Entered, Again, Left, waits, link, is_there}
-use Rattle.sv_links.specs.Channels.{ChannelAct, SrqEnabled, SrqDisabled, ChannelOpened, ChannelClosed, Requested, ChannelTaken, srq_enabled}
+use Rattle.sv_links.specs.Channels.{ChannelAct, SrqEnabled, SrqDisabled, srq_enabled}
 use Rattle.sv_links.proofs.Tables.{rising-push, rising-filter, other_than}
 use Rattle.sv_laws.proofs.Facts.{some_same}
 use Rattle.sv_laws.proofs.LinksAlike.{owner_made, owner_made_other, owner_destroyed_other, owner_before, is_of_owner}
 use Rattle.sv_laws.proofs.ChannelsAlike.{AsksElsewhere}
-use Rattle.sv_history.specs.Act.{DeviceAct, Linked, Waited, Channel, Applied, Ticked, link_acts, wait_acts}
+use Rattle.sv_history.specs.Act.{DeviceAct, Linked, Waited, Channel, Applied, link_acts, wait_acts}
 use Rattle.sv_history.specs.Requests.{HearsOf}
 use Rattle.sv_history.specs.Settling.{CanResume}
 use Rattle.sv_laws.specs.Isolation.{NoOtherWaits}

@@ -5,11 +5,11 @@ use Rattle.sv_logs.proofs.Each.{Each}
 use Rattle.sv_vxi.specs.declared.arguments.GenericCall.TheVariants.{Trigger}
 use Rattle.sv_vxi.specs.Arguments.{LinkCall, DeviceWrite, DeviceRead, Generic, DeviceLock, DeviceUnlock, DeviceEnableSrq, Arguments, CreateLink, OnLink, CreateIntrChan, DestroyIntrChan, is_create_link}
 use Rattle.sv_links.specs.declared.waiting.Wait.{Wait}
-use Rattle.sv_links.specs.declared.waiting.Wait.TheVariants.{Lock, Input as ForInput, Response, Dial}
-use Rattle.sv_links.specs.Links.{Made, Destroyed, Locked, Unlocked, holder}
+use Rattle.sv_links.specs.declared.waiting.Wait.TheVariants.{Lock}
+use Rattle.sv_links.specs.Links.{Made, holder}
 use Rattle.sv_links.specs.Waiting.{Left}
 use Rattle.sv_history.specs.declared.event.Config.{Config}
-use Rattle.sv_history.specs.Act.{DeviceAct, Linked, Waited, Channel, Applied, Ticked, link_acts}
+use Rattle.sv_history.specs.Act.{DeviceAct, Linked, Waited, link_acts}
 use Rattle.sv_history.specs.CallOutcome.{CallOutcome}
 use Rattle.sv_history.specs.CoreCall.{CoreCall, lid_of}
 use Rattle.sv_history.specs.CoreChannel.{owns, link_call, own_call}
