@@ -1,4 +1,5 @@
 mod Facts
+mod SameOutcomes
 mod ChannelsAlike
 mod LinksAlike
 mod CallsAlike

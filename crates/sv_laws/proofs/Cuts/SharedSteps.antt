@@ -28,29 +28,15 @@ use Rattle.sv_history.specs.Execution.{request_effect, aborts}
 use Rattle.sv_history.specs.Resuming.{leaving, next_wait, resume_outcome, resume_effect, failure_effect, late}
 use Rattle.sv_history.specs.Settling.{First, InstrumentDoes, CanResume, Resumes, TimesOut, IsNext}
 use Rattle.sv_laws.proofs.Cuts.SameInstrument.{SameInstrument, instrument_step}
-use Rattle.sv_laws.proofs.Cuts.SameDevice.{SameDevice, device_act, device_back, ended_alike, answerable_alike, polled_alike, wait_alike, call_alike, stop_alike}
+use Rattle.sv_laws.proofs.Cuts.SameDevice.{SameDevice, device_back, ended_alike, answerable_alike, polled_alike, alike_ground}
+use Rattle.sv_laws.proofs.SameOutcomes.{admitted_same, resumed_same}
 
 -- ---- calls
 
-deadline_alike : (config : Config) (timeout : Option ℕ) (acts other : List DeviceAct) → SameDevice acts other
-    → deadline config timeout acts ≡ deadline config timeout other
-deadline_alike config timeout acts other v =
-    ap (λ (n : ℕ). option_map (λ milliseconds. config.clock + n + milliseconds) timeout) v.clock
-
-admitted_alike : (config : Config) (polled c : ℕ) (arguments : Arguments) (stop : Option Stop) (acts other : List DeviceAct)
-    → SameDevice acts other → admission config polled c arguments stop acts ≡ admission config polled c arguments stop other
-admitted_alike config polled c arguments None acts other v = call_alike config polled c arguments acts other v
-admitted_alike config polled c arguments (Some (Fails error)) acts other v = refl
-admitted_alike config polled c arguments (Some (Awaits wait timeout)) acts other v =
-    ap (λ (d : Option ℕ). suspend_by (Entered c (lid_of (link arguments)) wait d)) (deadline_alike config timeout acts other v)
-
 pub request_alike : (config : Config) (polled c : ℕ) (request : Request) (acts other : List DeviceAct) → SameDevice acts other
     → request_effect config polled c request acts ≡ request_effect config polled c request other
-request_alike config polled c (CoreRequest call) acts other v =
-    ap (λ (o : Option Stop). call_effect call.xid (admission config polled c call.arguments o acts))
-    (stop_alike c call.arguments acts other v)
-    ∙ ap (λ (o : CallOutcome). call_effect call.xid o)
-    (admitted_alike config polled c call.arguments (stop_of c call.arguments other) acts other v)
+request_alike config polled c (CoreRequest call) acts other v = ap (call_effect call.xid)
+    (admitted_same config polled c call.arguments acts other (inr (v.links, v.waits)) (alike_ground c acts other v))
 request_alike config polled c (AbortRequest xid (pos n)) acts other v = rw v.links refl
 request_alike config polled c _ acts other v = refl
 
@@ -66,27 +52,11 @@ aborts_alike (AbortRequest xid (pos n)) acts other v =
 aborts_alike (AbortRequest xid (negsuc n)) acts other v = refl
 aborts_alike _ acts other v = refl
 
-next_wait_alike : (wait : Wait) (arguments : Arguments) (acts other : List DeviceAct) → SameDevice acts other
-    → next_wait wait arguments acts ≡ next_wait wait arguments other
-next_wait_alike Lock (OnLink lid call) acts other v = wait_alike call acts other v
-next_wait_alike _ _ acts other v = refl
-
-continued_alike : (config : Config) (polled c : ℕ) (arguments : Arguments) (next : Option (Wait × ℕ)) (acts other : List DeviceAct)
-    → SameDevice acts other → resume_outcome config polled c arguments next acts ≡ resume_outcome config polled c arguments next other
-continued_alike config polled c arguments (Some wait) acts other v =
-    ap (λ (d : Option ℕ). suspend_by (Again c wait.0 d)) (deadline_alike config (Some wait.1) acts other v)
-continued_alike config polled c arguments None acts other v =
-    ap (λ (o : CallOutcome). leaving c o) (call_alike config polled c arguments (Waited (Left c) ∷ acts) (Waited (Left c) ∷ other)
-    (device_act (Waited (Left c)) acts other v))
-
 pub resumed_alike : (config : Config) (polled c : ℕ) (wait : Wait) (call : Option CoreCall) (acts other : List DeviceAct)
     → SameDevice acts other → resume_effect config polled c wait call acts ≡ resume_effect config polled c wait call other
 resumed_alike config polled c wait None acts other v = refl
 resumed_alike config polled c wait (Some call) acts other v =
-    ap (λ (next : Option (Wait × ℕ)). call_effect call.xid (resume_outcome config polled c call.arguments next acts))
-    (next_wait_alike wait call.arguments acts other v)
-    ∙ ap (λ (o : CallOutcome). call_effect call.xid o)
-    (continued_alike config polled c call.arguments (next_wait wait call.arguments other) acts other v)
+    resumed_same config polled c wait call acts other (inr (v.links, v.waits)) (alike_ground c acts other v)
 
 -- ---- one step
 

@@ -7,7 +7,7 @@ use Rattle.sv_logs.proofs.Each.{Each, each_join}
 use Rattle.sv_vxi.specs.declared.error_code.ErrorCode.{ErrorCode}
 use Rattle.sv_vxi.specs.Arguments.{Arguments, is_create_link}
 use Rattle.sv_links.specs.declared.request.Peer.{Peer}
-use Rattle.sv_links.specs.Links.{owner, holder, closing}
+use Rattle.sv_links.specs.Links.{Made, owner, holder, closing}
 use Rattle.sv_links.specs.Waiting.{Left}
 use Rattle.sv_links.specs.Channels.{ChannelAct, ChannelOpened, waiting as channel_waiting}
 use Rattle.sv_laws.proofs.ChannelsAlike.{SameChannel}
@@ -18,7 +18,7 @@ use Rattle.sv_history.specs.declared.event.Config.{Config}
 use Rattle.sv_history.specs.declared.event.Port.TheVariants.{Conn, Intr}
 use Rattle.sv_history.specs.declared.event.Role.TheVariants.{Core}
 use Rattle.sv_history.specs.Event.{PlainEvent, Open, Bytes, Turn, Refuse, Took, Close, Dialed, Input, External, Tick}
-use Rattle.sv_history.specs.Act.{Act, ConnAct, DeviceAct, CallTaken, Replied, PortClosed, Waited, Channel, Applied, Ticked, On, OnDevice, of, device_acts, link_acts, instrument_acts}
+use Rattle.sv_history.specs.Act.{Act, ConnAct, DeviceAct, CallTaken, Replied, PortClosed, Linked, Waited, Channel, Applied, Ticked, On, OnDevice, of, device_acts, link_acts, instrument_acts}
 use Rattle.sv_history.specs.Connection.{next_call, open_role, pending_call}
 use Rattle.sv_history.specs.CallOutcome.{CallOutcome}
 use Rattle.sv_history.specs.CoreCall.{CoreCall}
@@ -34,9 +34,9 @@ use Rattle.sv_history.proofs.Projections.{device_shared, link_acts-links}
 use Rattle.sv_laws.proofs.EveryLog.Fit.{Fit}
 use Rattle.sv_laws.proofs.EveryLog.EachEvent.{close_adds, device_closed}
 use Rattle.sv_laws.proofs.EveryLog.Taken.{no_abort}
-use Rattle.sv_laws.proofs.EveryLog.Done.{each_done}
-use Rattle.sv_laws.proofs.Isolation.Alike.{Pair, IsOwn, IsOwnAct, Locks}
-use Rattle.sv_laws.proofs.Isolation.SameCalls.{admitted_same, done_own}
+use Rattle.sv_laws.proofs.EveryLog.Done.{IsDone, each_done}
+use Rattle.sv_laws.proofs.Isolation.Alike.{View, Pair, IsOwn, IsOwnAct, Locks}
+use Rattle.sv_laws.proofs.SameOutcomes.{SameGround, admitted_same}
 
 -- the number of such an event is the connection's
 own_number : (d c : ℕ) → not (eqb d c) ≡ false → d ≡ c
@@ -120,6 +120,32 @@ pub own_happened : (c : ℕ) (adds : List InstrumentAct) (log : List Act) → Ea
 own_happened c [] log = tt
 own_happened c (act ∷ adds) log = (tt, own_happened c adds log)
 
+-- ---- a call of the connection
+
+-- what it rests on
+pub same_ground : (c lid : ℕ) (acts other : List DeviceAct) → View c lid acts other → SameGround c acts other
+same_ground c lid acts other view = record {
+  ended = rw view.instrument refl;
+  answerable = rw view.instrument refl;
+  responds = rw view.instrument refl;
+  scanned = rw view.instrument refl;
+  owned = view.owns;
+  held = view.held ∙ sym view.also;
+  opened = view.opened;
+  clock = view.clock;
+}
+
+-- Its acts make no link.
+pub done_own : (c : ℕ) (arguments : Arguments) (adds acts : List DeviceAct) → is_create_link arguments ≡ false
+    → Each (IsDone c arguments) adds acts → Each (λ before act. IsOwn c act) adds acts
+done_own c arguments [] acts makes h = tt
+done_own c arguments (act ∷ adds) acts makes h = (one act (adds ++ acts) h.0, done_own c arguments adds acts makes h.1)
+  where
+    one : (act : DeviceAct) (acts : List DeviceAct) → IsDone c arguments acts act → IsOwn c act
+    one (Linked (Made lid conn)) acts h = let z : true ≡ false = sym h.2 ∙ makes in cc
+    one (Waited act) acts h = absurd h
+    one _ acts h = tt
+
 -- ---- a Turn
 
 abbrev OwnActs : Config → ℕ → ℕ → List Act → List Act → PlainEvent → Type 0
@@ -144,7 +170,8 @@ own_turn_by : (config : Config) (polled c lid : ℕ) (found : Option (List ℕ))
 own_turn_by config polled c lid (Some bytes) (Some (CoreRequest call)) log other pair makes aborts =
     let stop = stop_of c call.arguments (device_acts log) in
     let what = admission config polled c call.arguments stop (device_acts log) in
-    let same = admitted_same config polled c lid call.arguments (device_acts log) (device_acts other) makes pair.view in (
+    let same = admitted_same config polled c call.arguments (device_acts log) (device_acts other) (inl makes)
+    (same_ground c lid (device_acts log) (device_acts other) pair.view) in (
       ap (λ (outcome : CallOutcome). taken_acts c bytes (call_effect call.xid outcome) None log) same,
       each_join (IsOwnAct c) (acts_of c (call_effect call.xid what)) (On c (CallTaken bytes) ∷ []) log
           (each_effect c (own_is c) (call_effect call.xid what) (On c (CallTaken bytes) ∷ log)

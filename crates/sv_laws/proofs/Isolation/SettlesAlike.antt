@@ -25,9 +25,9 @@ use Rattle.sv_laws.proofs.EveryLog.Fit.{Fit}
 use Rattle.sv_laws.proofs.EveryLog.Done.{each_done}
 use Rattle.sv_laws.proofs.EveryLog.EachEvent.{fit_step}
 use Rattle.sv_laws.proofs.Isolation.Alike.{Pair, IsOwn, IsOwnAct, Locks, pair_foreign, pair_same}
-use Rattle.sv_laws.proofs.Isolation.SameCalls.{resumed_same, done_own}
+use Rattle.sv_laws.proofs.SameOutcomes.{resumed_same}
 use Rattle.sv_laws.proofs.Isolation.OthersEvents.{foreign_is}
-use Rattle.sv_laws.proofs.Isolation.OwnEvents.{each_effect, each_failed, own_is, own_happened}
+use Rattle.sv_laws.proofs.Isolation.OwnEvents.{each_effect, each_failed, own_is, own_happened, same_ground, done_own}
 use Rattle.sv_laws.proofs.EveryLog.Due.{oldest_due}
 use Rattle.sv_laws.proofs.EveryLog.Steps.{next_extends, settles_extends, Reaches, reaches_none, reaches_next, reaches_then}
 use Rattle.sv_laws.proofs.Isolation.Draining.{NothingElse, able_to, polled_to, only_own, none_able, none_able_also, no_fire, no_resume, nothing_to, IsDue, drain}
@@ -106,7 +106,8 @@ resumes_alike config c lid polled wait log middle other fit also pair locks fire
     let same : acts_of c effect ++ other
     ≡ acts_of c (resume_effect config polled c wait (core_call_in (pending_call (of c other))) (device_acts other)) ++ other =
     ap (λ (e : Effect). acts_of c e ++ other)
-    (resumed_same config polled c lid wait call (device_acts log) (device_acts other) makes pair.view)
+    (resumed_same config polled c wait call (device_acts log) (device_acts other) (inl makes)
+    (same_ground c lid (device_acts log) (device_acts other) pair.view))
     ∙ ap (λ (o : Option CoreCall). acts_of c (resume_effect config polled c wait o (device_acts other)) ++ other) (sym there) in
     let next : IsNext config other (acts_of c effect ++ other) = inr (
       no_fire c lid log other pair fire,
