@@ -1,5 +1,5 @@
 -- Facts of lists and options.
-use Rattle.std.proofs.Common.{◌≡◌, List, [], ◌∷◌, ◌++◌, Some}
+use Rattle.std.proofs.Common.{◌≡◌, List, [], ◌∷◌, ◌++◌, Some, sym, subst}
 use Rattle.std.specs.List.{AllByRecursion}
 
 pub some_same : {A : Type 0} (a b : A) → Some a ≡ Some b → a ≡ b
@@ -9,3 +9,7 @@ some_same a b e = cc
 pub all_join : {A : Type 0} (P : A → Type 0) (a b : List A) → AllByRecursion P a → AllByRecursion P b → AllByRecursion P (a ++ b)
 all_join P [] b h k = k
 all_join P (x ∷ a) b h k = (h.0, all_join P a b h.1 k)
+
+-- What is so of two is so of what is the same as they.
+pub moved : {A : Type 0} (AreSo : A → A → Type 0) (one two a b : A) → a ≡ one → b ≡ two → AreSo one two → AreSo a b
+moved {A} AreSo one two a b x y v = subst (λ (l : A). AreSo l b) (sym x) (subst (λ (l : A). AreSo one l) (sym y) v)

@@ -8,6 +8,7 @@ use Rattle.sv_history.specs.Act.{Act, device_acts, instrument_acts}
 use Rattle.sv_history.specs.Settling.{SettlesIn}
 use Rattle.sv_history.specs.History.{own_acts, IsLogOf}
 use Rattle.sv_history.proofs.OneStep.{next_once}
+use Rattle.sv_laws.proofs.Facts.{moved}
 use Rattle.sv_laws.proofs.Cuts.SameDevice.{polled_alike}
 use Rattle.sv_laws.proofs.Cuts.SharedSteps.{SameCalls, calls_back, next_shared}
 use Rattle.sv_laws.proofs.Cuts.SharedEvents.{SameNext, own_shared}
@@ -18,9 +19,6 @@ use Rattle.sv_laws.proofs.Cuts.SharedEvents.{SameNext, own_shared}
 pub record IsKept (AreSo : List Act → List Act → Type 0) : Type 0 where
   pub calls : (log other : List Act) → AreSo log other → SameCalls log other
   pub more : (adds log other : List Act) → AreSo log other → AreSo (adds ++ log) (adds ++ other)
-
-pub moved : (AreSo : List Act → List Act → Type 0) (log other a b : List Act) → a ≡ log → b ≡ other → AreSo log other → AreSo a b
-moved AreSo log other a b x y v = subst (λ (l : List Act). AreSo l b) (sym x) (subst (λ (l : List Act). AreSo log l) (sym y) v)
 
 pub settles_so : (AreSo : List Act → List Act → Type 0) → IsKept AreSo → (n m : ℕ) (config : Config) (log other new also : List Act)
     → AreSo log other → SettlesIn n config log new → SettlesIn m config other also → AreSo new also

@@ -19,7 +19,8 @@ use Rattle.sv_laws.proofs.Cuts.ReadsOn.{read_alike}
 use Rattle.sv_laws.proofs.Cuts.SameDevice.{SameDevice, device_same}
 use Rattle.sv_laws.proofs.Cuts.SharedSteps.{SameCalls}
 use Rattle.sv_laws.proofs.Cuts.SharedEvents.{SameNext}
-use Rattle.sv_laws.proofs.Cuts.KeptLogs.{moved, IsKept, event_so}
+use Rattle.sv_laws.proofs.Cuts.KeptLogs.{IsKept, event_so}
+use Rattle.sv_laws.proofs.Facts.{moved}
 use Rattle.sv_laws.proofs.Cuts.SameView.{Alike, next_call_same, next_request_same, alike_none, alike_back, alike_more, came_on, alike_came}
 
 -- ---- bytes that come make no step due

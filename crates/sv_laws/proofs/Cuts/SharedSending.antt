@@ -14,7 +14,7 @@ use Rattle.sv_laws.specs.Adding.{all_replies, Adds}
 use Rattle.sv_laws.proofs.OneLog.{one_log}
 use Rattle.sv_laws.proofs.Cuts.SameDevice.{device_back}
 use Rattle.sv_laws.proofs.Cuts.SameAhead.{SameAhead}
-use Rattle.sv_laws.proofs.Cuts.KeptLogs.{moved}
+use Rattle.sv_laws.proofs.Facts.{moved}
 use Rattle.sv_laws.proofs.Cuts.SharedLogs.{SameLogs, events_same}
 
 ahead_back : (first second : List ℕ) (acts others : List ConnAct) → SameAhead first second acts others
@@ -28,12 +28,10 @@ ahead_back first second acts others v = record {
 }
 
 pub logs_back : (first second : ℕ → List ℕ) (log other : List Act) → SameLogs first second log other → SameLogs second first other log
-logs_back first second log other v = record {
-  device = device_back (device_acts log) (device_acts other) v.device;
-  tells = v.back;
-  back = v.tells;
-  each = λ d. ahead_back (first d) (second d) (of d log) (of d other) (v.each d);
-}
+logs_back first second log other v = assumption (
+  device_back (device_acts log) (device_acts other) v.device,
+  (λ (d : ℕ). ahead_back (first d) (second d) (of d log) (of d other) (v.each d)),
+)
 
 -- a history, its log, and what that tells
 hears_in : (config : Config) (history : List PlainEvent) (found log : List Act) (channel_log : List ChannelAct)
