@@ -11,9 +11,7 @@ pub mod KeptLogs
 pub mod RecordsCut
 pub mod SameAhead
 pub mod SharedLogs
-pub mod SharedSending
 pub mod LongerText
-pub mod ErrorReplies
 pub mod NoCallTaken
 pub mod BytesBehind
 pub mod Fed

@@ -12,7 +12,7 @@ use Rattle.sv_laws.proofs.Cuts.SameExchange.{text_cut}
 use Rattle.sv_laws.proofs.Cuts.SameStatus.{SameStatus, status_same, status_act, status_accepted, status_back}
 use Rattle.sv_laws.proofs.Cuts.SameDevice.{SameDevice, device_back, Tells, tells_happened, accepts, tells_accepted, tells_also}
 use Rattle.sv_laws.proofs.Cuts.SharedEvents.{calls_behind}
-use Rattle.sv_laws.proofs.Cuts.SharedLogs.{device_front, tells_front}
+use Rattle.sv_laws.proofs.Cuts.SharedLogs.{SameShared, shared_more}
 use Rattle.sv_laws.proofs.Facts.{moved}
 use Rattle.sv_laws.proofs.Cuts.KeptLogs.{IsKept}
 use Rattle.sv_laws.proofs.Cuts.NoCallTaken.{of_append}
@@ -48,12 +48,6 @@ told_happened act acts other v = record {
   tells = tells_happened act acts other v.status v.tells;
   back = tells_happened act other acts (status_back (instrument_acts acts) (instrument_acts other) v.status) v.back;
 }
-
--- all that is shared
-pub record SameShared (acts other : List DeviceAct) : Type 0 where
-  pub device : SameDevice acts other
-  pub tells : Tells acts other
-  pub back : Tells other acts
 
 -- a write that is accepted whole, and in two parts
 pub parts_shared : (x y : List ℕ) (ended : Bool) (acts : List DeviceAct)
@@ -93,11 +87,7 @@ pub record Beside (c : ℕ) (log other : List Act) : Type 0 where
 
 beside_more : (c : ℕ) (adds log other : List Act) → Beside c log other → Beside c (adds ++ log) (adds ++ other)
 beside_more c adds log other v = record {
-  shared = record {
-    device = device_front adds log other v.shared.device;
-    tells = tells_front adds log other v.shared.device v.shared.tells;
-    back = tells_front adds other log (device_back (device_acts log) (device_acts other) v.shared.device) v.shared.back;
-  };
+  shared = shared_more adds log other v.shared;
   calls = calls_behind adds log other v.calls;
   others = λ d ne. of_append d adds log ∙ ap (λ (l : List ConnAct). of d adds ++ l) (v.others d ne) ∙ sym (of_append d adds other);
 }

@@ -30,7 +30,7 @@ use Rattle.sv_laws.proofs.Cuts.ReadsOn.{same_behind}
 use Rattle.sv_laws.proofs.Cuts.SameDevice.{Tells, accepts}
 use Rattle.sv_laws.proofs.Cuts.SameAhead.{SameAhead}
 use Rattle.sv_laws.proofs.Cuts.KeptLogs.{settles_so}
-use Rattle.sv_laws.proofs.Cuts.SharedSending.{Begun, adds_same}
+use Rattle.sv_laws.proofs.Cuts.SharedLogs.{Begun, adds_same}
 use Rattle.sv_laws.proofs.Cuts.BytesBehind.{CameBehind, behind_device, behind_others}
 use Rattle.sv_laws.proofs.Cuts.Fed.{Fed, fed, only_bytes}
 use Rattle.sv_laws.proofs.Cuts.Suspended.{rested}
@@ -259,12 +259,7 @@ module _ (c lid : ℕ) (x y : List ℕ) (ended : Bool) (config : Config) (past o
     also = h.two_feeds.is_log;
     one_sent = λ d. refl;
     two_sent = λ d. refl;
-    same = record {
-      device = beside.shared.device;
-      tells = beside.shared.tells;
-      back = beside.shared.back;
-      each = each_ahead;
-    };
+    same = record { shared = beside.shared; each = each_ahead };
   }
 
   sent_but : (port : Port) (bytes : List ℕ) → port ≢ Conn c → Adds port config past one bytes ↔ Adds port config past two bytes
