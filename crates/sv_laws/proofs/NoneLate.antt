@@ -16,22 +16,7 @@ use Rattle.sv_laws.proofs.EveryLog.Fit.{AllSuit}
 use Rattle.sv_laws.proofs.EveryLog.Known.{waits_within}
 use Rattle.sv_laws.proofs.EveryLog.Due.{Least, least, not_both, oldest_due}
 use Rattle.sv_laws.proofs.EveryLog.EachEvent.{fit_log}
-use Rattle.sv_laws.proofs.EveryLog.Steps.{log_settled}
-
--- ---- where no step is due, none of any kind is
-
-no_fire : (config : Config) (log : List Act) → IsSettled config log → (new : List Act) → InstrumentDoes IsFired log new → ⊥
-no_fire config log none new one = none new (inl one)
-
-no_resume : (config : Config) (log : List Act) → IsSettled config log → (new : List Act) → Resumes config log new → ⊥
-no_resume config log none new one = none new (inr (no_fire config log none, inl one))
-
-no_step : (config : Config) (log : List Act) → IsSettled config log → (new : List Act) → InstrumentDoes IsStep log new → ⊥
-no_step config log none new one = none new (inr (no_fire config log none, inr (no_resume config log none, inl one)))
-
-no_time : (config : Config) (log : List Act) → IsSettled config log → (new : List Act) → TimesOut config log new → ⊥
-no_time config log none new one =
-    none new (inr (no_fire config log none, inr (no_resume config log none, inr (no_step config log none, one))))
+use Rattle.sv_laws.proofs.EveryLog.Steps.{log_settled, rested}
 
 -- ---- the oldest of those that can go on
 
@@ -66,7 +51,7 @@ none_expired : (config : Config) (log : List Act) → IsSettled config log → (
     → IsOldest (wait_acts (device_acts log)) (IsExpired (config.clock + ticks (device_acts log)) (wait_acts (device_acts log))) found
     → (c : ℕ) → IsExpired (config.clock + ticks (device_acts log)) (wait_acts (device_acts log)) c → ⊥
 none_expired config log none None oldest c h = oldest c h
-none_expired config log none (Some d) oldest c h = no_time config log none _ (d, oldest.0.0, oldest, oldest.0.2, refl)
+none_expired config log none (Some d) oldest c h = (rested config log none).times _ (d, oldest.0.0, oldest, oldest.0.2, refl)
 
 none_going : (config : Config) (log : List Act) → IsSettled config log → (found : Option ℕ)
     → IsOldest (wait_acts (device_acts log)) (CanResume (device_acts log)) found → (c : ℕ) → CanResume (device_acts log) c → ⊥
@@ -74,7 +59,7 @@ none_going config log none None oldest c h = oldest c h
 none_going config log none (Some d) oldest c h =
     let for = going_waits (device_acts log) d oldest.0 in
     let polled = some_polled (device_acts log) in
-    no_resume config log none _ (d, for.0, polled.0, oldest, for.1, polled.1, refl)
+    (rested config log none).resumes _ (d, for.0, polled.0, oldest, for.1, polled.1, refl)
 
 pub none_late : NoneLate
 none_late config history log c was =

@@ -30,7 +30,7 @@ use Rattle.sv_history.specs.Settling.{InstrumentDoes, Resumes, TimesOut, IsNext,
 use Rattle.sv_laws.specs.Cuts.{NoneWaits}
 use Rattle.sv_history.proofs.OneStep.{went_on, gave_up}
 use Rattle.sv_laws.proofs.Cuts.LongerText.{ends_none, long_too}
-use Rattle.sv_laws.proofs.Cuts.Suspended.{Rested}
+use Rattle.sv_laws.proofs.EveryLog.Steps.{Rested}
 use Rattle.sv_laws.proofs.Cuts.Written.{wrote}
 
 -- ---- where only the instrument's exchange, its queue and its status changed

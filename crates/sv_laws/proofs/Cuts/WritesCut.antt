@@ -25,7 +25,7 @@ use Rattle.sv_laws.specs.Cuts.{without_pieces, NoneWaits, AreCut, WritesCut}
 use Rattle.sv_laws.proofs.OneLog.{one_log}
 use Rattle.sv_history.proofs.OneStep.{next_once}
 use Rattle.sv_laws.proofs.EveryLog.EachEvent.{fit_log, idle_free}
-use Rattle.sv_laws.proofs.EveryLog.Steps.{log_settled}
+use Rattle.sv_laws.proofs.EveryLog.Steps.{log_settled, rested}
 use Rattle.sv_laws.proofs.Cuts.ReadsOn.{same_behind}
 use Rattle.sv_laws.proofs.Cuts.SameDevice.{Tells, accepts}
 use Rattle.sv_laws.proofs.Cuts.SameAhead.{SameAhead}
@@ -33,7 +33,6 @@ use Rattle.sv_laws.proofs.Cuts.KeptLogs.{settles_so}
 use Rattle.sv_laws.proofs.Cuts.SharedLogs.{Begun, adds_same}
 use Rattle.sv_laws.proofs.Cuts.BytesBehind.{CameBehind, behind_device, behind_others}
 use Rattle.sv_laws.proofs.Cuts.Fed.{Fed, fed, only_bytes}
-use Rattle.sv_laws.proofs.Cuts.Suspended.{rested}
 use Rattle.sv_laws.proofs.Cuts.Written.{wrote, Wrote, written}
 use Rattle.sv_laws.proofs.Cuts.FirstPart.{Resting, reported, BecomesLong, first_part, whole_long}
 use Rattle.sv_laws.proofs.Cuts.Beside.{Beside, reports, parts_shared, long_shared, beside_kept, beside_came, of_wrote, beside_wrote}
