@@ -1,15 +1,14 @@
 -- No call waits past its deadline, and none waits for what is there.
-use Rattle.std.proofs.Common.{◌≡◌, ℕ, ◌+◌, ◌<◌, Bool, true, List, Option, Some, None, refl, inl, inr}
+use Rattle.std.proofs.Common.{◌≡◌, ℕ, ◌+◌, ◌<◌, Bool, true, List, Option, Some, None, refl}
 use Rattle.std.specs.Prelude.{not}
 use Rattle.sv_links.specs.declared.waiting.Wait.{Wait}
 use Rattle.sv_links.specs.Links.{holder}
 use Rattle.sv_links.specs.Waiting.{waits, link, is_there, IsExpired, IsOldest}
 use Rattle.sv_exchange.specs.Exchange.{has_ended}
-use Rattle.sv_instrument.specs.Stimulus.{IsFired}
-use Rattle.sv_instrument.specs.Step.{IsStep, is_answerable}
+use Rattle.sv_instrument.specs.Step.{is_answerable}
 use Rattle.sv_history.specs.declared.event.Config.{Config}
 use Rattle.sv_history.specs.Act.{Act, DeviceAct, device_acts, link_acts, wait_acts, instrument_acts, exchange_acts, ticks}
-use Rattle.sv_history.specs.Settling.{InstrumentDoes, CanResume, Resumes, TimesOut, IsSettled}
+use Rattle.sv_history.specs.Settling.{CanResume, IsSettled}
 use Rattle.sv_laws.specs.Laws.{NoneLate}
 use Rattle.sv_history.proofs.AlwaysTold.{some_polled}
 use Rattle.sv_laws.proofs.EveryLog.Fit.{AllSuit}

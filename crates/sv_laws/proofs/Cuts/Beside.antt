@@ -1,6 +1,6 @@
 -- Two logs, in one of which a write was accepted whole, and in the other in two parts: they are the same but for that, and stay so over
 -- the same steps.
-use Rattle.std.proofs.Common.{◌≡◌, ◌≢◌, ℕ, Bool, false, List, ◌∷◌, ◌++◌, None, refl, sym, ap, subst, ◌∙◌, inl, inr}
+use Rattle.std.proofs.Common.{◌≡◌, ◌≢◌, ℕ, Bool, false, List, ◌∷◌, ◌++◌, None, sym, ap, subst, ◌∙◌, inl, inr}
 use Rattle.std.proofs.lemmas.Bool.{cases_eq}
 use Rattle.sv_errors.specs.declared.code.Code.TheVariants.{InputBufferOverrun}
 use Rattle.sv_exchange.specs.Exchange.{Overran}
@@ -10,7 +10,7 @@ use Rattle.sv_history.specs.Connection.{pending_call}
 use Rattle.sv_history.proofs.Projections.{of_mine, of_other}
 use Rattle.sv_laws.proofs.Cuts.SameExchange.{text_cut}
 use Rattle.sv_laws.proofs.Cuts.SameStatus.{SameStatus, status_same, status_act, status_accepted, status_back}
-use Rattle.sv_laws.proofs.Cuts.SameDevice.{SameDevice, device_back, Tells, tells_happened, accepts, tells_accepted, tells_also}
+use Rattle.sv_laws.proofs.Cuts.SameDevice.{Tells, tells_happened, accepts, tells_accepted, tells_also}
 use Rattle.sv_laws.proofs.Cuts.SharedEvents.{calls_behind}
 use Rattle.sv_laws.proofs.Cuts.SharedLogs.{SameShared, shared_more}
 use Rattle.sv_laws.proofs.Facts.{moved}

@@ -1,24 +1,16 @@
 -- What all connections share is the same in two logs but for where program text was accepted: a call comes to the same in both.
-use Rattle.std.proofs.Common.{◌≡◌, ℕ, ◌+◌, Bool, true, false, List, [], ◌∷◌, ◌++◌, Option, Some, None, refl, sym, ap, subst, ◌∙◌}
-use Rattle.std.specs.Prelude.{◌↔◌, not, ◌&&◌, ◌||◌, pos}
-use Rattle.sv_vxi.specs.declared.arguments.GenericCall.TheVariants.{Trigger}
-use Rattle.sv_vxi.specs.Arguments.{LinkCall, DeviceWrite, DeviceRead, Generic, DeviceLock, DeviceUnlock, DeviceEnableSrq, Arguments, CreateLink, OnLink, CreateIntrChan, DestroyIntrChan}
+use Rattle.std.proofs.Common.{◌≡◌, ℕ, ◌+◌, Bool, true, false, List, [], ◌∷◌, ◌++◌, refl, sym, ap, subst, ◌∙◌}
+use Rattle.std.specs.Prelude.{◌↔◌}
 use Rattle.sv_links.specs.Links.{LinkAct}
 use Rattle.sv_links.specs.Waiting.{WaitAct}
 use Rattle.sv_links.specs.Channels.{ChannelAct}
-use Rattle.sv_exchange.specs.Exchange.{Accepted, has_ended, response, is_something}
+use Rattle.sv_exchange.specs.Exchange.{Accepted, has_ended, response}
 use Rattle.sv_layers.specs.Act.{Act as InstrumentAct, Exchanged, exchange_acts}
 use Rattle.sv_layers.specs.StatusByte.{IsRaised}
-use Rattle.sv_instrument.specs.HeldUnit.{held_unit}
-use Rattle.sv_instrument.specs.Step.{is_held, is_answerable}
-use Rattle.sv_layers.specs.declared.change.Awaited.{Awaited}
-use Rattle.sv_history.specs.declared.event.Config.{Config}
+use Rattle.sv_instrument.specs.Step.{is_answerable}
 use Rattle.sv_history.specs.Act.{DeviceAct, Linked, Waited, Channel, Applied, Ticked, link_acts, wait_acts, channel_acts, instrument_acts, ticks}
 use Rattle.sv_history.specs.PolledStatus.{IsPolled}
 use Rattle.sv_history.specs.Requests.{HearsOf, request_told}
-use Rattle.sv_history.specs.CoreCall.{lid_of}
-use Rattle.sv_history.specs.CoreChannel.{owns, link_call, own_call}
-use Rattle.sv_history.specs.Admission.{device_wait, stop_of}
 use Rattle.sv_laws.proofs.SameOutcomes.{SameGround}
 use Rattle.sv_laws.proofs.Cuts.SameExchange.{ended_same, response_same}
 use Rattle.sv_laws.proofs.Cuts.SameStatus.{SameStatus, raised_same, never_raised, polled_same}

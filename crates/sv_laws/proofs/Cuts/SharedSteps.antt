@@ -1,13 +1,11 @@
 -- A step that is due adds the same acts to two logs that are the same but for where program text was accepted.
 use Rattle.std.proofs.Common.{◌≡◌, ℕ, ◌+◌, Bool, not, List, [], ◌∷◌, ◌++◌, Option, Some, None, refl, sym, ap, subst, ◌∙◌, inl, inr}
-use Rattle.std.specs.Prelude.{map, option_map, pos, negsuc}
+use Rattle.std.specs.Prelude.{map, pos, negsuc}
 use Rattle.std.proofs.lemmas.List.{append_cancel_right}
 use Rattle.sv_errors.specs.declared.source.Source.TheVariants.{Immediate}
-use Rattle.sv_vxi.specs.Arguments.{Arguments, OnLink, link}
 use Rattle.sv_links.specs.declared.waiting.Wait.{Wait}
-use Rattle.sv_links.specs.declared.waiting.Wait.TheVariants.{Lock}
 use Rattle.sv_links.specs.Links.{LinkAct, owner, holder}
-use Rattle.sv_links.specs.Waiting.{WaitAct, Entered, Again, Left, waits, IsAble, IsExpired, IsOldest}
+use Rattle.sv_links.specs.Waiting.{WaitAct, waits, IsAble, IsExpired, IsOldest}
 use Rattle.sv_scan.specs.declared.acts.ScanAct.{ScanAct}
 use Rattle.sv_scan.specs.declared.acts.ScanAct.TheVariants.{Trigger}
 use Rattle.sv_scan.specs.Counted.{effective, trigger_fault}
@@ -16,16 +14,14 @@ use Rattle.sv_layers.specs.Act.{Act as InstrumentAct, Scanned}
 use Rattle.sv_instrument.specs.Stimulus.{IsFired}
 use Rattle.sv_instrument.specs.Step.{IsStep, is_answerable}
 use Rattle.sv_history.specs.declared.event.Config.{Config}
-use Rattle.sv_history.specs.Act.{Act, DeviceAct, Waited, Applied, OnDevice, of, device_acts, link_acts, wait_acts, instrument_acts, exchange_acts, ticks}
+use Rattle.sv_history.specs.Act.{Act, DeviceAct, Applied, OnDevice, of, device_acts, link_acts, wait_acts, instrument_acts, exchange_acts, ticks}
 use Rattle.sv_history.specs.Connection.{pending_call}
-use Rattle.sv_history.specs.CallOutcome.{CallOutcome, suspend_by}
-use Rattle.sv_history.specs.CoreCall.{CoreCall, lid_of}
+use Rattle.sv_history.specs.CoreCall.{CoreCall}
 use Rattle.sv_history.specs.Request.{Request, CoreRequest, AbortRequest, core_call_in}
 use Rattle.sv_history.specs.Effect.{Effect, acts_of, call_effect}
-use Rattle.sv_history.specs.Admission.{Stop, Fails, Awaits, deadline, admission, stop_of}
 use Rattle.sv_history.specs.AbortChannel.{owner_of, if_waiting}
 use Rattle.sv_history.specs.Execution.{request_effect, aborts}
-use Rattle.sv_history.specs.Resuming.{leaving, next_wait, resume_outcome, resume_effect, failure_effect, late}
+use Rattle.sv_history.specs.Resuming.{resume_effect, failure_effect, late}
 use Rattle.sv_history.specs.Settling.{First, InstrumentDoes, CanResume, Resumes, TimesOut, IsNext}
 use Rattle.sv_laws.proofs.Cuts.SameInstrument.{SameInstrument, instrument_step}
 use Rattle.sv_laws.proofs.Cuts.SameDevice.{SameDevice, device_back, ended_alike, answerable_alike, polled_alike, alike_ground}

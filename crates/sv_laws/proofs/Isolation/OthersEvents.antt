@@ -1,11 +1,9 @@
 -- While a link holds the lock, the acts of another connection's event, and of its call that ends, are of others.
-use Rattle.std.proofs.Common.{◌≡◌, ◌≢◌, ℕ, Bool, true, false, eqb, eq-eqb, List, [], ◌∷◌, ◌++◌, Option, Some, None, sym, ap, subst, inl, inr}
+use Rattle.std.proofs.Common.{◌≡◌, ◌≢◌, ℕ, true, eqb, eq-eqb, List, [], ◌∷◌, ◌++◌, Option, Some, None, sym, ap, subst, inl, inr}
 use Rattle.std.specs.Prelude.{map, not, is_some, ◌&&◌}
 use Rattle.std.proofs.lemmas.Bool.{cases_Bool}
 use Rattle.sv_logs.proofs.Each.{Each, each_join}
-use Rattle.sv_vxi.specs.declared.error_code.ErrorCode.{ErrorCode}
 use Rattle.sv_vxi.specs.declared.error_code.ErrorCode.TheVariants.{Abort}
-use Rattle.sv_links.specs.declared.request.Peer.{Peer}
 use Rattle.sv_links.specs.Links.{LinkAct, owner, holder, closing, is_this}
 use Rattle.sv_links.specs.Waiting.{Left, waits, link}
 use Rattle.sv_laws.proofs.LinksAlike.{IsForeignLink}
@@ -13,19 +11,17 @@ use Rattle.sv_laws.proofs.Closed.{closed_foreign}
 use Rattle.sv_history.specs.declared.event.Config.{Config}
 use Rattle.sv_history.specs.declared.event.Port.TheVariants.{Conn, Intr}
 use Rattle.sv_history.specs.Event.{PlainEvent, Open, Bytes, Turn, Refuse, Took, Close, Dialed}
-use Rattle.sv_history.specs.Act.{Act, ConnAct, DeviceAct, CallTaken, PortClosed, Linked, Waited, On, OnDevice, of, device_acts, link_acts, wait_acts}
+use Rattle.sv_history.specs.Act.{Act, DeviceAct, CallTaken, PortClosed, Linked, Waited, On, OnDevice, of, device_acts, link_acts, wait_acts}
 use Rattle.sv_history.specs.Connection.{next_call, pending_call}
-use Rattle.sv_history.specs.CoreCall.{CoreCall, lid_of}
-use Rattle.sv_history.specs.Effect.{Effect, acts_of, call_effect}
+use Rattle.sv_history.specs.CoreCall.{lid_of}
+use Rattle.sv_history.specs.Effect.{acts_of}
 use Rattle.sv_history.specs.Request.{Request, CoreRequest, AbortRequest, core_call_in, next_request}
-use Rattle.sv_history.proofs.Dialing.{peer_by, dialed_to, dialed_is}
 use Rattle.sv_history.specs.AbortChannel.{owner_of, if_waiting}
 use Rattle.sv_history.specs.Execution.{request_effect, aborts}
 use Rattle.sv_history.specs.Refusing.{refusable}
-use Rattle.sv_history.specs.Resuming.{leaving, failure_effect, connect_effect}
-use Rattle.sv_history.specs.History.{abort_acts, turn_acts, refuse_acts, own_acts}
+use Rattle.sv_history.specs.History.{abort_acts, turn_acts, own_acts}
 use Rattle.sv_laws.specs.Isolation.{is_foreign, aborted_link, LeavesLinksAlone}
-use Rattle.sv_history.proofs.Projections.{device_shared, link_acts-links}
+use Rattle.sv_history.proofs.Projections.{link_acts-links}
 use Rattle.sv_laws.proofs.EveryLog.Fit.{Fit}
 use Rattle.sv_laws.proofs.EveryLog.EachEvent.{close_adds}
 use Rattle.sv_laws.proofs.EveryLog.Known.{rises}

@@ -12,7 +12,7 @@ use Rattle.sv_layers.specs.Act.{Act as InstrumentAct}
 use Rattle.sv_instrument.specs.Stimulus.{IsFired}
 use Rattle.sv_instrument.specs.Step.{IsStep}
 use Rattle.sv_history.specs.declared.event.Config.{Config}
-use Rattle.sv_history.specs.Act.{Act, ConnAct, DeviceAct, Waited, Applied, OnDevice, of, device_acts, link_acts, wait_acts, ticks}
+use Rattle.sv_history.specs.Act.{Act, ConnAct, Waited, Applied, OnDevice, of, device_acts, link_acts, wait_acts, ticks}
 use Rattle.sv_history.specs.Connection.{pending_call}
 use Rattle.sv_history.specs.CoreCall.{CoreCall}
 use Rattle.sv_history.specs.CoreChannel.{own_call}
