@@ -32,14 +32,15 @@ use Rattle.sv_history.specs.History.{taken_acts, turn_acts, refuse_acts, is_shut
 use Rattle.sv_laws.proofs.Brought.{CanBeRefused}
 use Rattle.sv_history.proofs.Projections.{device_effect}
 use Rattle.sv_laws.proofs.EveryLog.Done.{IsDone, each_done}
-use Rattle.sv_laws.proofs.NothingLost.{is_done, not_both, filter_none, left_modest}
+use Rattle.sv_laws.proofs.Facts.{not_both}
+use Rattle.sv_laws.proofs.NothingLost.{is_done, filter_none, left_modest}
 
 -- ---- a call that is done
 
 done_made : (c : ℕ) (arguments : Arguments) (adds acts : List DeviceAct) → is_create_link arguments ≡ false
     → Each (IsDone c arguments) adds acts → (links_made (link_acts adds) ≡ 0) × (wait_acts adds ≡ [])
 done_made c arguments [] acts other h = (refl, refl)
-done_made c arguments (Linked (Made lid conn) ∷ adds) acts other h = not_both (is_create_link arguments) other h.0.2
+done_made c arguments (Linked (Made lid conn) ∷ adds) acts other h = not_both (is_create_link arguments) h.0.2 other
 done_made c arguments (Waited act ∷ adds) acts other h = absurd h.0
 done_made c arguments (_ ∷ adds) acts other h = done_made c arguments adds acts other h.1
 
@@ -195,7 +196,7 @@ turn_refusable config polled c (Some bytes) (Some request) log h = (refl, by (re
   where
     by : (call : Option CoreCall) → refusable_call (Some request) ≡ call → is_none call ≡ false
     by (Some call) e = refl
-    by None e = not_both _ (request_modest config polled c bytes request log e) h
+    by None e = not_both _ h (request_modest config polled c bytes request log e)
 turn_refusable config polled c _ _ log h = absurd cc
 
 free_by : (shut idle few none : Bool) → cond shut (Some NoConn) (cond idle None (cond few (Some NoRoom) None)) ≡ None

@@ -6,6 +6,7 @@ use Rattle.sv_links.specs.declared.links.Link.{Link}
 use Rattle.sv_links.specs.Links.{LinkAct, Made, Destroyed, Locked, Unlocked, live, owner, is_of, lock_order, is_locked, holder}
 use Rattle.sv_links.proofs.Tables.{other_than}
 use Rattle.sv_laws.proofs.Facts.{some_same}
+use Rattle.sv_logs.proofs.Since.{both_true}
 
 -- ---- the owner of a number
 
@@ -164,14 +165,6 @@ find_narrow wide narrow m (x ∷ xs) so is h = elim (cases_Bool (wide x)) [
   ]
 ]
 
-both_true : (a b : Bool) → (a && b) ≡ true → (a ≡ true) × (b ≡ true)
-both_true true true e = (refl, refl)
-both_true true false e = absurd cc
-both_true false b e = absurd cc
-
-and_true : (a b : Bool) → a ≡ true → b ≡ true → (a && b) ≡ true
-and_true a b h k = rw (h, k) refl
-
 not_same : (a b : ℕ) → not (eqb a b) ≡ true → a ≢ b
 not_same a b e same = absurd (let z : not true ≡ true = rw (eq-eqb a b same) at e in cc)
 
@@ -182,12 +175,12 @@ holder_locked lid acts free h = let z : false ≡ true = sym free ∙ find_true 
 pub not_unlocked : (lid n : ℕ) (acts : List LinkAct) → holder (Unlocked n ∷ acts) ≡ Some lid → n ≢ lid
 not_unlocked lid n acts h =
     let found = find_true (λ (m : ℕ). is_locked m (Unlocked n ∷ acts)) lid (lock_order acts) h in
-    not_same n lid (both_true (not (eqb n lid)) (is_locked lid acts) found).0
+    not_same n lid ((both_true (not (eqb n lid)) (is_locked lid acts)).0 found).0
 
 pub not_destroyed : (lid n : ℕ) (acts : List LinkAct) → holder (Destroyed n ∷ acts) ≡ Some lid → n ≢ lid
 not_destroyed lid n acts h =
     let found = find_true (λ (m : ℕ). is_locked m (Destroyed n ∷ acts)) lid (lock_order acts) h in
-    not_same n lid (both_true (not (eqb n lid)) (is_locked lid acts) found).0
+    not_same n lid ((both_true (not (eqb n lid)) (is_locked lid acts)).0 found).0
 
 locked_now : (n : ℕ) (acts : List LinkAct) → holder (Locked n ∷ acts) ≡ Some n
 locked_now n acts = rw (eq-eqb n n refl) refl
@@ -196,9 +189,9 @@ still_found : (lid n : ℕ) (acts : List LinkAct) → n ≢ lid → holder acts 
     → find (λ m. not (eqb n m) && is_locked m acts) (lock_order acts) ≡ Some lid
 still_found lid n acts ne h =
     find_narrow (λ m. is_locked m acts) (λ m. not (eqb n m) && is_locked m acts) lid (lock_order acts)
-    (λ x e. (both_true (not (eqb n x)) (is_locked x acts) e).1)
-    (and_true (not (eqb n lid)) (is_locked lid acts) (rw (ne_eqb n lid ne) refl)
-    (find_true (λ m. is_locked m acts) lid (lock_order acts) h)) h
+    (λ x e. ((both_true (not (eqb n x)) (is_locked x acts)).0 e).1)
+    ((both_true (not (eqb n lid)) (is_locked lid acts)).1
+    (rw (ne_eqb n lid ne) refl, find_true (λ m. is_locked m acts) lid (lock_order acts) h)) h
 
 -- the same act leaves the same holder, where it leaves this one
 pub holder_same : (lid : ℕ) (act : LinkAct) (acts other : List LinkAct) → holder other ≡ Some lid → holder (act ∷ acts) ≡ Some lid

@@ -13,9 +13,10 @@ use Rattle.sv_laws.specs.Laws.{NoneLate}
 use Rattle.sv_history.proofs.AlwaysTold.{some_polled}
 use Rattle.sv_laws.proofs.EveryLog.Fit.{AllSuit}
 use Rattle.sv_laws.proofs.EveryLog.Known.{waits_within}
-use Rattle.sv_laws.proofs.EveryLog.Due.{Least, least, not_both, oldest_due}
+use Rattle.sv_laws.proofs.EveryLog.Due.{Least, least, oldest_due}
 use Rattle.sv_laws.proofs.EveryLog.EachEvent.{fit_log}
 use Rattle.sv_laws.proofs.EveryLog.Steps.{log_settled, rested}
+use Rattle.sv_laws.proofs.Facts.{not_both}
 
 -- ---- the oldest of those that can go on
 

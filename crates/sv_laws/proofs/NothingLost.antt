@@ -33,21 +33,16 @@ use Rattle.sv_laws.specs.Laws.{NothingLost}
 use Rattle.sv_history.proofs.Projections.{device_effect, device_shared, link_acts-links, wait_acts-links}
 use Rattle.sv_history.proofs.Telling.{tells_once, has_channel_told}
 use Rattle.sv_laws.proofs.ShutIsClear.{clear_free, shut_is_clear}
+use Rattle.sv_laws.proofs.Facts.{some_none, not_both}
 
 -- ---- what isn't refused, and wants no memory, is done
-
-pub some_none : {A : Type 0} (a : Option Refused) (refused : Refused) → a ≡ None → a ≡ Some refused → A
-some_none {A} a refused none some = absurd (let z : None ≡ Some refused = sym none ∙ some in cc)
-
-pub not_both : {A : Type 0} (b : Bool) → b ≡ false → b ≡ true → A
-not_both {A} b off on = absurd (let z : false ≡ true = sym off ∙ on in cc)
 
 pub is_done : (config : Config) (channel_log : List ChannelAct) (event : PlainEvent) (log : List Act) (result : Result Did Refused)
     → refusal config channel_log event log ≡ None → did event log ≡ Done
     → ((polled : ℕ) → wants_memory (device_acts (own_acts config polled event log)) ≡ false)
     → AnswersBy config channel_log event log result → result ≡ Ok Done
 is_done config channel_log event log (Ok what) free does modest h = ap Ok (h.1 ∙ does)
-is_done config channel_log event log (Err NoMemory) free does modest h = not_both _ (modest h.1) h.3
+is_done config channel_log event log (Err NoMemory) free does modest h = not_both _ h.3 (modest h.1)
 is_done config channel_log event log (Err _) free does modest h = some_none _ _ free h
 
 -- ---- which want none

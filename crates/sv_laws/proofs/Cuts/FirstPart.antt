@@ -32,6 +32,7 @@ use Rattle.sv_history.proofs.OneStep.{went_on, gave_up}
 use Rattle.sv_laws.proofs.Cuts.LongerText.{ends_none, long_too}
 use Rattle.sv_laws.proofs.EveryLog.Steps.{Rested}
 use Rattle.sv_laws.proofs.Cuts.Written.{wrote}
+use Rattle.sv_logs.proofs.Since.{both_true}
 
 -- ---- where only the instrument's exchange, its queue and its status changed
 
@@ -237,15 +238,10 @@ first_part config c call reply bytes base log (suc steps) rest line unended (mid
 
 -- ---- with more bytes
 
-both_true : (a b : Bool) → (a && b) ≡ true → (a ≡ true) × (b ≡ true)
-both_true true true e = (refl, refl)
-both_true true false e = absurd cc
-both_true false b e = absurd cc
-
 long_both : (x y : List ℕ) (ended : Bool) (acts : List ExchangeAct) → is_overlong (Accepted x false ∷ acts) ≡ true
     → is_overlong (Accepted (x ++ y) ended ∷ acts) ≡ true
 long_both x y ended acts long =
-    let parts = both_true (is_long (Accepted x false ∷ acts)) (not (has_overrun (current acts))) long in
+    let parts = (both_true (is_long (Accepted x false ∷ acts)) (not (has_overrun (current acts)))).0 long in
     rw (long_too x y ended acts parts.0) parts.1
 
 -- the first step is the same

@@ -12,7 +12,7 @@ use Rattle.sv_history.specs.Requests.{HearsOf}
 use Rattle.sv_history.specs.History.{IsLogOf}
 use Rattle.sv_laws.specs.Adding.{all_sent, Sends}
 use Rattle.sv_laws.specs.Cuts.{Recut, Nothing, Same, Pieces, RecordsCut}
-use Rattle.sv_laws.proofs.OneLog.{one_log}
+use Rattle.sv_laws.proofs.OneLog.{one_log, sends_moved}
 use Rattle.sv_history.proofs.StillSettled.{still_settled}
 use Rattle.sv_laws.proofs.EveryLog.Steps.{log_settled, stays}
 use Rattle.sv_laws.proofs.Cuts.ReadsOn.{read_alike}
@@ -81,15 +81,12 @@ sent_alike (Intr c) channel_log log other alike = refl
 sends_alike : (config : Config) (history other : List PlainEvent) (log also : List Act) (port : Port) (bytes : List ℕ)
     → IsLogOf config history log → IsLogOf config other also → Alike log also → Sends port config history bytes
     → Sends port config other bytes
-sends_alike config history other log also port bytes x y alike (found, channel_log, is_log, hears, sent) =
-    let same : found ≡ log = one_log config history found log is_log x in
-    let there = subst (λ (l : List Act). HearsOf (device_acts l) channel_log) same hears in (
-      also,
+sends_alike config history other log also port bytes x y alike =
+    sends_moved port config history other log also bytes x y (λ channel_log hears. (
       channel_log,
-      y,
-      subst (λ (l : List DeviceAct). HearsOf l channel_log) alike.device there,
-      sent ∙ ap (λ (l : List Act). all_sent port channel_log l) same ∙ sent_alike port channel_log log also alike,
-    )
+      subst (λ (l : List DeviceAct). HearsOf l channel_log) alike.device hears,
+      sent_alike port channel_log log also alike,
+    ))
 
 pub records_cut : RecordsCut
 records_cut config history other log also recut x y port bytes =

@@ -1,6 +1,6 @@
 -- Behind two histories whose logs are the same but for where text was accepted, and for calls that came before, the same events add the
 -- same.
-use Rattle.std.proofs.Common.{◌≡◌, ℕ, List, [], ◌∷◌, ◌++◌, sym, ap, subst, ◌∙◌}
+use Rattle.std.proofs.Common.{◌≡◌, ℕ, List, [], ◌∷◌, ◌++◌, refl, sym, ap, subst, ◌∙◌}
 use Rattle.std.specs.Prelude.{◌↔◌}
 use Rattle.std.proofs.lemmas.List.{append_cancel_left}
 use Rattle.sv_links.specs.Channels.{ChannelAct}
@@ -13,7 +13,7 @@ use Rattle.sv_history.specs.Requests.{HearsOf}
 use Rattle.sv_history.specs.History.{IsLogOf}
 use Rattle.sv_laws.specs.Adding.{all_replies, Adds}
 use Rattle.sv_laws.proofs.Facts.{moved}
-use Rattle.sv_laws.proofs.OneLog.{one_log}
+use Rattle.sv_laws.proofs.OneLog.{one_log, sends_moved}
 use Rattle.sv_laws.proofs.Cuts.SameDevice.{SameDevice, device_act, device_back, Tells, tells_act}
 use Rattle.sv_laws.proofs.Cuts.SharedSteps.{SameCalls}
 use Rattle.sv_laws.proofs.Cuts.SharedEvents.{SameNext}
@@ -162,12 +162,13 @@ adds_to (Conn d) config first second one two events log also bytes h x y
         ap (λ (l : List ℕ). second d ++ l) same ∙ sym (v.each d).sends.2,
       ),
     )
-adds_to (Intr d) config first second one two events log also bytes h x y
-    (before, (found, channel_log, is_found, hears, so), (later, heard, is_later, hearing, then_so)) =
+adds_to (Intr d) config first second one two events log also bytes h x y (before, sends, adds) =
     let v = behind_same config first second one two events log also h x y in (
       before,
-      (h.b, channel_log, h.also, h.same.tells channel_log (hears_in config one found h.a channel_log is_found h.was hears), so),
-      (also, heard, y, v.tells heard (hears_in config (events ++ one) later log heard is_later x hearing), then_so),
+      sends_moved (Intr d) config one two h.a h.b before h.was h.also
+          (λ channel_log hears. (channel_log, h.same.tells channel_log hears, refl)) sends,
+      sends_moved (Intr d) config (events ++ one) (events ++ two) log also (before ++ bytes) x y
+          (λ channel_log hears. (channel_log, v.tells channel_log hears, refl)) adds,
     )
 
 pub adds_same : (port : Port) (config : Config) (first second : ℕ → List ℕ) (one two events : List PlainEvent) (log also : List Act)

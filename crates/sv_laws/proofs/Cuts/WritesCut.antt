@@ -22,7 +22,7 @@ use Rattle.sv_history.specs.Settling.{IsNext, SettlesIn}
 use Rattle.sv_history.specs.History.{IsLogOf}
 use Rattle.sv_laws.specs.Adding.{all_replies, all_sent, Adds}
 use Rattle.sv_laws.specs.Cuts.{without_pieces, NoneWaits, AreCut, WritesCut}
-use Rattle.sv_laws.proofs.OneLog.{one_log}
+use Rattle.sv_laws.proofs.OneLog.{one_log, sends_moved}
 use Rattle.sv_history.proofs.OneStep.{next_once}
 use Rattle.sv_laws.proofs.EveryLog.EachEvent.{fit_log, idle_free}
 use Rattle.sv_laws.proofs.EveryLog.Steps.{log_settled, rested}
@@ -141,18 +141,12 @@ adds_other : (port : Port) (config : Config) (past one two : List PlainEvent) (l
     → IsLogOf config (one ++ past) log → IsLogOf config (two ++ past) other → Tells (device_acts log) (device_acts other)
     → ((channel_log : List ChannelAct) → all_sent port channel_log log ≡ all_sent port channel_log other) → Adds port config past one bytes
     → Adds port config past two bytes
-adds_other port config past one two log other bytes was also tells same (before, sends, (found, channel_log, is_log, hears, so)) =
-    let here : found ≡ log = one_log config (one ++ past) found log is_log was in (
-      before,
-      sends,
-      (
-        other,
-        channel_log,
-        also,
-        tells channel_log (subst (λ (l : List Act). HearsOf (device_acts l) channel_log) here hears),
-        so ∙ ap (λ (l : List Act). all_sent port channel_log l) here ∙ same channel_log,
-      ),
-    )
+adds_other port config past one two log other bytes was also tells same (before, sends, adds) = (
+  before,
+  sends,
+  sends_moved port config (one ++ past) (two ++ past) log other (before ++ bytes) was also
+      (λ channel_log hears. (channel_log, tells channel_log hears, same channel_log)) adds,
+)
 
 -- ---- the writes of the events
 

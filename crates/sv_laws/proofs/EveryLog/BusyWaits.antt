@@ -35,7 +35,8 @@ use Rattle.sv_history.proofs.Projections.{of_mine, of_other, of_shared, of_effec
 use Rattle.sv_laws.proofs.EveryLog.Done.{each_done, own_told}
 use Rattle.sv_laws.proofs.EveryLog.Taken.{within}
 use Rattle.sv_laws.proofs.EveryLog.Fit.{Fit}
-use Rattle.sv_laws.proofs.EveryLog.EachEvent.{each_log, StepsKeep, step_keeps, turn_keeps, refuse_keeps, done_waits, fit_request, fit_keeps, close_adds, device_closed, of_closed, fit_event, fit_none}
+use Rattle.sv_laws.proofs.EveryLog.EachEvent.{entered_waits, each_log, StepsKeep, step_keeps, turn_keeps, refuse_keeps, done_waits, fit_request, fit_keeps, close_adds, device_closed, of_closed, fit_event, fit_none}
+use Rattle.sv_laws.proofs.Facts.{some_none}
 
 -- If no call of a connection waits, none is without an answer.
 abbrev HasWait : ℕ → List Act → Type 0
@@ -134,13 +135,6 @@ again_waits : (c : ℕ) (wait before : Wait) (last : Option ℕ) (acts : List Wa
     → waits c (Again c wait last ∷ acts) ≡ Some wait
 again_waits c wait before last acts is = rw (eq-eqb c c refl, is) refl
 
-entered_waits : (c : ℕ) (named : Option ℕ) (wait : Wait) (last : Option ℕ) (acts : List WaitAct)
-    → waits c (Entered c named wait last ∷ acts) ≡ Some wait
-entered_waits c named wait last acts = rw (eq-eqb c c refl) refl
-
-not_waits : {A : Type 0} (found : Option Wait) (wait : Wait) → found ≡ Some wait → found ≡ None → A
-not_waits {A} found wait some none = absurd (let z : None ≡ Some wait = sym none ∙ some in cc)
-
 all_continued : (config : Config) (polled c : ℕ) (wait : Wait) (call : CoreCall) (next : Option (Wait × ℕ)) (log : List Act) → AllWait log
     → waits c (wait_acts (device_acts log)) ≡ Some wait
     → AllWait (acts_of c (call_effect call.xid (resume_outcome config polled c call.arguments next (device_acts log))) ++ log)
@@ -149,7 +143,7 @@ all_continued config polled c wait call (Some next) log all for =
     let last = deadline config (Some next.1) acts in
     all_effect c (call_effect call.xid (resume_outcome config polled c call.arguments (Some next) acts)) log (λ d ne. all d)
     (λ d ne. wait_other c d (Again c next.0 last) (wait_acts acts) refl ne)
-    (λ none. not_waits _ next.0 (again_waits c next.0 wait last (wait_acts acts) for) none)
+    (λ none. some_none _ next.0 none (again_waits c next.0 wait last (wait_acts acts) for))
 all_continued config polled c wait call None log all for =
     let before = Waited (Left c) ∷ device_acts log in
     let outcome = own_call config polled c call.arguments before in
@@ -190,20 +184,14 @@ all_admitted config polled c call (Some (Awaits wait until)) log all =
     let last = deadline config until acts in
     all_effect c (call_effect call.xid (admission config polled c call.arguments (Some (Awaits wait until)) acts)) log all
     (λ d ne. wait_other c d (Entered c (lid_of (link call.arguments)) wait last) (wait_acts acts) refl ne)
-    (λ none. not_waits _ wait (entered_waits c (lid_of (link call.arguments)) wait last (wait_acts acts)) none)
+    (λ none. some_none _ wait none (entered_waits c (lid_of (link call.arguments)) wait last (wait_acts acts)).0)
 
 all_request : (config : Config) (polled c : ℕ) (request : Request) (log : List Act) → ((d : ℕ) → d ≢ c → HasWait d log)
     → AllWait (acts_of c (request_effect config polled c request (device_acts log)) ++ log)
-all_request config polled c NoCall log all =
-    all_effect c (request_effect config polled c NoCall (device_acts log)) log all (λ d ne. refl) (λ none. refl)
-all_request config polled c (Decided xid reply) log all =
-    all_effect c (request_effect config polled c (Decided xid reply) (device_acts log)) log all (λ d ne. refl) (λ none. refl)
 all_request config polled c (CoreRequest call) log all =
     all_admitted config polled c call (stop_of c call.arguments (device_acts log)) log all
-all_request config polled c (AbortRequest xid lid) log all =
-    all_effect c (request_effect config polled c (AbortRequest xid lid) (device_acts log)) log all (λ d ne. refl) (λ none. refl)
-all_request config polled c (PortRequest xid args) log all =
-    all_effect c (request_effect config polled c (PortRequest xid args) (device_acts log)) log all (λ d ne. refl) (λ none. refl)
+all_request config polled c request log all =
+    all_effect c (request_effect config polled c request (device_acts log)) log all (λ d ne. refl) (λ none. refl)
 
 all_turn : (config : Config) (polled c : ℕ) (log : List Act) → IsSound log → c < 16
     → IsSound (turn_acts config polled c (next_call (of c log)) (next_request (of c log)) log ++ log)

@@ -265,7 +265,7 @@ fit_taken : (c : ℕ) (bytes : List ℕ) (log : List Act) → Fit log → waits 
     → Fit (On c (CallTaken bytes) ∷ log)
 fit_taken c bytes log fit none = fit_on_free c (CallTaken bytes) log fit refl none
 
-entered_waits : (c : ℕ) (named : Option ℕ) (wait : Wait) (last : Option ℕ) (acts : List WaitAct)
+pub entered_waits : (c : ℕ) (named : Option ℕ) (wait : Wait) (last : Option ℕ) (acts : List WaitAct)
     → (waits c (Entered c named wait last ∷ acts) ≡ Some wait) × (named_link c (Entered c named wait last ∷ acts) ≡ named)
 entered_waits c named wait last acts = rw (eq-eqb c c refl) (refl, refl)
 
@@ -318,17 +318,8 @@ fit_request config polled c bytes request log fit lt next asks =
         let own = of_mine c (CallTaken bytes) log in
         fit_admitted config polled c bytes call (stop_of c call.arguments (device_acts log)) log taken lt none
         (ap open_role own ∙ known.0) (ap (λ (l : List ConnAct). core_call_in (pending_call l)) own ∙ known.1) refl
-    by NoCall taken none asks = fit_free c (request_effect config polled c NoCall (device_acts log)) (On c (CallTaken bytes) ∷ log)
-        taken tt refl none
-    by (Decided xid reply) taken none asks =
-        fit_free c (request_effect config polled c (Decided xid reply) (device_acts log)) (On c (CallTaken bytes) ∷ log) taken tt refl
-        none
-    by (AbortRequest xid lid) taken none asks =
-        fit_free c (request_effect config polled c (AbortRequest xid lid) (device_acts log)) (On c (CallTaken bytes) ∷ log) taken tt refl
-        none
-    by (PortRequest xid args) taken none asks =
-        fit_free c (request_effect config polled c (PortRequest xid args) (device_acts log)) (On c (CallTaken bytes) ∷ log) taken tt refl
-        none
+    by request taken none asks =
+        fit_free c (request_effect config polled c request (device_acts log)) (On c (CallTaken bytes) ∷ log) taken tt refl none
 
 fit_turn : (config : Config) (polled c : ℕ) (log : List Act) → Fit log → c < 16
     → Fit (turn_acts config polled c (next_call (of c log)) (next_request (of c log)) log ++ log)
