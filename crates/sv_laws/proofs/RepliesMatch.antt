@@ -19,7 +19,8 @@ use Rattle.sv_history.specs.Act.{ConnAct, Opened, Piece, CallTaken, Replied, Byt
 use Rattle.sv_history.specs.Connection.{next_call, stream, pending_call, records_ended, took_no_call, is_busy}
 use Rattle.sv_history.specs.Reply.{reply_record}
 use Rattle.sv_laws.specs.Laws.{HasXidOf, RepliesMatch}
-use Rattle.sv_laws.proofs.EveryLog.EachAct.{xid_of, IsReplyTo, AllCame, all_came}
+use Rattle.sv_laws.proofs.EveryLog.EachAct.{IsReplyTo, AllCame, all_came}
+use Rattle.sv_laws.proofs.EveryLog.Taken.{xid_of}
 
 -- ---- a call consists of bytes
 

@@ -25,7 +25,8 @@ use Rattle.sv_history.proofs.Projections.{of_mine, of_shared, of_effect, others_
 use Rattle.sv_laws.proofs.OneLog.{one_log}
 use Rattle.sv_laws.proofs.NoneLate.{none_late}
 use Rattle.sv_laws.proofs.EveryLog.EachEvent.{each_settled, StepsKeep, ends_keep, step_keeps, abort_keeps, turn_parts}
-use Rattle.sv_laws.proofs.EveryLog.EachAct.{xid_of, xid_in, none_bad, xid_next, open_unless}
+use Rattle.sv_laws.proofs.EveryLog.EachAct.{none_bad, xid_next, open_unless}
+use Rattle.sv_laws.proofs.EveryLog.Taken.{xid_of, xid_in}
 use Rattle.sv_laws.proofs.EveryLog.BusyWaits.{busy_waits}
 
 -- ---- the connection of the call

@@ -44,14 +44,10 @@ use Rattle.sv_history.specs.Refusing.{takes_memory, refusable_call, refusable, r
 use Rattle.sv_history.specs.History.{turn_acts, refuse_acts, own_acts, unless_shut, refusal, IsLogOf}
 use Rattle.sv_history.proofs.Projections.{of_mine, of_shared, of_effect, others_effect}
 use Rattle.sv_laws.proofs.EveryLog.EachEvent.{each_log, StepsKeep, ends_keep, step_keeps, turn_keeps, refuse_keeps}
+use Rattle.sv_laws.proofs.Facts.{some_same}
+use Rattle.sv_laws.proofs.EveryLog.Taken.{xid_of, xid_in, xid_is, asks_as, is_core}
 
 -- ---- when an act can come
-
--- the xid of what is read as a call, unless it is none
-abbrev pub xid_of : Result PlainCall CallFault → Option ℕ
-xid_of (Ok call) = Some call.xid
-xid_of (Err (Version xid)) = Some xid
-xid_of (Err BadHeader) = None
 
 -- A reply to this call, which begins with its xid.
 abbrev pub IsReplyTo : List ℕ → List ℕ → Type 0
@@ -76,35 +72,6 @@ AllCame (act ∷ acts) = CanCome act acts × AllCame acts
 
 -- ---- what a request asks for has the xid of its call
 
-abbrev pub xid_in : Request → Option ℕ
-xid_in NoCall = None
-xid_in (Decided xid reply) = Some xid
-xid_in (CoreRequest call) = Some call.xid
-xid_in (AbortRequest xid lid) = Some xid
-xid_in (PortRequest xid args) = Some xid
-
-xid_core : (xid : ℕ) (arguments : Result Arguments Garbage) → xid_in (core_request xid arguments) ≡ Some xid
-xid_core xid (Ok arguments) = refl
-xid_core xid (Err garbage) = refl
-
-xid_abort : (xid : ℕ) (read : Result Arguments Garbage) → xid_in (abort_request xid read) ≡ Some xid
-xid_abort xid (Ok (OnLink lid call)) = refl
-xid_abort xid _ = refl
-
-xid_procedure : (role : Role) (call : PlainCall) → xid_in (procedure_request role call) ≡ Some call.xid
-xid_procedure Core call = xid_core call.xid (arguments_at call.proc call.args)
-xid_procedure Abort call = xid_abort call.xid (arguments_at call.proc call.args)
-xid_procedure Portmap call = refl
-
-xid_decided : (role : Role) (call : PlainCall) (reply : Option Reply) → xid_in (unless_decided role call reply) ≡ Some call.xid
-xid_decided role call (Some reply) = refl
-xid_decided role call None = xid_procedure role call
-
-xid_requested : (role : Role) (call : Result PlainCall CallFault) → xid_in (request_of role call) ≡ xid_of call
-xid_requested role (Ok call) = ap xid_in (request_is role call) ∙ xid_decided role call (header_reply role call)
-xid_requested role (Err (Version xid)) = refl
-xid_requested role (Err BadHeader) = refl
-
 pub none_bad : (found : Result PlainCall CallFault) → xid_of found ≡ None → found ≡ Err BadHeader
 none_bad (Ok call) e = absurd cc
 none_bad (Err (Version xid)) e = absurd cc
@@ -113,10 +80,8 @@ none_bad (Err BadHeader) e = refl
 -- that of a connection's next call
 xid_asked : (role : Option Role) (bytes : List ℕ) (request : Request) → request_for role (Some bytes) ≡ Some request
     → xid_of (call_at bytes) ≡ xid_in request
-xid_asked (Some role) bytes request e = sym (xid_requested role (call_at bytes)) ∙ ap xid_in (same _ request e)
-  where
-    same : (a b : Request) → Some a ≡ Some b → a ≡ b
-    same a b e = cc
+xid_asked (Some role) bytes request e =
+    xid_is role (xid_of (call_at bytes)) request (asks_as role (call_at bytes) request (some_same (request_of role (call_at bytes)) request e))
 xid_asked None bytes request e = absurd cc
 
 pub xid_next : (acts : List ConnAct) (bytes : List ℕ) (request : Request) → next_call acts ≡ Some bytes
@@ -124,19 +89,10 @@ pub xid_next : (acts : List ConnAct) (bytes : List ℕ) (request : Request) → 
 xid_next acts bytes request next asks = xid_asked (open_role acts) bytes request (ap (request_for (open_role acts)) (sym next) ∙ asks)
 
 -- that of a call of the core channel
-xid_call : (request : Request) (call : CoreCall) → core_call_of request ≡ Some call → xid_in request ≡ Some call.xid
-xid_call (CoreRequest found) call e = ap (λ (k : Option CoreCall). by k) e
-  where
-    by : Option CoreCall → Option ℕ
-    by (Some call) = Some call.xid
-    by None = None
-xid_call _ call e = absurd cc
-
 -- the call of the core channel that has no answer
 pub core_known : (found : Option (List ℕ)) (call : CoreCall) → core_call_in found ≡ Some call
     → (bytes : List ℕ) × (found ≡ Some bytes) × (xid_of (call_at bytes) ≡ Some call.xid)
-core_known (Some bytes) call e =
-    (bytes, refl, sym (xid_requested Core (call_at bytes)) ∙ xid_call (request_of Core (call_at bytes)) call e)
+core_known (Some bytes) call e = (bytes, refl, (asks_as Core (call_at bytes) (CoreRequest call) (is_core _ call e)).1)
 core_known None call e = absurd cc
 
 -- ---- of all connections
