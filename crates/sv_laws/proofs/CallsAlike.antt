@@ -1,8 +1,6 @@
 -- What the call of a connection waits for, until when, and on which link: over an act of others, and over the same act.
-use Rattle.std.proofs.Common.{◌≡◌, ◌≢◌, ℕ, eqb, List, ◌∷◌, refl, sym, ap, inl, inr}
-use Rattle.std.specs.Prelude.{option_map}
+use Rattle.std.proofs.Common.{◌≡◌, ◌≢◌, ℕ, eqb, List, ◌∷◌, refl, sym, inl, inr}
 use Rattle.std.proofs.lemmas.Bool.{ne_eqb, cases_Bool}
-use Rattle.sv_links.specs.declared.waiting.Wait.{Wait}
 use Rattle.sv_links.specs.Waiting.{WaitAct, Entered, Again, Left, waits, deadline, link}
 
 pub record SameCall (c : ℕ) (acts other : List WaitAct) : Type 0 where
@@ -18,24 +16,12 @@ conn_of (Left conn) = conn
 
 pub call_foreign : (c : ℕ) (act : WaitAct) (acts other : List WaitAct) → conn_of act ≢ c → SameCall c acts other
     → SameCall c (act ∷ acts) other
-call_foreign c (Entered conn named wait last) acts other ne same = record {
-  wait = rw (ne_eqb conn c ne) same.wait;
-  until = rw (ne_eqb conn c ne) same.until;
-  named = rw (ne_eqb conn c ne) same.named;
-}
-call_foreign c (Again conn wait last) acts other ne same = record {
-  wait = rw (ne_eqb conn c ne) same.wait;
-  until = rw (ne_eqb conn c ne) same.until;
-  named = same.named;
-}
-call_foreign c (Left conn) acts other ne same = record {
-  wait = rw (ne_eqb conn c ne) same.wait;
-  until = same.until;
-  named = same.named;
-}
+call_foreign c (Entered conn named wait last) acts other ne same = search (ne_eqb conn c ne)
+call_foreign c (Again conn wait last) acts other ne same = search (ne_eqb conn c ne)
+call_foreign c (Left conn) acts other ne same = search (ne_eqb conn c ne)
 
 pub call_sym : (c : ℕ) (acts other : List WaitAct) → SameCall c acts other → SameCall c other acts
-call_sym c acts other same = record { wait = sym same.wait; until = sym same.until; named = sym same.named }
+call_sym c acts other same = search sym
 
 -- the same act
 pub call_same : (c : ℕ) (act : WaitAct) (acts other : List WaitAct) → SameCall c acts other → SameCall c (act ∷ acts) (act ∷ other)
@@ -43,11 +29,4 @@ call_same c (Entered conn named wait last) acts other same = elim (cases_Bool (e
   | inl e ↦ record { wait = rw e refl; until = rw e refl; named = rw e refl }
   | inr e ↦ record { wait = rw e same.wait; until = rw e same.until; named = rw e same.named }
 ]
-call_same c (Again conn wait last) acts other same = elim (cases_Bool (eqb conn c)) [
-  | inl e ↦ record { wait = rw e (ap (option_map (λ (before : Wait). wait)) same.wait); until = rw e refl; named = same.named }
-  | inr e ↦ record { wait = rw e same.wait; until = rw e same.until; named = same.named }
-]
-call_same c (Left conn) acts other same = elim (cases_Bool (eqb conn c)) [
-  | inl e ↦ record { wait = rw e refl; until = same.until; named = same.named }
-  | inr e ↦ record { wait = rw e same.wait; until = same.until; named = same.named }
-]
+call_same c _ acts other same = search (same.wait, same.until, same.named)

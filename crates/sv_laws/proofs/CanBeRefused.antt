@@ -6,17 +6,17 @@ use Rattle.sv_logs.proofs.Each.{Each}
 use Rattle.sv_vxi.specs.declared.error_code.ErrorCode.TheVariants.{Abort, InvalidLink, ParameterError}
 use Rattle.sv_vxi.specs.declared.error_code.ErrorCode.TheVariants.{Locked as DeviceLocked}
 use Rattle.sv_vxi.specs.declared.arguments.LockWait.{LockWait}
-use Rattle.sv_vxi.specs.Arguments.{LinkCall, DeviceWrite, DeviceRead, Arguments, CreateLink, OnLink, CreateIntrChan, DestroyIntrChan, link, lock_wait, is_create_link}
+use Rattle.sv_vxi.specs.Arguments.{LinkCall, DeviceWrite, DeviceRead, Arguments, CreateLink, OnLink, link, lock_wait, is_create_link}
 use Rattle.sv_links.specs.declared.waiting.Wait.{Wait}
-use Rattle.sv_links.specs.declared.waiting.Wait.TheVariants.{Lock, Input as ForInput, Response, Dial}
-use Rattle.sv_links.specs.Links.{Made, Destroyed, Locked, Unlocked, links_made}
+use Rattle.sv_links.specs.declared.waiting.Wait.TheVariants.{Lock, Input as ForInput, Response}
+use Rattle.sv_links.specs.Links.{Made, links_made}
 use Rattle.sv_links.specs.Waiting.{WaitAct, Entered, Left, is_lock, is_creating, creating, connections}
 use Rattle.sv_exchange.specs.Exchange.{has_ended}
 use Rattle.sv_instrument.specs.Step.{is_answerable}
 use Rattle.sv_history.specs.declared.event.Config.{Config}
 use Rattle.sv_history.specs.declared.event.Refused.TheVariants.{NoConn, NoRoom, NotRefusable}
 use Rattle.sv_history.specs.Event.{Refuse}
-use Rattle.sv_history.specs.Act.{Act, DeviceAct, CallTaken, Replied, Linked, Waited, Channel, Applied, Ticked, On, of, device_acts, link_acts, wait_acts, instrument_acts, exchange_acts}
+use Rattle.sv_history.specs.Act.{Act, DeviceAct, CallTaken, Replied, Linked, Waited, On, of, device_acts, link_acts, wait_acts, instrument_acts, exchange_acts}
 use Rattle.sv_history.specs.Connection.{next_call, is_idle, free, pending_call}
 use Rattle.sv_history.specs.Limits.{longest_reply}
 use Rattle.sv_history.specs.CoreCall.{CoreCall, lid_of, is_too_long}
@@ -32,21 +32,17 @@ use Rattle.sv_history.specs.History.{taken_acts, turn_acts, refuse_acts, is_shut
 use Rattle.sv_laws.proofs.Brought.{CanBeRefused}
 use Rattle.sv_history.proofs.Projections.{device_effect}
 use Rattle.sv_laws.proofs.EveryLog.Done.{IsDone, each_done}
-use Rattle.sv_laws.proofs.NothingLost.{is_done, not_both, filter_none, left_modest}
+use Rattle.sv_laws.proofs.Facts.{not_both}
+use Rattle.sv_laws.proofs.NothingLost.{is_done, filter_none, left_modest}
 
 -- ---- a call that is done
 
 done_made : (c : ℕ) (arguments : Arguments) (adds acts : List DeviceAct) → is_create_link arguments ≡ false
     → Each (IsDone c arguments) adds acts → (links_made (link_acts adds) ≡ 0) × (wait_acts adds ≡ [])
 done_made c arguments [] acts other h = (refl, refl)
-done_made c arguments (Linked (Made lid conn) ∷ adds) acts other h = not_both (is_create_link arguments) other h.0.2
-done_made c arguments (Linked (Destroyed lid) ∷ adds) acts other h = done_made c arguments adds acts other h.1
-done_made c arguments (Linked (Locked lid) ∷ adds) acts other h = done_made c arguments adds acts other h.1
-done_made c arguments (Linked (Unlocked lid) ∷ adds) acts other h = done_made c arguments adds acts other h.1
+done_made c arguments (Linked (Made lid conn) ∷ adds) acts other h = not_both (is_create_link arguments) h.0.2 other
 done_made c arguments (Waited act ∷ adds) acts other h = absurd h.0
-done_made c arguments (Channel act ∷ adds) acts other h = done_made c arguments adds acts other h.1
-done_made c arguments (Applied act ∷ adds) acts other h = done_made c arguments adds acts other h.1
-done_made c arguments (Ticked ∷ adds) acts other h = done_made c arguments adds acts other h.1
+done_made c arguments (_ ∷ adds) acts other h = done_made c arguments adds acts other h.1
 
 creates_not : (arguments : Arguments) → takes_memory arguments ≡ false → is_create_link arguments ≡ false
 creates_not (CreateLink client_id lock_device lock_timeout device) e = absurd cc
@@ -58,9 +54,6 @@ creates_not _ e = refl
 abbrev IsModest : Wait → Option ℕ → Type 0
 IsModest wait named = (is_dial (Some wait) ≡ false) × ((is_lock (Some wait) && is_none named) ≡ false)
 
-some_stop : (a b : Stop) → Some a ≡ Some b → a ≡ b
-some_stop a b e = cc
-
 device_modest : (call : LinkCall) (acts : List DeviceAct) (wait : Wait) (until named : Option ℕ)
     → option_map (λ (wait : Wait × ℕ). Awaits wait.0 (Some wait.1)) (device_wait call acts) ≡ Some (Awaits wait until) → IsModest wait named
 device_modest (DeviceWrite io_timeout lock_timeout flags bytes) acts wait until named e = by (has_ended (exchange_acts acts)) wait e
@@ -68,22 +61,16 @@ device_modest (DeviceWrite io_timeout lock_timeout flags bytes) acts wait until 
     by : (b : Bool) (wait : Wait)
         → option_map (λ (wait : Wait × ℕ). Awaits wait.0 (Some wait.1)) (cond b (Some (ForInput, io_timeout)) None)
         ≡ Some (Awaits wait until) → IsModest wait named
-    by true Lock e = absurd cc
     by true ForInput e = (refl, refl)
-    by true Response e = absurd cc
-    by true Dial e = absurd cc
-    by false wait e = absurd cc
+    by _ _ e = absurd cc
 device_modest (DeviceRead request_size io_timeout lock_timeout flags term_char) acts wait until named e =
     by (is_answerable (instrument_acts acts)) wait e
   where
     by : (b : Bool) (wait : Wait)
         → option_map (λ (wait : Wait × ℕ). Awaits wait.0 (Some wait.1)) (cond b None (Some (Response, io_timeout)))
         ≡ Some (Awaits wait until) → IsModest wait named
-    by false Lock e = absurd cc
-    by false ForInput e = absurd cc
     by false Response e = (refl, refl)
-    by false Dial e = absurd cc
-    by true wait e = absurd cc
+    by _ _ e = absurd cc
 device_modest _ acts wait until named e = absurd cc
 
 -- a link of the connection has a number
@@ -98,10 +85,7 @@ lock_modest (Some one) wait until named some e = by one.waits wait e
     by : (b : Bool) (wait : Wait) → Some (cond b (Awaits Lock (Some one.timeout)) (Fails DeviceLocked)) ≡ Some (Awaits wait until)
         → IsModest wait named
     by true Lock e = (refl, some)
-    by true ForInput e = absurd cc
-    by true Response e = absurd cc
-    by true Dial e = absurd cc
-    by false wait e = absurd cc
+    by _ _ e = absurd cc
 lock_modest None wait until named some e = absurd cc
 
 call_modest : (c : ℕ) (named : Option ℕ) (call : LinkCall) (acts : List DeviceAct) (wait : Wait) (until : Option ℕ)
@@ -121,9 +105,7 @@ call_modest c named call acts wait until e = by (owns c named acts) (is_too_long
 waits_modest : (c : ℕ) (arguments : Arguments) (acts : List DeviceAct) (wait : Wait) (until : Option ℕ) → takes_memory arguments ≡ false
     → stop_of c arguments acts ≡ Some (Awaits wait until) → IsModest wait (lid_of (link arguments))
 waits_modest c (OnLink lid call) acts wait until small e = call_modest c (lid_of (Some lid)) call acts wait until e
-waits_modest c (CreateLink client_id lock_device lock_timeout device) acts wait until small e = absurd cc
-waits_modest c (CreateIntrChan host_addr host_port prog_num prog_vers prog_family) acts wait until small e = absurd cc
-waits_modest c DestroyIntrChan acts wait until small e = absurd cc
+waits_modest c _ acts wait until small e = absurd cc
 
 entered_creates : (c d : ℕ) (named : Option ℕ) (wait : Wait) (last : Option ℕ) → (is_lock (Some wait) && is_none named) ≡ false
     → is_creating (Entered c named wait last ∷ []) d ≡ false
@@ -214,18 +196,14 @@ turn_refusable config polled c (Some bytes) (Some request) log h = (refl, by (re
   where
     by : (call : Option CoreCall) → refusable_call (Some request) ≡ call → is_none call ≡ false
     by (Some call) e = refl
-    by None e = not_both _ (request_modest config polled c bytes request log e) h
-turn_refusable config polled c (Some bytes) None log h = absurd cc
-turn_refusable config polled c None (Some request) log h = absurd cc
-turn_refusable config polled c None None log h = absurd cc
+    by None e = not_both _ h (request_modest config polled c bytes request log e)
+turn_refusable config polled c _ _ log h = absurd cc
 
 free_by : (shut idle few none : Bool) → cond shut (Some NoConn) (cond idle None (cond few (Some NoRoom) None)) ≡ None
     → idle ≡ false → none ≡ false
     → cond shut (Some NoConn) (cond none (Some NotRefusable) (cond few (Some NoRoom) None)) ≡ None
-free_by true idle few none h busy some = absurd cc
-free_by false true few none h busy some = absurd cc
-free_by false false few true h busy some = absurd cc
 free_by false false few false h busy some = h
+free_by _ _ few _ h busy some = absurd cc
 
 refuse_modest : (c : ℕ) (found : Option (List ℕ)) (call : Option CoreCall) → wants_memory (device_acts (refuse_acts c found call)) ≡ false
 refuse_modest c (Some bytes) (Some call) = refl

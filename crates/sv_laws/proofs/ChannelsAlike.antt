@@ -143,100 +143,27 @@ own_disabled c lid acts = ap (own_links c) (enabled-disabled lid acts)
 pub channel_foreign : (c : ℕ) (act : ChannelAct) (acts other : List ChannelAct) → IsForeignChannel c act acts → SameChannel c acts other
     → SameChannel c (act ∷ acts) other
 channel_foreign c (SrqEnabled lid conn handle) acts other h same =
-    let one : Enabled = record { lid = lid; conn = conn; handle = handle } in record {
-      opened = same.opened;
-      took = same.took;
-      links = own_enabled c one acts ∙ rw (ne_eqb conn c h.0) (parted lid (own_links c (enabled_links acts))
-          (sorted-filter (λ link. eqb link.conn c) (enabled_links acts) (enabled-sorted acts)) (differ_enabled c lid acts h.1))
-          ∙ same.links;
-      sent = same.sent;
-      all = same.all;
-    }
-channel_foreign c (SrqDisabled lid) acts other h same = record {
-  opened = same.opened;
-  took = same.took;
-  links = own_disabled c lid acts ∙ kept_differ lid (own_links c (enabled_links acts)) (differ_enabled c lid acts h) ∙ same.links;
-  sent = same.sent;
-  all = same.all;
-}
-channel_foreign c (ChannelOpened conn what) acts other h same = record {
-  opened = rw (ne_eqb conn c h) same.opened;
-  took = rw (ne_eqb conn c h) same.took;
-  links = same.links;
-  sent = rw (ne_eqb conn c h) same.sent;
-  all = same.all;
-}
-channel_foreign c (ChannelClosed conn) acts other h same = record {
-  opened = rw (ne_eqb conn c h) same.opened;
-  took = rw (ne_eqb conn c h) same.took;
-  links = same.links;
-  sent = rw (ne_eqb conn c h) same.sent;
-  all = same.all;
-}
+    let one : Enabled = record { lid = lid; conn = conn; handle = handle } in
+    assumption (own_enabled c one acts ∙ rw (ne_eqb conn c h.0) (parted lid (own_links c (enabled_links acts))
+    (sorted-filter (λ link. eqb link.conn c) (enabled_links acts) (enabled-sorted acts)) (differ_enabled c lid acts h.1)) ∙ same.links)
+channel_foreign c (SrqDisabled lid) acts other h same = assumption (own_disabled c lid acts
+    ∙ kept_differ lid (own_links c (enabled_links acts)) (differ_enabled c lid acts h) ∙ same.links)
+channel_foreign c (ChannelOpened conn what) acts other h same = search (ne_eqb conn c h)
+channel_foreign c (ChannelClosed conn) acts other h same = search (ne_eqb conn c h)
 channel_foreign c Requested acts other h same = absurd h
-channel_foreign c (ChannelTaken conn count) acts other h same = record {
-  opened = same.opened;
-  took = rw (ne_eqb conn c h) same.took;
-  links = same.links;
-  sent = same.sent;
-  all = same.all;
-}
+channel_foreign c (ChannelTaken conn count) acts other h same = search (ne_eqb conn c h)
 
 pub channel_sym : (c : ℕ) (acts other : List ChannelAct) → SameChannel c acts other → SameChannel c other acts
-channel_sym c acts other same = record {
-  opened = sym same.opened;
-  took = sym same.took;
-  links = sym same.links;
-  sent = sym same.sent;
-  all = sym same.all;
-}
+channel_sym c acts other same = search sym
 
 -- ---- over the same act
 
 pub channel_same : (c : ℕ) (act : ChannelAct) (acts other : List ChannelAct) → SameChannel c acts other
     → SameChannel c (act ∷ acts) (act ∷ other)
 channel_same c (SrqEnabled lid conn handle) acts other same =
-    let one : Enabled = record { lid = lid; conn = conn; handle = handle } in record {
-      opened = same.opened;
-      took = same.took;
-      links = own_enabled c one acts
-          ∙ ap (λ (l : List Enabled). below lid l ++ (own_links c (one ∷ []) ++ above lid l)) same.links
-          ∙ sym (own_enabled c one other);
-      sent = same.sent;
-      all = same.all;
-    }
-channel_same c (SrqDisabled lid) acts other same = record {
-  opened = same.opened;
-  took = same.took;
-  links = own_disabled c lid acts ∙ ap (other_links lid) same.links ∙ sym (own_disabled c lid other);
-  sent = same.sent;
-  all = same.all;
-}
-channel_same c (ChannelOpened conn what) acts other same = record {
-  opened = rw same.opened refl;
-  took = rw same.took refl;
-  links = same.links;
-  sent = rw same.sent refl;
-  all = same.all;
-}
-channel_same c (ChannelClosed conn) acts other same = record {
-  opened = rw same.opened refl;
-  took = rw same.took refl;
-  links = same.links;
-  sent = rw same.sent refl;
-  all = same.all;
-}
-channel_same c Requested acts other same = record {
-  opened = same.opened;
-  took = same.took;
-  links = same.links;
-  sent = rw (same.opened, same.took, same.links, same.sent) refl;
-  all = rw (same.opened, same.took, same.links, same.sent, same.all) refl;
-}
-channel_same c (ChannelTaken conn count) acts other same = record {
-  opened = same.opened;
-  took = rw same.took refl;
-  links = same.links;
-  sent = same.sent;
-  all = same.all;
-}
+    let one : Enabled = record { lid = lid; conn = conn; handle = handle } in
+    assumption (own_enabled c one acts
+    ∙ ap (λ (l : List Enabled). below lid l ++ (own_links c (one ∷ []) ++ above lid l)) same.links ∙ sym (own_enabled c one other))
+channel_same c (SrqDisabled lid) acts other same =
+    assumption (own_disabled c lid acts ∙ ap (other_links lid) same.links ∙ sym (own_disabled c lid other))
+channel_same c _ acts other same = search (same.opened, same.took, same.links, same.sent, same.all)

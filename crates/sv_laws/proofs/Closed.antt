@@ -9,10 +9,8 @@ use Rattle.sv_links.specs.declared.links.Link.{Link}
 use Rattle.sv_links.specs.Links.{LinkAct, Destroyed, live, owner, is_of, links_of, closing, is_locked, holder}
 use Rattle.sv_links.specs.Table.{IsRising}
 use Rattle.sv_links.proofs.Closing.{gone, of_conn, has, locked-gone, has-owner}
+use Rattle.sv_laws.proofs.Facts.{some_same}
 use Rattle.sv_laws.proofs.LinksAlike.{IsForeignLink, MakesNone, owner_destroyed, owner_is_of, holder_locked}
-
-some_number : (a b : ℕ) → Some a ≡ Some b → a ≡ b
-some_number a b e = cc
 
 -- a connection's links
 abbrev links_in : ℕ → List LinkAct → List Link
@@ -26,7 +24,7 @@ owned_has : (c n : ℕ) (xs : List Link) → option_map (λ link. link.conn) (fi
     → has n (filter (of_conn c) xs) ≡ true
 owned_has c n [] h = absurd cc
 owned_has c n (x ∷ xs) h = elim (cases_Bool (eqb x.lid n)) [
-  | inl e ↦ let same : x.conn ≡ c = some_number x.conn c (rw e at h) in rw (eq-eqb x.conn c same, e) refl
+  | inl e ↦ let same : x.conn ≡ c = some_same x.conn c (rw e at h) in rw (eq-eqb x.conn c same, e) refl
   | inr e ↦ elim (cases_Bool (eqb x.conn c)) [
     | inl k ↦ rw (k, e) (owned_has c n xs (rw e at h))
     | inr k ↦ rw k (owned_has c n xs (rw e at h))
@@ -36,8 +34,7 @@ owned_has c n (x ∷ xs) h = elim (cases_Bool (eqb x.lid n)) [
 either : (a b : Bool) (found : Option ℕ) → cond b None (cond a None found) ≡ cond (a || b) None found
 either true true found = refl
 either true false found = refl
-either false true found = refl
-either false false found = refl
+either false b found = refl
 
 owner_gone : (n : ℕ) (ys : List Link) (acts : List LinkAct) → owner n (gone ys acts) ≡ cond (has n ys) None (owner n acts)
 owner_gone n [] acts = refl

@@ -1,8 +1,9 @@
+mod Facts
+mod SameOutcomes
 mod ChannelsAlike
 mod LinksAlike
 mod CallsAlike
 mod Closed
-mod ReadOn
 mod Stillness
 pub mod OneLog
 mod EveryLog

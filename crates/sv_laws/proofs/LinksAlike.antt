@@ -5,14 +5,13 @@ use Rattle.std.proofs.lemmas.Bool.{ne_eqb, cases_Bool, cases_eq, eqb-true, eqb-f
 use Rattle.sv_links.specs.declared.links.Link.{Link}
 use Rattle.sv_links.specs.Links.{LinkAct, Made, Destroyed, Locked, Unlocked, live, owner, is_of, lock_order, is_locked, holder}
 use Rattle.sv_links.proofs.Tables.{other_than}
+use Rattle.sv_laws.proofs.Facts.{some_same}
+use Rattle.sv_logs.proofs.Since.{both_true}
 
 -- ---- the owner of a number
 
 abbrev owner_in : ℕ → List Link → Option ℕ
 owner_in n xs = option_map (λ link. link.conn) (find (λ link. eqb link.lid n) xs)
-
-some_number : (a b : ℕ) → Some a ≡ Some b → a ≡ b
-some_number a b e = cc
 
 -- a link more at the end
 pushed : (n c : ℕ) (xs : List Link) (link : Link) → owner_in n xs ≡ Some c → owner_in n (xs ++ link ∷ []) ≡ Some c
@@ -65,7 +64,7 @@ owner_made_other n lid conn acts ne = pushed_other n (live acts) (record { lid =
 -- an owner behind that act was one in front of it, or is the connection that made the link
 made_in : (n c : ℕ) (xs : List Link) (link : Link) → owner_in n (xs ++ link ∷ []) ≡ Some c → (owner_in n xs ≡ Some c) ⊎ (c ≡ link.conn)
 made_in n c [] link h = elim (cases_Bool (eqb link.lid n)) [
-  | inl e ↦ inr (sym (some_number link.conn c (rw e at h)))
+  | inl e ↦ inr (sym (some_same link.conn c (rw e at h)))
   | inr e ↦ absurd (let z : None ≡ Some c = rw e at h in cc)
 ]
 made_in n c (x ∷ xs) link h = elim (cases_Bool (eqb x.lid n)) [
@@ -147,7 +146,7 @@ links_same c (Unlocked lid) acts other h alike = alike
 find_true : (test : ℕ → Bool) (m : ℕ) (xs : List ℕ) → find test xs ≡ Some m → test m ≡ true
 find_true test m [] h = absurd cc
 find_true test m (x ∷ xs) h = elim (cases_Bool (test x)) [
-  | inl e ↦ ap test (sym (some_number x m (rw e at h))) ∙ e
+  | inl e ↦ ap test (sym (some_same x m (rw e at h))) ∙ e
   | inr e ↦ find_true test m xs (rw e at h)
 ]
 
@@ -157,7 +156,7 @@ find_narrow : (wide narrow : ℕ → Bool) (m : ℕ) (xs : List ℕ) → ((x : �
 find_narrow wide narrow m [] so is h = absurd cc
 find_narrow wide narrow m (x ∷ xs) so is h = elim (cases_Bool (wide x)) [
   | inl e ↦
-      let same : x ≡ m = some_number x m (rw e at h) in
+      let same : x ≡ m = some_same x m (rw e at h) in
       let here : narrow x ≡ true = ap narrow same ∙ is in
       rw here (ap (λ (n : ℕ). Some n) same)
   | inr e ↦ elim (cases_Bool (narrow x)) [
@@ -165,14 +164,6 @@ find_narrow wide narrow m (x ∷ xs) so is h = elim (cases_Bool (wide x)) [
     | inr k ↦ rw k (find_narrow wide narrow m xs so is (rw e at h))
   ]
 ]
-
-both_true : (a b : Bool) → (a && b) ≡ true → (a ≡ true) × (b ≡ true)
-both_true true true e = (refl, refl)
-both_true true false e = absurd cc
-both_true false b e = absurd cc
-
-and_true : (a b : Bool) → a ≡ true → b ≡ true → (a && b) ≡ true
-and_true a b h k = rw (h, k) refl
 
 not_same : (a b : ℕ) → not (eqb a b) ≡ true → a ≢ b
 not_same a b e same = absurd (let z : not true ≡ true = rw (eq-eqb a b same) at e in cc)
@@ -184,12 +175,12 @@ holder_locked lid acts free h = let z : false ≡ true = sym free ∙ find_true 
 pub not_unlocked : (lid n : ℕ) (acts : List LinkAct) → holder (Unlocked n ∷ acts) ≡ Some lid → n ≢ lid
 not_unlocked lid n acts h =
     let found = find_true (λ (m : ℕ). is_locked m (Unlocked n ∷ acts)) lid (lock_order acts) h in
-    not_same n lid (both_true (not (eqb n lid)) (is_locked lid acts) found).0
+    not_same n lid ((both_true (not (eqb n lid)) (is_locked lid acts)).0 found).0
 
 pub not_destroyed : (lid n : ℕ) (acts : List LinkAct) → holder (Destroyed n ∷ acts) ≡ Some lid → n ≢ lid
 not_destroyed lid n acts h =
     let found = find_true (λ (m : ℕ). is_locked m (Destroyed n ∷ acts)) lid (lock_order acts) h in
-    not_same n lid (both_true (not (eqb n lid)) (is_locked lid acts) found).0
+    not_same n lid ((both_true (not (eqb n lid)) (is_locked lid acts)).0 found).0
 
 locked_now : (n : ℕ) (acts : List LinkAct) → holder (Locked n ∷ acts) ≡ Some n
 locked_now n acts = rw (eq-eqb n n refl) refl
@@ -198,9 +189,9 @@ still_found : (lid n : ℕ) (acts : List LinkAct) → n ≢ lid → holder acts 
     → find (λ m. not (eqb n m) && is_locked m acts) (lock_order acts) ≡ Some lid
 still_found lid n acts ne h =
     find_narrow (λ m. is_locked m acts) (λ m. not (eqb n m) && is_locked m acts) lid (lock_order acts)
-    (λ x e. (both_true (not (eqb n x)) (is_locked x acts) e).1)
-    (and_true (not (eqb n lid)) (is_locked lid acts) (rw (ne_eqb n lid ne) refl)
-    (find_true (λ m. is_locked m acts) lid (lock_order acts) h)) h
+    (λ x e. ((both_true (not (eqb n x)) (is_locked x acts)).0 e).1)
+    ((both_true (not (eqb n lid)) (is_locked lid acts)).1
+    (rw (ne_eqb n lid ne) refl, find_true (λ m. is_locked m acts) lid (lock_order acts) h)) h
 
 -- the same act leaves the same holder, where it leaves this one
 pub holder_same : (lid : ℕ) (act : LinkAct) (acts other : List LinkAct) → holder other ≡ Some lid → holder (act ∷ acts) ≡ Some lid

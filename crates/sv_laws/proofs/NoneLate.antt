@@ -1,37 +1,22 @@
 -- No call waits past its deadline, and none waits for what is there.
-use Rattle.std.proofs.Common.{◌≡◌, ℕ, ◌+◌, ◌<◌, Bool, true, List, Option, Some, None, refl, inl, inr}
+use Rattle.std.proofs.Common.{◌≡◌, ℕ, ◌+◌, ◌<◌, Bool, true, List, Option, Some, None, refl}
 use Rattle.std.specs.Prelude.{not}
 use Rattle.sv_links.specs.declared.waiting.Wait.{Wait}
 use Rattle.sv_links.specs.Links.{holder}
 use Rattle.sv_links.specs.Waiting.{waits, link, is_there, IsExpired, IsOldest}
 use Rattle.sv_exchange.specs.Exchange.{has_ended}
-use Rattle.sv_instrument.specs.Stimulus.{IsFired}
-use Rattle.sv_instrument.specs.Step.{IsStep, is_answerable}
+use Rattle.sv_instrument.specs.Step.{is_answerable}
 use Rattle.sv_history.specs.declared.event.Config.{Config}
 use Rattle.sv_history.specs.Act.{Act, DeviceAct, device_acts, link_acts, wait_acts, instrument_acts, exchange_acts, ticks}
-use Rattle.sv_history.specs.Settling.{InstrumentDoes, CanResume, Resumes, TimesOut, IsSettled}
+use Rattle.sv_history.specs.Settling.{CanResume, IsSettled}
 use Rattle.sv_laws.specs.Laws.{NoneLate}
 use Rattle.sv_history.proofs.AlwaysTold.{some_polled}
 use Rattle.sv_laws.proofs.EveryLog.Fit.{AllSuit}
 use Rattle.sv_laws.proofs.EveryLog.Known.{waits_within}
-use Rattle.sv_laws.proofs.EveryLog.Due.{Least, least, not_both, oldest_due}
+use Rattle.sv_laws.proofs.EveryLog.Due.{Least, least, oldest_due}
 use Rattle.sv_laws.proofs.EveryLog.EachEvent.{fit_log}
-use Rattle.sv_laws.proofs.EveryLog.Steps.{log_settled}
-
--- ---- where no step is due, none of any kind is
-
-no_fire : (config : Config) (log : List Act) → IsSettled config log → (new : List Act) → InstrumentDoes IsFired log new → ⊥
-no_fire config log none new one = none new (inl one)
-
-no_resume : (config : Config) (log : List Act) → IsSettled config log → (new : List Act) → Resumes config log new → ⊥
-no_resume config log none new one = none new (inr (no_fire config log none, inl one))
-
-no_step : (config : Config) (log : List Act) → IsSettled config log → (new : List Act) → InstrumentDoes IsStep log new → ⊥
-no_step config log none new one = none new (inr (no_fire config log none, inr (no_resume config log none, inl one)))
-
-no_time : (config : Config) (log : List Act) → IsSettled config log → (new : List Act) → TimesOut config log new → ⊥
-no_time config log none new one =
-    none new (inr (no_fire config log none, inr (no_resume config log none, inr (no_step config log none, one))))
+use Rattle.sv_laws.proofs.EveryLog.Steps.{log_settled, rested}
+use Rattle.sv_laws.proofs.Facts.{not_both}
 
 -- ---- the oldest of those that can go on
 
@@ -66,7 +51,7 @@ none_expired : (config : Config) (log : List Act) → IsSettled config log → (
     → IsOldest (wait_acts (device_acts log)) (IsExpired (config.clock + ticks (device_acts log)) (wait_acts (device_acts log))) found
     → (c : ℕ) → IsExpired (config.clock + ticks (device_acts log)) (wait_acts (device_acts log)) c → ⊥
 none_expired config log none None oldest c h = oldest c h
-none_expired config log none (Some d) oldest c h = no_time config log none _ (d, oldest.0.0, oldest, oldest.0.2, refl)
+none_expired config log none (Some d) oldest c h = (rested config log none).times _ (d, oldest.0.0, oldest, oldest.0.2, refl)
 
 none_going : (config : Config) (log : List Act) → IsSettled config log → (found : Option ℕ)
     → IsOldest (wait_acts (device_acts log)) (CanResume (device_acts log)) found → (c : ℕ) → CanResume (device_acts log) c → ⊥
@@ -74,7 +59,7 @@ none_going config log none None oldest c h = oldest c h
 none_going config log none (Some d) oldest c h =
     let for = going_waits (device_acts log) d oldest.0 in
     let polled = some_polled (device_acts log) in
-    no_resume config log none _ (d, for.0, polled.0, oldest, for.1, polled.1, refl)
+    (rested config log none).resumes _ (d, for.0, polled.0, oldest, for.1, polled.1, refl)
 
 pub none_late : NoneLate
 none_late config history log c was =

@@ -4,7 +4,7 @@ use Rattle.std.specs.Prelude.{map, not, is_some, ◌||◌, Result, Ok, Err}
 use Rattle.std.proofs.lemmas.Bool.{cases_Bool}
 use Rattle.sv_logs.proofs.Each.{Each}
 use Rattle.sv_links.specs.declared.request.Peer.{Peer}
-use Rattle.sv_links.specs.Links.{LinkAct, Made, Destroyed, Locked, Unlocked, closing, links_made}
+use Rattle.sv_links.specs.Links.{LinkAct, Made, closing, links_made}
 use Rattle.sv_links.specs.Waiting.{Left, waits, is_creating, creating, connections}
 use Rattle.sv_links.specs.Channels.{ChannelAct, ChannelClosed, is_channel_open, waiting as channel_waiting}
 use Rattle.sv_laws.proofs.LinksAlike.{MakesNone}
@@ -18,8 +18,8 @@ use Rattle.sv_history.specs.declared.event.Port.TheVariants.{Conn, Intr}
 use Rattle.sv_history.specs.declared.event.Did.{Did}
 use Rattle.sv_history.specs.declared.event.Did.TheVariants.{Done}
 use Rattle.sv_history.specs.declared.event.Refused.{Refused}
-use Rattle.sv_history.specs.declared.event.Refused.TheVariants.{NoMemory, ConnInUse, NoConn, NoRoom, NotSent, NoDial, NotRefusable, BadChannel, BadInput, TimeOver}
-use Rattle.sv_history.specs.Event.{PlainEvent, Open, Bytes, Turn, Refuse, Took, Close, Dialed, Input, External, Tick}
+use Rattle.sv_history.specs.declared.event.Refused.TheVariants.{NoMemory}
+use Rattle.sv_history.specs.Event.{PlainEvent, Open, Bytes, Took, Close, Dialed, Input, External}
 use Rattle.sv_history.specs.Act.{Act, ConnAct, DeviceAct, Linked, Waited, Channel, Applied, Ticked, PortClosed, On, OnDevice, of, device_acts, link_acts, wait_acts, instrument_acts}
 use Rattle.sv_history.specs.Connection.{is_open, room, waiting, open_role, pending_call}
 use Rattle.sv_history.specs.CoreCall.{CoreCall}
@@ -33,30 +33,17 @@ use Rattle.sv_laws.specs.Laws.{NothingLost}
 use Rattle.sv_history.proofs.Projections.{device_effect, device_shared, link_acts-links, wait_acts-links}
 use Rattle.sv_history.proofs.Telling.{tells_once, has_channel_told}
 use Rattle.sv_laws.proofs.ShutIsClear.{clear_free, shut_is_clear}
+use Rattle.sv_laws.proofs.Facts.{some_none, not_both}
 
 -- ---- what isn't refused, and wants no memory, is done
-
-pub some_none : {A : Type 0} (a : Option Refused) (refused : Refused) → a ≡ None → a ≡ Some refused → A
-some_none {A} a refused none some = absurd (let z : None ≡ Some refused = sym none ∙ some in cc)
-
-pub not_both : {A : Type 0} (b : Bool) → b ≡ false → b ≡ true → A
-not_both {A} b off on = absurd (let z : false ≡ true = sym off ∙ on in cc)
 
 pub is_done : (config : Config) (channel_log : List ChannelAct) (event : PlainEvent) (log : List Act) (result : Result Did Refused)
     → refusal config channel_log event log ≡ None → did event log ≡ Done
     → ((polled : ℕ) → wants_memory (device_acts (own_acts config polled event log)) ≡ false)
     → AnswersBy config channel_log event log result → result ≡ Ok Done
 is_done config channel_log event log (Ok what) free does modest h = ap Ok (h.1 ∙ does)
-is_done config channel_log event log (Err NoMemory) free does modest h = not_both _ (modest h.1) h.3
-is_done config channel_log event log (Err ConnInUse) free does modest h = some_none _ ConnInUse free h
-is_done config channel_log event log (Err NoConn) free does modest h = some_none _ NoConn free h
-is_done config channel_log event log (Err NoRoom) free does modest h = some_none _ NoRoom free h
-is_done config channel_log event log (Err NotSent) free does modest h = some_none _ NotSent free h
-is_done config channel_log event log (Err NoDial) free does modest h = some_none _ NoDial free h
-is_done config channel_log event log (Err NotRefusable) free does modest h = some_none _ NotRefusable free h
-is_done config channel_log event log (Err BadChannel) free does modest h = some_none _ BadChannel free h
-is_done config channel_log event log (Err BadInput) free does modest h = some_none _ BadInput free h
-is_done config channel_log event log (Err TimeOver) free does modest h = some_none _ TimeOver free h
+is_done config channel_log event log (Err NoMemory) free does modest h = not_both _ h.3 (modest h.1)
+is_done config channel_log event log (Err _) free does modest h = some_none _ _ free h
 
 -- ---- which want none
 
@@ -79,9 +66,7 @@ left_modest c acts no_link is =
 made_none : (links before : List LinkAct) → Each (λ before act. MakesNone act) links before → links_made links ≡ 0
 made_none [] before h = refl
 made_none (Made lid conn ∷ links) before h = absurd h.0
-made_none (Destroyed lid ∷ links) before h = made_none links before h.1
-made_none (Locked lid ∷ links) before h = made_none links before h.1
-made_none (Unlocked lid ∷ links) before h = made_none links before h.1
+made_none (_ ∷ links) before h = made_none links before h.1
 
 close_modest : (c : ℕ) (log : List Act)
     → wants_memory (device_acts (map OnDevice
@@ -185,10 +170,6 @@ not_none : (b : Bool) → not b ≡ false → b ≡ true
 not_none true e = refl
 not_none false e = absurd cc
 
-either_false : (a b : Bool) → (a || b) ≡ false → (a ≡ false) × (b ≡ false)
-either_false true b e = absurd cc
-either_false false b e = (refl, e)
-
 pub nothing_lost : NothingLost
 nothing_lost config history (Open c role) channel_log log result was tells suits (also, hears, h) =
     let free : refusal config also (Open c role) log ≡ None =
@@ -221,10 +202,8 @@ nothing_lost config history (Dialed c ok) channel_log log result was tells suits
     let free : refusal config also (Dialed c ok) log ≡ None =
     rw (not_shut c log suits.0 (open_dialing config history log c suits.1 was both.1), both.0) refl in
     is_done config also (Dialed c ok) log result free refl (λ polled. dialed_modest c ok (core_call_in (pending_call (of c log)))) h
-nothing_lost config history (Turn c) channel_log log result was tells suits answers = absurd suits
-nothing_lost config history (Refuse c) channel_log log result was tells suits answers = absurd suits
 nothing_lost config history (Input channel microvolts) channel_log log result was tells suits (also, hears, h) =
     is_done config also (Input channel microvolts) log result suits refl (λ polled. refl) h
 nothing_lost config history External channel_log log result was tells suits (also, hears, h) =
     is_done config also External log result refl refl (λ polled. happened_modest (external_acts (instrument_acts (device_acts log)))) h
-nothing_lost config history Tick channel_log log result was tells suits answers = absurd suits
+nothing_lost config history _ channel_log log result was tells suits answers = absurd suits

@@ -1,12 +1,17 @@
 -- A history has one log.
-use Rattle.std.proofs.Common.{◌≡◌, ℕ, zero, suc, List, [], ◌∷◌, ◌++◌, sym, ◌∙◌, subst}
+use Rattle.std.proofs.Common.{◌≡◌, ℕ, zero, suc, List, [], ◌∷◌, ◌++◌, sym, ap, ◌∙◌, subst}
 use Rattle.sv_layers.specs.StatusByte.{PolledBit}
 use Rattle.sv_layers.proofs.PolledByte.{one_word}
+use Rattle.sv_links.specs.Channels.{ChannelAct}
 use Rattle.sv_history.specs.declared.event.Config.{Config}
+use Rattle.sv_history.specs.declared.event.Port.{Port}
+use Rattle.sv_history.specs.Event.{PlainEvent}
+use Rattle.sv_history.specs.Requests.{HearsOf}
+use Rattle.sv_laws.specs.Adding.{all_sent, Sends}
 use Rattle.sv_history.specs.Act.{Act, device_acts, instrument_acts}
 use Rattle.sv_history.specs.PolledStatus.{IsPolled}
 use Rattle.sv_history.specs.Settling.{SettlesIn, Settles}
-use Rattle.sv_history.specs.History.{own_acts}
+use Rattle.sv_history.specs.History.{own_acts, IsLogOf}
 use Rattle.sv_laws.specs.Laws.{OneLog}
 use Rattle.sv_history.proofs.OneStep.{next_once}
 
@@ -28,3 +33,14 @@ one_log config (event ∷ history) a b x y =
     let there = subst (λ (log : List Act). Settles config (own_acts config y.1 event log ++ log) b) (sym before) y.8 in
     let settled = subst (λ (word : ℕ). Settles config (own_acts config word event x.0 ++ x.0) b) polled there in
     one_end x.8.0 settled.0 config (own_acts config x.1 event x.0 ++ x.0) a b x.8.1 settled.1
+
+-- A history sends what another does, where their logs send the same by what they tell.
+pub sends_moved : (port : Port) (config : Config) (history other : List PlainEvent) (log also : List Act) (bytes : List ℕ)
+    → IsLogOf config history log → IsLogOf config other also
+    → ((channel_log : List ChannelAct) → HearsOf (device_acts log) channel_log → (heard : List ChannelAct)
+    × HearsOf (device_acts also) heard × (all_sent port channel_log log ≡ all_sent port heard also))
+    → Sends port config history bytes → Sends port config other bytes
+sends_moved port config history other log also bytes x y moves (found, channel_log, is_log, hears, sent) =
+    let same : found ≡ log = one_log config history found log is_log x in
+    let so = moves channel_log (subst (λ (l : List Act). HearsOf (device_acts l) channel_log) same hears) in
+    (also, so.0, y, so.1, sent ∙ ap (λ (l : List Act). all_sent port channel_log l) same ∙ so.2)

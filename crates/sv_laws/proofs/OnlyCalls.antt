@@ -2,7 +2,6 @@
 use Rattle.std.proofs.Common.{◌≡◌, ℕ, eqb, true, false, List, [], ◌∷◌, ◌++◌, Option, Some, None, refl, sym, ap, subst, ◌∙◌, inl, inr, append_assoc}
 use Rattle.std.specs.Prelude.{map}
 use Rattle.std.proofs.lemmas.Bool.{cases_eq, cases_Bool}
-use Rattle.sv_vxi.specs.declared.error_code.ErrorCode.TheVariants.{Abort}
 use Rattle.sv_vxi.specs.Arguments.{Arguments}
 use Rattle.sv_vxi.specs.Results.{Outcome}
 use Rattle.sv_links.specs.Links.{closing}
@@ -16,30 +15,26 @@ use Rattle.sv_history.specs.declared.event.Port.TheVariants.{Conn, Intr}
 use Rattle.sv_history.specs.Event.{PlainEvent, Open, Bytes, Turn, Refuse, Took, Close, Dialed, Input, External, Tick}
 use Rattle.sv_history.specs.Act.{Act, ConnAct, DeviceAct, Opened, Piece, CallTaken, Faulted, Replied, BytesTaken, PortClosed, Linked, Waited, Channel, Applied, Ticked, On, OnDevice, of, device_acts, link_acts, instrument_acts}
 use Rattle.sv_history.specs.Connection.{next_call, pending_call}
-use Rattle.sv_history.specs.CallOutcome.{CallOutcome, only}
-use Rattle.sv_history.specs.CoreCall.{CoreCall, failure}
+use Rattle.sv_history.specs.CallOutcome.{CallOutcome}
+use Rattle.sv_history.specs.CoreCall.{CoreCall}
 use Rattle.sv_history.specs.Effect.{Effect, acts_of, replies}
-use Rattle.sv_history.specs.Request.{Request, NoCall, Decided, CoreRequest, AbortRequest, PortRequest, core_call_in, next_request}
-use Rattle.sv_history.specs.Execution.{request_effect, aborts}
+use Rattle.sv_history.specs.Request.{Request, CoreRequest, core_call_in, next_request}
+use Rattle.sv_history.specs.Execution.{request_effect}
 use Rattle.sv_history.specs.Interrupts.{connect_outcome}
-use Rattle.sv_history.specs.Resuming.{effect_of, leaving, next_wait, resume_outcome, late}
+use Rattle.sv_history.specs.Resuming.{effect_of, leaving}
 use Rattle.sv_history.specs.Refusing.{refusable}
-use Rattle.sv_history.specs.Settling.{IsNext}
-use Rattle.sv_history.specs.History.{abort_acts, turn_acts, refuse_acts, own_acts}
+use Rattle.sv_history.specs.History.{own_acts}
 use Rattle.sv_laws.proofs.Brought.{brings, AreCalls, OnlyCalls}
 use Rattle.sv_history.proofs.Projections.{of_shared, of_effect, others_effect}
 use Rattle.sv_laws.proofs.OneLog.{one_log}
-use Rattle.sv_laws.proofs.EveryLog.EachEvent.{each_settled, turn_parts}
+use Rattle.sv_laws.proofs.EveryLog.EachEvent.{each_settled, StepsKeep, ends_keep, step_keeps, turn_keeps, refuse_keeps}
 
 pub calls_join : (one other : List ConnAct) → AreCalls one → AreCalls other → AreCalls (one ++ other)
 calls_join [] other h k = k
 calls_join (CallTaken call ∷ one) other h k = calls_join one other h k
 calls_join (Faulted ∷ one) other h k = calls_join one other h k
 calls_join (Replied bytes ∷ one) other h k = calls_join one other h k
-calls_join (Opened role ∷ one) other h k = absurd h
-calls_join (Piece bytes ∷ one) other h k = absurd h
-calls_join (BytesTaken count ∷ one) other h k = absurd h
-calls_join (PortClosed ∷ one) other h k = absurd h
+calls_join (_ ∷ one) other h k = absurd h
 
 replies_calls : (xid : ℕ) (result : Option Outcome) → AreCalls (replies xid result)
 replies_calls xid (Some result) = tt
@@ -77,56 +72,24 @@ behind_shared base adds log all d =
 
 -- ---- a suspended call ends, or waits anew
 
-behind_ended : (base : ℕ → List ConnAct) (c : ℕ) (does : Arguments → CallOutcome) (call : Option CoreCall) (log : List Act)
-    → Behind base log → Behind base (acts_of c (effect_of c does call) ++ log)
-behind_ended base c does (Some call) log =
-    behind_effect base c (effect_of c does (Some call)) log (replies_calls call.xid (does call.arguments).result)
-behind_ended base c does None log = behind_effect base c (effect_of c does None) log tt
+behind_ended : (base : ℕ → List ConnAct) (c : ℕ) (does : Arguments → CallOutcome) (log : List Act) → Behind base log
+    → Behind base (acts_of c (effect_of c does (core_call_in (pending_call (of c log)))) ++ log)
+behind_ended base c does log = by (core_call_in (pending_call (of c log)))
+  where
+    by : (call : Option CoreCall) → Behind base log → Behind base (acts_of c (effect_of c does call) ++ log)
+    by (Some call) = behind_effect base c (effect_of c does (Some call)) log (replies_calls call.xid (does call.arguments).result)
+    by None = behind_effect base c (effect_of c does None) log tt
 
-behind_step : (base : ℕ → List ConnAct) (config : Config) (log new : List Act) → Behind base log → IsNext config log new → Behind base new
-behind_step base config log new all (inl fires) = subst (Behind base) (sym fires.2) (behind_shared base (map Applied fires.0) log all)
-behind_step base config log new all (inr (none, inl (c, wait, polled, oldest, for, said, is))) =
-    subst (Behind base) (sym is) (behind_ended base c (λ arguments. resume_outcome config polled c arguments
-    (next_wait wait arguments (device_acts log)) (device_acts log)) (core_call_in (pending_call (of c log))) log all)
-behind_step base config log new all (inr (none, inr (still, inl step))) =
-    subst (Behind base) (sym step.2) (behind_shared base (map Applied step.0) log all)
-behind_step base config log new all (inr (none, inr (still, inr (idle, (c, wait, oldest, for, is))))) =
-    subst (Behind base) (sym is) (behind_ended base c (λ arguments. leaving c (only (failure arguments (late wait))))
-    (core_call_in (pending_call (of c log))) log all)
+steps_keep : (base : ℕ → List ConnAct) (config : Config) → StepsKeep config (Behind base)
+steps_keep base config =
+    ends_keep config (Behind base) (λ adds log. behind_shared base (map Applied adds) log) (behind_ended base)
 
 -- ---- an event's own acts
 
-behind_abort : (base : ℕ → List ConnAct) (aborts : Option ℕ) (log : List Act) → Behind base log → Behind base (abort_acts aborts log ++ log)
-behind_abort base (Some d) log =
-    behind_ended base d (λ arguments. leaving d (only (failure arguments Abort))) (core_call_in (pending_call (of d log))) log
-behind_abort base None log = λ all. all
-
 pub request_calls : (config : Config) (polled c : ℕ) (request : Request) (acts : List DeviceAct)
     → AreCalls (request_effect config polled c request acts).own
-request_calls config polled c NoCall acts = tt
-request_calls config polled c (Decided xid reply) acts = tt
 request_calls config polled c (CoreRequest call) acts = replies_calls call.xid _
-request_calls config polled c (AbortRequest xid lid) acts = tt
-request_calls config polled c (PortRequest xid args) acts = tt
-
-behind_turn : (base : ℕ → List ConnAct) (config : Config) (polled c : ℕ) (found : Option (List ℕ)) (request : Option Request)
-    (log : List Act) → Behind base log → Behind base (turn_acts config polled c found request log ++ log)
-behind_turn base config polled c (Some bytes) (Some request) log all =
-    let effect = request_effect config polled c request (device_acts log) in
-    subst (Behind base) (sym (turn_parts c bytes effect (aborts request (device_acts log)) log))
-    (behind_abort base (aborts request (device_acts log)) _ (behind_effect base c effect (On c (CallTaken bytes) ∷ log)
-    (request_calls config polled c request (device_acts log)) (behind_call base c (CallTaken bytes) log tt all)))
-behind_turn base config polled c (Some bytes) None log all = all
-behind_turn base config polled c None (Some request) log all = all
-behind_turn base config polled c None None log all = all
-
-behind_refuse : (base : ℕ → List ConnAct) (c : ℕ) (found : Option (List ℕ)) (call : Option CoreCall) (log : List Act) → Behind base log
-    → Behind base (refuse_acts c found call ++ log)
-behind_refuse base c (Some bytes) (Some call) log all =
-    behind_call base c (Replied _) (On c (CallTaken bytes) ∷ log) tt (behind_call base c (CallTaken bytes) log tt all)
-behind_refuse base c (Some bytes) None log all = all
-behind_refuse base c None (Some call) log all = all
-behind_refuse base c None None log all = all
+request_calls config polled c _ acts = tt
 
 -- the act that an event is
 on_mine : (c d : ℕ) (act : ConnAct) (log : List Act) (brought : List ConnAct) → (eqb c d ≡ true → brought ≡ act ∷ [])
@@ -144,9 +107,15 @@ pub behind_event : (config : Config) (event : PlainEvent) (polled : ℕ) (log : 
 behind_event config (Open c role) polled log = λ d. ([], tt, on_mine c d (Opened role) log _ (λ e. rw e refl) (λ e. rw e refl))
 behind_event config (Bytes c piece) polled log = λ d. ([], tt, on_mine c d (Piece piece) log _ (λ e. rw e refl) (λ e. rw e refl))
 behind_event config (Turn c) polled log =
-    behind_turn (λ c. of c log) config polled c (next_call (of c log)) (next_request (of c log)) log (behind_none log)
+    turn_keeps config (Behind (λ d. of d log)) (steps_keep (λ d. of d log) config) polled c (next_call (of c log)) (next_request (of c log))
+    log (behind_none log) (λ bytes request next asks.
+    behind_effect (λ d. of d log) c (request_effect config polled c request (device_acts log)) (On c (CallTaken bytes) ∷ log)
+    (request_calls config polled c request (device_acts log))
+    (behind_call (λ d. of d log) c (CallTaken bytes) log tt (behind_none log)))
 behind_event config (Refuse c) polled log =
-    behind_refuse (λ c. of c log) c (next_call (of c log)) (refusable (of c log)) log (behind_none log)
+    refuse_keeps (Behind (λ d. of d log)) c (next_call (of c log)) (refusable (of c log)) log (behind_none log) (λ bytes call next can.
+    behind_call (λ d. of d log) c (Replied _) (On c (CallTaken bytes) ∷ log) tt
+    (behind_call (λ d. of d log) c (CallTaken bytes) log tt (behind_none log)))
 behind_event config (Took (Conn c) count) polled log = λ d.
     ([], tt, on_mine c d (BytesTaken count) log _ (λ e. rw e refl) (λ e. rw e refl))
 behind_event config (Took (Intr c) count) polled log =
@@ -160,8 +129,7 @@ behind_event config (Close (Conn c)) polled log = λ d.
     )
 behind_event config (Close (Intr c)) polled log = behind_shared (λ c. of c log) (Channel (ChannelClosed c) ∷ []) log (behind_none log)
 behind_event config (Dialed c ok) polled log =
-    behind_ended (λ c. of c log) c (λ arguments. leaving c (connect_outcome c ok arguments)) (core_call_in (pending_call (of c log))) log
-    (behind_none log)
+    behind_ended (λ c. of c log) c (λ arguments. leaving c (connect_outcome c ok arguments)) log (behind_none log)
 behind_event config (Input channel microvolts) polled log =
     behind_shared (λ c. of c log) (Applied (Scanned (InputTo channel microvolts)) ∷ []) log (behind_none log)
 behind_event config External polled log =
@@ -174,6 +142,7 @@ behind_event config Tick polled log =
 pub only_calls : OnlyCalls
 only_calls config event history before log c was is =
     let same = one_log config history is.0 before is.4 was in
-    let grown = each_settled config (Behind (λ d. brings d event ++ of d is.0)) (behind_step (λ d. brings d event ++ of d is.0) config)
+    let grown = each_settled config (Behind (λ d. brings d event ++ of d is.0))
+    (step_keeps config _ (steps_keep (λ d. brings d event ++ of d is.0) config))
     is.8.0 (own_acts config is.1 event is.0 ++ is.0) log (behind_event config event is.1 is.0) is.8.1 in
     subst (λ (l : List Act). (calls : List ConnAct) × AreCalls calls × (of c log ≡ calls ++ (brings c event ++ of c l))) same (grown c)

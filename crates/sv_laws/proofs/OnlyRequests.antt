@@ -1,77 +1,63 @@
 -- An event tells to each interrupt channel its own act, and behind it a channel is closed, or calls are added to it.
-use Rattle.std.proofs.Common.{◌≡◌, ℕ, Bool, true, false, eqb, cond, List, [], ◌∷◌, ◌++◌, length, nat_lt, Option, Some, None, refl, sym, ap, subst, ◌∙◌, inl, inr, append_assoc, append-nil, add-zero, ◌+◌}
-use Rattle.std.specs.Prelude.{map, pos, negsuc, ⊤}
-use Rattle.std.specs.List.{fold}
+use Rattle.std.proofs.Common.{◌≡◌, ℕ, Bool, true, false, eqb, cond, List, [], ◌∷◌, ◌++◌, Option, Some, None, refl, sym, ap, subst, ◌∙◌, inl, inr, append_assoc, append-nil, add-zero, ◌+◌}
+use Rattle.std.specs.Prelude.{map, ⊤}
+use Rattle.std.specs.List.{fold, AllByRecursion}
 use Rattle.std.proofs.lemmas.Bool.{cases_Bool}
-use Rattle.sv_vxi.specs.declared.error_code.ErrorCode.TheVariants.{Abort}
-use Rattle.sv_vxi.specs.declared.arguments.GenericCall.TheVariants.{Readstb, Trigger, Clear, Remote, Local}
-use Rattle.sv_vxi.specs.Arguments.{DeviceAbort, DeviceWrite, DeviceRead, Generic, DeviceLock, DeviceUnlock, DeviceEnableSrq, DeviceDocmd, DestroyLink, Arguments, CreateLink, OnLink, CreateIntrChan, DestroyIntrChan, max_handle}
+use Rattle.sv_vxi.specs.Arguments.{Arguments}
 use Rattle.sv_links.specs.declared.request.Peer.{Peer}
 use Rattle.sv_links.specs.declared.waiting.Wait.{Wait}
-use Rattle.sv_links.specs.Links.{LinkAct, Made, Destroyed, Locked, Unlocked, closing, owner, is_of, holder, is_locked_out, is_this, lids_left}
+use Rattle.sv_links.specs.Links.{LinkAct, Destroyed, closing}
 use Rattle.sv_links.specs.Waiting.{Left}
-use Rattle.sv_links.specs.Channels.{ChannelAct, SrqEnabled, SrqDisabled, ChannelOpened, ChannelClosed, Requested, ChannelTaken, peer, bytes_taken, may_call, add_call, calls, handles_of, enabled_links}
-use Rattle.sv_exchange.specs.Exchange.{has_ended, response, is_something}
-use Rattle.sv_exchange.specs.Limits.{max_message}
+use Rattle.sv_links.specs.Channels.{ChannelAct, ChannelOpened, ChannelClosed, Requested, ChannelTaken, peer, bytes_taken, may_call, add_call, calls, handles_of, enabled_links}
 use Rattle.sv_scan.specs.declared.acts.ScanAct.TheVariants.{Input as InputTo}
 use Rattle.sv_layers.specs.Act.{Act as InstrumentAct, Scanned}
-use Rattle.sv_instrument.specs.Step.{is_answerable}
-use Rattle.sv_instrument.specs.Stimulus.{external_acts, tick_acts, trigger_acts}
+use Rattle.sv_instrument.specs.Stimulus.{external_acts, tick_acts}
 use Rattle.sv_history.specs.declared.event.Config.{Config}
 use Rattle.sv_history.specs.declared.event.Port.TheVariants.{Conn, Intr}
 use Rattle.sv_history.specs.Event.{PlainEvent, Open, Bytes, Turn, Refuse, Took, Close, Dialed, Input, External, Tick}
-use Rattle.sv_history.specs.Act.{Act, DeviceAct, CallTaken, PortClosed, Linked, Waited, Channel, Applied, Ticked, On, OnDevice, of, device_acts, link_acts, instrument_acts, exchange_acts, ticks}
+use Rattle.sv_history.specs.Act.{Act, DeviceAct, CallTaken, PortClosed, Linked, Waited, Channel, Applied, Ticked, On, OnDevice, of, device_acts, link_acts, instrument_acts, ticks}
 use Rattle.sv_history.specs.Connection.{next_call, pending_call}
 use Rattle.sv_history.specs.CallOutcome.{CallOutcome, only}
 use Rattle.sv_history.specs.CoreCall.{CoreCall, failure}
 use Rattle.sv_history.specs.CoreChannel.{own_call}
 use Rattle.sv_history.specs.Effect.{Effect, acts_of}
-use Rattle.sv_history.specs.Request.{Request, NoCall, Decided, CoreRequest, AbortRequest, PortRequest, core_call_in, next_request}
+use Rattle.sv_history.specs.Request.{Request, CoreRequest, core_call_in, next_request}
 use Rattle.sv_history.specs.Requests.{HearsOf, link_told, request_told}
 use Rattle.sv_history.specs.Admission.{Stop, Fails, Awaits, stop_of, admission}
-use Rattle.sv_history.specs.Execution.{request_effect, aborts}
-use Rattle.sv_history.specs.Interrupts.{has_channel}
+use Rattle.sv_history.specs.Execution.{request_effect}
 use Rattle.sv_history.proofs.Dialing.{peer_by, dialed_to, dialed_is}
-use Rattle.sv_history.specs.Resuming.{effect_of, leaving, next_wait, resume_outcome, connect_effect, late}
+use Rattle.sv_history.specs.Resuming.{effect_of, leaving, next_wait, resume_outcome, connect_effect}
 use Rattle.sv_history.specs.Refusing.{refusable}
-use Rattle.sv_history.specs.Settling.{IsNext, SettlesIn}
-use Rattle.sv_history.specs.History.{abort_acts, turn_acts, refuse_acts, own_acts}
+use Rattle.sv_history.specs.Settling.{SettlesIn}
+use Rattle.sv_history.specs.History.{own_acts}
 use Rattle.sv_laws.proofs.Brought.{opened_to, peer_in, tells, OnlyAdds, OnlyRequests, is_tick}
 use Rattle.sv_scan.specs.Condition.{bit}
 use Rattle.sv_history.proofs.Projections.{device_effect, device_shared}
 use Rattle.sv_history.proofs.Telling.{tells_once}
 use Rattle.sv_laws.proofs.OneLog.{one_log}
-use Rattle.sv_laws.proofs.EveryLog.EachEvent.{each_settled, turn_parts}
+use Rattle.sv_laws.proofs.Facts.{all_join}
+use Rattle.sv_laws.proofs.EveryLog.Done.{IsDone, each_done}
+use Rattle.sv_logs.proofs.Each.{Each}
+use Rattle.sv_laws.proofs.EveryLog.EachEvent.{each_settled, StepsKeep, step_keeps, turn_keeps, refuse_keeps}
 
 -- ---- acts that open no channel, and of which no peer takes bytes
 
-abbrev ArePlain : List DeviceAct → Type 0
-ArePlain [] = ⊤
-ArePlain (Channel (ChannelOpened conn what) ∷ acts) = ⊥
-ArePlain (Channel (ChannelTaken conn count) ∷ acts) = ⊥
-ArePlain (Ticked ∷ acts) = ⊥
-ArePlain (act ∷ acts) = ArePlain acts
+abbrev IsPlain : DeviceAct → Type 0
+IsPlain (Channel (ChannelOpened conn what)) = ⊥
+IsPlain (Channel (ChannelTaken conn count)) = ⊥
+IsPlain Ticked = ⊥
+IsPlain act = ⊤
 
-plain_join : (one other : List DeviceAct) → ArePlain one → ArePlain other → ArePlain (one ++ other)
-plain_join [] other h k = k
-plain_join (Channel (ChannelOpened conn what) ∷ one) other h k = absurd h
-plain_join (Channel (ChannelTaken conn count) ∷ one) other h k = absurd h
-plain_join (Channel (SrqEnabled lid conn handle) ∷ one) other h k = plain_join one other h k
-plain_join (Channel (SrqDisabled lid) ∷ one) other h k = plain_join one other h k
-plain_join (Channel (ChannelClosed conn) ∷ one) other h k = plain_join one other h k
-plain_join (Channel Requested ∷ one) other h k = plain_join one other h k
-plain_join (Linked act ∷ one) other h k = plain_join one other h k
-plain_join (Waited act ∷ one) other h k = plain_join one other h k
-plain_join (Applied act ∷ one) other h k = plain_join one other h k
-plain_join (Ticked ∷ one) other h k = absurd h
+abbrev ArePlain : List DeviceAct → Type 0
+ArePlain = AllByRecursion IsPlain
 
 plain_happened : (adds : List InstrumentAct) → ArePlain (map Applied adds)
 plain_happened [] = tt
-plain_happened (act ∷ adds) = plain_happened adds
+plain_happened (act ∷ adds) = (tt, plain_happened adds)
 
 plain_links : (links : List LinkAct) → ArePlain (map Linked links)
 plain_links [] = tt
-plain_links (act ∷ links) = plain_links links
+plain_links (act ∷ links) = (tt, plain_links links)
 
 -- ---- what they tell
 
@@ -105,9 +91,7 @@ adds_then c a b d x y = λ opened.
 
 adds_linked : (c : ℕ) (act : LinkAct) (channel_log : List ChannelAct) → OnlyAdds c channel_log (link_told act channel_log)
 adds_linked c (Destroyed lid) channel_log = λ opened. (opened, refl, [], sym (append-nil (calls c channel_log)))
-adds_linked c (Made lid conn) channel_log = adds_none c channel_log
-adds_linked c (Locked lid) channel_log = adds_none c channel_log
-adds_linked c (Unlocked lid) channel_log = adds_none c channel_log
+adds_linked c _ channel_log = adds_none c channel_log
 
 adds_requested : (c : ℕ) (raised : Bool) (channel_log : List ChannelAct) → OnlyAdds c channel_log (request_told raised channel_log)
 adds_requested c true channel_log = λ opened.
@@ -116,124 +100,76 @@ adds_requested c true channel_log = λ opened.
     (opened, refl, more.0, more.1)
 adds_requested c false channel_log = adds_none c channel_log
 
-adds_closed : (c conn : ℕ) (channel_log : List ChannelAct) → OnlyAdds c channel_log (ChannelClosed conn ∷ channel_log)
-adds_closed c conn channel_log = elim (cases_Bool (eqb conn c)) [
+adds_channel : (c : ℕ) (act : ChannelAct) (channel_log : List ChannelAct) → IsPlain (Channel act) → OnlyAdds c channel_log (act ∷ channel_log)
+adds_channel c (ChannelOpened conn what) channel_log h = absurd h
+adds_channel c (ChannelTaken conn count) channel_log h = absurd h
+adds_channel c (ChannelClosed conn) channel_log h = elim (cases_Bool (eqb conn c)) [
   | inl e ↦ λ opened. absurd (let z : false ≡ true = rw e at opened in cc)
   | inr e ↦ rw e (adds_none c channel_log)
 ]
+adds_channel c Requested channel_log h = adds_requested c true channel_log
+adds_channel c _ channel_log h = adds_none c channel_log
 
 pub plain_tells : (c : ℕ) (adds acts : List DeviceAct) (channel_log later : List ChannelAct) → ArePlain adds → HearsOf acts channel_log
     → HearsOf (adds ++ acts) later → OnlyAdds c channel_log later
 plain_tells c [] acts channel_log later h x y = subst (OnlyAdds c channel_log) (tells_once acts channel_log later x y)
     (adds_none c channel_log)
-plain_tells c (Channel (ChannelOpened conn what) ∷ adds) acts channel_log later h x y = absurd h
-plain_tells c (Channel (ChannelTaken conn count) ∷ adds) acts channel_log later h x y = absurd h
-plain_tells c (Channel (SrqEnabled lid conn handle) ∷ adds) acts channel_log later h x (before, y, is) =
-    subst (OnlyAdds c channel_log) (sym is) (plain_tells c adds acts channel_log before h x y)
-plain_tells c (Channel (SrqDisabled lid) ∷ adds) acts channel_log later h x (before, y, is) =
-    subst (OnlyAdds c channel_log) (sym is) (plain_tells c adds acts channel_log before h x y)
-plain_tells c (Channel (ChannelClosed conn) ∷ adds) acts channel_log later h x (before, y, is) =
-    subst (OnlyAdds c channel_log) (sym is)
-    (adds_then c channel_log before (ChannelClosed conn ∷ before) (plain_tells c adds acts channel_log before h x y)
-    (adds_closed c conn before))
-plain_tells c (Channel Requested ∷ adds) acts channel_log later h x (before, y, is) =
-    subst (OnlyAdds c channel_log) (sym is)
-    (adds_then c channel_log before (Requested ∷ before) (plain_tells c adds acts channel_log before h x y)
-    (adds_requested c true before))
+plain_tells c (Channel act ∷ adds) acts channel_log later h x (before, y, is) = subst (OnlyAdds c channel_log) (sym is)
+    (adds_then c channel_log before (act ∷ before) (plain_tells c adds acts channel_log before h.1 x y) (adds_channel c act before h.0))
 plain_tells c (Linked act ∷ adds) acts channel_log later h x (before, y, is) =
     subst (OnlyAdds c channel_log) (sym is)
-    (adds_then c channel_log before (link_told act before) (plain_tells c adds acts channel_log before h x y)
+    (adds_then c channel_log before (link_told act before) (plain_tells c adds acts channel_log before h.1 x y)
     (adds_linked c act before))
 plain_tells c (Applied act ∷ adds) acts channel_log later h x (before, raised, y, so, is) =
     subst (OnlyAdds c channel_log) (sym is)
-    (adds_then c channel_log before (request_told raised before) (plain_tells c adds acts channel_log before h x y)
+    (adds_then c channel_log before (request_told raised before) (plain_tells c adds acts channel_log before h.1 x y)
     (adds_requested c raised before))
-plain_tells c (Waited act ∷ adds) acts channel_log later h x y = plain_tells c adds acts channel_log later h x y
-plain_tells c (Ticked ∷ adds) acts channel_log later h x y = absurd h
+plain_tells c (Waited act ∷ adds) acts channel_log later h x y = plain_tells c adds acts channel_log later h.1 x y
+plain_tells c (Ticked ∷ adds) acts channel_log later h x y = absurd h.0
 
 plain_ticks : (adds acts : List DeviceAct) → ArePlain adds → ticks (adds ++ acts) ≡ ticks acts
 plain_ticks [] acts h = refl
-plain_ticks (Channel (ChannelOpened conn what) ∷ adds) acts h = absurd h
-plain_ticks (Channel (ChannelTaken conn count) ∷ adds) acts h = absurd h
-plain_ticks (Channel (SrqEnabled lid conn handle) ∷ adds) acts h = plain_ticks adds acts h
-plain_ticks (Channel (SrqDisabled lid) ∷ adds) acts h = plain_ticks adds acts h
-plain_ticks (Channel (ChannelClosed conn) ∷ adds) acts h = plain_ticks adds acts h
-plain_ticks (Channel Requested ∷ adds) acts h = plain_ticks adds acts h
-plain_ticks (Linked act ∷ adds) acts h = plain_ticks adds acts h
-plain_ticks (Waited act ∷ adds) acts h = plain_ticks adds acts h
-plain_ticks (Applied act ∷ adds) acts h = plain_ticks adds acts h
-plain_ticks (Ticked ∷ adds) acts h = absurd h
+plain_ticks (Ticked ∷ adds) acts h = absurd h.0
+plain_ticks (_ ∷ adds) acts h = plain_ticks adds acts h.1
 
 -- ---- calls of the core channel
 
+plain_done : (c : ℕ) (arguments : Arguments) (adds acts : List DeviceAct) → Each (IsDone c arguments) adds acts → ArePlain adds
+plain_done c arguments [] acts h = tt
+plain_done c arguments (act ∷ adds) acts h = (one act h.0, plain_done c arguments adds acts h.1)
+  where
+    one : (act : DeviceAct) → IsDone c arguments (adds ++ acts) act → IsPlain act
+    one (Channel (ChannelOpened conn what)) h = h
+    one (Channel (ChannelTaken conn count)) h = h
+    one Ticked h = h
+    one _ h = tt
+
 plain_own : (config : Config) (polled c : ℕ) (arguments : Arguments) (acts : List DeviceAct)
     → ArePlain (own_call config polled c arguments acts).adds
-plain_own config polled c (CreateLink client_id true lock_timeout device) acts = elim (cases_Bool (lids_left (link_acts acts))) [
-  | inl e ↦ rw e tt
-  | inr e ↦ rw e tt
-]
-plain_own config polled c (CreateLink client_id false lock_timeout device) acts = elim (cases_Bool (lids_left (link_acts acts))) [
-  | inl e ↦ rw e tt
-  | inr e ↦ rw e tt
-]
-plain_own config polled c (OnLink (pos n) (DeviceWrite io_timeout lock_timeout flags bytes)) acts =
-    elim (cases_Bool (nat_lt max_message (length bytes))) [
-      | inl e ↦ rw e tt
-      | inr e ↦ elim (cases_Bool (has_ended (exchange_acts acts))) [ inl k ↦ rw (e, k) tt | inr k ↦ rw (e, k) tt ]
-    ]
-plain_own config polled c (OnLink (pos n) (DeviceRead request_size io_timeout lock_timeout flags term_char)) acts =
-    elim (cases_Bool (is_answerable (instrument_acts acts))) [
-      | inl k ↦ elim (cases_Bool (is_something (response (exchange_acts acts)))) [ inl e ↦ rw (k, e) tt | inr e ↦ rw (k, e) tt ]
-      | inr k ↦ elim (cases_Bool (is_something (response (exchange_acts acts)))) [ inl e ↦ rw (k, e) tt | inr e ↦ rw (k, e) tt ]
-    ]
-plain_own config polled c (OnLink (pos n) (Generic Readstb flags lock_timeout io_timeout)) acts = tt
-plain_own config polled c (OnLink (pos n) (Generic Trigger flags lock_timeout io_timeout)) acts =
-    plain_happened (trigger_acts (instrument_acts acts))
-plain_own config polled c (OnLink (pos n) (Generic Clear flags lock_timeout io_timeout)) acts = tt
-plain_own config polled c (OnLink (pos n) (DeviceLock flags lock_timeout)) acts =
-    elim (cases_Bool (is_locked_out (holder (link_acts acts)) (Some n))) [ inl e ↦ rw e tt | inr e ↦ rw e tt ]
-plain_own config polled c (OnLink (pos n) DeviceUnlock) acts =
-    elim (cases_Bool (is_this n (holder (link_acts acts)))) [ inl e ↦ rw e tt | inr e ↦ rw e tt ]
-plain_own config polled c (OnLink (pos n) (DeviceEnableSrq true handle)) acts = elim (cases_Bool (is_of c (owner n (link_acts acts)))) [
-  | inl e ↦ elim (cases_Bool (nat_lt max_handle (length handle))) [ inl k ↦ rw (e, k) tt | inr k ↦ rw (e, k) tt ]
-  | inr e ↦ rw e tt
-]
-plain_own config polled c (OnLink (pos n) (DeviceEnableSrq false handle)) acts =
-    elim (cases_Bool (is_of c (owner n (link_acts acts)))) [ inl e ↦ rw e tt | inr e ↦ rw e tt ]
-plain_own config polled c (OnLink (pos n) DestroyLink) acts = tt
-plain_own config polled c DestroyIntrChan acts = elim (cases_Bool (has_channel c acts)) [ inl e ↦ rw e tt | inr e ↦ rw e tt ]
-plain_own config polled c (OnLink (negsuc n) call) acts = tt
-plain_own config polled c (OnLink (pos n) (Generic Remote flags lock_timeout io_timeout)) acts = tt
-plain_own config polled c (OnLink (pos n) (Generic Local flags lock_timeout io_timeout)) acts = tt
-plain_own config polled c (OnLink (pos n) DeviceAbort) acts = tt
-plain_own config polled c (OnLink (pos n) (DeviceDocmd flags io_timeout lock_timeout cmd network_order datasize bytes)) acts = tt
-plain_own config polled c (CreateIntrChan host_addr host_port prog_num prog_vers prog_family) acts = tt
+plain_own config polled c arguments acts = plain_done c arguments _ acts (each_done config polled c arguments acts)
 
 plain_admitted : (config : Config) (polled c : ℕ) (arguments : Arguments) (stop : Option Stop) (acts : List DeviceAct)
     → ArePlain (admission config polled c arguments stop acts).adds
 plain_admitted config polled c arguments None acts = plain_own config polled c arguments acts
 plain_admitted config polled c arguments (Some (Fails error)) acts = tt
-plain_admitted config polled c arguments (Some (Awaits wait timeout)) acts = tt
+plain_admitted config polled c arguments (Some (Awaits wait timeout)) acts = (tt, tt)
 
 plain_request : (config : Config) (polled c : ℕ) (request : Request) (acts : List DeviceAct)
     → ArePlain (request_effect config polled c request acts).adds
-plain_request config polled c NoCall acts = tt
-plain_request config polled c (Decided xid reply) acts = tt
 plain_request config polled c (CoreRequest call) acts = plain_admitted config polled c call.arguments (stop_of c call.arguments acts) acts
-plain_request config polled c (AbortRequest xid lid) acts = tt
-plain_request config polled c (PortRequest xid args) acts = tt
+plain_request config polled c _ acts = tt
 
 plain_continued : (config : Config) (polled c : ℕ) (arguments : Arguments) (next : Option (Wait × ℕ)) (acts : List DeviceAct)
     → ArePlain (resume_outcome config polled c arguments next acts).adds
-plain_continued config polled c arguments (Some wait) acts = tt
+plain_continued config polled c arguments (Some wait) acts = (tt, tt)
 plain_continued config polled c arguments None acts =
-    plain_join (own_call config polled c arguments (Waited (Left c) ∷ acts)).adds (Waited (Left c) ∷ [])
-    (plain_own config polled c arguments (Waited (Left c) ∷ acts)) tt
+    all_join IsPlain (own_call config polled c arguments (Waited (Left c) ∷ acts)).adds (Waited (Left c) ∷ [])
+    (plain_own config polled c arguments (Waited (Left c) ∷ acts)) (tt, tt)
 
 plain_ended : (c : ℕ) (does : Arguments → CallOutcome) (call : Option CoreCall) → ((arguments : Arguments) → ArePlain (does arguments).adds)
     → ArePlain (effect_of c does call).adds
 plain_ended c does (Some call) h = h call.arguments
-plain_ended c does None h = tt
+plain_ended c does None h = (tt, tt)
 
 -- ---- acts behind these
 
@@ -244,180 +180,126 @@ behind_effect : (base : List DeviceAct) (c : ℕ) (effect : Effect) (log : List 
     → Behind base (acts_of c effect ++ log)
 behind_effect base c effect log h (adds, k, is) = (
   effect.adds ++ adds,
-  plain_join effect.adds adds h k,
+  all_join IsPlain effect.adds adds h k,
   device_effect c effect log ∙ ap (λ (l : List DeviceAct). effect.adds ++ l) is ∙ sym (append_assoc effect.adds adds base),
 )
 
 behind_shared : (base more : List DeviceAct) (log : List Act) → ArePlain more → Behind base log → Behind base (map OnDevice more ++ log)
 behind_shared base more log h (adds, k, is) = (
   more ++ adds,
-  plain_join more adds h k,
+  all_join IsPlain more adds h k,
   device_shared more log ∙ ap (λ (l : List DeviceAct). more ++ l) is ∙ sym (append_assoc more adds base),
 )
 
-behind_ended : (base : List DeviceAct) (c : ℕ) (does : Arguments → CallOutcome) (call : Option CoreCall) (log : List Act)
-    → ((arguments : Arguments) → ArePlain (does arguments).adds) → Behind base log → Behind base (acts_of c (effect_of c does call) ++ log)
-behind_ended base c does call log h = behind_effect base c (effect_of c does call) log (plain_ended c does call h)
+behind_ended : (base : List DeviceAct) (c : ℕ) (does : Arguments → CallOutcome) (log : List Act)
+    → ((arguments : Arguments) → ArePlain (does arguments).adds) → Behind base log
+    → Behind base (acts_of c (effect_of c does (core_call_in (pending_call (of c log)))) ++ log)
+behind_ended base c does log h =
+    behind_effect base c (effect_of c does (core_call_in (pending_call (of c log)))) log (plain_ended c does _ h)
 
-behind_step : (base : List DeviceAct) (config : Config) (log new : List Act) → Behind base log → IsNext config log new → Behind base new
-behind_step base config log new all (inl fires) =
-    subst (Behind base) (sym fires.2) (behind_shared base (map Applied fires.0) log (plain_happened fires.0) all)
-behind_step base config log new all (inr (none, inl (c, wait, polled, oldest, for, said, is))) =
-    subst (Behind base) (sym is) (behind_ended base c (λ arguments. resume_outcome config polled c arguments
-    (next_wait wait arguments (device_acts log)) (device_acts log)) (core_call_in (pending_call (of c log))) log
-    (λ arguments. plain_continued config polled c arguments (next_wait wait arguments (device_acts log)) (device_acts log)) all)
-behind_step base config log new all (inr (none, inr (still, inl step))) =
-    subst (Behind base) (sym step.2) (behind_shared base (map Applied step.0) log (plain_happened step.0) all)
-behind_step base config log new all (inr (none, inr (still, inr (idle, (c, wait, oldest, for, is))))) =
-    subst (Behind base) (sym is) (behind_ended base c (λ arguments. leaving c (only (failure arguments (late wait))))
-    (core_call_in (pending_call (of c log))) log (λ arguments. tt) all)
+steps_keep : (base : List DeviceAct) (config : Config) → StepsKeep config (Behind base)
+steps_keep base config = record {
+  happened = λ adds log. behind_shared base (map Applied adds) log (plain_happened adds);
+  resumed = λ polled c wait log for. behind_ended base c (λ arguments. resume_outcome config polled c arguments
+      (next_wait wait arguments (device_acts log)) (device_acts log)) log
+      (λ arguments. plain_continued config polled c arguments (next_wait wait arguments (device_acts log)) (device_acts log));
+  failed = λ error c log. behind_ended base c (λ arguments. leaving c (only (failure arguments error))) log (λ arguments. (tt, tt));
+}
 
 -- ---- an event's own acts
 
 behind_none : (log : List Act) → Behind (device_acts log) log
 behind_none log = ([], tt, refl)
 
-behind_abort : (base : List DeviceAct) (aborts : Option ℕ) (log : List Act) → Behind base log → Behind base (abort_acts aborts log ++ log)
-behind_abort base (Some d) log = behind_ended base d (λ arguments. leaving d (only (failure arguments Abort)))
-    (core_call_in (pending_call (of d log))) log (λ arguments. tt)
-behind_abort base None log = λ all. all
-
-behind_turn : (config : Config) (polled c : ℕ) (found : Option (List ℕ)) (request : Option Request) (log : List Act)
-    → Behind (device_acts log) (turn_acts config polled c found request log ++ log)
-behind_turn config polled c (Some bytes) (Some request) log =
-    let effect = request_effect config polled c request (device_acts log) in
-    subst (Behind (device_acts log)) (sym (turn_parts c bytes effect (aborts request (device_acts log)) log))
-    (behind_abort (device_acts log) (aborts request (device_acts log)) (acts_of c effect ++ On c (CallTaken bytes) ∷ log)
-    (behind_effect (device_acts log) c effect (On c (CallTaken bytes) ∷ log) (plain_request config polled c request (device_acts log))
-    ([], tt, refl)))
-behind_turn config polled c (Some bytes) None log = behind_none log
-behind_turn config polled c None (Some request) log = behind_none log
-behind_turn config polled c None None log = behind_none log
-
-behind_refuse : (c : ℕ) (found : Option (List ℕ)) (call : Option CoreCall) (log : List Act)
-    → Behind (device_acts log) (refuse_acts c found call ++ log)
-behind_refuse c (Some bytes) (Some call) log = ([], tt, refl)
-behind_refuse c (Some bytes) None log = behind_none log
-behind_refuse c None (Some call) log = behind_none log
-behind_refuse c None None log = behind_none log
-
 no_tick : (log : List Act) → ticks (device_acts log) ≡ ticks (device_acts log) + 0
 no_tick log = sym (add-zero (ticks (device_acts log)))
 
--- what is told to channels of a list of acts that an event begins with
-abbrev Begins : PlainEvent → List Act → List Act → Type 0
-Begins event log new = (base : List DeviceAct) × Behind base new
-    × ((channel_log : List ChannelAct) → HearsOf (device_acts log) channel_log → HearsOf base (tells event log ++ channel_log))
-    × (ticks base ≡ ticks (device_acts log) + bit 0 (is_tick event))
+-- what is told to channels, and how many milliseconds pass, before the acts that a list of acts begins with
+record BeginsBy (told : List ChannelAct) (passed : ℕ) (log new : List Act) : Type 0 where
+  base : List DeviceAct
+  behind : Behind base new
+  hears : (channel_log : List ChannelAct) → HearsOf (device_acts log) channel_log → HearsOf base (told ++ channel_log)
+  time : ticks base ≡ ticks (device_acts log) + passed
 
-begins_dialed : (c : ℕ) (ok : Bool) (call : Option CoreCall) (log : List Act) → core_call_in (pending_call (of c log)) ≡ call
-    → (base : List DeviceAct) × Behind base (acts_of c (connect_effect c ok call) ++ log)
-    × ((channel_log : List ChannelAct) → HearsOf (device_acts log) channel_log
-    → HearsOf base ((cond ok (opened_to c (peer_in call)) []) ++ channel_log))
-    × (ticks base ≡ ticks (device_acts log) + 0)
-begins_dialed c ok None log e =
-    (device_acts log, behind_effect (device_acts log) c (connect_effect c ok None) log tt (behind_none log), by ok, no_tick log)
-  where
-    by : (ok : Bool) (channel_log : List ChannelAct) → HearsOf (device_acts log) channel_log
-        → HearsOf (device_acts log) (cond ok [] [] ++ channel_log)
-    by true channel_log x = x
-    by false channel_log x = x
-begins_dialed c ok (Some call) log e = rw (dialed_is c ok call.arguments) (by ok (peer_by call.arguments))
-  where
-    by : (ok : Bool) (found : Option Peer)
-        → (base : List DeviceAct)
-        × Behind base (acts_of c (effect_of c (λ arguments. leaving c (dialed_to c ok arguments found)) (Some call)) ++ log)
-        × ((channel_log : List ChannelAct) → HearsOf (device_acts log) channel_log
-        → HearsOf base ((cond ok (opened_to c found) []) ++ channel_log))
-        × (ticks base ≡ ticks (device_acts log) + 0)
-    by true (Some one) = (
-      Channel (ChannelOpened c one) ∷ Waited (Left c) ∷ device_acts log,
-      ([], tt, device_effect c (effect_of c (λ arguments. leaving c (dialed_to c true arguments (Some one))) (Some call)) log),
-      (λ channel_log x. (channel_log, x, refl)),
-      no_tick log,
-    )
-    by false (Some one) = (
-      device_acts log,
-      behind_effect (device_acts log) c (effect_of c (λ arguments. leaving c (dialed_to c false arguments (Some one))) (Some call)) log tt
-          (behind_none log),
-      (λ channel_log x. x),
-      no_tick log,
-    )
-    by true None = (
-      device_acts log,
-      behind_effect (device_acts log) c (effect_of c (λ arguments. leaving c (dialed_to c true arguments None)) (Some call)) log tt
-          (behind_none log),
-      (λ channel_log x. x),
-      no_tick log,
-    )
-    by false None = (
-      device_acts log,
-      behind_effect (device_acts log) c (effect_of c (λ arguments. leaving c (dialed_to c false arguments None)) (Some call)) log tt
-          (behind_none log),
-      (λ channel_log x. x),
-      no_tick log,
-    )
+-- at most events nothing is told, and no time passes
+at_once : (log new : List Act) → Behind (device_acts log) new → BeginsBy [] 0 log new
+at_once log new all = record { base = device_acts log; behind = all; hears = λ channel_log x. x; time = no_tick log }
 
-begins : (config : Config) (event : PlainEvent) (polled : ℕ) (log : List Act) → Begins event log (own_acts config polled event log ++ log)
-begins config (Open c role) polled log = (device_acts log, ([], tt, refl), (λ channel_log x. x), no_tick log)
-begins config (Bytes c piece) polled log = (device_acts log, ([], tt, refl), (λ channel_log x. x), no_tick log)
+abbrev dialed : ℕ → Bool → CoreCall → Option Peer → Effect
+dialed c ok call found = effect_of c (λ arguments. leaving c (dialed_to c ok arguments found)) (Some call)
+
+begins_peer : (c : ℕ) (ok : Bool) (call : CoreCall) (found : Option Peer) (log : List Act)
+    → BeginsBy (cond ok (opened_to c found) []) 0 log (acts_of c (dialed c ok call found) ++ log)
+begins_peer c true call (Some one) log = record {
+  base = Channel (ChannelOpened c one) ∷ Waited (Left c) ∷ device_acts log;
+  behind = ([], tt, device_effect c (dialed c true call (Some one)) log);
+  hears = λ channel_log x. (channel_log, x, refl);
+  time = no_tick log;
+}
+begins_peer c false call (Some one) log =
+    at_once log _ (behind_effect (device_acts log) c (dialed c false call (Some one)) log (tt, tt) (behind_none log))
+begins_peer c true call None log =
+    at_once log _ (behind_effect (device_acts log) c (dialed c true call None) log (tt, tt) (behind_none log))
+begins_peer c false call None log =
+    at_once log _ (behind_effect (device_acts log) c (dialed c false call None) log (tt, tt) (behind_none log))
+
+begins_dialed : (c : ℕ) (ok : Bool) (call : Option CoreCall) (log : List Act)
+    → BeginsBy (cond ok (opened_to c (peer_in call)) []) 0 log (acts_of c (connect_effect c ok call) ++ log)
+begins_dialed c true None log =
+    at_once log _ (behind_effect (device_acts log) c (connect_effect c true None) log (tt, tt) (behind_none log))
+begins_dialed c false None log =
+    at_once log _ (behind_effect (device_acts log) c (connect_effect c false None) log (tt, tt) (behind_none log))
+begins_dialed c ok (Some call) log = rw (dialed_is c ok call.arguments) (begins_peer c ok call (peer_by call.arguments) log)
+
+begins : (config : Config) (event : PlainEvent) (polled : ℕ) (log : List Act)
+    → BeginsBy (tells event log) (bit 0 (is_tick event)) log (own_acts config polled event log ++ log)
+begins config (Open c role) polled log = at_once log _ ([], tt, refl)
+begins config (Bytes c piece) polled log = at_once log _ ([], tt, refl)
 begins config (Turn c) polled log =
-    (device_acts log, (behind_turn config polled c (next_call (of c log)) (next_request (of c log)) log), (λ channel_log x. x), no_tick log)
-begins config (Refuse c) polled log =
-    (device_acts log, (behind_refuse c (next_call (of c log)) (refusable (of c log)) log), (λ channel_log x. x), no_tick log)
-begins config (Took (Conn c) count) polled log = (device_acts log, ([], tt, refl), (λ channel_log x. x), no_tick log)
+    let base = device_acts log in
+    at_once log _ (turn_keeps config (Behind base) (steps_keep base config) polled c (next_call (of c log)) (next_request (of c log)) log
+    (behind_none log) (λ bytes request next asks. behind_effect base c (request_effect config polled c request base)
+    (On c (CallTaken bytes) ∷ log) (plain_request config polled c request base) ([], tt, refl)))
+begins config (Refuse c) polled log = at_once log _ (refuse_keeps (Behind (device_acts log)) c (next_call (of c log))
+    (refusable (of c log)) log (behind_none log) (λ bytes call next can. ([], tt, refl)))
+begins config (Took (Conn c) count) polled log = at_once log _ ([], tt, refl)
 begins config (Took (Intr c) count) polled log =
-    (Channel (ChannelTaken c count) ∷ device_acts log, ([], tt, refl), (λ channel_log x. (channel_log, x, refl)), no_tick log)
+    let base = Channel (ChannelTaken c count) ∷ device_acts log in
+    record { base = base; behind = ([], tt, refl); hears = λ channel_log x. (channel_log, x, refl); time = no_tick log }
 begins config (Close (Conn c)) polled log =
-    let adds = Channel (ChannelClosed c) ∷ (map Linked (closing c (link_acts (device_acts log))) ++ Waited (Left c) ∷ []) in (
-      device_acts log,
-      (subst (Behind (device_acts log)) (sym (append_assoc (map OnDevice adds) (On c PortClosed ∷ []) log))
-          (behind_shared (device_acts log) adds (On c PortClosed ∷ log)
-          (plain_join (map Linked (closing c (link_acts (device_acts log)))) (Waited (Left c) ∷ [])
-          (plain_links (closing c (link_acts (device_acts log)))) tt) ([], tt, refl))),
-      (λ channel_log x. x),
-      no_tick log,
-    )
-begins config (Close (Intr c)) polled log = (
-  device_acts log,
-  (behind_shared (device_acts log) (Channel (ChannelClosed c) ∷ []) log tt (behind_none log)),
-  (λ channel_log x. x),
-  no_tick log,
-)
-begins config (Dialed c true) polled log = begins_dialed c true (core_call_in (pending_call (of c log))) log refl
-begins config (Dialed c false) polled log = begins_dialed c false (core_call_in (pending_call (of c log))) log refl
-begins config (Input channel microvolts) polled log = (
-  device_acts log,
-  (behind_shared (device_acts log) (Applied (Scanned (InputTo channel microvolts)) ∷ []) log tt (behind_none log)),
-  (λ channel_log x. x),
-  no_tick log,
-)
-begins config External polled log = (
-  device_acts log,
-  (behind_shared (device_acts log)
-      (map Applied (external_acts (instrument_acts (device_acts log)))) log
-      (plain_happened (external_acts (instrument_acts (device_acts log)))) (behind_none log)),
-  (λ channel_log x. x),
-  no_tick log,
-)
+    let links = closing c (link_acts (device_acts log)) in
+    let adds = Channel (ChannelClosed c) ∷ (map Linked links ++ Waited (Left c) ∷ []) in
+    at_once log _ (subst (Behind (device_acts log)) (sym (append_assoc (map OnDevice adds) (On c PortClosed ∷ []) log))
+    (behind_shared (device_acts log) adds (On c PortClosed ∷ log)
+    (tt, all_join IsPlain (map Linked links) (Waited (Left c) ∷ []) (plain_links links) (tt, tt)) ([], tt, refl)))
+begins config (Close (Intr c)) polled log =
+    at_once log _ (behind_shared (device_acts log) (Channel (ChannelClosed c) ∷ []) log (tt, tt) (behind_none log))
+begins config (Dialed c true) polled log = begins_dialed c true (core_call_in (pending_call (of c log))) log
+begins config (Dialed c false) polled log = begins_dialed c false (core_call_in (pending_call (of c log))) log
+begins config (Input channel microvolts) polled log = at_once log _
+    (behind_shared (device_acts log) (Applied (Scanned (InputTo channel microvolts)) ∷ []) log (tt, tt) (behind_none log))
+begins config External polled log =
+    let adds = external_acts (instrument_acts (device_acts log)) in
+    at_once log _ (behind_shared (device_acts log) (map Applied adds) log (plain_happened adds) (behind_none log))
 begins config Tick polled log =
-    let adds = map Applied (tick_acts (instrument_acts (device_acts log))) in (
-      Ticked ∷ device_acts log,
-      subst (Behind (Ticked ∷ device_acts log)) (sym (append_assoc (map OnDevice adds) (OnDevice Ticked ∷ []) log))
-          (behind_shared (Ticked ∷ device_acts log) adds (OnDevice Ticked ∷ log)
-          (plain_happened (tick_acts (instrument_acts (device_acts log)))) ([], tt, refl)),
-      (λ channel_log x. x),
-      refl,
-    )
+    let adds = tick_acts (instrument_acts (device_acts log)) in
+    record {
+      base = Ticked ∷ device_acts log;
+      behind = subst (Behind (Ticked ∷ device_acts log))
+          (sym (append_assoc (map OnDevice (map Applied adds)) (OnDevice Ticked ∷ []) log))
+          (behind_shared (Ticked ∷ device_acts log) (map Applied adds) (OnDevice Ticked ∷ log) (plain_happened adds) ([], tt, refl));
+      hears = λ channel_log x. x;
+      time = refl;
+    }
 
 from_log : (config : Config) (event : PlainEvent) (polled : ℕ) (before log : List Act) (channel_log later : List ChannelAct) (c : ℕ)
     → HearsOf (device_acts before) channel_log → (n : ℕ) → SettlesIn n config (own_acts config polled event before ++ before) log
     → HearsOf (device_acts log) later → OnlyAdds c (tells event before ++ channel_log) later
 from_log config event polled before log channel_log later c x n settles y =
     let start = begins config event polled before in
-    let end = each_settled config (Behind start.0) (behind_step start.0 config) n (own_acts config polled event before ++ before) log
-    start.1 settles in
-    plain_tells c end.0 start.0 (tells event before ++ channel_log) later end.1 (start.2 channel_log x)
+    let end = each_settled config (Behind start.base) (step_keeps config _ (steps_keep start.base config)) n (own_acts config polled event before ++ before) log
+    start.behind settles in
+    plain_tells c end.0 start.base (tells event before ++ channel_log) later end.1 (start.hears channel_log x)
     (subst (λ (acts : List DeviceAct). HearsOf acts later) end.2 y)
 
 pub only_requests : OnlyRequests
@@ -433,6 +315,6 @@ pub ticks_event : (config : Config) (event : PlainEvent) (polled : ℕ) (before 
     → ticks (device_acts log) ≡ ticks (device_acts before) + bit 0 (is_tick event)
 ticks_event config event polled before log n settles =
     let start = begins config event polled before in
-    let end = each_settled config (Behind start.0) (behind_step start.0 config) n (own_acts config polled event before ++ before) log
-    start.1 settles in
-    ap ticks end.2 ∙ plain_ticks end.0 start.0 end.1 ∙ start.3
+    let end = each_settled config (Behind start.base) (step_keeps config _ (steps_keep start.base config)) n (own_acts config polled event before ++ before) log
+    start.behind settles in
+    ap ticks end.2 ∙ plain_ticks end.0 start.base end.1 ∙ start.time

@@ -15,24 +15,38 @@ use Rattle.sv_rpc.specs.Record.{header_of, fragment, Sent, bytes_of, record_of}
 use Rattle.sv_rpc.specs.Stream.{records_of}
 use Rattle.sv_rpc.proofs.Calls.{call_is}
 use Rattle.sv_rpc.proofs.EveryStream.{every_stream}
-use Rattle.sv_laws.proofs.ReadOn.{no_bytes, bytes_join, bytes_front, bytes_back}
-use Rattle.sv_history.specs.Act.{ConnAct, Opened, Piece, CallTaken, Faulted, Replied, BytesTaken, PortClosed}
+use Rattle.sv_history.specs.Act.{ConnAct, Opened, Piece, CallTaken, Replied, BytesTaken, PortClosed}
 use Rattle.sv_history.specs.Connection.{next_call, stream, pending_call, records_ended, took_no_call, is_busy}
 use Rattle.sv_history.specs.Reply.{reply_record}
 use Rattle.sv_laws.specs.Laws.{HasXidOf, RepliesMatch}
-use Rattle.sv_laws.proofs.EveryLog.EachAct.{xid_of, IsReplyTo, AllCame, all_came}
+use Rattle.sv_laws.proofs.EveryLog.EachAct.{IsReplyTo, AllCame, all_came}
+use Rattle.sv_laws.proofs.EveryLog.Taken.{xid_of}
 
 -- ---- a call consists of bytes
+
+no_bytes : IsBytes []
+no_bytes i = omega arith
+
+bytes_join : (a b : List ℕ) → IsBytes a → IsBytes b → IsBytes (a ++ b)
+bytes_join [] b h k i = k i
+bytes_join (x ∷ a) b h k zero = h 0
+bytes_join (x ∷ a) b h k (suc i) = bytes_join a b (λ j. h (suc j)) k i
+
+bytes_front : (a b : List ℕ) → IsBytes (a ++ b) → IsBytes a
+bytes_front [] b h i = omega arith
+bytes_front (x ∷ a) b h zero = h 0
+bytes_front (x ∷ a) b h (suc i) = bytes_front a b (λ j. h (suc j)) i
+
+bytes_back : (a b : List ℕ) → IsBytes (a ++ b) → IsBytes b
+bytes_back [] b h = h
+bytes_back (x ∷ a) b h = bytes_back a b (λ j. h (suc j))
 
 stream_bytes : (acts : List ConnAct) → AllCame acts → IsBytes (stream acts)
 stream_bytes [] all = no_bytes
 stream_bytes (Opened role ∷ acts) all = no_bytes
 stream_bytes (PortClosed ∷ acts) all = no_bytes
 stream_bytes (Piece bytes ∷ acts) all = bytes_join (stream acts) bytes (stream_bytes acts all.1) all.0.1
-stream_bytes (CallTaken call ∷ acts) all = stream_bytes acts all.1
-stream_bytes (Faulted ∷ acts) all = stream_bytes acts all.1
-stream_bytes (Replied reply ∷ acts) all = stream_bytes acts all.1
-stream_bytes (BytesTaken count ∷ acts) all = stream_bytes acts all.1
+stream_bytes (_ ∷ acts) all = stream_bytes acts all.1
 
 text_bytes : (last : Bool) (text : List ℕ) → IsBytes (fragment last text) → IsBytes text
 text_bytes last text fits = bytes_back (header_of last (length text)) text fits
@@ -73,15 +87,11 @@ next_bytes acts call all next =
     (ap (λ (l : List (List ℕ)). slice_get l (records_ended acts)) s.records_are ∙ found)
 
 call_bytes : (acts : List ConnAct) (call : List ℕ) → AllCame acts → pending_call acts ≡ Some call → IsBytes call
-call_bytes [] call all busy = absurd cc
-call_bytes (Opened role ∷ acts) call all busy = absurd cc
-call_bytes (PortClosed ∷ acts) call all busy = absurd cc
-call_bytes (Faulted ∷ acts) call all busy = absurd cc
-call_bytes (Replied reply ∷ acts) call all busy = absurd cc
 call_bytes (CallTaken taken ∷ acts) call all busy =
     subst IsBytes (some_bytes taken call busy) (next_bytes acts taken all.1 all.0.1)
 call_bytes (Piece bytes ∷ acts) call all busy = call_bytes acts call all.1 busy
 call_bytes (BytesTaken count ∷ acts) call all busy = call_bytes acts call all.1 busy
+call_bytes _ call all busy = absurd cc
 
 -- ---- it begins with its xid, and so does its reply
 

@@ -10,12 +10,7 @@ use Rattle.sv_laws.proofs.EveryLog.EachAct.{AllCame, all_came}
 pub clear_free : (acts : List ConnAct) → IsClear acts → pending_call acts ≡ None
 clear_free [] h = refl
 clear_free (PortClosed ∷ acts) h = refl
-clear_free (Opened role ∷ acts) h = absurd h
-clear_free (Piece bytes ∷ acts) h = absurd h
-clear_free (CallTaken call ∷ acts) h = absurd h
-clear_free (Faulted ∷ acts) h = absurd h
-clear_free (Replied bytes ∷ acts) h = absurd h
-clear_free (BytesTaken count ∷ acts) h = absurd h
+clear_free (_ ∷ acts) h = absurd h
 
 -- so acts that came on an open one, or for a call, came on none that is shut
 not_open : {A : Type 0} (acts : List ConnAct) → open_role acts ≡ None → is_open acts ≡ true → A

@@ -14,7 +14,8 @@ use Rattle.sv_history.specs.Act.{Act, device_acts, instrument_acts, ticks}
 use Rattle.sv_history.specs.History.{refusal, last_clock, history_after, IsLogOf, AnswersBy}
 use Rattle.sv_laws.proofs.Brought.{is_tick, TicksTaken}
 use Rattle.sv_laws.proofs.OnlyRequests.{ticks_event}
-use Rattle.sv_laws.proofs.NothingLost.{is_done, some_none, happened_wants}
+use Rattle.sv_laws.proofs.NothingLost.{is_done, happened_wants}
+use Rattle.sv_laws.proofs.Facts.{some_none}
 
 counted : (b : Bool) (event : PlainEvent) (events : List PlainEvent)
     → length (cond b (event ∷ events) events) ≡ length events + bit 0 b

@@ -4,7 +4,6 @@ use Rattle.std.specs.Prelude.{map, is_some, Err}
 use Rattle.std.proofs.lemmas.Bool.{cases_eq}
 use Rattle.sv_rpc.specs.declared.call.CallFault.TheVariants.{BadHeader}
 use Rattle.sv_rpc.specs.Call.{call_at}
-use Rattle.sv_vxi.specs.declared.error_code.ErrorCode.TheVariants.{Abort}
 use Rattle.sv_vxi.specs.Arguments.{Arguments}
 use Rattle.sv_vxi.specs.Results.{Outcome}
 use Rattle.sv_links.specs.declared.waiting.Wait.{Wait}
@@ -14,20 +13,20 @@ use Rattle.sv_history.specs.declared.event.Role.{Role}
 use Rattle.sv_history.specs.Event.{PlainEvent, Turn}
 use Rattle.sv_history.specs.Act.{Act, ConnAct, DeviceAct, CallTaken, Faulted, Replied, Applied, On, OnDevice, of, device_acts, wait_acts}
 use Rattle.sv_history.specs.Connection.{is_open, next_call, open_role, pending_call}
-use Rattle.sv_history.specs.CallOutcome.{CallOutcome, only}
-use Rattle.sv_history.specs.CoreCall.{CoreCall, failure}
+use Rattle.sv_history.specs.CallOutcome.{CallOutcome}
+use Rattle.sv_history.specs.CoreCall.{CoreCall}
 use Rattle.sv_history.specs.Effect.{acts_of, replies, result_reply}
-use Rattle.sv_history.specs.Request.{Request, NoCall, Decided, CoreRequest, AbortRequest, PortRequest, core_call_in, request_of, request_for, next_request}
+use Rattle.sv_history.specs.Request.{Request, NoCall, CoreRequest, core_call_in, request_of, request_for, next_request}
 use Rattle.sv_history.specs.Execution.{request_effect, aborts}
-use Rattle.sv_history.specs.Resuming.{effect_of, leaving, next_wait, resume_outcome, late}
-use Rattle.sv_history.specs.Settling.{IsNext}
-use Rattle.sv_history.specs.History.{abort_acts, turn_acts, own_acts, IsLogOf}
+use Rattle.sv_history.specs.Resuming.{effect_of}
+use Rattle.sv_history.specs.History.{turn_acts, own_acts, IsLogOf}
 use Rattle.sv_laws.specs.Laws.{TurnAnswered}
 use Rattle.sv_history.proofs.Projections.{of_mine, of_shared, of_effect, others_effect}
 use Rattle.sv_laws.proofs.OneLog.{one_log}
 use Rattle.sv_laws.proofs.NoneLate.{none_late}
-use Rattle.sv_laws.proofs.EveryLog.EachEvent.{each_settled, turn_parts}
-use Rattle.sv_laws.proofs.EveryLog.EachAct.{xid_of, xid_in, none_bad, xid_next, open_unless}
+use Rattle.sv_laws.proofs.EveryLog.EachEvent.{each_settled, StepsKeep, ends_keep, step_keeps, abort_keeps, turn_parts}
+use Rattle.sv_laws.proofs.EveryLog.EachAct.{none_bad, xid_next, open_unless}
+use Rattle.sv_laws.proofs.EveryLog.Taken.{xid_of, xid_in}
 use Rattle.sv_laws.proofs.EveryLog.BusyWaits.{busy_waits}
 
 -- ---- the connection of the call
@@ -78,35 +77,20 @@ in_ended c call before d does log h =
       | inr ne ↦ subst (Stands call before) (sym (others_effect d c effect log ne)) h
     ]
 
-in_step : (c : ℕ) (call : List ℕ) (before : List ConnAct) (config : Config) (log new : List Act) → StandsIn c call before log
-    → IsNext config log new → StandsIn c call before new
-in_step c call before config log new h (inl fires) =
-    subst (StandsIn c call before) (sym fires.2) (in_shared c call before (map Applied fires.0) log h)
-in_step c call before config log new h (inr (none, inl (d, wait, polled, oldest, for, said, is))) =
-    subst (StandsIn c call before) (sym is) (in_ended c call before d (λ arguments. resume_outcome config polled d arguments
-    (next_wait wait arguments (device_acts log)) (device_acts log)) log h)
-in_step c call before config log new h (inr (none, inr (still, inl step))) =
-    subst (StandsIn c call before) (sym step.2) (in_shared c call before (map Applied step.0) log h)
-in_step c call before config log new h (inr (none, inr (still, inr (idle, (d, wait, oldest, for, is))))) =
-    subst (StandsIn c call before) (sym is) (in_ended c call before d (λ arguments. leaving d (only (failure arguments (late wait)))) log h)
+steps_keep : (c : ℕ) (call : List ℕ) (before : List ConnAct) (config : Config) → StepsKeep config (StandsIn c call before)
+steps_keep c call before config =
+    ends_keep config (StandsIn c call before) (λ adds log. in_shared c call before (map Applied adds) log) (in_ended c call before)
 
 -- ---- the Turn
-
-in_abort : (c : ℕ) (call : List ℕ) (before : List ConnAct) (aborts : Option ℕ) (log : List Act) → StandsIn c call before log
-    → StandsIn c call before (abort_acts aborts log ++ log)
-in_abort c call before (Some d) log h = in_ended c call before d (λ arguments. leaving d (only (failure arguments Abort))) log h
-in_abort c call before None log h = h
 
 -- what its request comes to
 stands_request : (config : Config) (polled c : ℕ) (call : List ℕ) (before : List ConnAct) (request : Request) (acts : List DeviceAct)
     → xid_of (call_at call) ≡ xid_in request
     → Stands call before ((request_effect config polled c request acts).own ++ CallTaken call ∷ before)
 stands_request config polled c call before NoCall acts is = inr (inl (refl, none_bad (call_at call) is))
-stands_request config polled c call before (Decided xid reply) acts is = inl (_, refl)
 stands_request config polled c call before (CoreRequest request_for) acts is =
     stands_replies request_for.xid _ call before (CallTaken call ∷ before) refl
-stands_request config polled c call before (AbortRequest xid lid) acts is = inl (_, refl)
-stands_request config polled c call before (PortRequest xid args) acts is = inl (_, refl)
+stands_request config polled c call before _ acts is = inl (_, refl)
 
 in_turn : (config : Config) (polled c : ℕ) (call : List ℕ) (request : Request) (log : List Act) → next_call (of c log) ≡ Some call
     → next_request (of c log) ≡ Some request → StandsIn c call (of c log) (turn_acts config polled c (Some call) (Some request) log ++ log)
@@ -115,7 +99,7 @@ in_turn config polled c call request log next asks =
     let own : of c (acts_of c effect ++ On c (CallTaken call) ∷ log) ≡ effect.own ++ CallTaken call ∷ of c log =
     of_effect c effect (On c (CallTaken call) ∷ log) ∙ ap (λ (l : List ConnAct). effect.own ++ l) (of_mine c (CallTaken call) log) in
     subst (StandsIn c call (of c log)) (sym (turn_parts c call effect (aborts request (device_acts log)) log))
-    (in_abort c call (of c log) (aborts request (device_acts log)) _ (subst (Stands call (of c log)) (sym own)
+    (abort_keeps config _ (steps_keep c call (of c log) config) (aborts request (device_acts log)) _ (subst (Stands call (of c log)) (sym own)
     (stands_request config polled c call (of c log) request (device_acts log) (xid_next (of c log) call request next asks))))
 
 asks_some : (acts : List ConnAct) (call : List ℕ) → is_open acts ≡ true → next_call acts ≡ Some call
@@ -146,8 +130,8 @@ turn_answered config history before log c call was now next =
     ∙ request.1 in
     let begins : StandsIn c call (of c now.0) (own_acts config now.1 (Turn c) now.0 ++ now.0) =
     rw (first, asks) (in_turn config now.1 c call request.0 now.0 first request.1) in
-    let ends = each_settled config (StandsIn c call (of c now.0)) (in_step c call (of c now.0) config) now.8.0
-    (own_acts config now.1 (Turn c) now.0 ++ now.0) log begins now.8.1 in
+    let ends = each_settled config (StandsIn c call (of c now.0))
+    (step_keeps config _ (steps_keep c call (of c now.0) config)) now.8.0 (own_acts config now.1 (Turn c) now.0 ++ now.0) log begins now.8.1 in
     elim (subst (λ (l : List Act). Stands call (of c l) (of c log)) same ends) [
       | inl answered ↦ inl answered
       | inr (inl faulted) ↦ inr (inl faulted)

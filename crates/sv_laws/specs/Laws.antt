@@ -1,5 +1,5 @@
 -- Laws of the whole specification: one log, calls and replies, what is never refused, and time.
-use Rattle.std.specs.Prelude.{◌≡◌, ◌⊎◌, ℕ, ◌+◌, ◌<◌, ◌≤◌, Bool, true, false, List, [], ◌∷◌, ◌++◌, length, take, drop, filter, replicate, Some, None, is_some, Result, Ok, Err, ⊤}
+use Rattle.std.specs.Prelude.{◌≡◌, ◌⊎◌, ℕ, ◌+◌, ◌<◌, ◌≤◌, Bool, true, false, List, ◌∷◌, ◌++◌, length, take, drop, filter, replicate, Some, None, is_some, Result, Ok, Err, ⊤}
 use Rattle.sv_rpc.specs.declared.call.CallFault.TheVariants.{BadHeader}
 use Rattle.sv_rpc.specs.Call.{call_at}
 use Rattle.sv_links.specs.declared.waiting.Wait.{Wait}
@@ -11,7 +11,7 @@ use Rattle.sv_history.specs.declared.event.Did.{Did}
 use Rattle.sv_history.specs.declared.event.Did.TheVariants.{Done}
 use Rattle.sv_history.specs.declared.event.Refused.{Refused}
 use Rattle.sv_history.specs.Event.{PlainEvent, Open, Bytes, Turn, Took, Close, Dialed, Tick, Input, External, port_number}
-use Rattle.sv_history.specs.Act.{Act, ConnAct, Opened, CallTaken, Faulted, Replied, PortClosed, Ticked, OnDevice, of, device_acts, wait_acts, ticks}
+use Rattle.sv_history.specs.Act.{Act, ConnAct, CallTaken, Faulted, Replied, Ticked, OnDevice, of, device_acts, wait_acts, ticks}
 use Rattle.sv_history.specs.Connection.{is_open, acts_since_opening, next_call, room, waiting_on, records_ended, pending_call}
 use Rattle.sv_history.specs.Interrupts.{dial_of}
 use Rattle.sv_history.specs.Requests.{HearsOf}

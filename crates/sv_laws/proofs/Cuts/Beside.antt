@@ -1,6 +1,6 @@
 -- Two logs, in one of which a write was accepted whole, and in the other in two parts: they are the same but for that, and stay so over
 -- the same steps.
-use Rattle.std.proofs.Common.{◌≡◌, ◌≢◌, ℕ, Bool, false, List, ◌∷◌, ◌++◌, None, refl, sym, ap, subst, ◌∙◌, inl, inr}
+use Rattle.std.proofs.Common.{◌≡◌, ◌≢◌, ℕ, Bool, false, List, ◌∷◌, ◌++◌, None, sym, ap, subst, ◌∙◌, inl, inr}
 use Rattle.std.proofs.lemmas.Bool.{cases_eq}
 use Rattle.sv_errors.specs.declared.code.Code.TheVariants.{InputBufferOverrun}
 use Rattle.sv_exchange.specs.Exchange.{Overran}
@@ -10,9 +10,11 @@ use Rattle.sv_history.specs.Connection.{pending_call}
 use Rattle.sv_history.proofs.Projections.{of_mine, of_other}
 use Rattle.sv_laws.proofs.Cuts.SameExchange.{text_cut}
 use Rattle.sv_laws.proofs.Cuts.SameStatus.{SameStatus, status_same, status_act, status_accepted, status_back}
-use Rattle.sv_laws.proofs.Cuts.SameDevice.{SameDevice, device_back, Tells, tells_happened, accepts, tells_accepted, tells_also}
+use Rattle.sv_laws.proofs.Cuts.SameDevice.{Tells, tells_happened, accepts, tells_accepted, tells_also}
 use Rattle.sv_laws.proofs.Cuts.SharedEvents.{calls_behind}
-use Rattle.sv_laws.proofs.Cuts.SharedLogs.{device_front, tells_front, IsKept}
+use Rattle.sv_laws.proofs.Cuts.SharedLogs.{SameShared, shared_more}
+use Rattle.sv_laws.proofs.Facts.{moved}
+use Rattle.sv_laws.proofs.Cuts.KeptLogs.{IsKept}
 use Rattle.sv_laws.proofs.Cuts.NoCallTaken.{of_append}
 use Rattle.sv_laws.proofs.Cuts.BytesBehind.{CameBehind, behind_device, behind_others, behind_call}
 use Rattle.sv_laws.proofs.Cuts.Written.{wrote}
@@ -29,8 +31,7 @@ told_none : (acts : List DeviceAct) → SameTold acts acts
 told_none acts = record { status = status_same (instrument_acts acts); tells = λ channel_log h. h; back = λ channel_log h. h }
 
 told_back : (acts other : List DeviceAct) → SameTold acts other → SameTold other acts
-told_back acts other v =
-    record { status = status_back (instrument_acts acts) (instrument_acts other) v.status; tells = v.back; back = v.tells }
+told_back acts other v = assumption (status_back (instrument_acts acts) (instrument_acts other) v.status)
 
 told_accepts : (bytes : List ℕ) (ended : Bool) (acts other : List DeviceAct) → SameTold acts other
     → SameTold (accepts bytes ended ∷ acts) other
@@ -48,12 +49,6 @@ told_happened act acts other v = record {
   back = tells_happened act other acts (status_back (instrument_acts acts) (instrument_acts other) v.status) v.back;
 }
 
--- all that is shared
-pub record SameShared (acts other : List DeviceAct) : Type 0 where
-  pub device : SameDevice acts other
-  pub tells : Tells acts other
-  pub back : Tells other acts
-
 -- a write that is accepted whole, and in two parts
 pub parts_shared : (x y : List ℕ) (ended : Bool) (acts : List DeviceAct)
     → SameShared (accepts (x ++ y) ended ∷ acts) (accepts y ended ∷ accepts x false ∷ acts)
@@ -61,17 +56,7 @@ parts_shared x y ended acts =
     let parts = told_accepts y ended (accepts x false ∷ acts) acts (told_accepts x false acts acts (told_none acts)) in
     let v = told_accepts (x ++ y) ended acts (accepts y ended ∷ accepts x false ∷ acts)
     (told_back (accepts y ended ∷ accepts x false ∷ acts) acts parts) in
-    record {
-      device = record {
-        links = refl;
-        waits = refl;
-        channels = refl;
-        instrument = record { status = v.status; texts = sym (text_cut x y ended (exchanged (instrument_acts acts))); holds = refl };
-        clock = refl;
-      };
-      tells = v.tells;
-      back = v.back;
-    }
+    assumption (sym (text_cut x y ended (exchanged (instrument_acts acts))))
 
 -- and where it is reported behind the first part, and behind the whole, that the message is too long
 abbrev pub reports : List DeviceAct → List DeviceAct
@@ -90,21 +75,7 @@ long_shared x y ended acts =
     let behind = told_reports whole first both in
     let v = told_back (accepts y ended ∷ reports first) (reports whole)
     (told_accepts y ended (reports first) (reports whole) (told_back (reports whole) (reports first) behind)) in
-    record {
-      device = record {
-        links = refl;
-        waits = refl;
-        channels = refl;
-        instrument = record { status = v.status; texts = sym (text_cut x y ended (exchanged (instrument_acts acts))); holds = refl };
-        clock = refl;
-      };
-      tells = v.tells;
-      back = v.back;
-    }
-
-shared_moved : (acts other a b : List DeviceAct) → a ≡ acts → b ≡ other → SameShared acts other → SameShared a b
-shared_moved acts other a b x y v =
-    subst (λ (l : List DeviceAct). SameShared l b) (sym x) (subst (λ (l : List DeviceAct). SameShared acts l) (sym y) v)
+    assumption (sym (text_cut x y ended (exchanged (instrument_acts acts))))
 
 -- ---- two logs
 
@@ -116,11 +87,7 @@ pub record Beside (c : ℕ) (log other : List Act) : Type 0 where
 
 beside_more : (c : ℕ) (adds log other : List Act) → Beside c log other → Beside c (adds ++ log) (adds ++ other)
 beside_more c adds log other v = record {
-  shared = record {
-    device = device_front adds log other v.shared.device;
-    tells = tells_front adds log other v.shared.device v.shared.tells;
-    back = tells_front adds other log (device_back (device_acts log) (device_acts other) v.shared.device) v.shared.back;
-  };
+  shared = shared_more adds log other v.shared;
   calls = calls_behind adds log other v.calls;
   others = λ d ne. of_append d adds log ∙ ap (λ (l : List ConnAct). of d adds ++ l) (v.others d ne) ∙ sym (of_append d adds other);
 }
@@ -135,14 +102,14 @@ beside_kept c = record {
 
 calls_came : (c d : ℕ) (base log : List Act) → CameBehind c base log → pending_call (of d log) ≡ pending_call (of d base)
 calls_came c d base log came = elim (cases_eq d c) [
-  | inl e ↦ subst (λ (n : ℕ). pending_call (of n log) ≡ pending_call (of n base)) (sym e) (behind_call c base log came)
+  | inl e ↦ rw e (behind_call c base log came)
   | inr ne ↦ ap pending_call (behind_others c d base log came ne)
 ]
 
 pub beside_came : (c : ℕ) (one two log other : List Act) → CameBehind c one log → CameBehind c two other → Beside c one two
     → Beside c log other
 beside_came c one two log other came also v = record {
-  shared = shared_moved (device_acts one) (device_acts two) (device_acts log) (device_acts other) (behind_device c one log came)
+  shared = moved SameShared (device_acts one) (device_acts two) (device_acts log) (device_acts other) (behind_device c one log came)
       (behind_device c two other also) v.shared;
   calls = λ d. calls_came c d one log came ∙ v.calls d ∙ sym (calls_came c d two other also);
   others = λ d ne. behind_others c d one log came ne ∙ v.others d ne ∙ sym (behind_others c d two other also ne);
@@ -172,7 +139,7 @@ beside_wrote c log other call reply x first one also answer y last two acts both
     let apart : (d : ℕ) → d ≢ c → of d log ≡ of d other = λ d ne. here d ∙ of_wrote c d call reply x first one ne ∙ others d ne
     ∙ sym (of_wrote c d also answer y last two ne) ∙ sym (there d) in
     record {
-      shared = shared_moved acts both (device_acts log) (device_acts other) p q v;
+      shared = moved SameShared acts both (device_acts log) (device_acts other) p q v;
       calls = λ d. elim (cases_eq d c) [
         | inl e ↦ ap pending_call (here d) ∙ wrote_calls c d call reply x first one e ∙ sym (wrote_calls c d also answer y last two e)
             ∙ sym (ap pending_call (there d))

@@ -8,7 +8,7 @@ use Rattle.std.proofs.lemmas.List.{append_cancel_right}
 use Rattle.sv_errors.specs.declared.code.Code.TheVariants.{InputBufferOverrun, QueryDeadlocked}
 use Rattle.sv_errors.specs.declared.source.Source.TheVariants.{Immediate}
 use Rattle.sv_links.specs.declared.waiting.Wait.{Wait}
-use Rattle.sv_links.specs.declared.waiting.Wait.TheVariants.{Lock, Input as ForInput, Response as ForResponse, Dial}
+use Rattle.sv_links.specs.declared.waiting.Wait.TheVariants.{Input as ForInput, Response as ForResponse}
 use Rattle.sv_links.specs.Links.{LinkAct, holder}
 use Rattle.sv_links.specs.Waiting.{WaitAct, waits, link, arrival, is_there, IsExpired, IsOldest}
 use Rattle.sv_scan.specs.declared.acts.ScanAct.{ScanAct}
@@ -30,8 +30,9 @@ use Rattle.sv_history.specs.Settling.{InstrumentDoes, Resumes, TimesOut, IsNext,
 use Rattle.sv_laws.specs.Cuts.{NoneWaits}
 use Rattle.sv_history.proofs.OneStep.{went_on, gave_up}
 use Rattle.sv_laws.proofs.Cuts.LongerText.{ends_none, long_too}
-use Rattle.sv_laws.proofs.Cuts.Suspended.{Rested}
+use Rattle.sv_laws.proofs.EveryLog.Steps.{Rested}
 use Rattle.sv_laws.proofs.Cuts.Written.{wrote}
+use Rattle.sv_logs.proofs.Since.{both_true}
 
 -- ---- where only the instrument's exchange, its queue and its status changed
 
@@ -50,11 +51,9 @@ pub record Resting (config : Config) (log : List Act) : Type 0 where
 
 there_same : (holds named : Option ℕ) (wait : Option Wait) (writes reads also likewise : Bool) → wait ≢ Some ForInput
     → wait ≢ Some ForResponse → is_there holds writes reads named wait ≡ is_there holds also likewise named wait
-there_same holds named (Some Lock) writes reads also likewise input response = refl
 there_same holds named (Some ForInput) writes reads also likewise input response = absurd (input refl)
 there_same holds named (Some ForResponse) writes reads also likewise input response = absurd (response refl)
-there_same holds named (Some Dial) writes reads also likewise input response = refl
-there_same holds named None writes reads also likewise input response = refl
+there_same holds named _ writes reads also likewise input response = refl
 
 abbrev may_resume : List DeviceAct → ℕ → Bool
 may_resume acts c = is_there (holder (link_acts acts)) (not (has_ended (exchange_acts acts))) (is_answerable (instrument_acts acts))
@@ -239,15 +238,10 @@ first_part config c call reply bytes base log (suc steps) rest line unended (mid
 
 -- ---- with more bytes
 
-both_true : (a b : Bool) → (a && b) ≡ true → (a ≡ true) × (b ≡ true)
-both_true true true e = (refl, refl)
-both_true true false e = absurd cc
-both_true false b e = absurd cc
-
 long_both : (x y : List ℕ) (ended : Bool) (acts : List ExchangeAct) → is_overlong (Accepted x false ∷ acts) ≡ true
     → is_overlong (Accepted (x ++ y) ended ∷ acts) ≡ true
 long_both x y ended acts long =
-    let parts = both_true (is_long (Accepted x false ∷ acts)) (not (has_overrun (current acts))) long in
+    let parts = (both_true (is_long (Accepted x false ∷ acts)) (not (has_overrun (current acts)))).0 long in
     rw (long_too x y ended acts parts.0) parts.1
 
 -- the first step is the same

@@ -1,27 +1,27 @@
 -- What follows a call in its event takes no call: neither what the call does, nor the steps that are due then.
-use Rattle.std.proofs.Common.{◌≡◌, ℕ, zero, suc, List, [], ◌∷◌, ◌++◌, Option, Some, None, refl, sym, ap, ◌∙◌, inl, inr, append_assoc}
+use Rattle.std.proofs.Common.{◌≡◌, ℕ, List, [], ◌∷◌, ◌++◌, Option, Some, None, refl, sym, ap, subst, ◌∙◌, inl, inr, append_assoc}
 use Rattle.std.specs.Prelude.{map, not, ⊤, ◌==◌}
 use Rattle.std.specs.List.{AllByRecursion}
 use Rattle.std.proofs.lemmas.Bool.{cases_Bool}
 use Rattle.std.proofs.lemmas.List.Elements.{filter-append}
-use Rattle.sv_vxi.specs.declared.error_code.ErrorCode.{ErrorCode}
-use Rattle.sv_vxi.specs.declared.error_code.ErrorCode.TheVariants.{Abort}
 use Rattle.sv_vxi.specs.Arguments.{Arguments}
 use Rattle.sv_vxi.specs.Results.{Outcome}
 use Rattle.sv_history.specs.declared.event.Config.{Config}
-use Rattle.sv_history.specs.Act.{Act, ConnAct, DeviceAct, Opened, Piece, CallTaken, Faulted, Replied, BytesTaken, PortClosed, Applied, On, OnDevice, of, device_acts}
+use Rattle.sv_history.specs.Act.{Act, ConnAct, DeviceAct, Piece, CallTaken, Replied, Applied, On, OnDevice, of, device_acts}
 use Rattle.sv_history.specs.Connection.{pending_call}
-use Rattle.sv_history.specs.CallOutcome.{CallOutcome, only}
-use Rattle.sv_history.specs.CoreCall.{CoreCall, failure}
-use Rattle.sv_history.specs.Request.{Request, NoCall, Decided, CoreRequest, AbortRequest, PortRequest, core_call_in}
+use Rattle.sv_history.specs.CallOutcome.{CallOutcome}
+use Rattle.sv_history.specs.CoreCall.{CoreCall}
+use Rattle.sv_history.specs.Request.{Request, CoreRequest, core_call_in}
 use Rattle.sv_history.specs.Effect.{Effect, acts_of, replies}
 use Rattle.sv_history.specs.Admission.{stop_of, admission}
 use Rattle.sv_history.specs.Execution.{request_effect}
-use Rattle.sv_history.specs.Resuming.{effect_of, leaving, resume_outcome, next_wait, resume_effect, failure_effect, late}
-use Rattle.sv_history.specs.Settling.{IsNext, SettlesIn}
-use Rattle.sv_history.specs.History.{abort_acts, taken_acts}
+use Rattle.sv_history.specs.Resuming.{effect_of}
+use Rattle.sv_history.specs.Settling.{SettlesIn}
+use Rattle.sv_history.specs.History.{taken_acts}
 use Rattle.sv_laws.specs.Cuts.{is_piece, without_pieces}
 use Rattle.sv_history.proofs.Projections.{of_mine}
+use Rattle.sv_laws.proofs.Facts.{all_join}
+use Rattle.sv_laws.proofs.EveryLog.EachEvent.{each_settled, StepsKeep, ends_keep, step_keeps, abort_keeps, turn_parts}
 
 -- ---- acts that take no call
 
@@ -33,10 +33,6 @@ abbrev pub IsNoCall : Act → Type 0
 IsNoCall (On c act) = IsOther act
 IsNoCall (OnDevice act) = ⊤
 
-none_join : (a b : List Act) → AllByRecursion IsNoCall a → AllByRecursion IsNoCall b → AllByRecursion IsNoCall (a ++ b)
-none_join [] b h k = k
-none_join (act ∷ a) b h k = (h.0, none_join a b h.1 k)
-
 none_shared : (adds : List DeviceAct) → AllByRecursion IsNoCall (map OnDevice adds)
 none_shared [] = tt
 none_shared (act ∷ adds) = (tt, none_shared adds)
@@ -46,7 +42,7 @@ none_own c [] h = tt
 none_own c (act ∷ own) h = (h.0, none_own c own h.1)
 
 none_effect : (c : ℕ) (effect : Effect) → AllByRecursion IsOther effect.own → AllByRecursion IsNoCall (acts_of c effect)
-none_effect c effect h = none_join (map (On c) effect.own) (map OnDevice effect.adds) (none_own c effect.own h) (none_shared effect.adds)
+none_effect c effect h = all_join IsNoCall (map (On c) effect.own) (map OnDevice effect.adds) (none_own c effect.own h) (none_shared effect.adds)
 
 none_replies : (xid : ℕ) (result : Option Outcome) → AllByRecursion IsOther (replies xid result)
 none_replies xid (Some result) = (tt, tt)
@@ -55,16 +51,6 @@ none_replies xid None = tt
 none_ended : (c : ℕ) (does : Arguments → CallOutcome) (call : Option CoreCall) → AllByRecursion IsOther (effect_of c does call).own
 none_ended c does (Some call) = none_replies call.xid (does call.arguments).result
 none_ended c does None = tt
-
-none_failed : (error : ErrorCode) (d : ℕ) (log : List Act)
-    → AllByRecursion IsNoCall (acts_of d (failure_effect error d (core_call_in (pending_call (of d log)))))
-none_failed error d log =
-    let call = core_call_in (pending_call (of d log)) in
-    none_effect d (failure_effect error d call) (none_ended d (λ arguments. leaving d (only (failure arguments error))) call)
-
-none_aborted : (d : Option ℕ) (log : List Act) → AllByRecursion IsNoCall (abort_acts d log)
-none_aborted None log = tt
-none_aborted (Some d) log = none_failed Abort d log
 
 -- ---- steps
 
@@ -76,52 +62,39 @@ pub adds_then : (log mid new : List Act) → AddsNoCall log mid → AddsNoCall m
 adds_then log mid new one other = (
   other.0 ++ one.0,
   other.1 ∙ ap (λ (l : List Act). other.0 ++ l) one.1 ∙ sym (append_assoc other.0 one.0 log),
-  none_join other.0 one.0 other.2 one.2,
+  all_join IsNoCall other.0 one.0 other.2 one.2,
 )
 
-next_none : (config : Config) (log new : List Act) → IsNext config log new → AddsNoCall log new
-next_none config log new (inl fires) = (map OnDevice (map Applied fires.0), fires.2, none_shared (map Applied fires.0))
-next_none config log new (inr (none, inl (c, wait, polled, oldest, for, said, is))) =
-    let call = core_call_in (pending_call (of c log)) in
-    let acts = device_acts log in
-    let effect = resume_effect config polled c wait call acts in (
-      acts_of c effect,
-      is,
-      none_effect c effect (none_ended c (λ arguments. resume_outcome config polled c arguments (next_wait wait arguments acts) acts) call),
-    )
-next_none config log new (inr (none, inr (still, inl step))) =
-    (map OnDevice (map Applied step.0), step.2, none_shared (map Applied step.0))
-next_none config log new (inr (none, inr (still, inr (idle, (c, wait, oldest, for, is))))) =
-    (acts_of c (failure_effect (late wait) c (core_call_in (pending_call (of c log)))), is, none_failed (late wait) c log)
+-- behind such acts come such
+adds_more : (base adds log : List Act) → AllByRecursion IsNoCall adds → AddsNoCall base log → AddsNoCall base (adds ++ log)
+adds_more base adds log none so = adds_then base log (adds ++ log) so (adds, refl, none)
+
+steps_keep : (config : Config) (base : List Act) → StepsKeep config (AddsNoCall base)
+steps_keep config base = ends_keep config (AddsNoCall base)
+    (λ adds log. adds_more base (map OnDevice (map Applied adds)) log (none_shared (map Applied adds)))
+    (λ c does log. adds_more base (acts_of c (effect_of c does (core_call_in (pending_call (of c log))))) log
+    (none_effect c _ (none_ended c does (core_call_in (pending_call (of c log))))))
 
 pub settles_none : (n : ℕ) (config : Config) (log new : List Act) → SettlesIn n config log new → AddsNoCall log new
-settles_none zero config log new (none, same) = ([], same, tt)
-settles_none (suc n) config log new (middle, next, more) =
-    adds_then log middle new (next_none config log middle next) (settles_none n config middle new more)
+settles_none n config log new =
+    each_settled config (AddsNoCall log) (step_keeps config _ (steps_keep config log)) n log new ([], refl, tt)
 
 -- ---- what a call does
 
 none_request : (config : Config) (polled c : ℕ) (request : Request) (acts : List DeviceAct)
     → AllByRecursion IsOther (request_effect config polled c request acts).own
-none_request config polled c NoCall acts = (tt, tt)
-none_request config polled c (Decided xid reply) acts = (tt, tt)
 none_request config polled c (CoreRequest call) acts =
     none_replies call.xid (admission config polled c call.arguments (stop_of c call.arguments acts) acts).result
-none_request config polled c (AbortRequest xid lid) acts = (tt, tt)
-none_request config polled c (PortRequest xid args) acts = (tt, tt)
+none_request config polled c _ acts = (tt, tt)
 
 pub taking_none : (config : Config) (polled c : ℕ) (bytes : List ℕ) (request : Request) (found : Option ℕ) (log : List Act)
     → AddsNoCall (On c (CallTaken bytes) ∷ log)
     (taken_acts c bytes (request_effect config polled c request (device_acts log)) found log ++ log)
 taking_none config polled c bytes request found log =
     let effect = request_effect config polled c request (device_acts log) in
-    let acts = acts_of c effect ++ On c (CallTaken bytes) ∷ [] in
-    let ends = abort_acts found (acts ++ log) in (
-      ends ++ acts_of c effect,
-      simp append_assoc,
-      none_join ends (acts_of c effect) (none_aborted found (acts ++ log))
-          (none_effect c effect (none_request config polled c request (device_acts log))),
-    )
+    let taken = On c (CallTaken bytes) ∷ log in
+    subst (AddsNoCall taken) (sym (turn_parts c bytes effect found log)) (abort_keeps config _ (steps_keep config taken) found _
+    (acts_of c effect, refl, none_effect c effect (none_request config polled c request (device_acts log))))
 
 -- ---- the acts of a connection
 
@@ -172,12 +145,7 @@ taken_once (act ∷ []) bytes reply call base rest none same =
     let first : act ≡ Replied reply = cc in
     (ap (λ (a : ConnAct). a ∷ []) first, cc, cc)
 taken_once (act ∷ CallTaken other ∷ acts) bytes reply call base rest none same = absurd none.1.0
-taken_once (act ∷ Opened role ∷ acts) bytes reply call base rest none same = absurd cc
-taken_once (act ∷ Piece piece ∷ acts) bytes reply call base rest none same = absurd cc
-taken_once (act ∷ Faulted ∷ acts) bytes reply call base rest none same = absurd cc
-taken_once (act ∷ Replied other ∷ acts) bytes reply call base rest none same = absurd cc
-taken_once (act ∷ BytesTaken count ∷ acts) bytes reply call base rest none same = absurd cc
-taken_once (act ∷ PortClosed ∷ acts) bytes reply call base rest none same = absurd cc
+taken_once (act ∷ _ ∷ acts) bytes reply call base rest none same = absurd cc
 
 -- a connection's acts without pieces, behind others
 pub bare_of : (c : ℕ) (adds log : List Act)

@@ -1,4 +1,4 @@
--- The records of a stream with more bytes behind it: its own records, and those that are read on from where it ends.
+-- What is read of a stream with more bytes behind it: its own records, and what is read on from where it ends.
 use Rattle.std.proofs.Common.{◌≡◌, ℕ, zero, suc, ◌+◌, ◌-◌, ◌%◌, ◌<◌, ◌^◌, Bool, true, false, leb, List, [], ◌∷◌, ◌++◌, length, take, drop, refl, sym, ap, ◌∙◌, inl, inr, append_assoc, arith, lt-ltb, le-ltb}
 use Rattle.std.specs.Prelude.{nat_lt, if◌then◌else◌}
 use Rattle.std.specs.Int.{w32, from_be_bytes}
@@ -6,7 +6,7 @@ use Rattle.std.proofs.lemmas.Bool.{cases_lt}
 use Rattle.std.proofs.lemmas.List.{length-append, length-drop, take-append-le, drop-append-le, drop_at}
 use Rattle.std.proofs.Math.Seq.{take-append-add, drop-append-add}
 use Rattle.sv_rpc.specs.Record.{Tail, Header, Data, TooLong}
-use Rattle.sv_rpc.specs.Stream.{Reading, read_on, read_data, read, records_of, tail_of}
+use Rattle.sv_rpc.specs.Stream.{Reading, read_on, read_data, read, reading, records_of, tail_of}
 use Rattle.sv_rpc.specs.Limits.{max_record}
 
 -- ---- how many fragments may be read changes nothing, where they are enough
@@ -51,29 +51,33 @@ resumed_at (Data payload missing last) more =
     else read_on (read (length more + 1)) (payload ++ take missing more) last (drop missing more)
 resumed_at TooLong more = ([], TooLong)
 
--- the records of both
-abbrev RecordsThen : Reading → List ℕ → Reading → Type 0
-RecordsThen whole more part = whole.0 ≡ part.0 ++ (resumed_at part.1 more).0
+-- both together
+abbrev pub resumed : Reading → List ℕ → Reading
+resumed part more = (part.0 ++ (resumed_at part.1 more).0, (resumed_at part.1 more).1)
 
 abbrev Resumes : ℕ → List ℕ → Type 0
 Resumes n more = (payload bytes : List ℕ) → length (bytes ++ more) < n
-    → RecordsThen (read n payload (bytes ++ more)) more (read n payload bytes)
+    → read n payload (bytes ++ more) ≡ resumed (read n payload bytes) more
 
 on_more : (n : ℕ) (payload : List ℕ) (last : Bool) (rest more : List ℕ) → Resumes n more → length (rest ++ more) < n
-    → RecordsThen (read_on (read n) payload last (rest ++ more)) more (read_on (read n) payload last rest)
-on_more n payload true rest more again less = ap (λ (l : List (List ℕ)). payload ∷ l) (again [] rest less)
+    → read_on (read n) payload last (rest ++ more) ≡ resumed (read_on (read n) payload last rest) more
+on_more n payload true rest more again less = rw (again [] rest less) refl
 on_more n payload false rest more again less = again payload rest less
 
 -- the bytes behind a header don't reach its length
 part_more : (n : ℕ) (payload : List ℕ) (last : Bool) (size : ℕ) (rest more : List ℕ) → length (rest ++ more) < n → length rest < size
     → (if nat_lt (length (rest ++ more)) size then ([], Data (payload ++ (rest ++ more)) (size - length (rest ++ more)) last)
-    else read_on (read n) (payload ++ take size (rest ++ more)) last (drop size (rest ++ more))).0
-    ≡ (resumed_at (Data (payload ++ rest) (size - length rest) last) more).0
+    else read_on (read n) (payload ++ take size (rest ++ more)) last (drop size (rest ++ more)))
+    ≡ resumed_at (Data (payload ++ rest) (size - length rest) last) more
 part_more n payload last size rest more less part = elim (cases_lt (length more) (size - length rest)) [
-  | inl few ↦ rw (
-    lt-ltb (length more) (size - length rest) few,
-    lt-ltb (length (rest ++ more)) size (omega (arith, length-append rest more)),
-  ) refl
+  | inl few ↦
+      let left : size - length (rest ++ more) ≡ size - length rest - length more = omega (arith, length-append rest more) in
+      rw (
+        lt-ltb (length more) (size - length rest) few,
+        lt-ltb (length (rest ++ more)) size (omega (arith, length-append rest more)),
+        append_assoc payload rest more,
+        left,
+      ) refl
   | inr enough ↦
       let same : length rest + (size - length rest) ≡ size = omega (arith, part) in
       let taken : take size (rest ++ more) ≡ rest ++ take (size - length rest) more =
@@ -87,14 +91,13 @@ part_more n payload last size rest more less part = elim (cases_lt (length more)
         behind,
         append_assoc payload rest (take (size - length rest) more),
       )
-      (ap (λ (r : Reading). r.0) (on_any n (length more + 1) (payload ++ (rest ++ take (size - length rest) more)) last
-      (drop (size - length rest) more) (read_any n (length more + 1))
-      (omega (arith, length-drop (size - length rest) more, length-append rest more))
-      (omega (arith, length-drop (size - length rest) more))))
+      (on_any n (length more + 1) (payload ++ (rest ++ take (size - length rest) more)) last (drop (size - length rest) more)
+      (read_any n (length more + 1)) (omega (arith, length-drop (size - length rest) more, length-append rest more))
+      (omega (arith, length-drop (size - length rest) more)))
 ]
 
 data_more : (n : ℕ) (payload : List ℕ) (last : Bool) (size : ℕ) (rest more : List ℕ) → Resumes n more → length (rest ++ more) < n
-    → RecordsThen (read_data (read n) payload last size (rest ++ more)) more (read_data (read n) payload last size rest)
+    → read_data (read n) payload last size (rest ++ more) ≡ resumed (read_data (read n) payload last size rest) more
 data_more n payload last size rest more again less = elim (cases_lt max_record (length payload + size)) [
   | inl long ↦ rw (lt-ltb max_record (length payload + size) long) refl
   | inr within ↦ rw (le-ltb max_record (length payload + size) within) (elim (cases_lt (length rest) size) [
@@ -110,10 +113,10 @@ data_more n payload last size rest more again less = elim (cases_lt max_record (
 ]
 
 short_more : (n : ℕ) (payload bytes more : List ℕ) → length bytes < 4 → length (bytes ++ more) < suc n
-    → RecordsThen (read (suc n) payload (bytes ++ more)) more (read (suc n) payload bytes)
+    → read (suc n) payload (bytes ++ more) ≡ resumed (read (suc n) payload bytes) more
 unfolding read
 short_more n payload bytes more short less = rw (lt-ltb (length bytes) 4 short)
-    (ap (λ (r : Reading). r.0) (read_any (suc n) (length (bytes ++ more) + 1) payload (bytes ++ more) less (omega arith)))
+    (read_any (suc n) (length (bytes ++ more) + 1) payload (bytes ++ more) less (omega arith))
 
 read_more : (n : ℕ) (more : List ℕ) → Resumes n more
 unfolding read
@@ -127,12 +130,19 @@ read_more (suc n) more payload (a ∷ b ∷ c ∷ d ∷ rest) less =
     rw (le-ltb (length (a ∷ b ∷ c ∷ d ∷ rest)) 4 (omega arith), le-ltb (length (a ∷ b ∷ c ∷ d ∷ (rest ++ more))) 4 (omega arith))
     (data_more n payload (leb (2 ^ 31) word) (word % 2 ^ 31) rest more (read_more n more) (omega (arith, less)))
 
-pub records_more : (stream more : List ℕ) → records_of (stream ++ more) ≡ records_of stream ++ (resumed_at (tail_of stream) more).0
-records_more stream more =
+reading_more : (stream more : List ℕ) → reading (stream ++ more) ≡ resumed (reading stream) more
+reading_more stream more =
     let size = length (stream ++ more) + 1 in
     read_more size more [] stream (omega arith)
-    ∙ ap (λ (r : Reading). r.0 ++ (resumed_at r.1 more).0)
+    ∙ ap (λ (r : Reading). resumed r more)
     (read_any size (length stream + 1) [] stream (omega (arith, length-append stream more)) (omega arith))
+
+pub records_more : (stream more : List ℕ) → records_of (stream ++ more) ≡ records_of stream ++ (resumed_at (tail_of stream) more).0
+records_more stream more = ap (λ (r : Reading). r.0) (reading_more stream more)
+
+-- Two streams of which the same is read: the same is read with more bytes too.
+pub read_alike : (one two more : List ℕ) → reading one ≡ reading two → reading (one ++ more) ≡ reading (two ++ more)
+read_alike one two more same = reading_more one more ∙ ap (λ (r : Reading). resumed r more) same ∙ sym (reading_more two more)
 
 -- Two streams with the same tail: behind their records the same are read, whatever comes.
 pub same_behind : (one two : List ℕ) (n m : ℕ) → length (records_of one) ≡ n → length (records_of two) ≡ m → tail_of one ≡ tail_of two

@@ -1,8 +1,6 @@
 -- Two histories that differ only in how bytes that come, or the records in them, are cut.
 use Rattle.std.proofs.Common.{◌≡◌, ℕ, List, [], ◌∷◌, ◌++◌, map, refl, ap, subst, ◌∙◌}
-use Rattle.sv_xdr.proofs.Fields.{IsBytes, bytes_are}
 use Rattle.sv_rpc.specs.Stream.{reading}
-use Rattle.sv_laws.proofs.ReadOn.{no_bytes, bytes_join}
 use Rattle.sv_links.specs.Channels.{ChannelAct}
 use Rattle.sv_history.specs.declared.event.Config.{Config}
 use Rattle.sv_history.specs.declared.event.Port.{Port}
@@ -14,64 +12,64 @@ use Rattle.sv_history.specs.Requests.{HearsOf}
 use Rattle.sv_history.specs.History.{IsLogOf}
 use Rattle.sv_laws.specs.Adding.{all_sent, Sends}
 use Rattle.sv_laws.specs.Cuts.{Recut, Nothing, Same, Pieces, RecordsCut}
-use Rattle.sv_laws.proofs.OneLog.{one_log}
+use Rattle.sv_laws.proofs.OneLog.{one_log, sends_moved}
 use Rattle.sv_history.proofs.StillSettled.{still_settled}
 use Rattle.sv_laws.proofs.EveryLog.Steps.{log_settled, stays}
-use Rattle.sv_laws.proofs.Cuts.SameRecords.{SameRecords, same_recut}
-use Rattle.sv_laws.proofs.Cuts.SameView.{Alike, alike_none, alike_back, alike_moved, came_on, alike_came}
-use Rattle.sv_laws.proofs.Cuts.SameEvents.{event_alike}
+use Rattle.sv_laws.proofs.Cuts.ReadsOn.{read_alike}
+use Rattle.sv_laws.proofs.Cuts.SameDevice.{SameDevice, device_same}
+use Rattle.sv_laws.proofs.Cuts.SharedSteps.{SameCalls}
+use Rattle.sv_laws.proofs.Cuts.SharedEvents.{SameNext}
+use Rattle.sv_laws.proofs.Cuts.KeptLogs.{IsKept, event_so}
+use Rattle.sv_laws.proofs.Facts.{moved}
+use Rattle.sv_laws.proofs.Cuts.SameView.{Alike, next_call_same, next_request_same, alike_none, alike_back, alike_more, came_on, alike_came}
 
 -- ---- bytes that come make no step due
 
-record CameOn (c : ℕ) (config : Config) (pieces : List (List ℕ)) (past : List PlainEvent) (log : List Act) : Type 0 where
-  base : List Act
-  was : IsLogOf config past base
-  fits : IsBytes (join_pieces pieces)
-  is : log ≡ came_on c pieces ++ base
-
-piece_more : (c : ℕ) (config : Config) (piece : List ℕ) (pieces : List (List ℕ)) (past : List PlainEvent) (before log : List Act)
-    → IsBytes piece → log ≡ On c (Piece piece) ∷ before → CameOn c config pieces past before → CameOn c config (piece ∷ pieces) past log
-piece_more c config piece pieces past before log fits is so = record {
-  base = so.base;
-  was = so.was;
-  fits = bytes_join (join_pieces pieces) piece so.fits fits;
-  is = is ∙ ap (λ (l : List Act). On c (Piece piece) ∷ l) so.is;
-}
-
 came_of : (c : ℕ) (config : Config) (pieces : List (List ℕ)) (past : List PlainEvent) (log : List Act)
-    → IsLogOf config (map (Bytes c) pieces ++ past) log → CameOn c config pieces past log
-came_of c config [] past log is_log = record { base = log; was = is_log; fits = no_bytes; is = refl }
+    → IsLogOf config (map (Bytes c) pieces ++ past) log → (base : List Act) × IsLogOf config past base × (log ≡ came_on c pieces ++ base)
+came_of c config [] past log is_log = (log, is_log, refl)
 came_of c config (piece ∷ pieces) past log (before, polled, channel_log, is_event, was, hears, free, said, settles) =
     let settled = log_settled config (map (Bytes c) pieces ++ past) before was in
-    piece_more c config piece pieces past before log (bytes_are piece is_event.1)
-    (stays settles.0 config (On c (Piece piece) ∷ before) log (still_settled c (Piece piece) config before settled) settles.1)
-    (came_of c config pieces past before was)
+    let so = came_of c config pieces past before was in (
+      so.0,
+      so.1,
+      stays settles.0 config (On c (Piece piece) ∷ before) log (still_settled c (Piece piece) config before settled) settles.1
+          ∙ ap (λ (l : List Act). On c (Piece piece) ∷ l) so.2,
+    )
 
 -- ---- the two logs
 
-came_alike : (c : ℕ) (config : Config) (pieces others : List (List ℕ)) (past other : List PlainEvent) (log also : List Act)
-    (one : CameOn c config pieces past log) (two : CameOn c config others other also)
-    → SameRecords (stream (of c one.base) ++ join_pieces pieces) (stream (of c two.base) ++ join_pieces others) → Alike one.base two.base
-    → Alike log also
-came_alike c config pieces others past other log also one two streams alike =
-    alike_moved (came_on c pieces ++ one.base) (came_on c others ++ two.base) log also one.is two.is
-    (alike_came c pieces others one.base two.base streams alike)
+alike_calls : (log other : List Act) → Alike log other → SameCalls log other
+alike_calls log other alike = record {
+  device = subst (λ (l : List DeviceAct). SameDevice (device_acts log) l) alike.device (device_same (device_acts log));
+  calls = λ c. (alike.each c).call;
+}
+
+alike_kept : IsKept Alike
+alike_kept = record { calls = alike_calls; more = alike_more }
+
+alike_next : (log other : List Act) → Alike log other → SameNext log other
+alike_next log other alike = record {
+  now = alike_calls log other alike;
+  calls = λ c. next_call_same (of c log) (of c other) (alike.each c);
+  requests = λ c. next_request_same (of c log) (of c other) (alike.each c);
+}
 
 logs_alike : (config : Config) {history other : List PlainEvent} → Recut config history other → (log also : List Act)
     → IsLogOf config history log → IsLogOf config other also → Alike log also
-logs_alike config Nothing log also x y = alike_moved [] [] log also x.1 y.1 alike_none
+logs_alike config Nothing log also x y = moved Alike [] [] log also x.1 y.1 alike_none
 logs_alike config (Same {past} {other} event recut) log also x y =
-    event_alike config event past other log also (logs_alike config recut) x y
+    event_so Alike alike_kept alike_next config event past other log also (logs_alike config recut) x y
 logs_alike config (Pieces {past} {other} c pieces others base is_log same recut) log also x y =
     let one = came_of c config pieces past log x in
     let two = came_of c config others other also y in
-    let alike = logs_alike config recut one.base two.base one.was two.was in
-    let reads : reading (stream (of c one.base) ++ join_pieces pieces) ≡ reading (stream (of c one.base) ++ join_pieces others) =
+    let alike = logs_alike config recut one.0 two.0 one.1 two.1 in
+    let reads : reading (stream (of c one.0) ++ join_pieces pieces) ≡ reading (stream (of c one.0) ++ join_pieces others) =
     subst (λ (l : List Act). reading (stream (of c l) ++ join_pieces pieces) ≡ reading (stream (of c l) ++ join_pieces others))
-    (one_log config past base one.base is_log one.was) same in
-    came_alike c config pieces others past other log also one two
-    (same_recut (stream (of c one.base)) (stream (of c two.base)) (join_pieces pieces) (join_pieces others) one.fits two.fits reads
-    (alike.each c).streams) alike
+    (one_log config past base one.0 is_log one.1) same in
+    moved Alike (came_on c pieces ++ one.0) (came_on c others ++ two.0) log also one.2 two.2
+    (alike_came c pieces others one.0 two.0
+    (reads ∙ read_alike (stream (of c one.0)) (stream (of c two.0)) (join_pieces others) (alike.each c).streams) alike)
 
 -- ---- what they send
 
@@ -83,15 +81,12 @@ sent_alike (Intr c) channel_log log other alike = refl
 sends_alike : (config : Config) (history other : List PlainEvent) (log also : List Act) (port : Port) (bytes : List ℕ)
     → IsLogOf config history log → IsLogOf config other also → Alike log also → Sends port config history bytes
     → Sends port config other bytes
-sends_alike config history other log also port bytes x y alike (found, channel_log, is_log, hears, sent) =
-    let same : found ≡ log = one_log config history found log is_log x in
-    let there = subst (λ (l : List Act). HearsOf (device_acts l) channel_log) same hears in (
-      also,
+sends_alike config history other log also port bytes x y alike =
+    sends_moved port config history other log also bytes x y (λ channel_log hears. (
       channel_log,
-      y,
-      subst (λ (l : List DeviceAct). HearsOf l channel_log) alike.device there,
-      sent ∙ ap (λ (l : List Act). all_sent port channel_log l) same ∙ sent_alike port channel_log log also alike,
-    )
+      subst (λ (l : List DeviceAct). HearsOf l channel_log) alike.device hears,
+      sent_alike port channel_log log also alike,
+    ))
 
 pub records_cut : RecordsCut
 records_cut config history other log also recut x y port bytes =

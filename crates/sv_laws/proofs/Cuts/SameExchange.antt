@@ -1,10 +1,8 @@
 -- Two lists of what happened to messages that are the same but for where program text was accepted.
-use Rattle.std.proofs.Common.{◌≡◌, ℕ, suc, ◌+◌, Bool, false, cond, List, [], ◌∷◌, ◌++◌, length, drop, map, Option, refl, sym, ap, ◌∙◌, inl, inr, append_assoc, append-nil}
-use Rattle.std.specs.Prelude.{slice_index_or, slice_get, nat_lt, not, ◌&&◌, ◌==◌, None, if◌then◌else◌}
+use Rattle.std.proofs.Common.{◌≡◌, ℕ, suc, ◌+◌, Bool, false, cond, List, [], ◌∷◌, ◌++◌, map, refl, sym, ap, ◌∙◌, inl, inr, append_assoc, append-nil}
 use Rattle.std.proofs.lemmas.Bool.{cases_Bool}
 use Rattle.std.proofs.lemmas.List.{map-append}
-use Rattle.sv_exchange.specs.Exchange.{ExchangeAct, Accepted, TextDropped, Overran, UnitDone, Answered, AnswersDropped, Finished, Interrupted, ResponseRead, Symbol, Byte, end_mark, text, messages, messages_finished, current, units_done, has_overrun, has_dropped, all_answers, answers, message, has_ended, joined_answers, renews, new_response, bytes_read, response, is_something, units, next_unit, Due, OverrunDue, due_unit, due}
-use Rattle.sv_exchange.specs.Limits.{max_message}
+use Rattle.sv_exchange.specs.Exchange.{ExchangeAct, Accepted, TextDropped, UnitDone, Answered, Finished, ResponseRead, Symbol, Byte, end_mark, text, messages_finished, current, units_done, has_overrun, has_dropped, all_answers, answers, message, has_ended, joined_answers, renews, new_response, bytes_read, response, is_something, next_unit, due}
 use Rattle.sv_logs.specs.Since.{since, newest}
 
 -- the response as it was when it began, and how many bytes were read since
@@ -25,25 +23,15 @@ pub record SameExchange (acts other : List ExchangeAct) : Type 0 where
   pub read : read_since acts ≡ read_since other
 
 pub exchange_same : (acts : List ExchangeAct) → SameExchange acts acts
-exchange_same acts =
-    record { count = refl; done = refl; overrun = refl; dropped = refl; given = refl; whole = refl; read = refl }
+exchange_same acts = assumption
 
 -- text is accepted on one side
 pub exchange_accepted : (bytes : List ℕ) (ended : Bool) (acts other : List ExchangeAct) → SameExchange acts other
     → SameExchange (Accepted bytes ended ∷ acts) other
-exchange_accepted bytes ended acts other v = record {
-  count = v.count;
-  done = v.done;
-  overrun = v.overrun;
-  dropped = v.dropped;
-  given = v.given;
-  whole = v.whole;
-  read = v.read;
-}
+exchange_accepted bytes ended acts other v = assumption
 
 pub answers_same : (acts other : List ExchangeAct) → SameExchange acts other → answers acts ≡ answers other
-answers_same acts other v = ap (λ (b : Bool). cond b [] (all_answers (current acts))) v.dropped
-    ∙ ap (λ (l : List (List ℕ)). cond (has_dropped (current other)) [] l) v.given
+answers_same acts other v = rw (v.dropped, v.given) refl
 
 -- a message is finished: its answers become the response, if it had any
 whole_finished : (acts : List ExchangeAct)
@@ -54,94 +42,22 @@ read_finished : (acts : List ExchangeAct) → read_since (Finished ∷ acts) ≡
 read_finished acts = elim (cases_Bool (is_something (answers acts))) [ inl e ↦ rw e refl | inr e ↦ rw e refl ]
 
 exchange_finished : (acts other : List ExchangeAct) → SameExchange acts other → SameExchange (Finished ∷ acts) (Finished ∷ other)
-exchange_finished acts other v =
-    let same = answers_same acts other v in
-    record {
-      count = ap (λ (n : ℕ). suc n) v.count;
-      done = refl;
-      overrun = refl;
-      dropped = refl;
-      given = refl;
-      whole = whole_finished acts
-          ∙ ap (λ (l : List (List ℕ)). cond (is_something l) (joined_answers l ++ 10 ∷ []) (whole_response acts)) same
-          ∙ ap (λ (l : List ℕ). cond (is_something (answers other)) (joined_answers (answers other) ++ 10 ∷ []) l) v.whole
-          ∙ sym (whole_finished other);
-      read = read_finished acts ∙ ap (λ (l : List (List ℕ)). cond (is_something l) 0 (read_since acts)) same
-          ∙ ap (λ (n : ℕ). cond (is_something (answers other)) 0 n) v.read ∙ sym (read_finished other);
-    }
+exchange_finished acts other v = assumption (
+  ap (λ (n : ℕ). suc n) v.count,
+  whole_finished acts ∙ rw (answers_same acts other v, v.whole) refl ∙ sym (whole_finished other),
+  read_finished acts ∙ rw (answers_same acts other v, v.read) refl ∙ sym (read_finished other),
+)
 
 -- the same act
 pub exchange_act : (act : ExchangeAct) (acts other : List ExchangeAct) → SameExchange acts other → SameExchange (act ∷ acts) (act ∷ other)
-exchange_act (Accepted bytes ended) acts other v = record {
-  count = v.count;
-  done = v.done;
-  overrun = v.overrun;
-  dropped = v.dropped;
-  given = v.given;
-  whole = v.whole;
-  read = v.read;
-}
-exchange_act TextDropped acts other v =
-    record { count = refl; done = refl; overrun = refl; dropped = refl; given = refl; whole = v.whole; read = v.read }
-exchange_act Overran acts other v = record {
-  count = v.count;
-  done = v.done;
-  overrun = refl;
-  dropped = v.dropped;
-  given = v.given;
-  whole = v.whole;
-  read = v.read;
-}
-exchange_act UnitDone acts other v = record {
-  count = v.count;
-  done = ap (λ (n : ℕ). suc n) v.done;
-  overrun = v.overrun;
-  dropped = v.dropped;
-  given = v.given;
-  whole = v.whole;
-  read = v.read;
-}
-exchange_act (Answered answer) acts other v = record {
-  count = v.count;
-  done = v.done;
-  overrun = v.overrun;
-  dropped = v.dropped;
-  given = ap (λ (l : List (List ℕ)). l ++ answer ∷ []) v.given;
-  whole = v.whole;
-  read = v.read;
-}
-exchange_act AnswersDropped acts other v = record {
-  count = v.count;
-  done = v.done;
-  overrun = v.overrun;
-  dropped = refl;
-  given = v.given;
-  whole = v.whole;
-  read = v.read;
-}
+exchange_act UnitDone acts other v = assumption (ap (λ (n : ℕ). suc n) v.done)
+exchange_act (Answered answer) acts other v = assumption (ap (λ (l : List (List ℕ)). l ++ answer ∷ []) v.given)
 exchange_act Finished acts other v = exchange_finished acts other v
-exchange_act Interrupted acts other v = record {
-  count = v.count;
-  done = v.done;
-  overrun = v.overrun;
-  dropped = v.dropped;
-  given = v.given;
-  whole = refl;
-  read = refl;
-}
-exchange_act (ResponseRead count) acts other v = record {
-  count = v.count;
-  done = v.done;
-  overrun = v.overrun;
-  dropped = v.dropped;
-  given = v.given;
-  whole = v.whole;
-  read = ap (λ (n : ℕ). n + count) v.read;
-}
+exchange_act (ResponseRead count) acts other v = assumption (ap (λ (n : ℕ). n + count) v.read)
+exchange_act _ acts other v = assumption
 
 pub response_same : (acts other : List ExchangeAct) → SameExchange acts other → response acts ≡ response other
-response_same acts other v = ap (λ (n : ℕ). drop n (whole_response acts)) v.read
-    ∙ ap (λ (l : List ℕ). drop (read_since other) l) v.whole
+response_same acts other v = rw (v.read, v.whole) refl
 
 -- ---- the text
 
@@ -149,13 +65,7 @@ response_same acts other v = ap (λ (n : ℕ). drop n (whole_response acts)) v.r
 pub text_act : (act : ExchangeAct) (acts other : List ExchangeAct) → text acts ≡ text other → text (act ∷ acts) ≡ text (act ∷ other)
 text_act (Accepted bytes ended) acts other same = ap (λ (l : List Symbol). l ++ (map Byte bytes ++ end_mark ended)) same
 text_act TextDropped acts other same = refl
-text_act Overran acts other same = same
-text_act UnitDone acts other same = same
-text_act (Answered answer) acts other same = same
-text_act AnswersDropped acts other same = same
-text_act Finished acts other same = same
-text_act Interrupted acts other same = same
-text_act (ResponseRead count) acts other same = same
+text_act _ acts other same = same
 
 -- text that is accepted in two writes
 cut_symbols : (t : List Symbol) (x y : List ℕ) (e : List Symbol)
@@ -170,56 +80,26 @@ pub text_cut : (x y : List ℕ) (ended : Bool) (acts : List ExchangeAct)
 text_cut x y ended acts = cut_symbols (text acts) x y (end_mark ended)
 
 pub message_same : (acts other : List ExchangeAct) → SameExchange acts other → text acts ≡ text other → message acts ≡ message other
-message_same acts other v same = ap (λ (l : List Symbol). slice_index_or (messages l) (messages_finished acts) []) same
-    ∙ ap (λ (n : ℕ). slice_index_or (messages (text other)) n []) v.count
+message_same acts other v same = rw (same, v.count) refl
 
 -- ---- what is due
 
 pub ended_same : (acts other : List ExchangeAct) → SameExchange acts other → text acts ≡ text other → has_ended acts ≡ has_ended other
-ended_same acts other v same = ap (λ (l : List Symbol). nat_lt (messages_finished acts + 1) (length (messages l))) same
-    ∙ ap (λ (n : ℕ). nat_lt (n + 1) (length (messages (text other)))) v.count
-
-abbrev unit_by : Bool → Bool → List ℕ → ℕ → Option (List ℕ)
-unit_by ended dropped found n =
-    if ended && (not (nat_lt max_message (length found)) && not dropped) then slice_get (units found) n else None
+ended_same acts other v same = rw (same, v.count) refl
 
 pub next_unit_same : (acts other : List ExchangeAct) → SameExchange acts other → text acts ≡ text other → next_unit acts ≡ next_unit other
 next_unit_same acts other v same =
-    ap (λ (b : Bool). unit_by b (has_dropped (current acts)) (message acts) (units_done (current acts))) (ended_same acts other v same)
-    ∙ ap (λ (b : Bool). unit_by (has_ended other) b (message acts) (units_done (current acts))) v.dropped
-    ∙ ap (λ (l : List ℕ). unit_by (has_ended other) (has_dropped (current other)) l (units_done (current acts)))
-    (message_same acts other v same)
-    ∙ ap (λ (n : ℕ). unit_by (has_ended other) (has_dropped (current other)) (message other) n) v.done
-
-abbrev due_by : List ℕ → Bool → Option (List ℕ) → ℕ → List ℕ → Bool → Due
-due_by found overrun unit n readable ended =
-    if nat_lt max_message (length found) && not overrun then OverrunDue
-    else due_unit unit ((n == 0) && is_something readable) ended
+    rw (ended_same acts other v same, v.dropped, message_same acts other v same, v.done) refl
 
 pub due_same : (acts other : List ExchangeAct) → SameExchange acts other → text acts ≡ text other → due acts ≡ due other
-due_same acts other v same =
-    ap (λ (l : List ℕ). due_by l (has_overrun (current acts)) (next_unit acts) (units_done (current acts)) (response acts) (has_ended acts))
-    (message_same acts other v same)
-    ∙ ap (λ (b : Bool). due_by (message other) b (next_unit acts) (units_done (current acts)) (response acts) (has_ended acts)) v.overrun
-    ∙ ap (λ (o : Option (List ℕ)).
-    due_by (message other) (has_overrun (current other)) o (units_done (current acts)) (response acts) (has_ended acts))
-    (next_unit_same acts other v same)
-    ∙ ap (λ (n : ℕ).
-    due_by (message other) (has_overrun (current other)) (next_unit other) n (response acts) (has_ended acts)) v.done
-    ∙ ap (λ (l : List ℕ).
-    due_by (message other) (has_overrun (current other)) (next_unit other) (units_done (current other)) l (has_ended acts))
-    (response_same acts other v)
-    ∙ ap (λ (b : Bool).
-    due_by (message other) (has_overrun (current other)) (next_unit other) (units_done (current other)) (response other) b)
-    (ended_same acts other v same)
+due_same acts other v same = rw (
+  next_unit_same acts other v same,
+  message_same acts other v same,
+  v.overrun,
+  v.done,
+  response_same acts other v,
+  ended_same acts other v same,
+) refl
 
 pub exchange_back : (acts other : List ExchangeAct) → SameExchange acts other → SameExchange other acts
-exchange_back acts other v = record {
-  count = sym v.count;
-  done = sym v.done;
-  overrun = sym v.overrun;
-  dropped = sym v.dropped;
-  given = sym v.given;
-  whole = sym v.whole;
-  read = sym v.read;
-}
+exchange_back acts other v = search sym

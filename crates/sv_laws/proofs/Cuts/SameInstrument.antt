@@ -30,7 +30,7 @@ use Rattle.sv_instrument.specs.QueryResponse.{IsWord, readings_text, oldest_text
 use Rattle.sv_instrument.specs.CommandEffect.{after_answering, unless, after_configure, after_query, question_fault, Replies, after_action, Performs}
 use Rattle.sv_instrument.specs.Step.{after_release, Does, Starts, StepOf, IsStep}
 use Rattle.sv_laws.proofs.Cuts.SameExchange.{text_act, answers_same, message_same, next_unit_same, due_same}
-use Rattle.sv_laws.proofs.Cuts.SameStatus.{SameStatus, status_act, status_back, status_condition, idle_same, master_same}
+use Rattle.sv_laws.proofs.Cuts.SameStatus.{SameStatus, status_same, status_act, status_back, status_condition, idle_same, master_same}
 
 -- ---- two logs
 
@@ -51,6 +51,9 @@ holds_act (Exchanged UnitDone) log other same = refl
 holds_act (Exchanged TextDropped) log other same = refl
 holds_act Purged log other same = refl
 holds_act _ log other same = same
+
+pub instrument_same : (log : List Act) → SameInstrument log log
+instrument_same log = record { status = status_same log; texts = refl; holds = refl }
 
 pub instrument_act : (act : Act) (log other : List Act) → SameInstrument log other → SameInstrument (act ∷ log) (act ∷ other)
 instrument_act act log other v = record {
@@ -118,28 +121,19 @@ value_same name.ServiceEnable log other v = ap decimal v.serves
 value_same (name.Enable register) log other v = ap decimal (v.enables register)
 value_same (name.Rise register) log other v = ap decimal (v.rises register)
 value_same (name.Fall register) log other v = ap decimal (v.falls register)
-value_same name.ScanList log other v = rw v.scanned refl
-value_same name.Monitor log other v = rw v.scanned refl
-value_same name.Range log other v = rw v.scanned refl
-value_same name.UpperLimit log other v = rw v.scanned refl
-value_same name.LowerLimit log other v = rw v.scanned refl
-value_same name.Limits log other v = rw v.scanned refl
-value_same name.Source log other v = rw v.scanned refl
-value_same name.Count log other v = rw v.scanned refl
+value_same _ log other v = rw v.scanned refl
 
 says_same : (asked : Question) (log other : List Act) → SameStatus log other → (bytes : List ℕ) → Says asked log bytes
     → Says asked other bytes
-says_same question.Identification log other v bytes h = h
-says_same question.SelfTest log other v bytes h = h
-says_same question.Version log other v bytes h = h
 says_same question.StandardEvents log other v bytes h = word_same _ _ bytes v.stands h
 says_same question.StatusByte log other v bytes h = word_same _ _ bytes (λ k. master_same k log other v) h
 says_same question.Error log other v bytes h = h ∙ ap (λ (l : List QueueAct). oldest_text (oldest l)) v.queued
 says_same question.ErrorCount log other v bytes h = h ∙ ap (λ (l : List QueueAct). decimal (length (entries l))) v.queued
 says_same (question.Events name) log other v bytes h = word_same _ _ bytes (v.events name) h
-says_same (question.Condition name) log other v bytes h = h ∙ ap decimal (status_condition name log other v)
+says_same (question.Condition name) log other v bytes h = h ∙ ap decimal (status_condition name log other v.parts)
 says_same question.Readings log other v bytes h = rw v.scanned at h
 says_same (question.Value what) log other v bytes h = h ∙ value_same what log other v
+says_same _ log other v bytes h = h
 
 question_fault_same : (asked : Question) (log other : List Act) → SameStatus log other
     → question_fault asked log ≡ question_fault asked other

@@ -1,6 +1,6 @@
 -- Two logs of the instrument that are the same but for where program text was accepted: no search of its status tells them apart.
 use Rattle.std.proofs.Common.{◌≡◌, ℕ, Bool, true, false, List, [], ◌∷◌, refl, sym, ap, ◌∙◌, inl, inr, arith}
-use Rattle.std.specs.Prelude.{◌↔◌, ◌&&◌, ◌||◌, not, unwrap_or}
+use Rattle.std.specs.Prelude.{◌↔◌, ◌&&◌, ◌||◌}
 use Rattle.std.specs.Int.{bit_at}
 use Rattle.sv_errors.specs.declared.error_queue.QueueAct.{QueueAct}
 use Rattle.sv_errors.specs.declared.error_queue.QueueAct.TheVariants as queue_act
@@ -10,25 +10,19 @@ use Rattle.sv_logs.specs.Since.{is_since}
 use Rattle.sv_logs.proofs.Since.{since_empty, since_alike, since_over, then_same}
 use Rattle.sv_status.specs.declared.register_name.RegisterName.{RegisterName}
 use Rattle.sv_status.specs.declared.register_name.RegisterName.TheVariants.{Operation, Questionable}
-use Rattle.sv_scan.specs.declared.acts.ScanAct.{ScanAct}
 use Rattle.sv_scan.specs.Counted.{effective}
-use Rattle.sv_exchange.specs.Exchange.{Accepted, TextDropped, Interrupted, response, is_something}
-use Rattle.sv_layers.specs.Act.{Act, Exchanged, Purged, Scanned, Reported, EntryTaken, Cleared, Preset, OpcAsked, StandardRead, StandardEnabled, EventRead, Enabled, RiseSet, FallSet, ServiceEnabled, Polled, exchange_acts, scan_acts, queue_acts}
-use Rattle.sv_layers.specs.Filter.{is_same, mask_for, rise, fall, enable, has_bit, passes, leaves}
+use Rattle.sv_exchange.specs.Exchange.{Accepted, TextDropped, Interrupted, is_something}
+use Rattle.sv_layers.specs.Act.{Act, Exchanged, Purged, Reported, EntryTaken, Cleared, OpcAsked, StandardRead, EventRead, Polled, exchange_acts, scan_acts, queue_acts}
+use Rattle.sv_layers.specs.Filter.{rise, fall, enable, has_bit, passes, leaves}
 use Rattle.sv_layers.specs.Condition.{word, summary, condition, effective_acts, is_idle}
-use Rattle.sv_layers.specs.Event.{EventStands, Summary}
+use Rattle.sv_layers.specs.Event.{EventStands}
 use Rattle.sv_layers.specs.Standard as standard
 use Rattle.sv_layers.specs.StatusByte.{SummaryBit, service, ServiceRequested, Master, Reason, Lasts, Request, IsRaised, PolledBit, MasterBit}
-use Rattle.sv_layers.proofs.Booleans.{same_bool}
+use Rattle.sv_layers.proofs.Either.{unchanged, either_same, both_same, equal_same}
 use Rattle.sv_layers.proofs.Transitions.{Passes, NotCleared, changes, no_change}
 use Rattle.sv_layers.proofs.LimitSummary.{some_same}
 use Rattle.sv_layers.proofs.EachRegister.{condition_same}
 use Rattle.sv_laws.proofs.Cuts.SameExchange.{SameExchange, exchange_same, exchange_act, exchange_accepted, exchange_back, response_same}
-
--- ---- searches
-
-abbrev both_ways : (P : Type 0) → P ↔ P
-both_ways P = ((λ (h : P). h), (λ (h : P). h))
 
 -- ---- two logs
 
@@ -36,7 +30,8 @@ both_ways P = ((λ (h : P). h), (λ (h : P). h))
 abbrev stood : RegisterName → ℕ → List Act → Bool
 stood name k log = is_since (passes (word name) name k) (leaves name) log
 
-pub record SameStatus (log other : List Act) : Type 0 where
+-- All searches but that for a request for service find the same.
+pub record SameParts (log other : List Act) : Type 0 where
   pub scanned : scan_acts log ≡ scan_acts other
   pub queued : queue_acts log ≡ queue_acts other
   pub since : (name : RegisterName) (k : ℕ) → stood name k log ≡ stood name k other
@@ -49,6 +44,11 @@ pub record SameStatus (log other : List Act) : Type 0 where
   pub waits : standard.Waits log ↔ standard.Waits other
   pub stands : (k : ℕ) → standard.Stands k log ↔ standard.Stands k other
   pub exchange : SameExchange (exchange_acts log) (exchange_acts other)
+
+-- So does that one.
+pub record SameStatus (log other : List Act) : Type 0 where
+  pub parts : SameParts log other
+  pub open parts use *
   pub request : Request log ↔ Request other
 
 nested_same : (name : RegisterName) (log other : List Act) → enable name log ≡ enable name other
@@ -56,51 +56,57 @@ nested_same : (name : RegisterName) (log other : List Act) → enable name log �
 nested_same name log other mask same = some_same (range_with_len 0 16) _ _ (λ k.
     ap (λ (b : Bool). b && has_bit (enable name log) k) (same k) ∙ ap (λ (w : ℕ). stood name k other && has_bit w k) mask)
 
-pub status_condition : (name : RegisterName) (log other : List Act) → SameStatus log other → condition name log ≡ condition name other
+pub status_condition : (name : RegisterName) (log other : List Act) → SameParts log other → condition name log ≡ condition name other
 status_condition name log other v =
     condition_same name log other (ap effective v.scanned) (λ below. nested_same below log other (v.enables below) (v.since below))
 
 pub idle_same : (log other : List Act) → scan_acts log ≡ scan_acts other → is_idle log ≡ is_idle other
 idle_same log other same = rw same refl
 
--- ---- the same act
+-- ---- the status byte
 
-scan_act : (act : Act) (log other : List Act) → scan_acts log ≡ scan_acts other → scan_acts (act ∷ log) ≡ scan_acts (act ∷ other)
-scan_act (Scanned act) log other same = ap (λ (l : List ScanAct). act ∷ l) same
-scan_act _ log other same = same
+-- Some event stands that is enabled.
+summary_same : (P Q : ℕ → Type 0) (mask also : ℕ) → mask ≡ also → ((k : ℕ) → P k ↔ Q k)
+    → ((k : ℕ) × P k × (bit_at mask k ≡ 1)) ↔ ((k : ℕ) × Q k × (bit_at also k ≡ 1))
+summary_same P Q mask also same events = (
+  (λ s. (s.0, (events s.0).0 s.1, rw same at s.2)),
+  (λ s. (s.0, (events s.0).1 s.1, rw (← same) at s.2)),
+)
+
+bits_same : (k : ℕ) (log other : List Act) → SameParts log other → SummaryBit k log ↔ SummaryBit k other
+bits_same k log other v = either_same unchanged (both_same (summary_same _ _ _ _ (v.enables Operation) (v.events Operation)))
+    (either_same unchanged (both_same (summary_same _ _ _ _ v.standards v.stands))
+    (either_same unchanged
+    (both_same (equal_same _ _ (ap is_something (response_same (exchange_acts log) (exchange_acts other) v.exchange))))
+    (either_same unchanged (both_same (summary_same _ _ _ _ (v.enables Questionable) (v.events Questionable)))
+    (both_same (equal_same _ _ (ap (λ (l : List QueueAct). is_something (entries l)) v.queued))))))
+
+asks_same : (k : ℕ) (log other : List Act) → SameParts log other → ServiceRequested k log ↔ ServiceRequested k other
+asks_same k log other v =
+    let bits = bits_same k log other v in
+    ((λ h. (bits.0 h.0, rw v.serves at h.1)), (λ h. (bits.1 h.0, rw (← v.serves) at h.1)))
+
+masters_same : (log other : List Act) → SameParts log other → Master log ↔ Master other
+masters_same log other v = ((λ m. (m.0, (asks_same m.0 log other v).0 m.1)), (λ m. (m.0, (asks_same m.0 log other v).1 m.1)))
+
+request_act : (act : Act) (log other : List Act) → SameParts (act ∷ log) (act ∷ other) → SameParts log other
+    → Request log ↔ Request other → Request (act ∷ log) ↔ Request (act ∷ other)
+request_act act log other now was before = since_alike Reason Lasts act log other (
+  (λ r. (r.0, (asks_same r.0 _ _ now).0 r.1, λ a. r.2 ((asks_same r.0 _ _ was).1 a))),
+  (λ r. (r.0, (asks_same r.0 _ _ now).1 r.1, λ a. r.2 ((asks_same r.0 _ _ was).0 a))),
+) (lasts act now) before
+  where
+    lasts : (act : Act) → SameParts (act ∷ log) (act ∷ other) → Lasts (act ∷ log) ↔ Lasts (act ∷ other)
+    lasts Polled now = unchanged
+    lasts act now = masters_same (act ∷ log) (act ∷ other) now
+
+-- ---- the same act
 
 queue_more : (act : Act) (log other : List Act) → queue_acts log ≡ queue_acts other → queue_acts (act ∷ log) ≡ queue_acts (act ∷ other)
 queue_more (Reported code) log other same = ap (λ (l : List QueueAct). queue_act.Report code ∷ l) same
 queue_more EntryTaken log other same = ap (λ (l : List QueueAct). queue_act.Take ∷ l) same
 queue_more Cleared log other same = ap (λ (l : List QueueAct). queue_act.Clear ∷ l) same
 queue_more _ log other same = same
-
-rise_act : (name : RegisterName) (act : Act) (log other : List Act) → rise name log ≡ rise name other
-    → rise name (act ∷ log) ≡ rise name (act ∷ other)
-rise_act name (RiseSet which mask) log other same = ap (λ (w : ℕ). unwrap_or (mask_for name which mask) w) same
-rise_act name Preset log other same = refl
-rise_act name _ log other same = same
-
-fall_act : (name : RegisterName) (act : Act) (log other : List Act) → fall name log ≡ fall name other
-    → fall name (act ∷ log) ≡ fall name (act ∷ other)
-fall_act name (FallSet which mask) log other same = ap (λ (w : ℕ). unwrap_or (mask_for name which mask) w) same
-fall_act name Preset log other same = refl
-fall_act name _ log other same = same
-
-enable_act : (name : RegisterName) (act : Act) (log other : List Act) → enable name log ≡ enable name other
-    → enable name (act ∷ log) ≡ enable name (act ∷ other)
-enable_act name (Enabled which mask) log other same = ap (λ (w : ℕ). unwrap_or (mask_for name which mask) w) same
-enable_act name Preset log other same = refl
-enable_act name _ log other same = same
-
-standard_act : (act : Act) (log other : List Act) → standard.enable log ≡ standard.enable other
-    → standard.enable (act ∷ log) ≡ standard.enable (act ∷ other)
-standard_act (StandardEnabled mask) log other same = refl
-standard_act _ log other same = same
-
-service_act : (act : Act) (log other : List Act) → service log ≡ service other → service (act ∷ log) ≡ service (act ∷ other)
-service_act (ServiceEnabled mask) log other same = refl
-service_act _ log other same = same
 
 exchange_more : (act : Act) (log other : List Act) → SameExchange (exchange_acts log) (exchange_acts other)
     → SameExchange (exchange_acts (act ∷ log)) (exchange_acts (act ∷ other))
@@ -112,191 +118,74 @@ exchange_more _ log other v = v
 -- ---- events of a status register
 
 passes_act : (name : RegisterName) (k : ℕ) (act : Act) (log other : List Act) → condition name (act ∷ log) ≡ condition name (act ∷ other)
-    → condition name log ≡ condition name other → SameStatus log other → Passes name k (act ∷ log) ↔ Passes name k (act ∷ other)
-passes_act name k act log other now was v =
-    let same : passes (condition name) name k (act ∷ log) ≡ passes (condition name) name k (act ∷ other) =
-    ap (λ (w : ℕ). changes k w (condition name (act ∷ log)) (rise name log) (fall name log)) was
-    ∙ ap (λ (w : ℕ). changes k (condition name other) w (rise name log) (fall name log)) now
-    ∙ ap (λ (w : ℕ). changes k (condition name other) (condition name (act ∷ other)) w (fall name log)) (v.rises name)
-    ∙ ap (λ (w : ℕ). changes k (condition name other) (condition name (act ∷ other)) (rise name other) w) (v.falls name) in
-    ((λ h. sym same ∙ h), (λ h. same ∙ h))
+    → SameParts log other → Passes name k (act ∷ log) ↔ Passes name k (act ∷ other)
+passes_act name k act log other now v = rw (now, status_condition name log other v, v.rises name, v.falls name) unchanged
 
 leaves_act : (name : RegisterName) (act : Act) (log other : List Act) → leaves name (act ∷ log) ≡ leaves name (act ∷ other)
 leaves_act name (EventRead which) log other = refl
 leaves_act name act log other = refl
 
 stood_act : (name : RegisterName) (k : ℕ) (act : Act) (log other : List Act) → effective_acts (act ∷ log) ≡ effective_acts (act ∷ other)
-    → effective_acts log ≡ effective_acts other → rise name log ≡ rise name other → fall name log ≡ fall name other
-    → stood name k log ≡ stood name k other → stood name k (act ∷ log) ≡ stood name k (act ∷ other)
-stood_act name k act log other now was up down same = rw (now, was, up, down, same, leaves_act name act log other) refl
-
-not_cleared_act : (name : RegisterName) (act : Act) (log other : List Act) → NotCleared name (act ∷ log) ↔ NotCleared name (act ∷ other)
-not_cleared_act name (EventRead which) log other = both_ways (not (is_same name which) ≡ true)
-not_cleared_act name act log other = ((λ h. h), (λ h. h))
+    → SameParts log other → stood name k (act ∷ log) ≡ stood name k (act ∷ other)
+stood_act name k act log other now v =
+    rw (now, ap effective v.scanned, v.rises name, v.falls name, v.since name k, leaves_act name act log other) refl
 
 -- ---- standard events
 
 asked_act : (act : Act) (log other : List Act) → standard.IsAsked (act ∷ log) ↔ standard.IsAsked (act ∷ other)
-asked_act OpcAsked log other = ((λ h. h), (λ h. h))
-asked_act _ log other = ((λ h. h), (λ h. h))
+asked_act OpcAsked log other = unchanged
+asked_act _ log other = unchanged
 
-pending_act : (act : Act) (log other : List Act) → SameStatus log other
-    → standard.IsPending (act ∷ log) ↔ standard.IsPending (act ∷ other)
-pending_act act log other v =
-    let same = idle_same (act ∷ log) (act ∷ other) (scan_act act log other v.scanned) in
-    ((λ h. (sym same ∙ h.0, h.1)), (λ h. (same ∙ h.0, h.1)))
-
-completes_act : (act : Act) (log other : List Act) → SameStatus log other
+completes_act : (act : Act) (log other : List Act) → is_idle (act ∷ log) ≡ is_idle (act ∷ other) → SameParts log other
     → standard.Completes (act ∷ log) ↔ standard.Completes (act ∷ other)
-completes_act act log other v =
-    let same = idle_same (act ∷ log) (act ∷ other) (scan_act act log other v.scanned) in
+completes_act act log other same v =
     let asks = asked_act act log other in (
       (λ h. (sym same ∙ h.0, elim h.1 [ inl a ↦ inl (asks.0 a) | inr w ↦ inr (v.waits.0 w.0, w.1) ])),
       (λ h. (same ∙ h.0, elim h.1 [ inl a ↦ inl (asks.1 a) | inr w ↦ inr (v.waits.1 w.0, w.1) ])),
     )
 
--- at another act than a report nothing but the completion of an operation occurs
-plain_occurs : (k : ℕ) (act : Act) (log other : List Act) → SameStatus log other
-    → ((k ≡ 0) × standard.Completes (act ∷ log)) ↔ ((k ≡ 0) × standard.Completes (act ∷ other))
-plain_occurs k act log other v =
-    let same = completes_act act log other v in ((λ h. (h.0, same.0 h.1)), (λ h. (h.0, same.1 h.1)))
-
-occurs_act : (k : ℕ) (act : Act) (log other : List Act) → SameStatus log other
+occurs_act : (k : ℕ) (act : Act) (log other : List Act) → is_idle (act ∷ log) ≡ is_idle (act ∷ other) → SameParts log other
     → standard.Occurs k (act ∷ log) ↔ standard.Occurs k (act ∷ other)
-occurs_act k (Reported code) log other v =
-    let same = plain_occurs k (Reported code) log other v in
-    let full = ap (λ (l : List QueueAct). is_full l) v.queued in (
-      (λ h. elim h [
-        | inl a ↦ inl a
-        | inr b ↦ inr (elim b [ inl o ↦ inl (o.0, sym full ∙ o.1) | inr c ↦ inr (same.0 c) ])
-      ]),
-      (λ h. elim h [
-        | inl a ↦ inl a
-        | inr b ↦ inr (elim b [ inl o ↦ inl (o.0, full ∙ o.1) | inr c ↦ inr (same.1 c) ])
-      ]),
-    )
-occurs_act k act log other v = plain_occurs k act log other v
+occurs_act k (Reported code) log other same v = either_same unchanged unchanged (either_same unchanged
+    (both_same (equal_same _ _ (ap (λ (l : List QueueAct). is_full l) v.queued)))
+    (both_same (completes_act (Reported code) log other same v)))
+occurs_act k act log other same v = both_same (completes_act act log other same v)
 
 kept_act : (act : Act) (log other : List Act) → standard.NotCleared (act ∷ log) ↔ standard.NotCleared (act ∷ other)
-kept_act StandardRead log other = ((λ h. h), (λ h. h))
-kept_act _ log other = ((λ h. h), (λ h. h))
+kept_act StandardRead log other = unchanged
+kept_act _ log other = unchanged
 
--- ---- the status byte
+-- ---- all searches behind the same act
 
-summary_same : (name : RegisterName) (log other : List Act) → enable name log ≡ enable name other
-    → ((k : ℕ) → EventStands name k log ↔ EventStands name k other) → Summary name log ↔ Summary name other
-summary_same name log other mask events = (
-  (λ s. (s.0, (events s.0).0 s.1, ap (λ (w : ℕ). bit_at w s.0) (sym mask) ∙ s.2)),
-  (λ s. (s.0, (events s.0).1 s.1, ap (λ (w : ℕ). bit_at w s.0) mask ∙ s.2)),
-)
-
-standard_summary_same : (log other : List Act) → standard.enable log ≡ standard.enable other
-    → ((k : ℕ) → standard.Stands k log ↔ standard.Stands k other) → standard.Summary log ↔ standard.Summary other
-standard_summary_same log other mask events = (
-  (λ s. (s.0, (events s.0).0 s.1, ap (λ (w : ℕ). bit_at w s.0) (sym mask) ∙ s.2)),
-  (λ s. (s.0, (events s.0).1 s.1, ap (λ (w : ℕ). bit_at w s.0) mask ∙ s.2)),
-)
-
--- what the bits of the status byte rest on
-record SameBits (log other : List Act) : Type 0 where
-  operates : Summary Operation log ↔ Summary Operation other
-  happened : standard.Summary log ↔ standard.Summary other
-  available : is_something (response (exchange_acts log)) ≡ is_something (response (exchange_acts other))
-  questioned : Summary Questionable log ↔ Summary Questionable other
-  errors : is_something (entries (queue_acts log)) ≡ is_something (entries (queue_acts other))
-  serves : service log ≡ service other
-
-summary_to : (k : ℕ) (log other : List Act) → SameBits log other → SummaryBit k log → SummaryBit k other
-summary_to k log other v (inl h) = inl (h.0, v.operates.0 h.1)
-summary_to k log other v (inr (inl h)) = inr (inl (h.0, v.happened.0 h.1))
-summary_to k log other v (inr (inr (inl h))) = inr (inr (inl (h.0, sym v.available ∙ h.1)))
-summary_to k log other v (inr (inr (inr (inl h)))) = inr (inr (inr (inl (h.0, v.questioned.0 h.1))))
-summary_to k log other v (inr (inr (inr (inr h)))) = inr (inr (inr (inr (h.0, sym v.errors ∙ h.1))))
-
-bits_back : (log other : List Act) → SameBits log other → SameBits other log
-bits_back log other v = record {
-  operates = (v.operates.1, v.operates.0);
-  happened = (v.happened.1, v.happened.0);
-  available = sym v.available;
-  questioned = (v.questioned.1, v.questioned.0);
-  errors = sym v.errors;
-  serves = sym v.serves;
-}
-
-asks_to : (k : ℕ) (log other : List Act) → SameBits log other → ServiceRequested k log → ServiceRequested k other
-asks_to k log other v h = (summary_to k log other v h.0, ap (λ (w : ℕ). bit_at w k) (sym v.serves) ∙ h.1)
-
-master_to : (log other : List Act) → SameBits log other → Master log → Master other
-master_to log other v m = (m.0, asks_to m.0 log other v m.1)
-
-bits_of : (log other : List Act) → SameStatus log other → SameBits log other
-bits_of log other v = record {
-  operates = summary_same Operation log other (v.enables Operation) (v.events Operation);
-  happened = standard_summary_same log other v.standards v.stands;
-  available = ap is_something (response_same (exchange_acts log) (exchange_acts other) v.exchange);
-  questioned = summary_same Questionable log other (v.enables Questionable) (v.events Questionable);
-  errors = ap (λ (l : List QueueAct). is_something (entries l)) v.queued;
-  serves = v.serves;
-}
-
-reason_to : (act : Act) (log other : List Act) → SameBits (act ∷ log) (act ∷ other) → SameBits log other → Reason (act ∷ log)
-    → Reason (act ∷ other)
-reason_to act log other now was (k, asks, none) =
-    (k, asks_to k (act ∷ log) (act ∷ other) now asks, λ a. none (asks_to k other log (bits_back log other was) a))
-
-lasts_to : (act : Act) (log other : List Act) → SameBits (act ∷ log) (act ∷ other) → Lasts (act ∷ log) → Lasts (act ∷ other)
-lasts_to Polled log other now h = h
-lasts_to act log other now h = master_to (act ∷ log) (act ∷ other) now h
-
-request_act : (act : Act) (log other : List Act) → SameBits (act ∷ log) (act ∷ other) → SameBits log other
-    → Request log ↔ Request other → Request (act ∷ log) ↔ Request (act ∷ other)
-request_act act log other now was before =
-    let back = bits_back (act ∷ log) (act ∷ other) now in
-    since_alike Reason Lasts act log other
-    (reason_to act log other now was, reason_to act other log back (bits_back log other was))
-    (lasts_to act log other now, lasts_to act other log back) before
-
--- all searches behind the same act
-pub status_act : (act : Act) (log other : List Act) → SameStatus log other → SameStatus (act ∷ log) (act ∷ other)
-status_act act log other v =
-    let scanned = scan_act act log other v.scanned in
-    let since = λ (name : RegisterName) (k : ℕ). stood_act name k act log other (ap effective scanned) (ap effective v.scanned)
-    (v.rises name)
-    (v.falls name) (v.since name k) in
-    let now_is = λ (name : RegisterName). condition_same name (act ∷ log) (act ∷ other) (ap effective scanned)
-    (λ below. nested_same below (act ∷ log) (act ∷ other) (enable_act below act log other (v.enables below)) (since below)) in
-    let events = λ (name : RegisterName) (k : ℕ). since_alike (Passes name k) (NotCleared name) act log other
-    (passes_act name k act log other (now_is name) (status_condition name log other v) v)
-    (not_cleared_act name act log other) (v.events name k) in
-    let stands = λ (k : ℕ). since_alike (standard.Occurs k) standard.NotCleared act log other (occurs_act k act log other v)
-    (kept_act act log other) (v.stands k) in
-    let exchange = exchange_more act log other v.exchange in
-    let now : SameBits (act ∷ log) (act ∷ other) = record {
-      operates = summary_same Operation (act ∷ log) (act ∷ other) (enable_act Operation act log other (v.enables Operation))
-          (events Operation);
-      happened = standard_summary_same (act ∷ log) (act ∷ other) (standard_act act log other v.standards) stands;
-      available = ap is_something (response_same (exchange_acts (act ∷ log)) (exchange_acts (act ∷ other)) exchange);
-      questioned = summary_same Questionable (act ∷ log) (act ∷ other) (enable_act Questionable act log other (v.enables Questionable))
-          (events Questionable);
-      errors = ap (λ (l : List QueueAct). is_something (entries l)) (queue_more act log other v.queued);
-      serves = service_act act log other v.serves;
-    } in
+parts_act : (act : Act) (log other : List Act) → SameParts log other → SameParts (act ∷ log) (act ∷ other)
+parts_act act log other v =
+    let scanned : scan_acts (act ∷ log) ≡ scan_acts (act ∷ other) = rw v.scanned refl in
+    let enables : (name : RegisterName) → enable name (act ∷ log) ≡ enable name (act ∷ other) = λ name. rw (v.enables name) refl in
+    let since = λ (name : RegisterName) (k : ℕ). stood_act name k act log other (ap effective scanned) v in
+    let now = λ (name : RegisterName). condition_same name (act ∷ log) (act ∷ other) (ap effective scanned)
+    (λ below. nested_same below (act ∷ log) (act ∷ other) (enables below) (since below)) in
+    let idle = idle_same (act ∷ log) (act ∷ other) scanned in
     record {
-      scanned = scan_act act log other v.scanned;
+      scanned = scanned;
       queued = queue_more act log other v.queued;
       since = since;
-      rises = λ name. rise_act name act log other (v.rises name);
-      falls = λ name. fall_act name act log other (v.falls name);
-      enables = λ name. enable_act name act log other (v.enables name);
-      standards = standard_act act log other v.standards;
-      serves = service_act act log other v.serves;
-      events = events;
-      waits = since_alike standard.IsAsked standard.IsPending act log other (asked_act act log other) (pending_act act log other v)
-          v.waits;
-      stands = stands;
-      exchange = exchange;
-      request = request_act act log other now (bits_of log other v) v.request;
+      rises = λ name. rw (v.rises name) refl;
+      falls = λ name. rw (v.falls name) refl;
+      enables = enables;
+      standards = rw v.standards refl;
+      serves = rw v.serves refl;
+      events = λ name k. since_alike (Passes name k) (NotCleared name) act log other (passes_act name k act log other (now name) v)
+          (rw (leaves_act name act log other) unchanged) (v.events name k);
+      waits = since_alike standard.IsAsked standard.IsPending act log other (asked_act act log other) (rw idle unchanged) v.waits;
+      stands = λ k. since_alike (standard.Occurs k) standard.NotCleared act log other (occurs_act k act log other idle v)
+          (kept_act act log other) (v.stands k);
+      exchange = exchange_more act log other v.exchange;
     }
+
+pub status_act : (act : Act) (log other : List Act) → SameStatus log other → SameStatus (act ∷ log) (act ∷ other)
+status_act act log other v =
+    let parts = parts_act act log other v.parts in
+    record { parts = parts; request = request_act act log other parts v.parts v.request }
 
 -- ---- text is accepted in the one log
 
@@ -332,53 +221,32 @@ lasts_master : (log : List Act) → Lasts log → Master log
 lasts_master (Polled ∷ log) h = absurd h
 lasts_master log h = h
 
-bits_over : (bytes : List ℕ) (ended : Bool) (log : List Act) → SameBits (accepted bytes ended ∷ log) log
-bits_over bytes ended log = record {
-  operates = summary_same Operation (accepted bytes ended ∷ log) log refl (λ k. event_over Operation k bytes ended log);
-  happened = standard_summary_same (accepted bytes ended ∷ log) log refl (λ k. stand_over k bytes ended log);
-  available = refl;
-  questioned = summary_same Questionable (accepted bytes ended ∷ log) log refl (λ k. event_over Questionable k bytes ended log);
-  errors = refl;
-  serves = refl;
-}
-  where
-    event_over : (name : RegisterName) (k : ℕ) (bytes : List ℕ) (ended : Bool) (log : List Act)
-        → EventStands name k (accepted bytes ended ∷ log) ↔ EventStands name k log
-    event_over name k bytes ended log = since_over (Passes name k) (NotCleared name) (accepted bytes ended) log
-        (never_passes name k bytes ended log) (λ s. refl)
+parts_accepted : (bytes : List ℕ) (ended : Bool) (log other : List Act) → SameParts log other
+    → SameParts (accepted bytes ended ∷ log) other
+parts_accepted bytes ended log other v = assumption (
+  (λ (name : RegisterName) (k : ℕ). stood_over name k bytes ended log ∙ v.since name k),
+  (λ (name : RegisterName) (k : ℕ). then_same (since_over (Passes name k) (NotCleared name) (accepted bytes ended) log
+      (never_passes name k bytes ended log) (λ s. refl)) (v.events name k)),
+  then_same (since_over standard.IsAsked standard.IsPending (accepted bytes ended) log (λ h. h) (pending_over bytes ended log)) v.waits,
+  (λ (k : ℕ). then_same (since_over (standard.Occurs k) standard.NotCleared (accepted bytes ended) log
+      (λ h. never_completes bytes ended log h.1) (λ s. tt)) (v.stands k)),
+  exchange_accepted bytes ended (exchange_acts log) (exchange_acts other) v.exchange,
+)
 
-    stand_over : (k : ℕ) (bytes : List ℕ) (ended : Bool) (log : List Act)
-        → standard.Stands k (accepted bytes ended ∷ log) ↔ standard.Stands k log
-    stand_over k bytes ended log = since_over (standard.Occurs k) standard.NotCleared (accepted bytes ended) log
-        (λ h. never_completes bytes ended log h.1) (λ s. tt)
+parts_same : (log : List Act) → SameParts log log
+parts_same log = assumption (exchange_same (exchange_acts log))
 
 request_over : (bytes : List ℕ) (ended : Bool) (log : List Act) → Request (accepted bytes ended ∷ log) ↔ Request log
 request_over bytes ended log =
-    let bits = bits_over bytes ended log in
-    since_over Reason Lasts (accepted bytes ended) log
-    (λ h. h.2 (asks_to h.0 (accepted bytes ended ∷ log) log bits h.1))
-    (λ s. master_to log (accepted bytes ended ∷ log) (bits_back (accepted bytes ended ∷ log) log bits)
-    (lasts_master log (s.kept 0 (omega arith))))
+    let now = parts_accepted bytes ended log log (parts_same log) in
+    since_over Reason Lasts (accepted bytes ended) log (λ h. h.2 ((asks_same h.0 _ _ now).0 h.1))
+    (λ s. (masters_same _ _ now).1 (lasts_master log (s.kept 0 (omega arith))))
 
 -- all searches behind it
 pub status_accepted : (bytes : List ℕ) (ended : Bool) (log other : List Act) → SameStatus log other
     → SameStatus (accepted bytes ended ∷ log) other
 status_accepted bytes ended log other v = record {
-  scanned = v.scanned;
-  queued = v.queued;
-  since = λ name k. stood_over name k bytes ended log ∙ v.since name k;
-  rises = v.rises;
-  falls = v.falls;
-  enables = v.enables;
-  standards = v.standards;
-  serves = v.serves;
-  events = λ name k. then_same (since_over (Passes name k) (NotCleared name) (accepted bytes ended) log
-      (never_passes name k bytes ended log) (λ s. refl)) (v.events name k);
-  waits = then_same (since_over standard.IsAsked standard.IsPending (accepted bytes ended) log (λ h. h)
-      (pending_over bytes ended log)) v.waits;
-  stands = λ k. then_same (since_over (standard.Occurs k) standard.NotCleared (accepted bytes ended) log
-      (λ h. never_completes bytes ended log h.1) (λ s. tt)) (v.stands k);
-  exchange = exchange_accepted bytes ended (exchange_acts log) (exchange_acts other) v.exchange;
+  parts = parts_accepted bytes ended log other v.parts;
   request = then_same (request_over bytes ended log) v.request;
 }
 
@@ -394,50 +262,19 @@ pub never_raised : (bytes : List ℕ) (ended : Bool) (log : List Act) → IsRais
 never_raised bytes ended log h = h.1 ((request_over bytes ended log).0 h.0)
 
 pub polled_same : (k : ℕ) (log other : List Act) → SameStatus log other → PolledBit k log ↔ PolledBit k other
-polled_same k log other v =
-    let bits = bits_of log other v in (
-      (λ h. elim h [ inl s ↦ inl (summary_to k log other bits s) | inr r ↦ inr (r.0, v.request.0 r.1) ]),
-      (λ h. elim h [ inl s ↦ inl (summary_to k other log (bits_back log other bits) s) | inr r ↦ inr (r.0, v.request.1 r.1) ]),
-    )
+polled_same k log other v = either_same unchanged (bits_same k log other v.parts) (both_same v.request)
 
 pub master_same : (k : ℕ) (log other : List Act) → SameStatus log other → MasterBit k log ↔ MasterBit k other
-master_same k log other v =
-    let bits = bits_of log other v in
-    let back = bits_back log other bits in (
-      (λ h. elim h [ inl s ↦ inl (summary_to k log other bits s) | inr r ↦ inr (r.0, master_to log other bits r.1) ]),
-      (λ h. elim h [ inl s ↦ inl (summary_to k other log back s) | inr r ↦ inr (r.0, master_to other log back r.1) ]),
-    )
+master_same k log other v = either_same unchanged (bits_same k log other v.parts) (both_same (masters_same log other v.parts))
+
+turned : {P Q : Type 0} → P ↔ Q → Q ↔ P
+turned same = (same.1, same.0)
 
 pub status_back : (log other : List Act) → SameStatus log other → SameStatus other log
 status_back log other v = record {
-  scanned = sym v.scanned;
-  queued = sym v.queued;
-  since = λ name k. sym (v.since name k);
-  rises = λ name. sym (v.rises name);
-  falls = λ name. sym (v.falls name);
-  enables = λ name. sym (v.enables name);
-  standards = sym v.standards;
-  serves = sym v.serves;
-  events = λ name k. ((v.events name k).1, (v.events name k).0);
-  waits = (v.waits.1, v.waits.0);
-  stands = λ k. ((v.stands k).1, (v.stands k).0);
-  exchange = exchange_back (exchange_acts log) (exchange_acts other) v.exchange;
-  request = (v.request.1, v.request.0);
+  parts = search (sym, turned, exchange_back, v.since, v.rises, v.falls, v.enables, v.events, v.stands);
+  request = turned v.request;
 }
 
 pub status_same : (log : List Act) → SameStatus log log
-status_same log = record {
-  scanned = refl;
-  queued = refl;
-  since = λ name k. refl;
-  rises = λ name. refl;
-  falls = λ name. refl;
-  enables = λ name. refl;
-  standards = refl;
-  serves = refl;
-  events = λ name k. both_ways (EventStands name k log);
-  waits = both_ways (standard.Waits log);
-  stands = λ k. both_ways (standard.Stands k log);
-  exchange = exchange_same (exchange_acts log);
-  request = both_ways (Request log);
-}
+status_same log = record { parts = parts_same log; request = unchanged }

@@ -1,21 +1,16 @@
 -- Two logs that are the same but for the pieces in which bytes came, and the fragments of records: over the same acts, and over other
 -- pieces.
-use Rattle.std.proofs.Common.{◌≡◌, ℕ, suc, Bool, List, [], ◌∷◌, ◌++◌, Option, None, refl, sym, ap, subst, ◌∙◌, inl, inr, append_assoc, append-nil}
-use Rattle.std.specs.Prelude.{map, ⊤, ◌||◌, is_some, slice_get, if◌then◌else◌}
-use Rattle.std.specs.List.{AllByRecursion}
-use Rattle.std.proofs.lemmas.Bool.{cases_eq}
-use Rattle.sv_xdr.proofs.Fields.{IsBytes}
-use Rattle.sv_rpc.specs.Stream.{records_of}
-use Rattle.sv_history.specs.declared.event.Role.{Role}
-use Rattle.sv_history.specs.Act.{Act, ConnAct, DeviceAct, Opened, Piece, CallTaken, Faulted, Replied, BytesTaken, PortClosed, On, OnDevice, of, device_acts}
+use Rattle.std.proofs.Common.{◌≡◌, ℕ, suc, List, [], ◌∷◌, ◌++◌, refl, sym, ap, ◌∙◌, inl, inr, append_assoc, append-nil}
+use Rattle.std.specs.Prelude.{map, ◌==◌}
+use Rattle.std.proofs.lemmas.Bool.{cases_eq, cases_Bool}
+use Rattle.sv_rpc.specs.Stream.{Reading, reading}
+use Rattle.sv_history.specs.Act.{Act, ConnAct, DeviceAct, Piece, Faulted, Replied, On, OnDevice, of, device_acts}
 use Rattle.sv_history.specs.Connection.{join_pieces, next_call, open_role, pending_call, records_ended, took_no_call, stream}
-use Rattle.sv_history.specs.Request.{Request, request_for, next_request}
-use Rattle.sv_history.specs.Refusing.{refusable_call, refusable}
+use Rattle.sv_history.specs.Request.{next_request}
 use Rattle.sv_history.specs.Effect.{Effect, acts_of}
 use Rattle.sv_laws.specs.Adding.{all_replies}
-use Rattle.sv_history.proofs.Projections.{of_shared, device_shared, of_effect, others_effect, device_effect}
-use Rattle.sv_laws.proofs.ReadOn.{no_bytes}
-use Rattle.sv_laws.proofs.Cuts.SameRecords.{SameRecords, same_stream, same_back, same_moved, same_more, same_reading}
+use Rattle.sv_laws.proofs.Cuts.ReadsOn.{read_alike}
+use Rattle.sv_history.proofs.Projections.{of_effect, others_effect, device_effect}
 
 -- ---- the acts of a connection
 
@@ -25,70 +20,20 @@ pub record SameConnection (acts others : List ConnAct) : Type 0 where
   pub count : records_ended acts ≡ records_ended others
   pub no_call : took_no_call acts ≡ took_no_call others
   pub replies : all_replies acts ≡ all_replies others
-  pub streams : SameRecords (stream acts) (stream others)
+  pub streams : reading (stream acts) ≡ reading (stream others)
 
 pub connection_none : SameConnection [] []
-connection_none = record { role = refl; call = refl; count = refl; no_call = refl; replies = refl; streams = same_stream [] no_bytes }
+connection_none = assumption
 
 pub connection_back : (acts others : List ConnAct) → SameConnection acts others → SameConnection others acts
-connection_back acts others v = record {
-  role = sym v.role;
-  call = sym v.call;
-  count = sym v.count;
-  no_call = sym v.no_call;
-  replies = sym v.replies;
-  streams = same_back (stream acts) (stream others) v.streams;
-}
-
-connection_moved : (acts others a b : List ConnAct) → a ≡ acts → b ≡ others → SameConnection acts others → SameConnection a b
-connection_moved acts others a b x y v =
-    subst (λ (l : List ConnAct). SameConnection l b) (sym x) (subst (λ (l : List ConnAct). SameConnection acts l) (sym y) v)
-
--- an act with bytes, if it brings any
-abbrev pub HasBytes : ConnAct → Type 0
-HasBytes (Piece bytes) = IsBytes bytes
-HasBytes _ = ⊤
+connection_back acts others v = search sym
 
 -- the same act
-same_act : (act : ConnAct) (acts others : List ConnAct) → HasBytes act → SameConnection acts others
-    → SameConnection (act ∷ acts) (act ∷ others)
-same_act (Opened role) acts others fits v =
-    record { role = refl; call = refl; count = refl; no_call = refl; replies = v.replies; streams = same_stream [] no_bytes }
-same_act (Piece bytes) acts others fits v = record {
-  role = v.role;
-  call = v.call;
-  count = v.count;
-  no_call = v.no_call;
-  replies = v.replies;
-  streams = same_more (stream acts) (stream others) bytes fits v.streams;
-}
-same_act (CallTaken call) acts others fits v =
-    record { role = v.role; call = refl; count = v.count; no_call = v.no_call; replies = v.replies; streams = v.streams }
-same_act Faulted acts others fits v = record {
-  role = v.role;
-  call = refl;
-  count = ap suc v.count;
-  no_call = refl;
-  replies = v.replies;
-  streams = v.streams;
-}
-same_act (Replied bytes) acts others fits v = record {
-  role = v.role;
-  call = refl;
-  count = ap suc v.count;
-  no_call = v.no_call;
-  replies = ap (λ (l : List ℕ). l ++ bytes) v.replies;
-  streams = v.streams;
-}
-same_act (BytesTaken count) acts others fits v =
-    record { role = v.role; call = v.call; count = v.count; no_call = v.no_call; replies = v.replies; streams = v.streams }
-same_act PortClosed acts others fits v =
-    record { role = refl; call = refl; count = refl; no_call = refl; replies = v.replies; streams = same_stream [] no_bytes }
-
-same_acts : (new acts others : List ConnAct) → AllByRecursion HasBytes new → SameConnection acts others
-    → SameConnection (new ++ acts) (new ++ others)
-same_acts [] acts others fits v = v
-same_acts (act ∷ new) acts others fits v = same_act act (new ++ acts) (new ++ others) fits.0 (same_acts new acts others fits.1 v)
+same_act : (act : ConnAct) (acts others : List ConnAct) → SameConnection acts others → SameConnection (act ∷ acts) (act ∷ others)
+same_act (Piece bytes) acts others v = assumption (read_alike (stream acts) (stream others) bytes v.streams)
+same_act Faulted acts others v = assumption (ap suc v.count)
+same_act (Replied bytes) acts others v = assumption (ap suc v.count, ap (λ (l : List ℕ). l ++ bytes) v.replies)
+same_act _ acts others v = assumption
 
 -- pieces change nothing but the stream
 pub record Came (acts base : List ConnAct) (bytes : List ℕ) : Type 0 where
@@ -100,21 +45,13 @@ pub record Came (acts base : List ConnAct) (bytes : List ℕ) : Type 0 where
   pub streams : stream acts ≡ stream base ++ bytes
 
 pub came : (pieces : List (List ℕ)) (base : List ConnAct) → Came (map Piece pieces ++ base) base (join_pieces pieces)
-came [] base =
-    record { role = refl; call = refl; count = refl; no_call = refl; replies = refl; streams = sym (append-nil (stream base)) }
+came [] base = assumption (sym (append-nil (stream base)))
 came (piece ∷ pieces) base =
     let so = came pieces base in
-    record {
-      role = so.role;
-      call = so.call;
-      count = so.count;
-      no_call = so.no_call;
-      replies = so.replies;
-      streams = ap (λ (l : List ℕ). l ++ piece) so.streams ∙ append_assoc (stream base) (join_pieces pieces) piece;
-    }
+    assumption (ap (λ (l : List ℕ). l ++ piece) so.streams ∙ append_assoc (stream base) (join_pieces pieces) piece)
 
 same_pieces : (pieces others : List (List ℕ)) (acts also : List ConnAct)
-    → SameRecords (stream acts ++ join_pieces pieces) (stream also ++ join_pieces others)
+    → reading (stream acts ++ join_pieces pieces) ≡ reading (stream also ++ join_pieces others)
     → SameConnection acts also → SameConnection (map Piece pieces ++ acts) (map Piece others ++ also)
 same_pieces pieces others acts also streams v =
     let one = came pieces acts in
@@ -125,29 +62,16 @@ same_pieces pieces others acts also streams v =
       count = one.count ∙ v.count ∙ sym two.count;
       no_call = one.no_call ∙ v.no_call ∙ sym two.no_call;
       replies = one.replies ∙ v.replies ∙ sym two.replies;
-      streams = same_moved _ _ _ _ one.streams two.streams streams;
+      streams = rw (one.streams, two.streams) streams;
     }
 
 -- ---- the next call
 
-abbrev next_by : Bool → Option (List ℕ) → List (List ℕ) → ℕ → Option (List ℕ)
-next_by no_call call records n = if no_call || is_some call then None else slice_get records n
-
 pub next_call_same : (acts others : List ConnAct) → SameConnection acts others → next_call acts ≡ next_call others
-next_call_same acts others v =
-    ap (λ (b : Bool). next_by b (pending_call acts) (records_of (stream acts)) (records_ended acts)) v.no_call
-    ∙ ap (λ (o : Option (List ℕ)). next_by (took_no_call others) o (records_of (stream acts)) (records_ended acts)) v.call
-    ∙ ap (λ (l : List (List ℕ)). next_by (took_no_call others) (pending_call others) l (records_ended acts))
-    (same_reading (stream acts) (stream others) v.streams).0
-    ∙ ap (λ (n : ℕ). next_by (took_no_call others) (pending_call others) (records_of (stream others)) n) v.count
+next_call_same acts others v = rw (v.no_call, v.call, ap (λ (r : Reading). r.0) v.streams, v.count) refl
 
 pub next_request_same : (acts others : List ConnAct) → SameConnection acts others → next_request acts ≡ next_request others
-next_request_same acts others v =
-    ap (λ (o : Option (List ℕ)). request_for (open_role acts) o) (next_call_same acts others v)
-    ∙ ap (λ (r : Option Role). request_for r (next_call others)) v.role
-
-pub refusable_same : (acts others : List ConnAct) → SameConnection acts others → refusable acts ≡ refusable others
-refusable_same acts others v = ap (λ (o : Option Request). refusable_call o) (next_request_same acts others v)
+next_request_same acts others v = rw (next_call_same acts others v, v.role) refl
 
 -- ---- logs
 
@@ -162,53 +86,41 @@ pub alike_back : (log other : List Act) → Alike log other → Alike other log
 alike_back log other alike =
     record { device = sym alike.device; each = λ c. connection_back (of c log) (of c other) (alike.each c) }
 
-pub alike_moved : (log other a b : List Act) → a ≡ log → b ≡ other → Alike log other → Alike a b
-alike_moved log other a b x y alike =
-    subst (λ (l : List Act). Alike l b) (sym x) (subst (λ (l : List Act). Alike log l) (sym y) alike)
+-- the same acts
+pub alike_more : (adds log other : List Act) → Alike log other → Alike (adds ++ log) (adds ++ other)
+alike_more [] log other alike = alike
+alike_more (OnDevice act ∷ adds) log other alike =
+    let so = alike_more adds log other alike in assumption (ap (λ (l : List DeviceAct). act ∷ l) so.device)
+alike_more (On c act ∷ adds) log other alike =
+    let so = alike_more adds log other alike in
+    record {
+      device = so.device;
+      each = λ d. elim (cases_Bool (c == d)) [
+        | inl e ↦ rw e (same_act act (of d (adds ++ log)) (of d (adds ++ other)) (so.each d))
+        | inr e ↦ rw e (so.each d)
+      ];
+    }
 
--- acts of what all share
-pub alike_shared : (adds : List DeviceAct) (log other : List Act) → Alike log other
-    → Alike (map OnDevice adds ++ log) (map OnDevice adds ++ other)
-alike_shared adds log other alike = record {
-  device = device_shared adds log ∙ ap (λ (l : List DeviceAct). adds ++ l) alike.device ∙ sym (device_shared adds other);
-  each = λ c. connection_moved _ _ _ _ (of_shared c adds log) (of_shared c adds other) (alike.each c);
-}
+-- ---- other pieces
 
--- effects of a connection's calls, whose own acts may differ
-each_effects : (c d : ℕ) (one two : Effect) (log other : List Act) → SameConnection (one.own ++ of c log) (two.own ++ of c other)
-    → Alike log other → SameConnection (of d (acts_of c one ++ log)) (of d (acts_of c two ++ other))
-each_effects c d one two log other own alike = elim (cases_eq d c) [
-  | inl e ↦ subst (λ (n : ℕ). SameConnection (of n (acts_of c one ++ log)) (of n (acts_of c two ++ other))) (sym e)
-      (connection_moved _ _ _ _ (of_effect c one log) (of_effect c two other) own)
-  | inr ne ↦ connection_moved _ _ _ _ (others_effect c d one log ne) (others_effect c d two other ne) (alike.each d)
-]
-
-pub alike_effect : (c : ℕ) (effect : Effect) (log other : List Act) → AllByRecursion HasBytes effect.own → Alike log other
-    → Alike (acts_of c effect ++ log) (acts_of c effect ++ other)
-alike_effect c effect log other fits alike = record {
-  device = device_effect c effect log ∙ ap (λ (l : List DeviceAct). effect.adds ++ l) alike.device ∙ sym (device_effect c effect other);
-  each = λ d. each_effects c d effect effect log other (same_acts effect.own (of c log) (of c other) fits (alike.each c)) alike;
-}
-
--- an act of a connection
+-- an effect of these acts of a connection alone
 abbrev pub only_own : List ConnAct → Effect
 only_own own = record { own = own; adds = [] }
 
-pub alike_on : (c : ℕ) (act : ConnAct) (log other : List Act) → HasBytes act → Alike log other → Alike (On c act ∷ log) (On c act ∷ other)
-alike_on c act log other fits alike = alike_effect c (only_own (act ∷ [])) log other (fits, tt) alike
-
--- other pieces
 abbrev pub came_on : ℕ → List (List ℕ) → List Act
 came_on c pieces = acts_of c (only_own (map Piece pieces))
 
 pub alike_came : (c : ℕ) (pieces others : List (List ℕ)) (log other : List Act)
-    → SameRecords (stream (of c log) ++ join_pieces pieces) (stream (of c other) ++ join_pieces others) → Alike log other
+    → reading (stream (of c log) ++ join_pieces pieces) ≡ reading (stream (of c other) ++ join_pieces others) → Alike log other
     → Alike (came_on c pieces ++ log) (came_on c others ++ other)
 alike_came c pieces others log other streams alike =
     let one = only_own (map Piece pieces) in
     let two = only_own (map Piece others) in
     record {
       device = device_effect c one log ∙ alike.device ∙ sym (device_effect c two other);
-      each = λ d. each_effects c d one two log other
-          (same_pieces pieces others (of c log) (of c other) streams (alike.each c)) alike;
+      each = λ d. elim (cases_eq d c) [
+        | inl e ↦ rw (e, of_effect c one log, of_effect c two other)
+            (same_pieces pieces others (of c log) (of c other) streams (alike.each c))
+        | inr ne ↦ rw (others_effect c d one log ne, others_effect c d two other ne) (alike.each d)
+      ];
     }

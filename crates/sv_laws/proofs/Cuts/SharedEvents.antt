@@ -10,10 +10,10 @@ use Rattle.sv_scan.specs.Counted.{effective, trigger_fault}
 use Rattle.sv_scan.specs.Scan.{state}
 use Rattle.sv_errors.specs.declared.source.Source.TheVariants.{External as ByInput}
 use Rattle.sv_instrument.specs.Stimulus.{or_nothing, where_scanning}
-use Rattle.sv_history.specs.declared.event.Port.TheVariants.{Conn, Intr}
+use Rattle.sv_history.specs.declared.event.Port.TheVariants.{Conn}
 use Rattle.sv_history.specs.declared.event.Config.{Config}
-use Rattle.sv_history.specs.Event.{PlainEvent, Open, Bytes, Turn, Refuse, Took, Close, Dialed, Input, External, Tick}
-use Rattle.sv_history.specs.Act.{Act, ConnAct, Opened, Piece, CallTaken, Faulted, Replied, BytesTaken, PortClosed, Linked, Waited, Channel, Applied, Ticked, On, OnDevice, of, device_acts}
+use Rattle.sv_history.specs.Event.{PlainEvent, Turn, Refuse, Took, Close, Dialed, External, Tick}
+use Rattle.sv_history.specs.Act.{Act, ConnAct, Piece, CallTaken, BytesTaken, PortClosed, Linked, Waited, Channel, Applied, Ticked, On, OnDevice, of, device_acts}
 use Rattle.sv_history.specs.Connection.{next_call, pending_call}
 use Rattle.sv_history.specs.Request.{Request, core_call_in, next_request}
 use Rattle.sv_history.specs.Refusing.{refusable_call}
@@ -46,13 +46,9 @@ calls_behind (On c act ∷ adds) log other same d =
     on_one : (act : ConnAct) (b : Bool) (mine also : List ConnAct) → pending_call mine ≡ pending_call also
         → pending_call (if b then act ∷ mine else mine) ≡ pending_call (if b then act ∷ also else also)
     on_one act false mine also same = same
-    on_one (Opened role) true mine also same = refl
-    on_one PortClosed true mine also same = refl
-    on_one (CallTaken call) true mine also same = refl
-    on_one Faulted true mine also same = refl
-    on_one (Replied bytes) true mine also same = refl
     on_one (Piece bytes) true mine also same = same
     on_one (BytesTaken count) true mine also same = same
+    on_one _ true mine also same = refl
 
 turn_shared : (config : Config) (polled c : ℕ) (call : Option (List ℕ)) (request : Option Request) (log other : List Act)
     → SameNext log other → turn_acts config polled c call request log ≡ turn_acts config polled c call request other
@@ -73,8 +69,6 @@ shuts_by c links = map OnDevice (Channel (ChannelClosed c) ∷ map Linked (closi
 
 pub own_shared : (config : Config) (polled : ℕ) (event : PlainEvent) (log other : List Act) → SameNext log other
     → own_acts config polled event log ≡ own_acts config polled event other
-own_shared config polled (Open c role) log other v = refl
-own_shared config polled (Bytes c piece) log other v = refl
 own_shared config polled (Turn c) log other v =
     turn_shared config polled c (next_call (of c log)) (next_request (of c log)) log other v
     ∙ ap (λ (o : Option (List ℕ)). turn_acts config polled c o (next_request (of c log)) other) (v.calls c)
@@ -82,16 +76,14 @@ own_shared config polled (Turn c) log other v =
 own_shared config polled (Refuse c) log other v =
     ap (λ (o : Option (List ℕ)). refuse_acts c o (refusable_call (next_request (of c log)))) (v.calls c)
     ∙ ap (λ (q : Option Request). refuse_acts c (next_call (of c other)) (refusable_call q)) (v.requests c)
-own_shared config polled (Took (Conn c) count) log other v = refl
-own_shared config polled (Took (Intr c) count) log other v = refl
 own_shared config polled (Close (Conn c)) log other v = ap (λ (l : List LinkAct). shuts_by c l) v.now.device.links
-own_shared config polled (Close (Intr c)) log other v = refl
 own_shared config polled (Dialed c ok) log other v =
     ap (λ (o : Option (List ℕ)). acts_of c (connect_effect c ok (core_call_in o))) (v.now.calls c)
-own_shared config polled (Input channel microvolts) log other v = refl
 own_shared config polled External log other v =
     ap (λ (l : List ScanAct). map OnDevice (map Applied (or_nothing (trigger_fault (effective l) ByInput))))
     v.now.device.instrument.status.scanned
 own_shared config polled Tick log other v =
     ap (λ (l : List ScanAct). map OnDevice (map Applied (where_scanning (state (effective l)))) ++ OnDevice Ticked ∷ [])
     v.now.device.instrument.status.scanned
+own_shared config polled (Took (Conn c) count) log other v = refl
+own_shared config polled _ log other v = refl

@@ -1,103 +1,180 @@
 -- Behind two histories whose logs are the same but for where text was accepted, and for calls that came before, the same events add the
 -- same.
-use Rattle.std.proofs.Common.{◌≡◌, ℕ, zero, suc, List, [], ◌∷◌, ◌++◌, refl, sym, ap, subst, ◌∙◌}
-use Rattle.sv_layers.specs.StatusByte.{PolledBit}
-use Rattle.sv_layers.proofs.PolledByte.{one_word}
+use Rattle.std.proofs.Common.{◌≡◌, ℕ, List, [], ◌∷◌, ◌++◌, refl, sym, ap, subst, ◌∙◌}
+use Rattle.std.specs.Prelude.{◌↔◌}
+use Rattle.std.proofs.lemmas.List.{append_cancel_left}
+use Rattle.sv_links.specs.Channels.{ChannelAct}
 use Rattle.sv_history.specs.declared.event.Config.{Config}
+use Rattle.sv_history.specs.declared.event.Port.{Port}
+use Rattle.sv_history.specs.declared.event.Port.TheVariants.{Conn, Intr}
 use Rattle.sv_history.specs.Event.{PlainEvent}
-use Rattle.sv_history.specs.Act.{Act, On, OnDevice, of, device_acts, instrument_acts}
-use Rattle.sv_history.specs.Settling.{SettlesIn}
-use Rattle.sv_history.specs.History.{own_acts, IsLogOf}
-use Rattle.sv_history.proofs.OneStep.{next_once}
-use Rattle.sv_laws.proofs.Cuts.SameDevice.{SameDevice, device_act, device_back, Tells, tells_act, polled_alike}
-use Rattle.sv_laws.proofs.Cuts.SharedSteps.{SameCalls, calls_back, next_shared}
-use Rattle.sv_laws.proofs.Cuts.SharedEvents.{SameNext, own_shared}
+use Rattle.sv_history.specs.Act.{Act, ConnAct, DeviceAct, On, OnDevice, of, device_acts}
+use Rattle.sv_history.specs.Requests.{HearsOf}
+use Rattle.sv_history.specs.History.{IsLogOf}
+use Rattle.sv_laws.specs.Adding.{all_replies, Adds}
+use Rattle.sv_laws.proofs.Facts.{moved}
+use Rattle.sv_laws.proofs.OneLog.{one_log, sends_moved}
+use Rattle.sv_laws.proofs.Cuts.SameDevice.{SameDevice, device_act, device_back, Tells, tells_act}
+use Rattle.sv_laws.proofs.Cuts.SharedSteps.{SameCalls}
+use Rattle.sv_laws.proofs.Cuts.SharedEvents.{SameNext}
+use Rattle.sv_laws.proofs.Cuts.KeptLogs.{IsKept, event_so}
 use Rattle.sv_laws.proofs.Cuts.SameAhead.{SameAhead, ahead_more, next_call_ahead, next_request_ahead}
+
+-- ---- what all connections share
+
+-- It is the same, and each tells what the other does.
+pub record SameShared (acts other : List DeviceAct) : Type 0 where
+  pub device : SameDevice acts other
+  pub tells : Tells acts other
+  pub back : Tells other acts
+
+pub shared_more : (adds log other : List Act) → SameShared (device_acts log) (device_acts other)
+    → SameShared (device_acts (adds ++ log)) (device_acts (adds ++ other))
+shared_more [] log other v = v
+shared_more (On c act ∷ adds) log other v = shared_more adds log other v
+shared_more (OnDevice act ∷ adds) log other v =
+    let so = shared_more adds log other v in
+    let here = device_acts (adds ++ log) in
+    let there = device_acts (adds ++ other) in
+    record {
+      device = device_act act here there so.device;
+      tells = tells_act act here there so.device so.tells;
+      back = tells_act act there here (device_back here there so.device) so.back;
+    }
+
+-- ---- two logs
 
 -- Behind these bytes of each connection's replies.
 pub record SameLogs (first second : ℕ → List ℕ) (log other : List Act) : Type 0 where
-  pub device : SameDevice (device_acts log) (device_acts other)
-  pub tells : Tells (device_acts log) (device_acts other)
-  pub back : Tells (device_acts other) (device_acts log)
+  pub shared : SameShared (device_acts log) (device_acts other)
+  pub open shared use *
   pub each : (d : ℕ) → SameAhead (first d) (second d) (of d log) (of d other)
 
-pub device_front : (adds log other : List Act) → SameDevice (device_acts log) (device_acts other)
-    → SameDevice (device_acts (adds ++ log)) (device_acts (adds ++ other))
-device_front [] log other v = v
-device_front (On c act ∷ adds) log other v = device_front adds log other v
-device_front (OnDevice act ∷ adds) log other v =
-    device_act act (device_acts (adds ++ log)) (device_acts (adds ++ other)) (device_front adds log other v)
-
-pub tells_front : (adds log other : List Act) → SameDevice (device_acts log) (device_acts other)
-    → Tells (device_acts log) (device_acts other) → Tells (device_acts (adds ++ log)) (device_acts (adds ++ other))
-tells_front [] log other v tells = tells
-tells_front (On c act ∷ adds) log other v tells = tells_front adds log other v tells
-tells_front (OnDevice act ∷ adds) log other v tells =
-    tells_act act (device_acts (adds ++ log)) (device_acts (adds ++ other)) (device_front adds log other v)
-    (tells_front adds log other v tells)
-
-pub logs_more : (first second : ℕ → List ℕ) (adds log other : List Act) → SameLogs first second log other
+logs_more : (first second : ℕ → List ℕ) (adds log other : List Act) → SameLogs first second log other
     → SameLogs first second (adds ++ log) (adds ++ other)
 logs_more first second adds log other v = record {
-  device = device_front adds log other v.device;
-  tells = tells_front adds log other v.device v.tells;
-  back = tells_front adds other log (device_back (device_acts log) (device_acts other) v.device) v.back;
+  shared = shared_more adds log other v.shared;
   each = λ d. ahead_more (first d) (second d) d adds log other (v.each d);
 }
 
 same_calls : (first second : ℕ → List ℕ) (log other : List Act) → SameLogs first second log other → SameCalls log other
 same_calls first second log other v = record { device = v.device; calls = λ d. (v.each d).call }
 
--- ---- the steps that are due
+logs_kept : (first second : ℕ → List ℕ) → IsKept (SameLogs first second)
+logs_kept first second = record { calls = same_calls first second; more = logs_more first second }
 
--- Logs that are so have the same calls without an answer, and are so behind the same acts.
-pub record IsKept (AreSo : List Act → List Act → Type 0) : Type 0 where
-  pub calls : (log other : List Act) → AreSo log other → SameCalls log other
-  pub more : (adds log other : List Act) → AreSo log other → AreSo (adds ++ log) (adds ++ other)
-
-moved : (AreSo : List Act → List Act → Type 0) (log other a b : List Act) → a ≡ log → b ≡ other → AreSo log other → AreSo a b
-moved AreSo log other a b x y v = subst (λ (l : List Act). AreSo l b) (sym x) (subst (λ (l : List Act). AreSo log l) (sym y) v)
-
-pub logs_moved : (first second : ℕ → List ℕ) (log other a b : List Act) → a ≡ log → b ≡ other → SameLogs first second log other
-    → SameLogs first second a b
-logs_moved first second = moved (SameLogs first second)
-
-pub settles_so : (AreSo : List Act → List Act → Type 0) → IsKept AreSo → (n m : ℕ) (config : Config) (log other new also : List Act)
-    → AreSo log other → SettlesIn n config log new → SettlesIn m config other also → AreSo new also
-settles_so AreSo kept zero zero config log other new also v x y = moved AreSo log other new also x.1 y.1 v
-settles_so AreSo kept zero (suc m) config log other new also v x y =
-    let so = next_shared config other log (calls_back log other (kept.calls log other v)) y.0 y.1 in absurd (x.0 (so.0 ++ log) so.2)
-settles_so AreSo kept (suc n) zero config log other new also v x y =
-    let so = next_shared config log other (kept.calls log other v) x.0 x.1 in absurd (y.0 (so.0 ++ other) so.2)
-settles_so AreSo kept (suc n) (suc m) config log other new also v x y =
-    let so = next_shared config log other (kept.calls log other v) x.0 x.1 in
-    let there : y.0 ≡ so.0 ++ other = next_once config other y.0 (so.0 ++ other) y.1 so.2 in
-    settles_so AreSo kept n m config x.0 y.0 new also
-    (moved AreSo (so.0 ++ log) (so.0 ++ other) x.0 y.0 so.1 there (kept.more so.0 log other v)) x.2 y.2
-
-settles_same : (n m : ℕ) (config : Config) (first second : ℕ → List ℕ) (log other new also : List Act)
-    → SameLogs first second log other → SettlesIn n config log new → SettlesIn m config other also → SameLogs first second new also
-settles_same n m config first second = settles_so (SameLogs first second)
-    (record { calls = same_calls first second; more = logs_more first second }) n m config
+logs_next : (first second : ℕ → List ℕ) (log other : List Act) → SameLogs first second log other → SameNext log other
+logs_next first second log other v = record {
+  now = same_calls first second log other v;
+  calls = λ d. next_call_ahead (first d) (second d) (of d log) (of d other) (v.each d);
+  requests = λ d. next_request_ahead (first d) (second d) (of d log) (of d other) (v.each d);
+}
 
 -- the same events
-pub events_same : (config : Config) (first second : ℕ → List ℕ) (one two events : List PlainEvent)
+events_same : (config : Config) (first second : ℕ → List ℕ) (one two events : List PlainEvent)
     → ((a b : List Act) → IsLogOf config one a → IsLogOf config two b → SameLogs first second a b) → (log also : List Act)
     → IsLogOf config (events ++ one) log → IsLogOf config (events ++ two) also → SameLogs first second log also
-events_same config first second one two [] base log also x y = base log also x y
-events_same config first second one two (event ∷ events) base log also
-    (a, polled, channel_log, is_event, was, hears, free, said, settles) (b, byte, heard, is_also, is_prior, hearing, none, tells, ends) =
-    let v = events_same config first second one two events base a b was is_prior in
-    let there = polled_alike polled (device_acts a) (device_acts b) v.device said in
-    let word : byte ≡ polled = one_word (λ k. PolledBit k (instrument_acts (device_acts b))) byte polled tells there in
-    let next : SameNext a b = record {
-      now = same_calls first second a b v;
-      calls = λ d. next_call_ahead (first d) (second d) (of d a) (of d b) (v.each d);
-      requests = λ d. next_request_ahead (first d) (second d) (of d a) (of d b) (v.each d);
-    } in
-    let own : own_acts config byte event b ≡ own_acts config polled event a =
-    ap (λ (w : ℕ). own_acts config w event b) word ∙ sym (own_shared config polled event a b next) in
-    settles_same settles.0 ends.0 config first second (own_acts config polled event a ++ a) (own_acts config byte event b ++ b) log also
-    (logs_moved first second (own_acts config polled event a ++ a) (own_acts config polled event a ++ b)
-    (own_acts config polled event a ++ a) (own_acts config byte event b ++ b) refl (ap (λ (l : List Act). l ++ b) own)
-    (logs_more first second (own_acts config polled event a) a b v)) settles.1 ends.1
+events_same config first second one two [] base log also = base log also
+events_same config first second one two (event ∷ events) base log also =
+    event_so (SameLogs first second) (logs_kept first second) (logs_next first second) config event (events ++ one) (events ++ two) log also
+    (events_same config first second one two events base)
+
+-- ---- what they add to a port
+
+ahead_back : (first second : List ℕ) (acts others : List ConnAct) → SameAhead first second acts others
+    → SameAhead second first others acts
+ahead_back first second acts others v = record {
+  role = sym v.role;
+  call = sym v.call;
+  no_call = sym v.no_call;
+  ahead = λ more. sym (v.ahead more);
+  sends = (v.sends.0, v.sends.2, v.sends.1);
+}
+
+logs_back : (first second : ℕ → List ℕ) (log other : List Act) → SameLogs first second log other → SameLogs second first other log
+logs_back first second log other v = assumption (
+  device_back (device_acts log) (device_acts other) v.device,
+  (λ (d : ℕ). ahead_back (first d) (second d) (of d log) (of d other) (v.each d)),
+)
+
+-- a history, its log, and what that tells
+hears_in : (config : Config) (history : List PlainEvent) (found log : List Act) (channel_log : List ChannelAct)
+    → IsLogOf config history found
+    → IsLogOf config history log → HearsOf (device_acts found) channel_log → HearsOf (device_acts log) channel_log
+hears_in config history found log channel_log x y hears =
+    subst (λ (l : List Act). HearsOf (device_acts l) channel_log) (one_log config history found log x y) hears
+
+-- The two histories, with their logs, and what their connections sent so far.
+pub record Begun (config : Config) (first second : ℕ → List ℕ) (one two : List PlainEvent) : Type 0 where
+  pub a : List Act
+  pub b : List Act
+  pub was : IsLogOf config one a
+  pub also : IsLogOf config two b
+  pub one_sent : (d : ℕ) → all_replies (of d a) ≡ first d
+  pub two_sent : (d : ℕ) → all_replies (of d b) ≡ second d
+  pub same : SameLogs first second a b
+
+begun_back : (config : Config) (first second : ℕ → List ℕ) (one two : List PlainEvent) → Begun config first second one two
+    → Begun config second first two one
+begun_back config first second one two h = record {
+  a = h.b;
+  b = h.a;
+  was = h.also;
+  also = h.was;
+  one_sent = h.two_sent;
+  two_sent = h.one_sent;
+  same = logs_back first second h.a h.b h.same;
+}
+
+behind_same : (config : Config) (first second : ℕ → List ℕ) (one two events : List PlainEvent) (log also : List Act)
+    → Begun config first second one two → IsLogOf config (events ++ one) log → IsLogOf config (events ++ two) also
+    → SameLogs first second log also
+behind_same config first second one two events log also h x y =
+    events_same config first second one two events
+    (λ a b p q. moved (SameLogs first second) h.a h.b a b (one_log config one a h.a p h.was) (one_log config two b h.b q h.also) h.same)
+    log also x y
+
+adds_to : (port : Port) (config : Config) (first second : ℕ → List ℕ) (one two events : List PlainEvent) (log also : List Act)
+    (bytes : List ℕ) → Begun config first second one two → IsLogOf config (events ++ one) log → IsLogOf config (events ++ two) also
+    → Adds port config one events bytes → Adds port config two events bytes
+adds_to (Conn d) config first second one two events log also bytes h x y
+    (before, (found, channel_log, is_found, hears, so), (later, heard, is_later, hearing, then_so)) =
+    let v = behind_same config first second one two events log also h x y in
+    let here : before ≡ first d =
+    so ∙ ap (λ (l : List Act). all_replies (of d l)) (one_log config one found h.a is_found h.was) ∙ h.one_sent d in
+    let all : before ++ bytes ≡ first d ++ (v.each d).sends.0 =
+    then_so ∙ ap (λ (l : List Act). all_replies (of d l)) (one_log config (events ++ one) later log is_later x) ∙ (v.each d).sends.1 in
+    let same : bytes ≡ (v.each d).sends.0 =
+    append_cancel_left (first d) bytes (v.each d).sends.0 (ap (λ (l : List ℕ). l ++ bytes) (sym here) ∙ all) in (
+      second d,
+      (
+        h.b,
+        channel_log,
+        h.also,
+        h.same.tells channel_log (hears_in config one found h.a channel_log is_found h.was hears),
+        sym (h.two_sent d),
+      ),
+      (
+        also,
+        heard,
+        y,
+        v.tells heard (hears_in config (events ++ one) later log heard is_later x hearing),
+        ap (λ (l : List ℕ). second d ++ l) same ∙ sym (v.each d).sends.2,
+      ),
+    )
+adds_to (Intr d) config first second one two events log also bytes h x y (before, sends, adds) =
+    let v = behind_same config first second one two events log also h x y in (
+      before,
+      sends_moved (Intr d) config one two h.a h.b before h.was h.also
+          (λ channel_log hears. (channel_log, h.same.tells channel_log hears, refl)) sends,
+      sends_moved (Intr d) config (events ++ one) (events ++ two) log also (before ++ bytes) x y
+          (λ channel_log hears. (channel_log, v.tells channel_log hears, refl)) adds,
+    )
+
+pub adds_same : (port : Port) (config : Config) (first second : ℕ → List ℕ) (one two events : List PlainEvent) (log also : List Act)
+    (bytes : List ℕ) → Begun config first second one two → IsLogOf config (events ++ one) log → IsLogOf config (events ++ two) also
+    → Adds port config one events bytes ↔ Adds port config two events bytes
+adds_same port config first second one two events log also bytes h x y = (
+  adds_to port config first second one two events log also bytes h x y,
+  adds_to port config second first two one events also log bytes (begun_back config first second one two h) y x,
+)

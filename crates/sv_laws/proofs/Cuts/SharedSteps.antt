@@ -1,13 +1,11 @@
 -- A step that is due adds the same acts to two logs that are the same but for where program text was accepted.
 use Rattle.std.proofs.Common.{◌≡◌, ℕ, ◌+◌, Bool, not, List, [], ◌∷◌, ◌++◌, Option, Some, None, refl, sym, ap, subst, ◌∙◌, inl, inr}
-use Rattle.std.specs.Prelude.{map, option_map, pos, negsuc}
+use Rattle.std.specs.Prelude.{map, pos, negsuc}
 use Rattle.std.proofs.lemmas.List.{append_cancel_right}
 use Rattle.sv_errors.specs.declared.source.Source.TheVariants.{Immediate}
-use Rattle.sv_vxi.specs.Arguments.{Arguments, OnLink, link}
 use Rattle.sv_links.specs.declared.waiting.Wait.{Wait}
-use Rattle.sv_links.specs.declared.waiting.Wait.TheVariants.{Lock, Input, Response, Dial}
 use Rattle.sv_links.specs.Links.{LinkAct, owner, holder}
-use Rattle.sv_links.specs.Waiting.{WaitAct, Entered, Again, Left, waits, IsAble, IsExpired, IsOldest}
+use Rattle.sv_links.specs.Waiting.{WaitAct, waits, IsAble, IsExpired, IsOldest}
 use Rattle.sv_scan.specs.declared.acts.ScanAct.{ScanAct}
 use Rattle.sv_scan.specs.declared.acts.ScanAct.TheVariants.{Trigger}
 use Rattle.sv_scan.specs.Counted.{effective, trigger_fault}
@@ -16,46 +14,27 @@ use Rattle.sv_layers.specs.Act.{Act as InstrumentAct, Scanned}
 use Rattle.sv_instrument.specs.Stimulus.{IsFired}
 use Rattle.sv_instrument.specs.Step.{IsStep, is_answerable}
 use Rattle.sv_history.specs.declared.event.Config.{Config}
-use Rattle.sv_history.specs.Act.{Act, DeviceAct, Waited, Applied, OnDevice, of, device_acts, link_acts, wait_acts, instrument_acts, exchange_acts, ticks}
+use Rattle.sv_history.specs.Act.{Act, DeviceAct, Applied, OnDevice, of, device_acts, link_acts, wait_acts, instrument_acts, exchange_acts, ticks}
 use Rattle.sv_history.specs.Connection.{pending_call}
-use Rattle.sv_history.specs.CallOutcome.{CallOutcome, suspend_by}
-use Rattle.sv_history.specs.CoreCall.{CoreCall, lid_of}
-use Rattle.sv_history.specs.Request.{Request, NoCall, Decided, CoreRequest, AbortRequest, PortRequest, core_call_in}
+use Rattle.sv_history.specs.CoreCall.{CoreCall}
+use Rattle.sv_history.specs.Request.{Request, CoreRequest, AbortRequest, core_call_in}
 use Rattle.sv_history.specs.Effect.{Effect, acts_of, call_effect}
-use Rattle.sv_history.specs.Admission.{Stop, Fails, Awaits, deadline, admission, stop_of}
 use Rattle.sv_history.specs.AbortChannel.{owner_of, if_waiting}
 use Rattle.sv_history.specs.Execution.{request_effect, aborts}
-use Rattle.sv_history.specs.Resuming.{leaving, next_wait, resume_outcome, resume_effect, failure_effect, late}
+use Rattle.sv_history.specs.Resuming.{resume_effect, failure_effect, late}
 use Rattle.sv_history.specs.Settling.{First, InstrumentDoes, CanResume, Resumes, TimesOut, IsNext}
 use Rattle.sv_laws.proofs.Cuts.SameInstrument.{SameInstrument, instrument_step}
-use Rattle.sv_laws.proofs.Cuts.SameDevice.{SameDevice, device_act, device_back, ended_alike, answerable_alike, polled_alike, wait_alike, call_alike, stop_alike}
+use Rattle.sv_laws.proofs.Cuts.SameDevice.{SameDevice, device_back, ended_alike, answerable_alike, polled_alike, alike_ground}
+use Rattle.sv_laws.proofs.SameOutcomes.{admitted_same, resumed_same}
 
 -- ---- calls
 
-deadline_alike : (config : Config) (timeout : Option ℕ) (acts other : List DeviceAct) → SameDevice acts other
-    → deadline config timeout acts ≡ deadline config timeout other
-deadline_alike config timeout acts other v =
-    ap (λ (n : ℕ). option_map (λ milliseconds. config.clock + n + milliseconds) timeout) v.clock
-
-admitted_alike : (config : Config) (polled c : ℕ) (arguments : Arguments) (stop : Option Stop) (acts other : List DeviceAct)
-    → SameDevice acts other → admission config polled c arguments stop acts ≡ admission config polled c arguments stop other
-admitted_alike config polled c arguments None acts other v = call_alike config polled c arguments acts other v
-admitted_alike config polled c arguments (Some (Fails error)) acts other v = refl
-admitted_alike config polled c arguments (Some (Awaits wait timeout)) acts other v =
-    ap (λ (d : Option ℕ). suspend_by (Entered c (lid_of (link arguments)) wait d)) (deadline_alike config timeout acts other v)
-
 pub request_alike : (config : Config) (polled c : ℕ) (request : Request) (acts other : List DeviceAct) → SameDevice acts other
     → request_effect config polled c request acts ≡ request_effect config polled c request other
-request_alike config polled c (CoreRequest call) acts other v =
-    ap (λ (o : Option Stop). call_effect call.xid (admission config polled c call.arguments o acts))
-    (stop_alike c call.arguments acts other v)
-    ∙ ap (λ (o : CallOutcome). call_effect call.xid o)
-    (admitted_alike config polled c call.arguments (stop_of c call.arguments other) acts other v)
+request_alike config polled c (CoreRequest call) acts other v = ap (call_effect call.xid)
+    (admitted_same config polled c call.arguments acts other (inr (v.links, v.waits)) (alike_ground c acts other v))
 request_alike config polled c (AbortRequest xid (pos n)) acts other v = rw v.links refl
-request_alike config polled c (AbortRequest xid (negsuc n)) acts other v = refl
-request_alike config polled c NoCall acts other v = refl
-request_alike config polled c (Decided xid reply) acts other v = refl
-request_alike config polled c (PortRequest xid args) acts other v = refl
+request_alike config polled c _ acts other v = refl
 
 where_alike : (found : Option ℕ) (n : ℕ) (acts other : List DeviceAct) → SameDevice acts other
     → if_waiting found (Some n) acts ≡ if_waiting found (Some n) other
@@ -69,30 +48,11 @@ aborts_alike (AbortRequest xid (pos n)) acts other v =
 aborts_alike (AbortRequest xid (negsuc n)) acts other v = refl
 aborts_alike _ acts other v = refl
 
-next_wait_alike : (wait : Wait) (arguments : Arguments) (acts other : List DeviceAct) → SameDevice acts other
-    → next_wait wait arguments acts ≡ next_wait wait arguments other
-next_wait_alike Lock (OnLink lid call) acts other v = wait_alike call acts other v
-next_wait_alike Lock _ acts other v = refl
-next_wait_alike Input arguments acts other v = refl
-next_wait_alike Response arguments acts other v = refl
-next_wait_alike Dial arguments acts other v = refl
-
-continued_alike : (config : Config) (polled c : ℕ) (arguments : Arguments) (next : Option (Wait × ℕ)) (acts other : List DeviceAct)
-    → SameDevice acts other → resume_outcome config polled c arguments next acts ≡ resume_outcome config polled c arguments next other
-continued_alike config polled c arguments (Some wait) acts other v =
-    ap (λ (d : Option ℕ). suspend_by (Again c wait.0 d)) (deadline_alike config (Some wait.1) acts other v)
-continued_alike config polled c arguments None acts other v =
-    ap (λ (o : CallOutcome). leaving c o) (call_alike config polled c arguments (Waited (Left c) ∷ acts) (Waited (Left c) ∷ other)
-    (device_act (Waited (Left c)) acts other v))
-
 pub resumed_alike : (config : Config) (polled c : ℕ) (wait : Wait) (call : Option CoreCall) (acts other : List DeviceAct)
     → SameDevice acts other → resume_effect config polled c wait call acts ≡ resume_effect config polled c wait call other
 resumed_alike config polled c wait None acts other v = refl
 resumed_alike config polled c wait (Some call) acts other v =
-    ap (λ (next : Option (Wait × ℕ)). call_effect call.xid (resume_outcome config polled c call.arguments next acts))
-    (next_wait_alike wait call.arguments acts other v)
-    ∙ ap (λ (o : CallOutcome). call_effect call.xid o)
-    (continued_alike config polled c call.arguments (next_wait wait call.arguments other) acts other v)
+    resumed_same config polled c wait call acts other (inr (v.links, v.waits)) (alike_ground c acts other v)
 
 -- ---- one step
 

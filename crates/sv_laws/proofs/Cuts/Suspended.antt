@@ -13,26 +13,7 @@ use Rattle.sv_history.specs.declared.event.Config.{Config}
 use Rattle.sv_history.specs.Act.{Act, CallTaken, Waited, Applied, On, OnDevice, device_acts, link_acts, wait_acts, instrument_acts, exchange_acts, ticks}
 use Rattle.sv_history.specs.Settling.{InstrumentDoes, CanResume, Resumes, TimesOut, IsNext, IsSettled}
 use Rattle.sv_history.proofs.OneStep.{went_on, gave_up}
-
--- ---- where nothing is due
-
-pub record Rested (config : Config) (log : List Act) : Type 0 where
-  pub fires : (new : List Act) → InstrumentDoes IsFired log new → ⊥
-  pub resumes : (new : List Act) → Resumes config log new → ⊥
-  pub steps : (new : List Act) → InstrumentDoes IsStep log new → ⊥
-  pub times : (new : List Act) → TimesOut config log new → ⊥
-
-pub rested : (config : Config) (log : List Act) → IsSettled config log → Rested config log
-rested config log none =
-    let fires : (new : List Act) → InstrumentDoes IsFired log new → ⊥ = λ new does. none new (inl does) in
-    let resumes : (new : List Act) → Resumes config log new → ⊥ = λ new does. none new (inr (fires, inl does)) in
-    let steps : (new : List Act) → InstrumentDoes IsStep log new → ⊥ = λ new does. none new (inr (fires, inr (resumes, inl does))) in
-    record {
-      fires = fires;
-      resumes = resumes;
-      steps = steps;
-      times = λ new does. none new (inr (fires, inr (resumes, inr (steps, does))));
-    }
+use Rattle.sv_laws.proofs.EveryLog.Steps.{Rested, rested}
 
 -- ---- the call that came first
 

@@ -28,7 +28,7 @@ use Rattle.sv_history.specs.declared.event.Role.TheVariants.{Core, Abort, Portma
 use Rattle.sv_history.specs.Act.{DeviceAct, Applied, link_acts, instrument_acts, exchange_acts}
 use Rattle.sv_history.specs.CallOutcome.{CallOutcome, answer_with, only, suspend_by}
 use Rattle.sv_history.specs.CoreCall.{CoreCall}
-use Rattle.sv_history.specs.Request.{Request, NoCall, Decided, CoreRequest, AbortRequest, PortRequest, program_of, request_of, core_call_of, core_call, request_for}
+use Rattle.sv_history.specs.Request.{Request, Decided, CoreRequest, program_of, request_of, core_call_of, core_call, request_for}
 use Rattle.sv_history.proofs.Deciding.{header_reply, unless_decided, request_is}
 use Rattle.sv_history.specs.CoreChannel.{device_write}
 use Rattle.sv_history.specs.Admission.{stop_of, admission}
@@ -40,11 +40,8 @@ abbrev pub IsCore : Request → CoreCall → Type 0
 IsCore request call = (request ≡ CoreRequest call) ⊎ ((xid : ℕ) × (request ≡ Decided xid ProgUnavail))
 
 core_is : (request : Request) (call : CoreCall) → core_call_of request ≡ Some call → IsCore request call
-core_is NoCall call is = absurd cc
-core_is (Decided xid reply) call is = absurd cc
 core_is (CoreRequest found) call is = let same : found ≡ call = cc in inl (ap (λ (f : CoreCall). CoreRequest f) same)
-core_is (AbortRequest xid lid) call is = absurd cc
-core_is (PortRequest xid args) call is = absurd cc
+core_is _ call is = absurd cc
 
 -- a call of the core program is of no other
 other_program : (found : PlainCall) (call : CoreCall) (role : Role) → eqb (program_of Core).0 (program_of role).0 ≡ false
@@ -65,10 +62,8 @@ core_in Abort (Ok found) call is =
     inr (found.xid, request_is Abort found ∙ other_program found call Abort refl (ap core_call_of (sym (request_is Core found)) ∙ is))
 core_in Portmap (Ok found) call is =
     inr (found.xid, request_is Portmap found ∙ other_program found call Portmap refl (ap core_call_of (sym (request_is Core found)) ∙ is))
-core_in Abort (Err (Version xid)) call is = absurd cc
-core_in Portmap (Err (Version xid)) call is = absurd cc
-core_in Abort (Err BadHeader) call is = absurd cc
-core_in Portmap (Err BadHeader) call is = absurd cc
+core_in _ (Err (Version xid)) call is = absurd cc
+core_in _ (Err BadHeader) call is = absurd cc
 
 pub core_asked : (role : Option Role) (bytes : List ℕ) (request : Request) (call : CoreCall) → request_for role (Some bytes) ≡ Some request
     → core_call bytes ≡ Some call → IsCore request call

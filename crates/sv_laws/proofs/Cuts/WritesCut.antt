@@ -22,18 +22,17 @@ use Rattle.sv_history.specs.Settling.{IsNext, SettlesIn}
 use Rattle.sv_history.specs.History.{IsLogOf}
 use Rattle.sv_laws.specs.Adding.{all_replies, all_sent, Adds}
 use Rattle.sv_laws.specs.Cuts.{without_pieces, NoneWaits, AreCut, WritesCut}
-use Rattle.sv_laws.proofs.OneLog.{one_log}
+use Rattle.sv_laws.proofs.OneLog.{one_log, sends_moved}
 use Rattle.sv_history.proofs.OneStep.{next_once}
 use Rattle.sv_laws.proofs.EveryLog.EachEvent.{fit_log, idle_free}
-use Rattle.sv_laws.proofs.EveryLog.Steps.{log_settled}
+use Rattle.sv_laws.proofs.EveryLog.Steps.{log_settled, rested}
 use Rattle.sv_laws.proofs.Cuts.ReadsOn.{same_behind}
 use Rattle.sv_laws.proofs.Cuts.SameDevice.{Tells, accepts}
 use Rattle.sv_laws.proofs.Cuts.SameAhead.{SameAhead}
-use Rattle.sv_laws.proofs.Cuts.SharedLogs.{settles_so}
-use Rattle.sv_laws.proofs.Cuts.SharedSending.{Begun, adds_same}
+use Rattle.sv_laws.proofs.Cuts.KeptLogs.{settles_so}
+use Rattle.sv_laws.proofs.Cuts.SharedLogs.{Begun, adds_same}
 use Rattle.sv_laws.proofs.Cuts.BytesBehind.{CameBehind, behind_device, behind_others}
 use Rattle.sv_laws.proofs.Cuts.Fed.{Fed, fed, only_bytes}
-use Rattle.sv_laws.proofs.Cuts.Suspended.{rested}
 use Rattle.sv_laws.proofs.Cuts.Written.{wrote, Wrote, written}
 use Rattle.sv_laws.proofs.Cuts.FirstPart.{Resting, reported, BecomesLong, first_part, whole_long}
 use Rattle.sv_laws.proofs.Cuts.Beside.{Beside, reports, parts_shared, long_shared, beside_kept, beside_came, of_wrote, beside_wrote}
@@ -130,9 +129,7 @@ ahead_same acts others same = subst (λ (l : List ConnAct). SameAhead (all_repli
   call = refl;
   no_call = refl;
   ahead = λ more. refl;
-  sent = [];
-  one = sym (append-nil (all_replies acts));
-  two = sym (append-nil (all_replies acts));
+  sends = ([], sym (append-nil (all_replies acts)), sym (append-nil (all_replies acts)));
 })
 
 sent_beside : (c : ℕ) (port : Port) (log other : List Act) → port ≢ Conn c → Beside c log other → (channel_log : List ChannelAct)
@@ -144,18 +141,12 @@ adds_other : (port : Port) (config : Config) (past one two : List PlainEvent) (l
     → IsLogOf config (one ++ past) log → IsLogOf config (two ++ past) other → Tells (device_acts log) (device_acts other)
     → ((channel_log : List ChannelAct) → all_sent port channel_log log ≡ all_sent port channel_log other) → Adds port config past one bytes
     → Adds port config past two bytes
-adds_other port config past one two log other bytes was also tells same (before, sends, (found, channel_log, is_log, hears, so)) =
-    let here : found ≡ log = one_log config (one ++ past) found log is_log was in (
-      before,
-      sends,
-      (
-        other,
-        channel_log,
-        also,
-        tells channel_log (subst (λ (l : List Act). HearsOf (device_acts l) channel_log) here hears),
-        so ∙ ap (λ (l : List Act). all_sent port channel_log l) here ∙ same channel_log,
-      ),
-    )
+adds_other port config past one two log other bytes was also tells same (before, sends, adds) = (
+  before,
+  sends,
+  sends_moved port config (one ++ past) (two ++ past) log other (before ++ bytes) was also
+      (λ channel_log hears. (channel_log, tells channel_log hears, same channel_log)) adds,
+)
 
 -- ---- the writes of the events
 
@@ -243,9 +234,7 @@ module _ (c lid : ℕ) (x y : List ℕ) (ended : Bool) (config : Config) (past o
         ahead = same_behind (stream acts) (stream others) (records_ended acts) (records_ended others)
             (fed_all c config past h.whole _ _ rest fed_both h.one_feeds.none_left)
             (fed_all c config past h.cut _ _ h.middle fed_other h.two_feeds.none_left) h.same_tail;
-        sent = [];
-        one = sym (append-nil (all_replies acts));
-        two = sym (append-nil (all_replies others));
+        sends = ([], sym (append-nil (all_replies acts)), sym (append-nil (all_replies others)));
       }
 
   each_ahead : (d : ℕ) → SameAhead (all_replies (of d h.whole)) (all_replies (of d h.cut)) (of d h.whole) (of d h.cut)
@@ -263,12 +252,7 @@ module _ (c lid : ℕ) (x y : List ℕ) (ended : Bool) (config : Config) (past o
     also = h.two_feeds.is_log;
     one_sent = λ d. refl;
     two_sent = λ d. refl;
-    same = record {
-      device = beside.shared.device;
-      tells = beside.shared.tells;
-      back = beside.shared.back;
-      each = each_ahead;
-    };
+    same = record { shared = beside.shared; each = each_ahead };
   }
 
   sent_but : (port : Port) (bytes : List ℕ) → port ≢ Conn c → Adds port config past one bytes ↔ Adds port config past two bytes

@@ -1,10 +1,11 @@
 -- A write that was taken, and answered without an error and with all its bytes: its bytes were accepted, and nothing else was done.
 use Rattle.std.proofs.Common.{◌≡◌, ◌≢◌, ℕ, zero, suc, Bool, true, false, List, [], ◌∷◌, ◌++◌, length, Option, Some, None, refl, sym, ap, subst, ◌∙◌, inl, inr, arith, eq-eqb}
-use Rattle.std.specs.Prelude.{pos, ◌==◌, ◌↔◌}
+use Rattle.std.specs.Prelude.{pos, ◌==◌, ◌↔◌, slice_index_or}
 use Rattle.std.specs.Int.{bit_at}
 use Rattle.std.proofs.lemmas.Bool.{ne_eqb}
 use Rattle.std.proofs.lemmas.List.{length-append}
 use Rattle.sv_rpc.specs.declared.reply.Reply.TheVariants.{ProgUnavail}
+use Rattle.sv_vxi.specs.declared.error_code.ErrorCode.{ErrorCode}
 use Rattle.sv_vxi.specs.declared.error_code.ErrorCode.TheVariants.{NoError}
 use Rattle.sv_vxi.specs.ErrorCode.{error_number}
 use Rattle.sv_vxi.specs.Arguments.{Arguments, DeviceWrite, OnLink}
@@ -29,13 +30,40 @@ use Rattle.sv_history.specs.History.{taken_acts}
 use Rattle.sv_laws.specs.Cuts.{without_pieces}
 use Rattle.sv_history.proofs.Projections.{of_mine}
 use Rattle.sv_laws.proofs.Cuts.SameDevice.{accepts}
-use Rattle.sv_laws.proofs.Cuts.ErrorReplies.{tells_none, is_served}
 use Rattle.sv_laws.proofs.Cuts.NoCallTaken.{settles_none, bare_of}
 use Rattle.sv_laws.proofs.Cuts.Fed.{Taking}
 use Rattle.sv_laws.proofs.Cuts.WriteOutcome.{core_asked, WriteCase, write_case}
 use Rattle.sv_laws.proofs.Cuts.Suspended.{suspends, is_there_in, only_late}
 
--- ---- the reply tells which
+-- ---- the reply tells which: it is neither one that tells an error, nor one that tells that the program isn't served
+
+-- the last byte of a reply's status, and that of the error behind it
+abbrev status_in : List ℕ → ℕ
+status_in bytes = slice_index_or bytes 27 0
+
+abbrev error_in : List ℕ → ℕ
+error_in bytes = slice_index_or bytes 31 0
+
+error_read : (xid n : ℕ) (error : ErrorCode) → error_in (result_reply xid (Size error n)) ≡ error_number error
+error_read xid n NoError = refl
+error_read xid n _ = refl
+
+tells_none : (xid other n m : ℕ) (error : ErrorCode) → result_reply other (Size error n) ≡ result_reply xid (Size NoError m)
+    → error_number error ≡ 0
+tells_none xid other n m error same = sym (error_read other n error) ∙ ap (λ (l : List ℕ). error_in l) same ∙ error_read xid m NoError
+
+unavailable_read : (xid : ℕ) → status_in (reply_record xid ProgUnavail []) ≡ 1
+unavailable_read xid = refl
+
+success_read : (xid n : ℕ) → status_in (result_reply xid (Size NoError n)) ≡ 0
+success_read xid n = refl
+
+is_served : (xid other n : ℕ) → reply_record other ProgUnavail [] ≡ result_reply xid (Size NoError n) → ⊥
+is_served xid other n same =
+    let read : status_in (reply_record other ProgUnavail []) ≡ 0 = ap (λ (l : List ℕ). status_in l) same ∙ success_read xid n in
+    let z : 1 ≡ 0 = sym (unavailable_read other) ∙ read in cc
+
+-- ---- what was taken
 
 -- its acts, and those of its connection
 abbrev pub wrote : ℕ → List ℕ → List ℕ → List ℕ → Bool → List Act → List Act

@@ -1,47 +1,42 @@
 -- In every log a call that has no answer waits.
-use Rattle.std.proofs.Common.{◌≡◌, ◌≢◌, ℕ, ◌<◌, Bool, true, false, List, [], ◌∷◌, ◌++◌, length, nat_lt, Option, Some, None, refl, sym, ap, subst, ◌∙◌, inl, inr, append_assoc, eq-eqb}
-use Rattle.std.specs.Prelude.{map, is_some, pos, negsuc}
-use Rattle.std.proofs.lemmas.Bool.{cases_eq, cases_Bool}
+use Rattle.std.proofs.Common.{◌≡◌, ◌≢◌, ℕ, ◌<◌, Bool, true, false, List, [], ◌∷◌, ◌++◌, Option, Some, None, refl, sym, ap, subst, ◌∙◌, inl, inr, append_assoc, eq-eqb}
+use Rattle.std.specs.Prelude.{map, is_some}
+use Rattle.std.proofs.lemmas.Bool.{cases_eq}
 use Rattle.sv_vxi.specs.declared.error_code.ErrorCode.{ErrorCode}
-use Rattle.sv_vxi.specs.declared.error_code.ErrorCode.TheVariants.{Abort}
-use Rattle.sv_vxi.specs.declared.arguments.GenericCall.TheVariants.{Readstb, Trigger, Clear, Remote, Local}
-use Rattle.sv_vxi.specs.Arguments.{DeviceAbort, DeviceWrite, DeviceRead, Generic, DeviceLock, DeviceUnlock, DeviceEnableSrq, DeviceDocmd, DestroyLink, Arguments, CreateLink, OnLink, CreateIntrChan, DestroyIntrChan, link, max_handle}
+use Rattle.sv_vxi.specs.Arguments.{Arguments, link}
 use Rattle.sv_vxi.specs.Results.{Outcome}
 use Rattle.sv_links.specs.declared.request.Peer.{Peer}
 use Rattle.sv_links.specs.declared.waiting.Wait.{Wait}
-use Rattle.sv_links.specs.Links.{owner, is_of, holder, is_this, is_locked_out, lids_left, closing}
+use Rattle.sv_links.specs.Links.{closing}
 use Rattle.sv_links.specs.Waiting.{WaitAct, Entered, Again, Left, waits}
 use Rattle.sv_links.specs.Channels.{ChannelAct, ChannelClosed, ChannelTaken}
 use Rattle.sv_laws.proofs.CallsAlike.{conn_of, call_foreign}
-use Rattle.sv_exchange.specs.Exchange.{has_ended, response, is_something}
-use Rattle.sv_exchange.specs.Limits.{max_message}
 use Rattle.sv_scan.specs.declared.acts.ScanAct.TheVariants.{Input as InputTo}
 use Rattle.sv_layers.specs.Act.{Act as InstrumentAct, Scanned}
-use Rattle.sv_instrument.specs.Step.{is_answerable}
 use Rattle.sv_instrument.specs.Stimulus.{external_acts, tick_acts}
 use Rattle.sv_history.specs.declared.event.Config.{Config}
 use Rattle.sv_history.specs.declared.event.Port.TheVariants.{Conn, Intr}
 use Rattle.sv_history.specs.Event.{PlainEvent, Open, Bytes, Turn, Refuse, Took, Close, Dialed, Input, External, Tick}
-use Rattle.sv_history.specs.Act.{Act, ConnAct, DeviceAct, Opened, Piece, CallTaken, Replied, BytesTaken, PortClosed, Waited, Channel, Applied, Ticked, On, OnDevice, of, device_acts, link_acts, wait_acts, instrument_acts, exchange_acts}
+use Rattle.sv_history.specs.Act.{Act, ConnAct, DeviceAct, Opened, Piece, CallTaken, Replied, BytesTaken, PortClosed, Waited, Channel, Applied, Ticked, On, OnDevice, of, device_acts, link_acts, wait_acts, instrument_acts}
 use Rattle.sv_history.specs.Connection.{next_call, pending_call}
 use Rattle.sv_history.specs.CallOutcome.{CallOutcome, only}
 use Rattle.sv_history.specs.CoreCall.{CoreCall, lid_of, failure}
 use Rattle.sv_history.specs.CoreChannel.{own_call}
 use Rattle.sv_history.specs.Effect.{Effect, acts_of, replies, call_effect}
 use Rattle.sv_history.specs.Request.{Request, NoCall, Decided, CoreRequest, AbortRequest, PortRequest, core_call_in, next_request}
-use Rattle.sv_history.specs.Interrupts.{has_channel, connect_outcome}
+use Rattle.sv_history.specs.Interrupts.{connect_outcome}
 use Rattle.sv_history.proofs.Dialing.{peer_by, dialed_to, dialed_is}
 use Rattle.sv_history.specs.Admission.{Stop, Fails, Awaits, stop_of, admission, deadline}
-use Rattle.sv_history.specs.Execution.{request_effect, aborts}
+use Rattle.sv_history.specs.Execution.{request_effect}
 use Rattle.sv_history.specs.Refusing.{refusable, refused_reply}
-use Rattle.sv_history.specs.Resuming.{effect_of, leaving, next_wait, resume_outcome, failure_effect, late}
-use Rattle.sv_history.specs.Settling.{IsNext}
-use Rattle.sv_history.specs.History.{abort_acts, turn_acts, refuse_acts, own_acts, refusal, IsLogOf}
+use Rattle.sv_history.specs.Resuming.{effect_of, leaving, next_wait, resume_outcome, failure_effect}
+use Rattle.sv_history.specs.History.{turn_acts, own_acts, refusal, IsLogOf}
 use Rattle.sv_history.proofs.Projections.{of_mine, of_other, of_shared, of_effect, others_effect, device_shared, device_effect, wait_acts-links, wait_acts-happened}
-use Rattle.sv_laws.proofs.EveryLog.Done.{each_done}
+use Rattle.sv_laws.proofs.EveryLog.Done.{each_done, own_told}
 use Rattle.sv_laws.proofs.EveryLog.Taken.{within}
 use Rattle.sv_laws.proofs.EveryLog.Fit.{Fit}
-use Rattle.sv_laws.proofs.EveryLog.EachEvent.{each_log, done_waits, turn_parts, fit_request, close_adds, device_closed, of_closed, fit_event, fit_step, fit_none}
+use Rattle.sv_laws.proofs.EveryLog.EachEvent.{entered_waits, each_log, StepsKeep, step_keeps, turn_keeps, refuse_keeps, done_waits, fit_request, fit_keeps, close_adds, device_closed, of_closed, fit_event, fit_none}
+use Rattle.sv_laws.proofs.Facts.{some_none}
 
 -- If no call of a connection waits, none is without an answer.
 abbrev HasWait : ℕ → List Act → Type 0
@@ -49,46 +44,6 @@ HasWait c log = waits c (wait_acts (device_acts log)) ≡ None → pending_call 
 
 abbrev AllWait : List Act → Type 0
 AllWait log = (c : ℕ) → HasWait c log
-
--- ---- a call that is done has a result
-
-own_told : (config : Config) (polled c : ℕ) (arguments : Arguments) (acts : List DeviceAct)
-    → is_some (own_call config polled c arguments acts).result ≡ true
-own_told config polled c (CreateLink client_id lock_device lock_timeout device) acts = elim (cases_Bool (lids_left (link_acts acts))) [
-  | inl e ↦ rw e refl
-  | inr e ↦ rw e refl
-]
-own_told config polled c (OnLink (pos n) (DeviceWrite io_timeout lock_timeout flags bytes)) acts =
-    elim (cases_Bool (nat_lt max_message (length bytes))) [
-      | inl e ↦ rw e refl
-      | inr e ↦ elim (cases_Bool (has_ended (exchange_acts acts))) [ inl k ↦ rw (e, k) refl | inr k ↦ rw (e, k) refl ]
-    ]
-own_told config polled c (OnLink (pos n) (DeviceRead request_size io_timeout lock_timeout flags term_char)) acts =
-    elim (cases_Bool (is_answerable (instrument_acts acts))) [
-      | inl k ↦ elim (cases_Bool (is_something (response (exchange_acts acts)))) [ inl e ↦ rw (k, e) refl | inr e ↦ rw (k, e) refl ]
-      | inr k ↦ elim (cases_Bool (is_something (response (exchange_acts acts)))) [ inl e ↦ rw (k, e) refl | inr e ↦ rw (k, e) refl ]
-    ]
-own_told config polled c (OnLink (pos n) (DeviceLock flags lock_timeout)) acts =
-    elim (cases_Bool (is_locked_out (holder (link_acts acts)) (Some n))) [ inl e ↦ rw e refl | inr e ↦ rw e refl ]
-own_told config polled c (OnLink (pos n) DeviceUnlock) acts =
-    elim (cases_Bool (is_this n (holder (link_acts acts)))) [ inl e ↦ rw e refl | inr e ↦ rw e refl ]
-own_told config polled c (OnLink (pos n) (DeviceEnableSrq true handle)) acts = elim (cases_Bool (is_of c (owner n (link_acts acts)))) [
-  | inl e ↦ elim (cases_Bool (nat_lt max_handle (length handle))) [ inl k ↦ rw (e, k) refl | inr k ↦ rw (e, k) refl ]
-  | inr e ↦ rw e refl
-]
-own_told config polled c (OnLink (pos n) (DeviceEnableSrq false handle)) acts =
-    elim (cases_Bool (is_of c (owner n (link_acts acts)))) [ inl e ↦ rw e refl | inr e ↦ rw e refl ]
-own_told config polled c DestroyIntrChan acts = elim (cases_Bool (has_channel c acts)) [ inl e ↦ rw e refl | inr e ↦ rw e refl ]
-own_told config polled c (OnLink (pos n) DestroyLink) acts = refl
-own_told config polled c (OnLink (negsuc n) call) acts = refl
-own_told config polled c (OnLink (pos n) (Generic Readstb flags lock_timeout io_timeout)) acts = refl
-own_told config polled c (OnLink (pos n) (Generic Trigger flags lock_timeout io_timeout)) acts = refl
-own_told config polled c (OnLink (pos n) (Generic Clear flags lock_timeout io_timeout)) acts = refl
-own_told config polled c (OnLink (pos n) (Generic Remote flags lock_timeout io_timeout)) acts = refl
-own_told config polled c (OnLink (pos n) (Generic Local flags lock_timeout io_timeout)) acts = refl
-own_told config polled c (OnLink (pos n) DeviceAbort) acts = refl
-own_told config polled c (OnLink (pos n) (DeviceDocmd flags io_timeout lock_timeout cmd network_order datasize bytes)) acts = refl
-own_told config polled c (CreateIntrChan host_addr host_port prog_num prog_vers prog_family) acts = refl
 
 replies_free : (xid : ℕ) (result : Option Outcome) (acts : List ConnAct) → is_some result ≡ true
     → pending_call (replies xid result ++ acts) ≡ None
@@ -180,13 +135,6 @@ again_waits : (c : ℕ) (wait before : Wait) (last : Option ℕ) (acts : List Wa
     → waits c (Again c wait last ∷ acts) ≡ Some wait
 again_waits c wait before last acts is = rw (eq-eqb c c refl, is) refl
 
-entered_waits : (c : ℕ) (named : Option ℕ) (wait : Wait) (last : Option ℕ) (acts : List WaitAct)
-    → waits c (Entered c named wait last ∷ acts) ≡ Some wait
-entered_waits c named wait last acts = rw (eq-eqb c c refl) refl
-
-not_waits : {A : Type 0} (found : Option Wait) (wait : Wait) → found ≡ Some wait → found ≡ None → A
-not_waits {A} found wait some none = absurd (let z : None ≡ Some wait = sym none ∙ some in cc)
-
 all_continued : (config : Config) (polled c : ℕ) (wait : Wait) (call : CoreCall) (next : Option (Wait × ℕ)) (log : List Act) → AllWait log
     → waits c (wait_acts (device_acts log)) ≡ Some wait
     → AllWait (acts_of c (call_effect call.xid (resume_outcome config polled c call.arguments next (device_acts log))) ++ log)
@@ -195,22 +143,27 @@ all_continued config polled c wait call (Some next) log all for =
     let last = deadline config (Some next.1) acts in
     all_effect c (call_effect call.xid (resume_outcome config polled c call.arguments (Some next) acts)) log (λ d ne. all d)
     (λ d ne. wait_other c d (Again c next.0 last) (wait_acts acts) refl ne)
-    (λ none. not_waits _ next.0 (again_waits c next.0 wait last (wait_acts acts) for) none)
+    (λ none. some_none _ next.0 none (again_waits c next.0 wait last (wait_acts acts) for))
 all_continued config polled c wait call None log all for =
     let before = Waited (Left c) ∷ device_acts log in
     let outcome = own_call config polled c call.arguments before in
     all_left c call.xid outcome log all (own_told config polled c call.arguments before)
     (done_waits c call.arguments outcome.adds before (each_done config polled c call.arguments before))
 
-all_step : (config : Config) (log new : List Act) → Fit log → AllWait log → IsNext config log new → AllWait new
-all_step config log new fit all (inl fires) = subst AllWait (sym fires.2) (all_happened fires.0 log all)
-all_step config log new fit all (inr (none, inl (c, wait, polled, oldest, for, said, is))) =
-    subst AllWait (sym is) (all_ended c (λ arguments. resume_outcome config polled c arguments (next_wait wait arguments (device_acts log))
-    (device_acts log)) log fit all
-    (λ call. all_continued config polled c wait call (next_wait wait call.arguments (device_acts log)) log all for))
-all_step config log new fit all (inr (none, inr (still, inl step))) = subst AllWait (sym step.2) (all_happened step.0 log all)
-all_step config log new fit all (inr (none, inr (still, inr (idle, (c, wait, oldest, for, is))))) =
-    subst AllWait (sym is) (all_failed (late wait) c log fit all)
+-- both are kept together
+abbrev IsSound : List Act → Type 0
+IsSound log = Fit log × AllWait log
+
+steps_keep : (config : Config) → StepsKeep config IsSound
+steps_keep config = record {
+  happened = λ adds log so. ((fit_keeps config).happened adds log so.0, all_happened adds log so.1);
+  resumed = λ polled c wait log for so. (
+    (fit_keeps config).resumed polled c wait log for so.0,
+    all_ended c (λ arguments. resume_outcome config polled c arguments (next_wait wait arguments (device_acts log)) (device_acts log)) log
+        so.0 so.1 (λ call. all_continued config polled c wait call (next_wait wait call.arguments (device_acts log)) log so.1 for),
+  );
+  failed = λ error c log so. ((fit_keeps config).failed error c log so.0, all_failed error c log so.0 so.1);
+}
 
 -- ---- an event's own acts
 
@@ -231,47 +184,24 @@ all_admitted config polled c call (Some (Awaits wait until)) log all =
     let last = deadline config until acts in
     all_effect c (call_effect call.xid (admission config polled c call.arguments (Some (Awaits wait until)) acts)) log all
     (λ d ne. wait_other c d (Entered c (lid_of (link call.arguments)) wait last) (wait_acts acts) refl ne)
-    (λ none. not_waits _ wait (entered_waits c (lid_of (link call.arguments)) wait last (wait_acts acts)) none)
+    (λ none. some_none _ wait none (entered_waits c (lid_of (link call.arguments)) wait last (wait_acts acts)).0)
 
 all_request : (config : Config) (polled c : ℕ) (request : Request) (log : List Act) → ((d : ℕ) → d ≢ c → HasWait d log)
     → AllWait (acts_of c (request_effect config polled c request (device_acts log)) ++ log)
-all_request config polled c NoCall log all =
-    all_effect c (request_effect config polled c NoCall (device_acts log)) log all (λ d ne. refl) (λ none. refl)
-all_request config polled c (Decided xid reply) log all =
-    all_effect c (request_effect config polled c (Decided xid reply) (device_acts log)) log all (λ d ne. refl) (λ none. refl)
 all_request config polled c (CoreRequest call) log all =
     all_admitted config polled c call (stop_of c call.arguments (device_acts log)) log all
-all_request config polled c (AbortRequest xid lid) log all =
-    all_effect c (request_effect config polled c (AbortRequest xid lid) (device_acts log)) log all (λ d ne. refl) (λ none. refl)
-all_request config polled c (PortRequest xid args) log all =
-    all_effect c (request_effect config polled c (PortRequest xid args) (device_acts log)) log all (λ d ne. refl) (λ none. refl)
+all_request config polled c request log all =
+    all_effect c (request_effect config polled c request (device_acts log)) log all (λ d ne. refl) (λ none. refl)
 
-all_abort : (aborts : Option ℕ) (log : List Act) → Fit log → AllWait log → AllWait (abort_acts aborts log ++ log)
-all_abort (Some d) log fit all = all_failed Abort d log fit all
-all_abort None log fit all = all
-
-all_turn : (config : Config) (polled c : ℕ) (found : Option (List ℕ)) (request : Option Request) (log : List Act) → Fit log → AllWait log
-    → c < 16 → next_call (of c log) ≡ found → next_request (of c log) ≡ request
-    → AllWait (turn_acts config polled c found request log ++ log)
-all_turn config polled c (Some bytes) (Some request) log fit all lt next asks =
-    let effect = request_effect config polled c request (device_acts log) in
-    let taken = On c (CallTaken bytes) ∷ log in
-    subst AllWait (sym (turn_parts c bytes effect (aborts request (device_acts log)) log))
-    (all_abort (aborts request (device_acts log)) (acts_of c effect ++ taken)
-    (fit_request config polled c bytes request log fit lt next asks)
-    (all_request config polled c request taken (λ d ne none. ap pending_call (of_other c d (CallTaken bytes) log ne) ∙ all d none)))
-all_turn config polled c (Some bytes) None log fit all lt next asks = all
-all_turn config polled c None (Some request) log fit all lt next asks = all
-all_turn config polled c None None log fit all lt next asks = all
-
-all_refuse : (c : ℕ) (found : Option (List ℕ)) (call : Option CoreCall) (log : List Act) → AllWait log
-    → AllWait (refuse_acts c found call ++ log)
-all_refuse c (Some bytes) (Some call) log all =
-    all_effect c (record { own = Replied (refused_reply call) ∷ CallTaken bytes ∷ []; adds = [] }) log (λ d ne. all d) (λ d ne. refl)
-    (λ none. refl)
-all_refuse c (Some bytes) None log all = all
-all_refuse c None (Some call) log all = all
-all_refuse c None None log all = all
+all_turn : (config : Config) (polled c : ℕ) (log : List Act) → IsSound log → c < 16
+    → IsSound (turn_acts config polled c (next_call (of c log)) (next_request (of c log)) log ++ log)
+all_turn config polled c log so lt =
+    turn_keeps config IsSound (steps_keep config) polled c (next_call (of c log)) (next_request (of c log)) log so
+    (λ bytes request next asks. (
+      fit_request config polled c bytes request log so.0 lt next asks,
+      all_request config polled c request (On c (CallTaken bytes) ∷ log)
+          (λ d ne none. ap pending_call (of_other c d (CallTaken bytes) log ne) ∙ so.1 d none),
+    ))
 
 all_close : (c : ℕ) (log : List Act) → AllWait log → AllWait (map OnDevice (close_adds c (device_acts log)) ++ On c PortClosed ∷ log)
 all_close c log all d none =
@@ -292,9 +222,11 @@ all_event config (Open c role) polled channel_log log free fit all =
     all_effect c (record { own = Opened role ∷ []; adds = [] }) log (λ d ne. all d) (λ d ne. refl) (λ none. refl)
 all_event config (Bytes c piece) polled channel_log log free fit all =
     all_effect c (record { own = Piece piece ∷ []; adds = [] }) log (λ d ne. all d) (λ d ne. refl) (all c)
-all_event config (Turn c) polled channel_log log free fit all =
-    all_turn config polled c (next_call (of c log)) (next_request (of c log)) log fit all (within c log _ free) refl refl
-all_event config (Refuse c) polled channel_log log free fit all = all_refuse c (next_call (of c log)) (refusable (of c log)) log all
+all_event config (Turn c) polled channel_log log free fit all = (all_turn config polled c log (fit, all) (within c log _ free)).1
+all_event config (Refuse c) polled channel_log log free fit all =
+    refuse_keeps AllWait c (next_call (of c log)) (refusable (of c log)) log all (λ bytes call next can.
+    all_effect c (record { own = Replied (refused_reply call) ∷ CallTaken bytes ∷ []; adds = [] }) log (λ d ne. all d) (λ d ne. refl)
+    (λ none. refl))
 all_event config (Took (Conn c) count) polled channel_log log free fit all =
     all_effect c (record { own = BytesTaken count ∷ []; adds = [] }) log (λ d ne. all d) (λ d ne. refl) (all c)
 all_event config (Took (Intr c) count) polled channel_log log free fit all = all_shared (Channel (ChannelTaken c count) ∷ []) log all refl
@@ -314,9 +246,9 @@ all_event config Tick polled channel_log log free fit all =
 pub busy_waits : (config : Config) (history : List PlainEvent) (log : List Act) → IsLogOf config history log → (c : ℕ)
     → waits c (wait_acts (device_acts log)) ≡ None → pending_call (of c log) ≡ None
 busy_waits config history log was =
-    (each_log config (λ now. Fit now × AllWait now) (fit_none, (λ c none. refl))
+    (each_log config IsSound (fit_none, (λ c none. refl))
     (λ event polled channel_log now is free so. (
       fit_event config event polled channel_log now free so.0,
       all_event config event polled channel_log now free so.0 so.1,
     ))
-    (λ now new so next. (fit_step config now new so.0 next, all_step config now new so.0 so.1 next)) history log was).1
+    (step_keeps config IsSound (steps_keep config)) history log was).1

@@ -10,6 +10,7 @@ use Rattle.sv_links.specs.Queue.{is_past}
 use Rattle.sv_history.specs.Act.{DeviceAct, wait_acts}
 use Rattle.sv_laws.proofs.EveryLog.Fit.{AllSuit}
 use Rattle.sv_laws.proofs.EveryLog.Known.{waits_within}
+use Rattle.sv_laws.proofs.Facts.{not_both}
 
 -- ---- the one that came first
 
@@ -38,9 +39,6 @@ below_suc d n lt = elim (cases_eq d n) [ inl e ↦ inl e | inr ne ↦ inr (omega
 
 same_arrival : (acts : List WaitAct) (c d : ℕ) → d ≡ c → arrival c acts ≤ arrival d acts
 same_arrival acts c d e = subst (λ (n : ℕ). arrival c acts ≤ arrival n acts) (sym e) (omega arith)
-
-pub not_both : {A : Type 0} (b : Bool) → b ≡ true → b ≡ false → A
-not_both {A} b e k = absurd (let z : true ≡ false = sym e ∙ k in cc)
 
 least_more : (acts : List WaitAct) (test : ℕ → Bool) (n : ℕ) (found : Option ℕ) → Least acts test n found
     → (next : Option ℕ) × Least acts test (suc n) next

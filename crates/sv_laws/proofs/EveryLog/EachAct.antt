@@ -11,7 +11,7 @@ use Rattle.sv_rpc.specs.declared.call.CallFault.{CallFault}
 use Rattle.sv_rpc.specs.declared.call.CallFault.TheVariants.{BadHeader, Version}
 use Rattle.sv_rpc.specs.Ports.{port_at}
 use Rattle.sv_rpc.specs.Call.{PlainCall, call_at}
-use Rattle.sv_vxi.specs.declared.error_code.ErrorCode.TheVariants.{Abort as Aborted, OutOfResources}
+use Rattle.sv_vxi.specs.declared.error_code.ErrorCode.TheVariants.{OutOfResources}
 use Rattle.sv_vxi.specs.Arguments.{Arguments, OnLink}
 use Rattle.sv_vxi.specs.Reading.{arguments_at}
 use Rattle.sv_vxi.specs.Results.{Outcome, result_fields}
@@ -30,29 +30,24 @@ use Rattle.sv_history.specs.declared.event.Port.TheVariants.{Conn, Intr}
 use Rattle.sv_history.specs.Event.{PlainEvent, Open, Bytes, Turn, Refuse, Took, Close, Dialed, Input, External, Tick, IsEvent}
 use Rattle.sv_history.specs.Act.{Act, ConnAct, DeviceAct, Opened, Piece, CallTaken, Faulted, Replied, BytesTaken, PortClosed, Linked, Waited, Channel, Applied, Ticked, On, OnDevice, of, device_acts, link_acts, instrument_acts}
 use Rattle.sv_history.specs.Connection.{is_open, next_call, open_role, pending_call}
-use Rattle.sv_history.specs.CallOutcome.{CallOutcome, only}
+use Rattle.sv_history.specs.CallOutcome.{CallOutcome}
 use Rattle.sv_history.specs.CoreCall.{CoreCall, lid_of, failure}
 use Rattle.sv_history.specs.Reply.{reply_record}
 use Rattle.sv_history.specs.Effect.{Effect, acts_of, replies, result_reply}
 use Rattle.sv_history.specs.Request.{Request, NoCall, Decided, CoreRequest, AbortRequest, PortRequest, core_request, abort_request, procedure_request, request_of, core_call_of, core_call_in, request_for, next_request}
 use Rattle.sv_history.proofs.Deciding.{unless_decided, header_reply, request_is}
 use Rattle.sv_history.specs.AbortChannel.{abort_result}
-use Rattle.sv_history.specs.Execution.{port_reply, request_effect, aborts}
+use Rattle.sv_history.specs.Execution.{port_reply, request_effect}
 use Rattle.sv_history.specs.Interrupts.{connect_outcome}
-use Rattle.sv_history.specs.Resuming.{effect_of, leaving, next_wait, resume_outcome, late}
+use Rattle.sv_history.specs.Resuming.{effect_of, leaving}
 use Rattle.sv_history.specs.Refusing.{takes_memory, refusable_call, refusable, refused_reply}
-use Rattle.sv_history.specs.Settling.{IsNext}
-use Rattle.sv_history.specs.History.{abort_acts, turn_acts, refuse_acts, own_acts, unless_shut, refusal, IsLogOf}
+use Rattle.sv_history.specs.History.{turn_acts, refuse_acts, own_acts, unless_shut, refusal, IsLogOf}
 use Rattle.sv_history.proofs.Projections.{of_mine, of_shared, of_effect, others_effect}
-use Rattle.sv_laws.proofs.EveryLog.EachEvent.{each_log, turn_parts}
+use Rattle.sv_laws.proofs.EveryLog.EachEvent.{each_log, StepsKeep, ends_keep, step_keeps, turn_keeps, refuse_keeps}
+use Rattle.sv_laws.proofs.Facts.{some_same}
+use Rattle.sv_laws.proofs.EveryLog.Taken.{xid_of, xid_in, xid_is, asks_as, is_core}
 
 -- ---- when an act can come
-
--- the xid of what is read as a call, unless it is none
-abbrev pub xid_of : Result PlainCall CallFault → Option ℕ
-xid_of (Ok call) = Some call.xid
-xid_of (Err (Version xid)) = Some xid
-xid_of (Err BadHeader) = None
 
 -- A reply to this call, which begins with its xid.
 abbrev pub IsReplyTo : List ℕ → List ℕ → Type 0
@@ -77,35 +72,6 @@ AllCame (act ∷ acts) = CanCome act acts × AllCame acts
 
 -- ---- what a request asks for has the xid of its call
 
-abbrev pub xid_in : Request → Option ℕ
-xid_in NoCall = None
-xid_in (Decided xid reply) = Some xid
-xid_in (CoreRequest call) = Some call.xid
-xid_in (AbortRequest xid lid) = Some xid
-xid_in (PortRequest xid args) = Some xid
-
-xid_core : (xid : ℕ) (arguments : Result Arguments Garbage) → xid_in (core_request xid arguments) ≡ Some xid
-xid_core xid (Ok arguments) = refl
-xid_core xid (Err garbage) = refl
-
-xid_abort : (xid : ℕ) (read : Result Arguments Garbage) → xid_in (abort_request xid read) ≡ Some xid
-xid_abort xid (Ok (OnLink lid call)) = refl
-xid_abort xid _ = refl
-
-xid_procedure : (role : Role) (call : PlainCall) → xid_in (procedure_request role call) ≡ Some call.xid
-xid_procedure Core call = xid_core call.xid (arguments_at call.proc call.args)
-xid_procedure Abort call = xid_abort call.xid (arguments_at call.proc call.args)
-xid_procedure Portmap call = refl
-
-xid_decided : (role : Role) (call : PlainCall) (reply : Option Reply) → xid_in (unless_decided role call reply) ≡ Some call.xid
-xid_decided role call (Some reply) = refl
-xid_decided role call None = xid_procedure role call
-
-xid_requested : (role : Role) (call : Result PlainCall CallFault) → xid_in (request_of role call) ≡ xid_of call
-xid_requested role (Ok call) = ap xid_in (request_is role call) ∙ xid_decided role call (header_reply role call)
-xid_requested role (Err (Version xid)) = refl
-xid_requested role (Err BadHeader) = refl
-
 pub none_bad : (found : Result PlainCall CallFault) → xid_of found ≡ None → found ≡ Err BadHeader
 none_bad (Ok call) e = absurd cc
 none_bad (Err (Version xid)) e = absurd cc
@@ -114,10 +80,8 @@ none_bad (Err BadHeader) e = refl
 -- that of a connection's next call
 xid_asked : (role : Option Role) (bytes : List ℕ) (request : Request) → request_for role (Some bytes) ≡ Some request
     → xid_of (call_at bytes) ≡ xid_in request
-xid_asked (Some role) bytes request e = sym (xid_requested role (call_at bytes)) ∙ ap xid_in (same _ request e)
-  where
-    same : (a b : Request) → Some a ≡ Some b → a ≡ b
-    same a b e = cc
+xid_asked (Some role) bytes request e =
+    xid_is role (xid_of (call_at bytes)) request (asks_as role (call_at bytes) request (some_same (request_of role (call_at bytes)) request e))
 xid_asked None bytes request e = absurd cc
 
 pub xid_next : (acts : List ConnAct) (bytes : List ℕ) (request : Request) → next_call acts ≡ Some bytes
@@ -125,22 +89,10 @@ pub xid_next : (acts : List ConnAct) (bytes : List ℕ) (request : Request) → 
 xid_next acts bytes request next asks = xid_asked (open_role acts) bytes request (ap (request_for (open_role acts)) (sym next) ∙ asks)
 
 -- that of a call of the core channel
-xid_call : (request : Request) (call : CoreCall) → core_call_of request ≡ Some call → xid_in request ≡ Some call.xid
-xid_call (CoreRequest found) call e = ap (λ (k : Option CoreCall). by k) e
-  where
-    by : Option CoreCall → Option ℕ
-    by (Some call) = Some call.xid
-    by None = None
-xid_call NoCall call e = absurd cc
-xid_call (Decided xid reply) call e = absurd cc
-xid_call (AbortRequest xid lid) call e = absurd cc
-xid_call (PortRequest xid args) call e = absurd cc
-
 -- the call of the core channel that has no answer
 pub core_known : (found : Option (List ℕ)) (call : CoreCall) → core_call_in found ≡ Some call
     → (bytes : List ℕ) × (found ≡ Some bytes) × (xid_of (call_at bytes) ≡ Some call.xid)
-core_known (Some bytes) call e =
-    (bytes, refl, sym (xid_requested Core (call_at bytes)) ∙ xid_call (request_of Core (call_at bytes)) call e)
+core_known (Some bytes) call e = (bytes, refl, (asks_as Core (call_at bytes) (CoreRequest call) (is_core _ call e)).1)
 core_known None call e = absurd cc
 
 -- ---- of all connections
@@ -171,33 +123,21 @@ came_replies : (xid : ℕ) (result : Option Outcome) (acts : List ConnAct) (call
 came_replies xid (Some result) acts call busy is all = ((call, busy, told_result call xid result is), all)
 came_replies xid None acts call busy is all = all
 
-all_ended : (c : ℕ) (does : Arguments → CallOutcome) (call : Option CoreCall) (log : List Act)
-    → core_call_in (pending_call (of c log)) ≡ call
-    → Everywhere log → Everywhere (acts_of c (effect_of c does call) ++ log)
-all_ended c does (Some call) log e all =
-    let known = core_known (pending_call (of c log)) call e in
-    all_effect c (effect_of c does (Some call)) log all
-    (came_replies call.xid (does call.arguments).result (of c log) known.0 known.1 known.2 (all c))
-all_ended c does None log e all = all_effect c (effect_of c does None) log all (all c)
+all_ended : (c : ℕ) (does : Arguments → CallOutcome) (log : List Act) → Everywhere log
+    → Everywhere (acts_of c (effect_of c does (core_call_in (pending_call (of c log)))) ++ log)
+all_ended c does log all = by (core_call_in (pending_call (of c log))) refl
+  where
+    by : (call : Option CoreCall) → core_call_in (pending_call (of c log)) ≡ call → Everywhere (acts_of c (effect_of c does call) ++ log)
+    by (Some call) e =
+        let known = core_known (pending_call (of c log)) call e in
+        all_effect c (effect_of c does (Some call)) log all
+        (came_replies call.xid (does call.arguments).result (of c log) known.0 known.1 known.2 (all c))
+    by None e = all_effect c (effect_of c does None) log all (all c)
 
-all_step : (config : Config) (log new : List Act) → Everywhere log → IsNext config log new → Everywhere new
-all_step config log new all (inl fires) = subst Everywhere (sym fires.2) (all_shared (map Applied fires.0) log all)
-all_step config log new all (inr (none, inl (c, wait, polled, oldest, for, said, is))) =
-    subst Everywhere (sym is) (all_ended c
-    (λ arguments. resume_outcome config polled c arguments (next_wait wait arguments (device_acts log))
-    (device_acts log)) (core_call_in (pending_call (of c log))) log refl all)
-all_step config log new all (inr (none, inr (still, inl step))) =
-    subst Everywhere (sym step.2) (all_shared (map Applied step.0) log all)
-all_step config log new all (inr (none, inr (still, inr (idle, (c, wait, oldest, for, is))))) =
-    subst Everywhere (sym is) (all_ended c (λ arguments. leaving c (only (failure arguments (late wait))))
-    (core_call_in (pending_call (of c log))) log refl all)
+steps_keep : (config : Config) → StepsKeep config Everywhere
+steps_keep config = ends_keep config Everywhere (λ adds log. all_shared (map Applied adds) log) all_ended
 
 -- ---- an event's own acts
-
-all_abort : (aborts : Option ℕ) (log : List Act) → Everywhere log → Everywhere (abort_acts aborts log ++ log)
-all_abort (Some d) log all =
-    all_ended d (λ arguments. leaving d (only (failure arguments Aborted))) (core_call_in (pending_call (of d log))) log refl all
-all_abort None log all = all
 
 port_replied : (call : List ℕ) (xid : ℕ) (port : Result ℕ Garbage) → xid_of (call_at call) ≡ Some xid
     → IsReplyTo call (port_reply xid port)
@@ -216,20 +156,15 @@ came_request config polled c bytes (AbortRequest xid lid) acts own is all =
 came_request config polled c bytes (PortRequest xid args) acts own is all =
     ((bytes, refl, port_replied bytes xid (port_at (record { core = config.core; abort = config.abort }) args) is), all)
 
-all_turn : (config : Config) (polled c : ℕ) (found : Option (List ℕ)) (request : Option Request) (log : List Act) → Everywhere log
-    → is_open (of c log) ≡ true → next_call (of c log) ≡ found → next_request (of c log) ≡ request
-    → Everywhere (turn_acts config polled c found request log ++ log)
-all_turn config polled c (Some bytes) (Some request) log all opened next asks =
-    let effect = request_effect config polled c request (device_acts log) in
-    let taken = all_on c (CallTaken bytes) log all (opened, next) in
-    subst Everywhere (sym (turn_parts c bytes effect (aborts request (device_acts log)) log))
-    (all_abort (aborts request (device_acts log)) _ (all_effect c effect (On c (CallTaken bytes) ∷ log) taken
-    (subst (λ (l : List ConnAct). AllCame (effect.own ++ l)) (sym (of_mine c (CallTaken bytes) log))
+all_turn : (config : Config) (polled c : ℕ) (log : List Act) → Everywhere log → is_open (of c log) ≡ true
+    → Everywhere (turn_acts config polled c (next_call (of c log)) (next_request (of c log)) log ++ log)
+all_turn config polled c log all opened =
+    turn_keeps config Everywhere (steps_keep config) polled c (next_call (of c log)) (next_request (of c log)) log all
+    (λ bytes request next asks.
+    all_effect c (request_effect config polled c request (device_acts log)) (On c (CallTaken bytes) ∷ log)
+    (all_on c (CallTaken bytes) log all (opened, next)) (rw (of_mine c (CallTaken bytes) log)
     (came_request config polled c bytes request (device_acts log) (of c log) (xid_next (of c log) bytes request next asks)
-    ((opened, next), all c)))))
-all_turn config polled c (Some bytes) None log all opened next asks = all
-all_turn config polled c None (Some request) log all opened next asks = all
-all_turn config polled c None None log all opened next asks = all
+    ((opened, next), all c))))
 
 -- a call that may be refused
 refusable_is : (request : Option Request) (call : CoreCall) → refusable_call request ≡ Some call → request ≡ Some (CoreRequest call)
@@ -238,23 +173,14 @@ refusable_is (Some (CoreRequest found)) call e = by (takes_memory found.argument
     by : (b : Bool) → cond b (Some found) None ≡ Some call → Some (CoreRequest found) ≡ Some (CoreRequest call)
     by true e = ap (λ (k : CoreCall). Some (CoreRequest k)) (let same : found ≡ call = cc in same)
     by false e = absurd cc
-refusable_is (Some NoCall) call e = absurd cc
-refusable_is (Some (Decided xid reply)) call e = absurd cc
-refusable_is (Some (AbortRequest xid lid)) call e = absurd cc
-refusable_is (Some (PortRequest xid args)) call e = absurd cc
-refusable_is None call e = absurd cc
+refusable_is _ call e = absurd cc
 
-all_refuse : (c : ℕ) (found : Option (List ℕ)) (call : Option CoreCall) (log : List Act) → Everywhere log → is_open (of c log) ≡ true
-    → next_call (of c log) ≡ found → refusable (of c log) ≡ call → Everywhere (refuse_acts c found call ++ log)
-all_refuse c (Some bytes) (Some call) log all opened next can =
+all_refuse : (c : ℕ) (log : List Act) → Everywhere log → is_open (of c log) ≡ true
+    → Everywhere (refuse_acts c (next_call (of c log)) (refusable (of c log)) ++ log)
+all_refuse c log all opened = refuse_keeps Everywhere c (next_call (of c log)) (refusable (of c log)) log all (λ bytes call next can.
     let is = xid_next (of c log) bytes (CoreRequest call) next (refusable_is (next_request (of c log)) call can) in
-    let taken = all_on c (CallTaken bytes) log all (opened, next) in
-    all_on c (Replied (refused_reply call)) (On c (CallTaken bytes) ∷ log) taken
-    (subst (CanCome (Replied (refused_reply call))) (sym (of_mine c (CallTaken bytes) log))
-    (bytes, refl, told_result bytes call.xid (failure call.arguments OutOfResources) is))
-all_refuse c (Some bytes) None log all opened next can = all
-all_refuse c None (Some call) log all opened next can = all
-all_refuse c None None log all opened next can = all
+    all_on c (Replied (refused_reply call)) (On c (CallTaken bytes) ∷ log) (all_on c (CallTaken bytes) log all (opened, next))
+    (rw (of_mine c (CallTaken bytes) log) (bytes, refl, told_result bytes call.xid (failure call.arguments OutOfResources) is)))
 
 open_by : (far opened : Bool) (other : Option Refused) → cond (far || not opened) (Some NoConn) other ≡ None → opened ≡ true
 open_by true opened other e = absurd cc
@@ -271,9 +197,9 @@ all_event config (Open c role) polled channel_log log is free all = all_on c (Op
 all_event config (Bytes c piece) polled channel_log log is free all =
     all_on c (Piece piece) log all (open_unless c log _ free, bytes_are piece is.1)
 all_event config (Turn c) polled channel_log log is free all =
-    all_turn config polled c (next_call (of c log)) (next_request (of c log)) log all (open_unless c log _ free) refl refl
+    all_turn config polled c log all (open_unless c log _ free)
 all_event config (Refuse c) polled channel_log log is free all =
-    all_refuse c (next_call (of c log)) (refusable (of c log)) log all (open_unless c log _ free) refl refl
+    all_refuse c log all (open_unless c log _ free)
 all_event config (Took (Conn c) count) polled channel_log log is free all = all_on c (BytesTaken count) log all (open_unless c log _ free)
 all_event config (Took (Intr c) count) polled channel_log log is free all = all_shared (Channel (ChannelTaken c count) ∷ []) log all
 all_event config (Close (Conn c)) polled channel_log log is free all =
@@ -282,7 +208,7 @@ all_event config (Close (Conn c)) polled channel_log log is free all =
     (all_shared adds (On c PortClosed ∷ log) (all_on c PortClosed log all tt))
 all_event config (Close (Intr c)) polled channel_log log is free all = all_shared (Channel (ChannelClosed c) ∷ []) log all
 all_event config (Dialed c ok) polled channel_log log is free all =
-    all_ended c (λ arguments. leaving c (connect_outcome c ok arguments)) (core_call_in (pending_call (of c log))) log refl all
+    all_ended c (λ arguments. leaving c (connect_outcome c ok arguments)) log all
 all_event config (Input channel microvolts) polled channel_log log is free all =
     all_shared (Applied (Scanned (InputTo channel microvolts)) ∷ []) log all
 all_event config External polled channel_log log is free all =
@@ -294,4 +220,5 @@ all_event config Tick polled channel_log log is free all =
 
 -- in every log of a history
 pub all_came : (config : Config) (history : List PlainEvent) (log : List Act) (c : ℕ) → IsLogOf config history log → AllCame (of c log)
-all_came config history log c was = each_log config Everywhere (λ d. tt) (all_event config) (all_step config) history log was c
+all_came config history log c was = each_log config Everywhere (λ d. tt) (all_event config)
+    (step_keeps config Everywhere (steps_keep config)) history log was c

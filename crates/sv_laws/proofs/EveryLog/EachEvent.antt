@@ -10,15 +10,15 @@ use Rattle.sv_vxi.specs.Results.{Outcome}
 use Rattle.sv_links.specs.declared.request.Peer.{Peer}
 use Rattle.sv_links.specs.declared.waiting.Wait.{Wait}
 use Rattle.sv_links.specs.declared.waiting.Wait.TheVariants.{Lock, Input as ForInput, Response, Dial}
-use Rattle.sv_links.specs.Links.{LinkAct, Made, Destroyed, Locked, Unlocked, owner, closing}
+use Rattle.sv_links.specs.Links.{LinkAct, Made, owner, closing}
 use Rattle.sv_links.specs.Waiting.{WaitAct, Entered, Left, waits, link as named_link}
 use Rattle.sv_links.specs.Channels.{ChannelAct, SrqEnabled, ChannelClosed, ChannelTaken}
+use Rattle.sv_laws.proofs.Facts.{some_same}
 use Rattle.sv_laws.proofs.LinksAlike.{MakesNone}
 use Rattle.sv_laws.proofs.CallsAlike.{call_foreign}
 use Rattle.sv_laws.proofs.Closed.{closed_before, closed_makes_none}
 use Rattle.sv_layers.specs.Act.{Act as InstrumentAct}
-use Rattle.sv_instrument.specs.Stimulus.{IsFired, external_acts, tick_acts}
-use Rattle.sv_instrument.specs.Step.{IsStep}
+use Rattle.sv_instrument.specs.Stimulus.{external_acts, tick_acts}
 use Rattle.sv_history.specs.declared.event.Config.{Config}
 use Rattle.sv_history.specs.declared.event.Port.TheVariants.{Conn, Intr}
 use Rattle.sv_history.specs.declared.event.Refused.TheVariants.{NoConn, ConnInUse}
@@ -27,16 +27,17 @@ use Rattle.sv_history.specs.declared.event.Role.TheVariants.{Core}
 use Rattle.sv_history.specs.Event.{PlainEvent, Open, Bytes, Turn, Refuse, Took, Close, Dialed, Input, External, Tick, IsEvent}
 use Rattle.sv_history.specs.Act.{Act, ConnAct, DeviceAct, Opened, Piece, CallTaken, Replied, BytesTaken, PortClosed, Linked, Waited, Channel, Applied, Ticked, On, OnDevice, of, device_acts, link_acts, wait_acts, instrument_acts}
 use Rattle.sv_history.specs.Connection.{next_call, open_role, pending_call}
-use Rattle.sv_history.specs.CoreCall.{CoreCall, lid_of}
+use Rattle.sv_history.specs.CoreCall.{CoreCall, lid_of, failure}
 use Rattle.sv_history.specs.CoreChannel.{own_call}
 use Rattle.sv_history.specs.Effect.{Effect, acts_of, replies, call_effect}
 use Rattle.sv_history.specs.Request.{Request, NoCall, Decided, CoreRequest, AbortRequest, PortRequest, core_call_in, next_request}
 use Rattle.sv_history.proofs.Dialing.{peer_by, dialed_to, dialed_is}
 use Rattle.sv_history.specs.Admission.{Stop, Fails, Awaits, stop_of, admission}
 use Rattle.sv_history.specs.Execution.{request_effect, aborts}
-use Rattle.sv_history.specs.Resuming.{leaving, next_wait, resume_outcome, resume_effect, failure_effect, connect_effect, late}
-use Rattle.sv_history.specs.Refusing.{refusable}
-use Rattle.sv_history.specs.Settling.{IsNext, SettlesIn, InstrumentDoes}
+use Rattle.sv_history.specs.CallOutcome.{CallOutcome, only}
+use Rattle.sv_history.specs.Resuming.{effect_of, leaving, next_wait, resume_outcome, resume_effect, failure_effect, connect_effect, late}
+use Rattle.sv_history.specs.Refusing.{refusable, refused_reply}
+use Rattle.sv_history.specs.Settling.{IsNext, SettlesIn}
 use Rattle.sv_history.specs.History.{abort_acts, taken_acts, turn_acts, refuse_acts, own_acts, refusal, IsLogOf}
 use Rattle.sv_history.proofs.Projections.{of_mine, of_other, of_shared, device_shared, link_acts-links, wait_acts-links, link_acts-happened, wait_acts-happened}
 use Rattle.sv_laws.proofs.EveryLog.Done.{IsDone, each_done, waits_own, creating_waits}
@@ -62,6 +63,73 @@ each_log config IsSo empty acts step (event ∷ history) log (before, polled, ch
     each_settled config IsSo step settles.0 (own_acts config polled event before ++ before) log
     (acts event polled channel_log before is_event free (each_log config IsSo empty acts step history before was)) settles.1
 
+-- ---- steps, and calls
+
+-- What happens to the instrument keeps it, and so does a call that resumes, and one that ends with an error.
+pub record StepsKeep (config : Config) (IsSo : List Act → Type 0) : Type 0 where
+  pub happened : (adds : List InstrumentAct) (log : List Act) → IsSo log → IsSo (map OnDevice (map Applied adds) ++ log)
+  pub resumed : (polled c : ℕ) (wait : Wait) (log : List Act) → waits c (wait_acts (device_acts log)) ≡ Some wait → IsSo log
+      → IsSo (acts_of c (resume_effect config polled c wait (core_call_in (pending_call (of c log))) (device_acts log)) ++ log)
+  pub failed : (error : ErrorCode) (c : ℕ) (log : List Act) → IsSo log
+      → IsSo (acts_of c (failure_effect error c (core_call_in (pending_call (of c log)))) ++ log)
+
+-- where each call that ends does
+pub ends_keep : (config : Config) (IsSo : List Act → Type 0)
+    → ((adds : List InstrumentAct) (log : List Act) → IsSo log → IsSo (map OnDevice (map Applied adds) ++ log))
+    → ((c : ℕ) (does : Arguments → CallOutcome) (log : List Act) → IsSo log
+    → IsSo (acts_of c (effect_of c does (core_call_in (pending_call (of c log)))) ++ log)) → StepsKeep config IsSo
+ends_keep config IsSo happened ended = record {
+  happened = happened;
+  resumed = λ polled c wait log for so. ended c (λ arguments. resume_outcome config polled c arguments
+      (next_wait wait arguments (device_acts log)) (device_acts log)) log so;
+  failed = λ error c log so. ended c (λ arguments. leaving c (only (failure arguments error))) log so;
+}
+
+pub step_keeps : (config : Config) (IsSo : List Act → Type 0) → StepsKeep config IsSo → (log new : List Act) → IsSo log
+    → IsNext config log new → IsSo new
+step_keeps config IsSo keep log new so (inl (adds, such, is)) = subst IsSo (sym is) (keep.happened adds log so)
+step_keeps config IsSo keep log new so (inr (none, inl (c, wait, polled, oldest, for, said, is))) =
+    subst IsSo (sym is) (keep.resumed polled c wait log for so)
+step_keeps config IsSo keep log new so (inr (none, inr (still, inl (adds, such, is)))) = subst IsSo (sym is) (keep.happened adds log so)
+step_keeps config IsSo keep log new so (inr (none, inr (still, inr (idle, (c, wait, oldest, for, is))))) =
+    subst IsSo (sym is) (keep.failed (late wait) c log so)
+
+pub abort_keeps : (config : Config) (IsSo : List Act → Type 0) → StepsKeep config IsSo → (found : Option ℕ) (log : List Act) → IsSo log
+    → IsSo (abort_acts found log ++ log)
+abort_keeps config IsSo keep (Some d) log so = keep.failed Abort d log so
+abort_keeps config IsSo keep None log so = so
+
+-- the acts of a Turn in their order
+pub turn_parts : (c : ℕ) (bytes : List ℕ) (effect : Effect) (aborts : Option ℕ) (log : List Act)
+    → let taken = acts_of c effect ++ On c (CallTaken bytes) ∷ log in
+    taken_acts c bytes effect aborts log ++ log ≡ abort_acts aborts taken ++ taken
+turn_parts c bytes effect aborts log =
+    let acts = acts_of c effect ++ On c (CallTaken bytes) ∷ [] in
+    let same : acts ++ log ≡ acts_of c effect ++ On c (CallTaken bytes) ∷ log =
+    append_assoc (acts_of c effect) (On c (CallTaken bytes) ∷ []) log in
+    append_assoc (abort_acts aborts (acts ++ log)) acts log ∙ ap (λ (l : List Act). abort_acts aborts l ++ l) same
+
+-- a Turn, where what the request does leaves it so
+pub turn_keeps : (config : Config) (IsSo : List Act → Type 0) → StepsKeep config IsSo → (polled c : ℕ) (found : Option (List ℕ))
+    (request : Option Request) (log : List Act) → IsSo log
+    → ((bytes : List ℕ) (asked : Request) → found ≡ Some bytes → request ≡ Some asked
+    → IsSo (acts_of c (request_effect config polled c asked (device_acts log)) ++ On c (CallTaken bytes) ∷ log))
+    → IsSo (turn_acts config polled c found request log ++ log)
+turn_keeps config IsSo keep polled c (Some bytes) (Some request) log so does =
+    let effect = request_effect config polled c request (device_acts log) in
+    subst IsSo (sym (turn_parts c bytes effect (aborts request (device_acts log)) log))
+    (abort_keeps config IsSo keep (aborts request (device_acts log)) _ (does bytes request refl refl))
+turn_keeps config IsSo keep polled c (Some bytes) None log so does = so
+turn_keeps config IsSo keep polled c None request log so does = so
+
+-- a Refuse, where the reply does
+pub refuse_keeps : (IsSo : List Act → Type 0) (c : ℕ) (found : Option (List ℕ)) (call : Option CoreCall) (log : List Act) → IsSo log
+    → ((bytes : List ℕ) (asked : CoreCall) → found ≡ Some bytes → call ≡ Some asked
+    → IsSo (On c (Replied (refused_reply asked)) ∷ On c (CallTaken bytes) ∷ log)) → IsSo (refuse_acts c found call ++ log)
+refuse_keeps IsSo c (Some bytes) (Some call) log so does = does bytes call refl refl
+refuse_keeps IsSo c (Some bytes) None log so does = so
+refuse_keeps IsSo c None call log so does = so
+
 -- ---- a call that is done, or waits no more
 
 left_none : (c : ℕ) (acts : List WaitAct) → waits c (Left c ∷ acts) ≡ None
@@ -74,23 +142,15 @@ done_by c May arguments (act ∷ adds) acts may h = (one act (adds ++ acts) h.0,
   where
     one : (act : DeviceAct) (acts : List DeviceAct) → IsDone c arguments acts act → IsBy c May acts act
     one (Linked (Made lid conn)) acts h = (h.0, h.1, may)
-    one (Linked (Destroyed lid)) acts h = tt
-    one (Linked (Locked lid)) acts h = tt
-    one (Linked (Unlocked lid)) acts h = tt
     one (Waited act) acts h = absurd h
     one (Channel (SrqEnabled lid conn handle)) acts h = h.1
-    one (Channel _) acts h = tt
-    one (Applied act) acts h = tt
-    one Ticked acts h = tt
+    one _ acts h = tt
 
 pub done_waits : (c : ℕ) (arguments : Arguments) (adds acts : List DeviceAct) → Each (IsDone c arguments) adds acts
     → wait_acts (adds ++ acts) ≡ wait_acts acts
 done_waits c arguments [] acts h = refl
-done_waits c arguments (Linked act ∷ adds) acts h = done_waits c arguments adds acts h.1
 done_waits c arguments (Waited act ∷ adds) acts h = absurd h.0
-done_waits c arguments (Channel act ∷ adds) acts h = done_waits c arguments adds acts h.1
-done_waits c arguments (Applied act ∷ adds) acts h = done_waits c arguments adds acts h.1
-done_waits c arguments (Ticked ∷ adds) acts h = done_waits c arguments adds acts h.1
+done_waits c arguments (_ ∷ adds) acts h = done_waits c arguments adds acts h.1
 
 replies_role : (xid : ℕ) (result : Option Outcome) (own : List ConnAct) → open_role (replies xid result ++ own) ≡ open_role own
 replies_role xid (Some result) own = refl
@@ -122,9 +182,6 @@ fit_connected c ok None log fit = fit_free c (connect_effect c ok None) log fit 
     (left_none c (wait_acts (device_acts log)))
 
 -- ---- a call that resumes
-
-some_wait : (a b : Wait) → Some a ≡ Some b → a ≡ b
-some_wait a b e = cc
 
 -- a create_link doesn't wait anew
 pub no_next : (wait : Wait) (arguments : Arguments) (acts : List DeviceAct) (next : Wait × ℕ) → is_create_link arguments ≡ true
@@ -178,19 +235,17 @@ fit_happened : (adds : List InstrumentAct) (log : List Act) → Fit log → Fit 
 fit_happened adds log fit = fit_shared (map Applied adds) log fit (suits_happened adds (device_acts log) fit.suits)
     (link_acts-happened adds (device_acts log)) (wait_acts-happened adds (device_acts log))
 
-fit_does : (IsSuch : List InstrumentAct → List InstrumentAct → Type 0) (log new : List Act) → Fit log → InstrumentDoes IsSuch log new
-    → Fit new
-fit_does IsSuch log new fit (adds, such, is) = subst Fit (sym is) (fit_happened adds log fit)
-
 -- ---- a step
 
+pub fit_keeps : (config : Config) → StepsKeep config Fit
+fit_keeps config = record {
+  happened = fit_happened;
+  resumed = λ polled c wait log for fit. fit_resumed config polled c wait log fit for;
+  failed = λ error c log fit. fit_failed error c (core_call_in (pending_call (of c log))) log fit;
+}
+
 pub fit_step : (config : Config) (log new : List Act) → Fit log → IsNext config log new → Fit new
-fit_step config log new fit (inl fires) = fit_does IsFired log new fit fires
-fit_step config log new fit (inr (none, inl (c, wait, polled, oldest, for, said, is))) =
-    subst Fit (sym is) (fit_resumed config polled c wait log fit for)
-fit_step config log new fit (inr (none, inr (still, inl step))) = fit_does IsStep log new fit step
-fit_step config log new fit (inr (none, inr (still, inr (idle, (c, wait, oldest, for, is))))) =
-    subst Fit (sym is) (fit_failed (late wait) c (core_call_in (pending_call (of c log))) log fit)
+fit_step config = step_keeps config Fit (fit_keeps config)
 
 -- ---- an event's own acts
 
@@ -210,7 +265,7 @@ fit_taken : (c : ℕ) (bytes : List ℕ) (log : List Act) → Fit log → waits 
     → Fit (On c (CallTaken bytes) ∷ log)
 fit_taken c bytes log fit none = fit_on_free c (CallTaken bytes) log fit refl none
 
-entered_waits : (c : ℕ) (named : Option ℕ) (wait : Wait) (last : Option ℕ) (acts : List WaitAct)
+pub entered_waits : (c : ℕ) (named : Option ℕ) (wait : Wait) (last : Option ℕ) (acts : List WaitAct)
     → (waits c (Entered c named wait last ∷ acts) ≡ Some wait) × (named_link c (Entered c named wait last ∷ acts) ≡ named)
 entered_waits c named wait last acts = rw (eq-eqb c c refl) (refl, refl)
 
@@ -237,7 +292,7 @@ fit_admitted config polled c bytes call (Some (Awaits wait until)) log fit lt no
     ((refl, lt, (λ n is. waits_own c call.arguments (device_acts log) wait until n e is)), tt) refl
     (λ other is.
     let now = entered_waits c (lid_of (link call.arguments)) wait _ (wait_acts (device_acts log)) in
-    let same : wait ≡ other = some_wait wait other (sym now.0 ∙ is) in (
+    let same : wait ≡ other = some_same wait other (sym now.0 ∙ is) in (
       core,
       (
         call,
@@ -263,50 +318,18 @@ fit_request config polled c bytes request log fit lt next asks =
         let own = of_mine c (CallTaken bytes) log in
         fit_admitted config polled c bytes call (stop_of c call.arguments (device_acts log)) log taken lt none
         (ap open_role own ∙ known.0) (ap (λ (l : List ConnAct). core_call_in (pending_call l)) own ∙ known.1) refl
-    by NoCall taken none asks = fit_free c (request_effect config polled c NoCall (device_acts log)) (On c (CallTaken bytes) ∷ log)
-        taken tt refl none
-    by (Decided xid reply) taken none asks =
-        fit_free c (request_effect config polled c (Decided xid reply) (device_acts log)) (On c (CallTaken bytes) ∷ log) taken tt refl
-        none
-    by (AbortRequest xid lid) taken none asks =
-        fit_free c (request_effect config polled c (AbortRequest xid lid) (device_acts log)) (On c (CallTaken bytes) ∷ log) taken tt refl
-        none
-    by (PortRequest xid args) taken none asks =
-        fit_free c (request_effect config polled c (PortRequest xid args) (device_acts log)) (On c (CallTaken bytes) ∷ log) taken tt refl
-        none
+    by request taken none asks =
+        fit_free c (request_effect config polled c request (device_acts log)) (On c (CallTaken bytes) ∷ log) taken tt refl none
 
-fit_abort : (aborts : Option ℕ) (log : List Act) → Fit log → Fit (abort_acts aborts log ++ log)
-fit_abort (Some d) log fit = fit_failed Abort d (core_call_in (pending_call (of d log))) log fit
-fit_abort None log fit = fit
+fit_turn : (config : Config) (polled c : ℕ) (log : List Act) → Fit log → c < 16
+    → Fit (turn_acts config polled c (next_call (of c log)) (next_request (of c log)) log ++ log)
+fit_turn config polled c log fit lt = turn_keeps config Fit (fit_keeps config) polled c (next_call (of c log)) (next_request (of c log)) log
+    fit (λ bytes request next asks. fit_request config polled c bytes request log fit lt next asks)
 
--- the acts of a Turn in their order
-pub turn_parts : (c : ℕ) (bytes : List ℕ) (effect : Effect) (aborts : Option ℕ) (log : List Act)
-    → let taken = acts_of c effect ++ On c (CallTaken bytes) ∷ log in
-    taken_acts c bytes effect aborts log ++ log ≡ abort_acts aborts taken ++ taken
-turn_parts c bytes effect aborts log =
-    let acts = acts_of c effect ++ On c (CallTaken bytes) ∷ [] in
-    let same : acts ++ log ≡ acts_of c effect ++ On c (CallTaken bytes) ∷ log =
-    append_assoc (acts_of c effect) (On c (CallTaken bytes) ∷ []) log in
-    append_assoc (abort_acts aborts (acts ++ log)) acts log ∙ ap (λ (l : List Act). abort_acts aborts l ++ l) same
-
-fit_turn : (config : Config) (polled c : ℕ) (found : Option (List ℕ)) (request : Option Request) (log : List Act) → Fit log → c < 16
-    → next_call (of c log) ≡ found → next_request (of c log) ≡ request → Fit (turn_acts config polled c found request log ++ log)
-fit_turn config polled c (Some bytes) (Some request) log fit lt next asks =
-    subst Fit (sym (turn_parts c bytes (request_effect config polled c request (device_acts log)) (aborts request (device_acts log)) log))
-    (fit_abort (aborts request (device_acts log)) _ (fit_request config polled c bytes request log fit lt next asks))
-fit_turn config polled c (Some bytes) None log fit lt next asks = fit
-fit_turn config polled c None (Some request) log fit lt next asks = fit
-fit_turn config polled c None None log fit lt next asks = fit
-
-fit_refuse : (c : ℕ) (found : Option (List ℕ)) (call : Option CoreCall) (log : List Act) → Fit log → next_call (of c log) ≡ found
-    → Fit (refuse_acts c found call ++ log)
-fit_refuse c (Some bytes) (Some call) log fit next =
+fit_refuse : (c : ℕ) (log : List Act) → Fit log → Fit (refuse_acts c (next_call (of c log)) (refusable (of c log)) ++ log)
+fit_refuse c log fit = refuse_keeps Fit c (next_call (of c log)) (refusable (of c log)) log fit (λ bytes call next can.
     let none = idle_free c log bytes fit next in
-    fit_on_free c (Replied _) (On c (CallTaken bytes) ∷ log) (fit_taken c bytes log fit none) refl
-    none
-fit_refuse c (Some bytes) None log fit next = fit
-fit_refuse c None (Some call) log fit next = fit
-fit_refuse c None None log fit next = fit
+    fit_on_free c (Replied _) (On c (CallTaken bytes) ∷ log) (fit_taken c bytes log fit none) refl none)
 
 -- a connection opens
 shut_before : (far : Bool) (role : Option Role)
@@ -337,9 +360,7 @@ suits_links : (links : List LinkAct) (acts : List DeviceAct) (before : List Link
     → AllSuit acts → AllSuit (map Linked links ++ acts)
 suits_links [] acts before h all = all
 suits_links (Made lid conn ∷ links) acts before h all = absurd h.0
-suits_links (Destroyed lid ∷ links) acts before h all = (tt, suits_links links acts before h.1 all)
-suits_links (Locked lid ∷ links) acts before h all = (tt, suits_links links acts before h.1 all)
-suits_links (Unlocked lid ∷ links) acts before h all = (tt, suits_links links acts before h.1 all)
+suits_links (_ ∷ links) acts before h all = (tt, suits_links links acts before h.1 all)
 
 abbrev pub close_adds : ℕ → List DeviceAct → List DeviceAct
 close_adds c acts = Channel (ChannelClosed c) ∷ (map Linked (closing c (link_acts acts)) ++ Waited (Left c) ∷ [])
@@ -388,8 +409,8 @@ fit_event config (Open c role) polled channel_log log free fit =
     fit_open c role log fit (shut_before (nat_lt 15 c) (open_role (of c log)) free)
 fit_event config (Bytes c piece) polled channel_log log free fit = fit_on c (Piece piece) log fit refl (fit.held c)
 fit_event config (Turn c) polled channel_log log free fit =
-    fit_turn config polled c (next_call (of c log)) (next_request (of c log)) log fit (within c log _ free) refl refl
-fit_event config (Refuse c) polled channel_log log free fit = fit_refuse c (next_call (of c log)) (refusable (of c log)) log fit refl
+    fit_turn config polled c log fit (within c log _ free)
+fit_event config (Refuse c) polled channel_log log free fit = fit_refuse c log fit
 fit_event config (Took (Conn c) count) polled channel_log log free fit = fit_on c (BytesTaken count) log fit refl (fit.held c)
 fit_event config (Took (Intr c) count) polled channel_log log free fit =
     fit_shared (Channel (ChannelTaken c count) ∷ []) log fit (tt, fit.suits) refl refl

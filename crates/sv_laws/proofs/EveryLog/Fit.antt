@@ -6,13 +6,13 @@ use Rattle.sv_logs.proofs.Each.{Each}
 use Rattle.sv_vxi.specs.Arguments.{is_create_link}
 use Rattle.sv_links.specs.declared.waiting.Wait.{Wait}
 use Rattle.sv_links.specs.declared.waiting.Wait.TheVariants.{Lock}
-use Rattle.sv_links.specs.Links.{Made, Destroyed, Locked, Unlocked, links_made, owner}
-use Rattle.sv_links.specs.Waiting.{WaitAct, Entered, Again, Left, waits, link}
+use Rattle.sv_links.specs.Links.{Made, Destroyed, links_made, owner}
+use Rattle.sv_links.specs.Waiting.{WaitAct, Entered, waits, link}
 use Rattle.sv_links.specs.Channels.{SrqEnabled}
 use Rattle.sv_laws.proofs.LinksAlike.{owner_before, owner_of_made}
 use Rattle.sv_laws.proofs.CallsAlike.{SameCall, conn_of, call_foreign}
 use Rattle.sv_history.specs.declared.event.Role.TheVariants.{Core}
-use Rattle.sv_history.specs.Act.{Act, ConnAct, DeviceAct, Linked, Waited, Channel, Applied, Ticked, On, OnDevice, of, device_acts, link_acts, wait_acts}
+use Rattle.sv_history.specs.Act.{Act, ConnAct, DeviceAct, Linked, Waited, Channel, On, OnDevice, of, device_acts, link_acts, wait_acts}
 use Rattle.sv_history.specs.Connection.{open_role, pending_call}
 use Rattle.sv_history.specs.CoreCall.{CoreCall}
 use Rattle.sv_history.specs.Request.{core_call_in}
@@ -71,13 +71,9 @@ by_suits c May (act ∷ adds) acts h = (one act (adds ++ acts) h.0, by_suits c M
   where
     one : (act : DeviceAct) (acts : List DeviceAct) → IsBy c May acts act → Suits acts act
     one (Linked (Made lid conn)) acts h = h.0
-    one (Linked _) acts h = tt
     one (Waited (Entered conn named wait last)) acts h = (h.1, h.2)
-    one (Waited _) acts h = tt
     one (Channel (SrqEnabled lid conn handle)) acts h = h
-    one (Channel _) acts h = tt
-    one (Applied act) acts h = tt
-    one Ticked acts h = tt
+    one _ acts h = tt
 
 same_none : (c : ℕ) (acts : List WaitAct) → SameCall c acts acts
 same_none c acts = record { wait = refl; until = refl; named = refl }
@@ -86,18 +82,13 @@ same_none c acts = record { wait = refl; until = refl; named = refl }
 pub by_others : (c d : ℕ) (May : Type 0) (adds acts : List DeviceAct) → d ≢ c → Each (IsBy c May) adds acts
     → SameCall d (wait_acts (adds ++ acts)) (wait_acts acts)
 by_others c d May [] acts ne h = same_none d (wait_acts acts)
-by_others c d May (Linked act ∷ adds) acts ne h = by_others c d May adds acts ne h.1
-by_others c d May (Waited (Entered conn named wait last) ∷ adds) acts ne h =
-    call_foreign d (Entered conn named wait last) (wait_acts (adds ++ acts)) (wait_acts acts) (λ e. ne (sym e ∙ h.0.0))
-    (by_others c d May adds acts ne h.1)
-by_others c d May (Waited (Again conn wait last) ∷ adds) acts ne h =
-    call_foreign d (Again conn wait last) (wait_acts (adds ++ acts)) (wait_acts acts) (λ e. ne (sym e ∙ h.0))
-    (by_others c d May adds acts ne h.1)
-by_others c d May (Waited (Left conn) ∷ adds) acts ne h =
-    call_foreign d (Left conn) (wait_acts (adds ++ acts)) (wait_acts acts) (λ e. ne (sym e ∙ h.0)) (by_others c d May adds acts ne h.1)
-by_others c d May (Channel act ∷ adds) acts ne h = by_others c d May adds acts ne h.1
-by_others c d May (Applied act ∷ adds) acts ne h = by_others c d May adds acts ne h.1
-by_others c d May (Ticked ∷ adds) acts ne h = by_others c d May adds acts ne h.1
+by_others c d May (Waited act ∷ adds) acts ne h = call_foreign d act (wait_acts (adds ++ acts)) (wait_acts acts)
+    (λ e. ne (sym e ∙ conn_is act (adds ++ acts) h.0)) (by_others c d May adds acts ne h.1)
+  where
+    conn_is : (act : WaitAct) (acts : List DeviceAct) → IsBy c May acts (Waited act) → conn_of act ≡ c
+    conn_is (Entered conn named wait last) acts h = h.0
+    conn_is _ acts h = h
+by_others c d May (_ ∷ adds) acts ne h = by_others c d May adds acts ne h.1
 
 -- an owner was one before, or is this connection
 by_owner : (c n d : ℕ) (May : Type 0) (adds acts : List DeviceAct) → Each (IsBy c May) adds acts
@@ -109,12 +100,7 @@ by_owner c n d May (Linked (Made lid conn) ∷ adds) acts h is = elim (owner_of_
 ]
 by_owner c n d May (Linked (Destroyed lid) ∷ adds) acts h is =
     by_owner c n d May adds acts h.1 (owner_before n d lid (link_acts (adds ++ acts)) is).1
-by_owner c n d May (Linked (Locked lid) ∷ adds) acts h is = by_owner c n d May adds acts h.1 is
-by_owner c n d May (Linked (Unlocked lid) ∷ adds) acts h is = by_owner c n d May adds acts h.1 is
-by_owner c n d May (Waited act ∷ adds) acts h is = by_owner c n d May adds acts h.1 is
-by_owner c n d May (Channel act ∷ adds) acts h is = by_owner c n d May adds acts h.1 is
-by_owner c n d May (Applied act ∷ adds) acts h is = by_owner c n d May adds acts h.1 is
-by_owner c n d May (Ticked ∷ adds) acts h is = by_owner c n d May adds acts h.1 is
+by_owner c n d May (_ ∷ adds) acts h is = by_owner c n d May adds acts h.1 is
 
 -- a call that waits as before
 pub held_same : (c : ℕ) (own now : List ConnAct) (acts after : List WaitAct) → now ≡ own → SameCall c after acts → IsHeld c own acts

@@ -6,21 +6,19 @@ use Rattle.sv_links.specs.declared.links.Link.{Link}
 use Rattle.sv_links.specs.declared.enabled.Enabled.{Enabled}
 use Rattle.sv_links.specs.declared.waiting.Wait.{Wait}
 use Rattle.sv_links.specs.declared.waiting.Wait.TheVariants.{Lock, Input as ForInput, Response, Dial}
-use Rattle.sv_links.specs.Links.{LinkAct, Made, Destroyed, Locked, Unlocked, links_made, live, owner, is_of, holder}
+use Rattle.sv_links.specs.Links.{LinkAct, Made, Destroyed, links_made, live, owner, is_of, holder}
 use Rattle.sv_links.specs.Table.{IsRising}
 use Rattle.sv_links.specs.Waiting.{Entered, Again, Left, waits, link, is_there}
-use Rattle.sv_links.specs.Channels.{ChannelAct, SrqEnabled, SrqDisabled, ChannelOpened, ChannelClosed, Requested, ChannelTaken, srq_enabled}
+use Rattle.sv_links.specs.Channels.{ChannelAct, SrqEnabled, SrqDisabled, srq_enabled}
 use Rattle.sv_links.proofs.Tables.{rising-push, rising-filter, other_than}
+use Rattle.sv_laws.proofs.Facts.{some_same}
 use Rattle.sv_laws.proofs.LinksAlike.{owner_made, owner_made_other, owner_destroyed_other, owner_before, is_of_owner}
 use Rattle.sv_laws.proofs.ChannelsAlike.{AsksElsewhere}
-use Rattle.sv_history.specs.Act.{DeviceAct, Linked, Waited, Channel, Applied, Ticked, link_acts, wait_acts}
+use Rattle.sv_history.specs.Act.{DeviceAct, Linked, Waited, Channel, Applied, link_acts, wait_acts}
 use Rattle.sv_history.specs.Requests.{HearsOf}
 use Rattle.sv_history.specs.Settling.{CanResume}
 use Rattle.sv_laws.specs.Isolation.{NoOtherWaits}
 use Rattle.sv_laws.proofs.EveryLog.Fit.{AllSuit}
-
-some_number : (a b : ℕ) → Some a ≡ Some b → a ≡ b
-some_number a b e = cc
 
 -- ---- numbers of links rise
 
@@ -30,12 +28,7 @@ rises (Linked (Made lid conn) ∷ acts) all =
     rw all.0 (rising-push (live (link_acts acts)) (links_made (link_acts acts)) conn (rises acts all.1))
 rises (Linked (Destroyed lid) ∷ acts) all =
     rising-filter (other_than lid) (live (link_acts acts)) (links_made (link_acts acts)) (rises acts all.1)
-rises (Linked (Locked lid) ∷ acts) all = rises acts all.1
-rises (Linked (Unlocked lid) ∷ acts) all = rises acts all.1
-rises (Waited act ∷ acts) all = rises acts all.1
-rises (Channel act ∷ acts) all = rises acts all.1
-rises (Applied act ∷ acts) all = rises acts all.1
-rises (Ticked ∷ acts) all = rises acts all.1
+rises (_ ∷ acts) all = rises acts all.1
 
 rising_owner : (n c last : ℕ) (xs : List Link) → IsRising xs last
     → option_map (λ link. link.conn) (find (λ link. eqb link.lid n) xs) ≡ Some c
@@ -68,21 +61,15 @@ wait_link (Linked (Made lid conn) ∷ acts) all d n h = named_made d n lid conn 
 wait_link (Linked (Destroyed lid) ∷ acts) all d n h =
     let was = wait_link acts all.1 d n h in
     (was.0, (λ e is. was.1 e (owner_before n e lid (link_acts acts) is).1))
-wait_link (Linked (Locked lid) ∷ acts) all d n h = wait_link acts all.1 d n h
-wait_link (Linked (Unlocked lid) ∷ acts) all d n h = wait_link acts all.1 d n h
 wait_link (Waited (Entered conn named wait last) ∷ acts) all d n h = elim (cases_Bool (eqb conn d)) [
   | inl e ↦
       let owns : owner n (link_acts acts) ≡ Some conn = all.0.1 n (rw e at h) in (
         owner_within n conn acts all.1 owns,
-        (λ other is. some_number other conn (sym is ∙ owns) ∙ eqb-true conn d e),
+        (λ other is. some_same other conn (sym is ∙ owns) ∙ eqb-true conn d e),
       )
   | inr e ↦ wait_link acts all.1 d n (rw e at h)
 ]
-wait_link (Waited (Again conn wait last) ∷ acts) all d n h = wait_link acts all.1 d n h
-wait_link (Waited (Left conn) ∷ acts) all d n h = wait_link acts all.1 d n h
-wait_link (Channel act ∷ acts) all d n h = wait_link acts all.1 d n h
-wait_link (Applied act ∷ acts) all d n h = wait_link acts all.1 d n h
-wait_link (Ticked ∷ acts) all d n h = wait_link acts all.1 d n h
+wait_link (_ ∷ acts) all d n h = wait_link acts all.1 d n h
 
 -- ---- a call that waits is of one of sixteen connections
 
@@ -106,10 +93,7 @@ waits_within (Waited (Left conn) ∷ acts) all d wait h = elim (cases_Bool (eqb 
   | inl e ↦ absurd (let z : None ≡ Some wait = rw e at h in cc)
   | inr e ↦ waits_within acts all.1 d wait (rw e at h)
 ]
-waits_within (Linked act ∷ acts) all d wait h = waits_within acts all.1 d wait h
-waits_within (Channel act ∷ acts) all d wait h = waits_within acts all.1 d wait h
-waits_within (Applied act ∷ acts) all d wait h = waits_within acts all.1 d wait h
-waits_within (Ticked ∷ acts) all d wait h = waits_within acts all.1 d wait h
+waits_within (_ ∷ acts) all d wait h = waits_within acts all.1 d wait h
 
 -- ---- a link that asks for service requests lives, on the connection that it is of
 
@@ -117,16 +101,13 @@ waits_within (Ticked ∷ acts) all d wait h = waits_within acts all.1 d wait h
 abbrev AskOwned : List DeviceAct → List ChannelAct → Type 0
 AskOwned acts channel_log = (lid : ℕ) (one : Enabled) → srq_enabled lid channel_log ≡ Some one → owner lid (link_acts acts) ≡ Some one.conn
 
-some_enabled : (a b : Enabled) → Some a ≡ Some b → a ≡ b
-some_enabled a b e = cc
-
 enabled_owned : (acts : List DeviceAct) (before : List ChannelAct) (other conn : ℕ) (handle : List ℕ)
     → owner other (link_acts acts) ≡ Some conn → AskOwned acts before → AskOwned acts (SrqEnabled other conn handle ∷ before)
 enabled_owned acts before other conn handle owns owned lid one h = elim (cases_Bool (eqb other lid)) [
   | inl e ↦
       let this : Enabled = record { lid = lid; conn = conn; handle = handle } in
       ap (λ (n : ℕ). owner n (link_acts acts)) (sym (eqb-true other lid e)) ∙ owns
-      ∙ ap (λ (x : Enabled). Some x.conn) (some_enabled this one (rw e at h))
+      ∙ ap (λ (x : Enabled). Some x.conn) (some_same this one (rw e at h))
   | inr e ↦ owned lid one (rw e at h)
 ]
 
@@ -144,28 +125,18 @@ asks_own (Channel (SrqEnabled other conn handle) ∷ acts) channel_log all (befo
     (enabled_owned acts before other conn handle all.0 (asks_own acts before all.1 hears))
 asks_own (Channel (SrqDisabled other) ∷ acts) channel_log all (before, hears, is) = subst (AskOwned acts) (sym is)
     (disabled_owned acts before other (λ lid one ne h. asks_own acts before all.1 hears lid one h))
-asks_own (Channel (ChannelOpened conn what) ∷ acts) channel_log all (before, hears, is) =
-    subst (AskOwned acts) (sym is) (asks_own acts before all.1 hears)
-asks_own (Channel (ChannelClosed conn) ∷ acts) channel_log all (before, hears, is) =
-    subst (AskOwned acts) (sym is) (asks_own acts before all.1 hears)
-asks_own (Channel Requested ∷ acts) channel_log all (before, hears, is) = subst (AskOwned acts) (sym is) (asks_own acts before all.1 hears)
-asks_own (Channel (ChannelTaken conn count) ∷ acts) channel_log all (before, hears, is) =
-    subst (AskOwned acts) (sym is) (asks_own acts before all.1 hears)
+asks_own (Channel _ ∷ acts) channel_log all (before, hears, is) = subst (AskOwned acts) (sym is) (asks_own acts before all.1 hears)
 asks_own (Linked (Made lid conn) ∷ acts) channel_log all (before, hears, is) = subst (AskOwned (Linked (Made lid conn) ∷ acts)) (sym is)
     (λ n one h. owner_made n one.conn lid conn (link_acts acts) (asks_own acts before all.1 hears n one h))
 asks_own (Linked (Destroyed lid) ∷ acts) channel_log all (before, hears, is) = subst (AskOwned (Linked (Destroyed lid) ∷ acts)) (sym is)
     (disabled_owned (Linked (Destroyed lid) ∷ acts) before lid
     (λ n one ne h. owner_destroyed_other n lid (link_acts acts) ne ∙ asks_own acts before all.1 hears n one h))
-asks_own (Linked (Locked lid) ∷ acts) channel_log all (before, hears, is) =
-    subst (AskOwned acts) (sym is) (asks_own acts before all.1 hears)
-asks_own (Linked (Unlocked lid) ∷ acts) channel_log all (before, hears, is) =
-    subst (AskOwned acts) (sym is) (asks_own acts before all.1 hears)
+asks_own (Linked _ ∷ acts) channel_log all (before, hears, is) = subst (AskOwned acts) (sym is) (asks_own acts before all.1 hears)
 asks_own (Applied act ∷ acts) channel_log all (before, true, hears, so, is) =
     subst (AskOwned acts) (sym is) (asks_own acts before all.1 hears)
 asks_own (Applied act ∷ acts) channel_log all (before, false, hears, so, is) =
     subst (AskOwned acts) (sym is) (asks_own acts before all.1 hears)
-asks_own (Waited act ∷ acts) channel_log all hears = asks_own acts channel_log all.1 hears
-asks_own (Ticked ∷ acts) channel_log all hears = asks_own acts channel_log all.1 hears
+asks_own (_ ∷ acts) channel_log all hears = asks_own acts channel_log all.1 hears
 
 -- so one of a number that isn't a connection's is of another
 pub asks_elsewhere : (c lid : ℕ) (acts : List DeviceAct) (channel_log : List ChannelAct) → AllSuit acts → HearsOf acts channel_log

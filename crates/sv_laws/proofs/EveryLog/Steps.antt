@@ -1,10 +1,12 @@
 -- Steps that are due, one after the other: each adds acts to the log, and at the end none is due.
 use Rattle.std.proofs.Common.{◌≡◌, ℕ, zero, suc, List, [], ◌∷◌, ◌++◌, Some, None, sym, ap, subst, ◌∙◌, inl, inr, append_assoc}
 use Rattle.std.specs.Prelude.{map}
+use Rattle.sv_instrument.specs.Stimulus.{IsFired}
+use Rattle.sv_instrument.specs.Step.{IsStep}
 use Rattle.sv_history.specs.declared.event.Config.{Config}
 use Rattle.sv_history.specs.Event.{PlainEvent}
 use Rattle.sv_history.specs.Act.{Act, OnDevice, Applied}
-use Rattle.sv_history.specs.Settling.{IsNext, IsSettled, SettlesIn}
+use Rattle.sv_history.specs.Settling.{InstrumentDoes, Resumes, TimesOut, IsNext, IsSettled, SettlesIn}
 use Rattle.sv_history.specs.History.{IsLogOf}
 
 -- ---- each adds acts
@@ -48,6 +50,26 @@ log_settled config (event ∷ history) log (before, polled, channel_log, is_even
 pub stays : (n : ℕ) (config : Config) (log new : List Act) → IsSettled config log → SettlesIn n config log new → new ≡ log
 stays zero config log new none (still, same) = same
 stays (suc n) config log new none (middle, next, more) = absurd (none middle next)
+
+-- ---- where none is due, none of any kind is
+
+pub record Rested (config : Config) (log : List Act) : Type 0 where
+  pub fires : (new : List Act) → InstrumentDoes IsFired log new → ⊥
+  pub resumes : (new : List Act) → Resumes config log new → ⊥
+  pub steps : (new : List Act) → InstrumentDoes IsStep log new → ⊥
+  pub times : (new : List Act) → TimesOut config log new → ⊥
+
+pub rested : (config : Config) (log : List Act) → IsSettled config log → Rested config log
+rested config log none =
+    let fires : (new : List Act) → InstrumentDoes IsFired log new → ⊥ = λ new does. none new (inl does) in
+    let resumes : (new : List Act) → Resumes config log new → ⊥ = λ new does. none new (inr (fires, inl does)) in
+    let steps : (new : List Act) → InstrumentDoes IsStep log new → ⊥ = λ new does. none new (inr (fires, inr (resumes, inl does))) in
+    record {
+      fires = fires;
+      resumes = resumes;
+      steps = steps;
+      times = λ new does. none new (inr (fires, inr (resumes, inr (steps, does))));
+    }
 
 -- ---- some steps, and then others
 

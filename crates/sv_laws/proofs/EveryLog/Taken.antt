@@ -1,5 +1,5 @@
 -- What is known of a call that a connection takes.
-use Rattle.std.proofs.Common.{◌≡◌, ℕ, ◌<◌, ◌≤◌, Bool, true, false, cond, List, nat_lt, Option, Some, None, refl, sym, ap, ◌∙◌, arith}
+use Rattle.std.proofs.Common.{◌≡◌, ℕ, ◌<◌, ◌≤◌, Bool, true, false, cond, List, nat_lt, Option, Some, None, refl, sym, ap, subst, ◌∙◌, arith}
 use Rattle.std.specs.Prelude.{is_some, ◌||◌, ℤ, slice_get, Result, Ok, Err}
 use Rattle.std.proofs.lemmas.Bool.{ltb-false}
 use Rattle.sv_rpc.specs.declared.reply.Reply.{Reply}
@@ -17,9 +17,10 @@ use Rattle.sv_history.specs.declared.event.Refused.TheVariants.{NoConn}
 use Rattle.sv_history.specs.Act.{Act, ConnAct}
 use Rattle.sv_history.specs.Connection.{next_call, open_role, pending_call, took_no_call, stream, records_ended}
 use Rattle.sv_history.specs.CoreCall.{CoreCall}
-use Rattle.sv_history.specs.Request.{Request, CoreRequest, AbortRequest, core_request, abort_request, request_of, core_call_of, core_call, request_for, next_request}
+use Rattle.sv_history.specs.Request.{Request, NoCall, Decided, CoreRequest, AbortRequest, PortRequest, core_request, abort_request, request_of, core_call_of, core_call, request_for, next_request}
 use Rattle.sv_history.proofs.Deciding.{unless_decided, header_reply, request_is}
 use Rattle.sv_history.specs.History.{unless_shut}
+use Rattle.sv_laws.proofs.Facts.{some_same}
 
 -- ---- it has no other without an answer
 
@@ -32,77 +33,86 @@ pub free_call : (acts : List ConnAct) (bytes : List ℕ) → next_call acts ≡ 
 free_call acts bytes e =
     free_by (took_no_call acts) (pending_call acts) (slice_get (records_of (stream acts)) (records_ended acts)) bytes e
 
+-- ---- what a record asks for is of its connection's program, and has its xid
+
+-- the xid of what is read as a call, unless it is none
+abbrev pub xid_of : Result PlainCall CallFault → Option ℕ
+xid_of (Ok call) = Some call.xid
+xid_of (Err (Version xid)) = Some xid
+xid_of (Err BadHeader) = None
+
+abbrev pub xid_in : Request → Option ℕ
+xid_in NoCall = None
+xid_in (Decided xid reply) = Some xid
+xid_in (CoreRequest call) = Some call.xid
+xid_in (AbortRequest xid lid) = Some xid
+xid_in (PortRequest xid args) = Some xid
+
+abbrev pub AsksAs : Role → Option ℕ → Request → Type 0
+AsksAs role xid (CoreRequest call) = (role ≡ Core) × (xid ≡ Some call.xid)
+AsksAs role xid (AbortRequest own lid) = (role ≡ Abort) × (xid ≡ Some own)
+AsksAs role xid (PortRequest own args) = (role ≡ Portmap) × (xid ≡ Some own)
+AsksAs role xid request = xid ≡ xid_in request
+
+pub xid_is : (role : Role) (xid : Option ℕ) (request : Request) → AsksAs role xid request → xid ≡ xid_in request
+xid_is role xid (CoreRequest call) h = h.1
+xid_is role xid (AbortRequest own lid) h = h.1
+xid_is role xid (PortRequest own args) h = h.1
+xid_is role xid _ h = h
+
+core_asks : (xid : ℕ) (arguments : Result Arguments Garbage) → AsksAs Core (Some xid) (core_request xid arguments)
+core_asks xid (Ok arguments) = (refl, refl)
+core_asks xid (Err garbage) = refl
+
+abort_asks : (xid : ℕ) (read : Result Arguments Garbage) → AsksAs Abort (Some xid) (abort_request xid read)
+abort_asks xid (Ok (OnLink lid call)) = (refl, refl)
+abort_asks xid _ = refl
+
+decided_asks : (role : Role) (call : PlainCall) (reply : Option Reply) → AsksAs role (Some call.xid) (unless_decided role call reply)
+decided_asks role call (Some reply) = refl
+decided_asks Core call None = core_asks call.xid (arguments_at call.proc call.args)
+decided_asks Abort call None = abort_asks call.xid (arguments_at call.proc call.args)
+decided_asks Portmap call None = (refl, refl)
+
+pub asks_as : (role : Role) (found : Result PlainCall CallFault) (request : Request) → request_of role found ≡ request
+    → AsksAs role (xid_of found) request
+asks_as role found request same = subst (AsksAs role (xid_of found)) same (by found)
+  where
+    by : (found : Result PlainCall CallFault) → AsksAs role (xid_of found) (request_of role found)
+    by (Ok call) = subst (AsksAs role (Some call.xid)) (sym (request_is role call)) (decided_asks role call (header_reply role call))
+    by (Err (Version xid)) = refl
+    by (Err BadHeader) = refl
+
+pub is_core : (request : Request) (call : CoreCall) → core_call_of request ≡ Some call → request ≡ CoreRequest call
+is_core (CoreRequest found) call e = ap CoreRequest (some_same found call e)
+is_core _ call e = absurd cc
+
 -- ---- a call of the core channel is taken on a core channel, and is what its bytes are
-
-abort_none : (xid : ℕ) (read : Result Arguments Garbage) → core_call_of (abort_request xid read) ≡ None
-abort_none xid (Ok (OnLink lid call)) = refl
-abort_none xid _ = refl
-
-abort_role : (call : PlainCall) (reply : Option Reply) → core_call_of (unless_decided Abort call reply) ≡ None
-abort_role call (Some reply) = refl
-abort_role call None = abort_none call.xid (arguments_at call.proc call.args)
-
-portmap_role : (call : PlainCall) (reply : Option Reply) → core_call_of (unless_decided Portmap call reply) ≡ None
-portmap_role call (Some reply) = refl
-portmap_role call None = refl
-
-abort_call : (call : Result PlainCall CallFault) → core_call_of (request_of Abort call) ≡ None
-abort_call (Ok call) = ap core_call_of (request_is Abort call) ∙ abort_role call (header_reply Abort call)
-abort_call (Err (Version xid)) = refl
-abort_call (Err BadHeader) = refl
-
-portmap_call : (call : Result PlainCall CallFault) → core_call_of (request_of Portmap call) ≡ None
-portmap_call (Ok call) = ap core_call_of (request_is Portmap call) ∙ portmap_role call (header_reply Portmap call)
-portmap_call (Err (Version xid)) = refl
-portmap_call (Err BadHeader) = refl
-
-some_request : (a b : Request) → Some a ≡ Some b → a ≡ b
-some_request a b e = cc
 
 core_asked : (role : Option Role) (bytes : List ℕ) (call : CoreCall) → request_for role (Some bytes) ≡ Some (CoreRequest call)
     → (role ≡ Some Core) × (core_call bytes ≡ Some call)
 core_asked None bytes call e = absurd cc
-core_asked (Some Core) bytes call e = (refl, ap core_call_of (some_request (request_of Core (call_at bytes)) (CoreRequest call) e))
-core_asked (Some Abort) bytes call e =
-    let is = ap core_call_of (some_request (request_of Abort (call_at bytes)) (CoreRequest call) e) in
-    absurd (let z : None ≡ Some call = sym (abort_call (call_at bytes)) ∙ is in cc)
-core_asked (Some Portmap) bytes call e =
-    let is = ap core_call_of (some_request (request_of Portmap (call_at bytes)) (CoreRequest call) e) in
-    absurd (let z : None ≡ Some call = sym (portmap_call (call_at bytes)) ∙ is in cc)
+core_asked (Some role) bytes call e =
+    let same = some_same (request_of role (call_at bytes)) (CoreRequest call) e in
+    let core = (asks_as role (call_at bytes) (CoreRequest call) same).0 in
+    (ap Some core, ap (λ (r : Role). core_call_of (request_of r (call_at bytes))) (sym core) ∙ ap core_call_of same)
 
 pub core_taken : (acts : List ConnAct) (bytes : List ℕ) (call : CoreCall) → next_call acts ≡ Some bytes
     → next_request acts ≡ Some (CoreRequest call) → (open_role acts ≡ Some Core) × (core_call bytes ≡ Some call)
 core_taken acts bytes call next request =
     core_asked (open_role acts) bytes call (ap (request_for (open_role acts)) (sym next) ∙ request)
 
--- ---- a device_abort isn't taken on a core channel
-
-abbrev is_abort : Option Request → Bool
-is_abort (Some (AbortRequest xid lid)) = true
-is_abort _ = false
-
-core_none : (xid : ℕ) (arguments : Result Arguments Garbage) → is_abort (Some (core_request xid arguments)) ≡ false
-core_none xid (Ok arguments) = refl
-core_none xid (Err garbage) = refl
-
-core_role : (call : PlainCall) (reply : Option Reply) → is_abort (Some (unless_decided Core call reply)) ≡ false
-core_role call (Some reply) = refl
-core_role call None = core_none call.xid (arguments_at call.proc call.args)
-
-core_aborts : (call : Result PlainCall CallFault) → is_abort (Some (request_of Core call)) ≡ false
-core_aborts (Ok call) = ap (λ (r : Request). is_abort (Some r)) (request_is Core call) ∙ core_role call (header_reply Core call)
-core_aborts (Err (Version xid)) = refl
-core_aborts (Err BadHeader) = refl
-
-asked_abort : (next : Option (List ℕ)) → is_abort (request_for (Some Core) next) ≡ false
-asked_abort None = refl
-asked_abort (Some bytes) = core_aborts (call_at bytes)
-
+-- a device_abort isn't
 pub no_abort : (acts : List ConnAct) (xid : ℕ) (lid : ℤ) → open_role acts ≡ Some Core → next_request acts ≡ Some (AbortRequest xid lid) → ⊥
-no_abort acts xid lid core is =
-    let none : is_abort (request_for (open_role acts) (next_call acts)) ≡ false =
-    ap (λ (role : Option Role). is_abort (request_for role (next_call acts))) core ∙ asked_abort (next_call acts) in
-    let z : true ≡ false = sym (ap is_abort is) ∙ none in cc
+no_abort acts xid lid = by (open_role acts) (next_call acts)
+  where
+    by : (role : Option Role) (found : Option (List ℕ)) → role ≡ Some Core → request_for role found ≡ Some (AbortRequest xid lid) → ⊥
+    by (Some role) (Some bytes) core e =
+        let abort : role ≡ Abort = (asks_as role (call_at bytes) _ (some_same (request_of role (call_at bytes)) _ e)).0 in
+        let same : role ≡ Core = cc in
+        let z : Abort ≡ Core = sym abort ∙ same in cc
+    by (Some role) None core e = absurd cc
+    by None found core e = absurd cc
 
 -- ---- an event that isn't refused is of one of sixteen connections
 

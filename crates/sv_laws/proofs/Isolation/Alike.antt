@@ -5,9 +5,10 @@ use Rattle.std.proofs.lemmas.Bool.{cases_Bool, ne_eqb}
 use Rattle.sv_logs.proofs.Each.{Each}
 use Rattle.sv_links.specs.declared.waiting.Wait.{Wait}
 use Rattle.sv_links.specs.declared.waiting.Wait.TheVariants.{Input as ForInput, Response}
-use Rattle.sv_links.specs.Links.{LinkAct, Made, Destroyed, Locked, Unlocked, owner, is_of, holder}
-use Rattle.sv_links.specs.Waiting.{WaitAct, Entered, Again, Left}
+use Rattle.sv_links.specs.Links.{LinkAct, Destroyed, owner, is_of, holder}
+use Rattle.sv_links.specs.Waiting.{WaitAct, Entered, Left}
 use Rattle.sv_links.specs.Channels.{ChannelAct, SrqEnabled, SrqDisabled, ChannelOpened, ChannelClosed, Requested, ChannelTaken, peer}
+use Rattle.sv_laws.proofs.Facts.{some_same}
 use Rattle.sv_laws.proofs.LinksAlike.{OwnsAlike, IsForeignLink, MakesNone, links_foreign, links_same, holder_same, owner_kept, is_of_owner, owner_is_of}
 use Rattle.sv_laws.proofs.CallsAlike.{SameCall, conn_of, call_foreign, call_sym, call_same}
 use Rattle.sv_laws.proofs.ChannelsAlike.{SameChannel, IsForeignChannel, channel_foreign, channel_same, channel_sym}
@@ -44,34 +45,26 @@ mine_also c lid acts other view = owner_is_of c (owner lid (link_acts other))
 abbrev pub IsForeign : ℕ → List DeviceAct → DeviceAct → Type 0
 IsForeign c acts (Linked act) = IsForeignLink c act (link_acts acts)
 IsForeign c acts (Waited (Entered conn named wait last)) = (conn ≢ c) × (wait ≢ ForInput) × (wait ≢ Response)
-IsForeign c acts (Waited (Again conn wait last)) = ⊥
 IsForeign c acts (Waited (Left conn)) = conn ≢ c
 IsForeign c acts (Channel (SrqEnabled lid conn handle)) = (conn ≢ c) × (is_of c (owner lid (link_acts acts)) ≡ false)
 IsForeign c acts (Channel (SrqDisabled lid)) = is_of c (owner lid (link_acts acts)) ≡ false
 IsForeign c acts (Channel (ChannelOpened conn what)) = conn ≢ c
 IsForeign c acts (Channel (ChannelClosed conn)) = conn ≢ c
-IsForeign c acts (Channel Requested) = ⊥
 IsForeign c acts (Channel (ChannelTaken conn count)) = conn ≢ c
-IsForeign c acts (Applied act) = ⊥
-IsForeign c acts Ticked = ⊥
+IsForeign c acts _ = ⊥
 
 -- an act of this connection, or of none, that makes no link
 abbrev pub IsOwn : ℕ → DeviceAct → Type 0
 IsOwn c (Linked act) = MakesNone act
 IsOwn c (Waited act) = conn_of act ≡ c
-IsOwn c (Channel act) = ⊤
-IsOwn c (Applied act) = ⊤
-IsOwn c Ticked = ⊤
+IsOwn c _ = ⊤
 
 -- ---- no other connection waits for the device
-
-some_wait : (a b : Wait) → Some a ≡ Some b → a ≡ b
-some_wait a b e = cc
 
 rest_entered : (c conn : ℕ) (named : Option ℕ) (wait : Wait) (last : Option ℕ) (acts : List WaitAct) → wait ≢ ForInput → wait ≢ Response
     → NoOtherWaits c acts → NoOtherWaits c (Entered conn named wait last ∷ acts)
 rest_entered c conn named wait last acts input response rest d ne = elim (cases_Bool (eqb conn d)) [
-  | inl e ↦ rw e ((λ is. input (some_wait wait ForInput is)), (λ is. response (some_wait wait Response is)))
+  | inl e ↦ rw e ((λ is. input (some_same wait ForInput is)), (λ is. response (some_same wait Response is)))
   | inr e ↦ rw e (rest d ne)
 ]
 
@@ -82,150 +75,62 @@ rest_left c conn acts rest d ne = elim (cases_Bool (eqb conn d)) [
 ]
 
 rest_own : (c : ℕ) (act : WaitAct) (acts : List WaitAct) → conn_of act ≡ c → NoOtherWaits c acts → NoOtherWaits c (act ∷ acts)
-rest_own c (Entered conn named wait last) acts same rest d ne = rw (ne_eqb conn d (λ e. ne (sym e ∙ same))) (rest d ne)
-rest_own c (Again conn wait last) acts same rest d ne = rw (ne_eqb conn d (λ e. ne (sym e ∙ same))) (rest d ne)
 rest_own c (Left conn) acts same rest d ne = rw (ne_eqb conn d (λ e. ne (sym e ∙ same))) (rest d ne)
+rest_own c _ acts same rest d ne = rw (ne_eqb _ d (λ e. ne (sym e ∙ same))) (rest d ne)
 
 -- ---- over acts
 
 peer_foreign : (c : ℕ) (acts : List DeviceAct) (act : ChannelAct) (more : List ChannelAct) → IsForeign c acts (Channel act)
     → peer c (act ∷ more) ≡ peer c more
-peer_foreign c acts (SrqEnabled lid conn handle) more h = refl
-peer_foreign c acts (SrqDisabled lid) more h = refl
 peer_foreign c acts (ChannelOpened conn what) more h = rw (ne_eqb conn c h) refl
 peer_foreign c acts (ChannelClosed conn) more h = rw (ne_eqb conn c h) refl
-peer_foreign c acts Requested more h = absurd h
-peer_foreign c acts (ChannelTaken conn count) more h = refl
-
-foreign_waits : (c lid : ℕ) (act : WaitAct) (acts other : List DeviceAct) → View c lid acts other → conn_of act ≢ c
-    → NoOtherWaits c (act ∷ wait_acts acts) → View c lid (Waited act ∷ acts) other
-foreign_waits c lid act acts other view ne rests = record {
-  instrument = view.instrument;
-  clock = view.clock;
-  owns = view.owns;
-  call = call_foreign c act (wait_acts acts) (wait_acts other) ne view.call;
-  opened = view.opened;
-  held = view.held;
-  also = view.also;
-  mine = view.mine;
-  rests = rests;
-  rest = view.rest;
-}
+peer_foreign c acts _ more h = refl
 
 pub view_foreign : (c lid : ℕ) (act : DeviceAct) (acts other : List DeviceAct) → IsForeign c acts act
     → holder (link_acts (act ∷ acts)) ≡ Some lid → View c lid acts other → View c lid (act ∷ acts) other
-view_foreign c lid (Linked act) acts other h now view = record {
-  instrument = view.instrument;
-  clock = view.clock;
-  owns = links_foreign c act (link_acts acts) (link_acts other) h view.owns;
-  call = view.call;
-  opened = view.opened;
-  held = now;
-  also = view.also;
-  mine = owner_kept c lid act (link_acts acts) now view.mine;
-  rests = view.rests;
-  rest = view.rest;
-}
-view_foreign c lid (Waited (Entered conn named wait last)) acts other h now view =
-    foreign_waits c lid (Entered conn named wait last) acts other view h.0
-    (rest_entered c conn named wait last (wait_acts acts) h.1 h.2 view.rests)
-view_foreign c lid (Waited (Again conn wait last)) acts other h now view = absurd h
-view_foreign c lid (Waited (Left conn)) acts other h now view =
-    foreign_waits c lid (Left conn) acts other view h (rest_left c conn (wait_acts acts) view.rests)
-view_foreign c lid (Channel act) acts other h now view = record {
-  instrument = view.instrument;
-  clock = view.clock;
-  owns = view.owns;
-  call = view.call;
-  opened = peer_foreign c acts act (channel_acts acts) h ∙ view.opened;
-  held = view.held;
-  also = view.also;
-  mine = view.mine;
-  rests = view.rests;
-  rest = view.rest;
-}
-view_foreign c lid (Applied act) acts other h now view = absurd h
-view_foreign c lid Ticked acts other h now view = absurd h
+view_foreign c lid (Linked act) acts other h now view = assumption (
+  links_foreign c act (link_acts acts) (link_acts other) h view.owns,
+  now,
+  owner_kept c lid act (link_acts acts) now view.mine,
+)
+view_foreign c lid (Waited (Entered conn named wait last)) acts other h now view = assumption (
+  call_foreign c (Entered conn named wait last) (wait_acts acts) (wait_acts other) h.0 view.call,
+  rest_entered c conn named wait last (wait_acts acts) h.1 h.2 view.rests,
+)
+view_foreign c lid (Waited (Left conn)) acts other h now view = assumption (
+  call_foreign c (Left conn) (wait_acts acts) (wait_acts other) h view.call,
+  rest_left c conn (wait_acts acts) view.rests,
+)
+view_foreign c lid (Channel act) acts other h now view = assumption (peer_foreign c acts act (channel_acts acts) h ∙ view.opened)
+view_foreign c lid _ acts other h now view = absurd h
 
 -- in the other log, the call of another connection ends to wait
 pub view_left : (c lid d : ℕ) (acts other : List DeviceAct) → d ≢ c → View c lid acts other → View c lid acts (Waited (Left d) ∷ other)
-view_left c lid d acts other ne view = record {
-  instrument = view.instrument;
-  clock = view.clock;
-  owns = view.owns;
-  call = call_sym c (Left d ∷ wait_acts other) (wait_acts acts)
-      (call_foreign c (Left d) (wait_acts other) (wait_acts acts) ne (call_sym c (wait_acts acts) (wait_acts other) view.call));
-  opened = view.opened;
-  held = view.held;
-  also = view.also;
-  mine = view.mine;
-  rests = view.rests;
-  rest = rest_left c d (wait_acts other) view.rest;
-}
+view_left c lid d acts other ne view =
+    let back = call_sym c (wait_acts acts) (wait_acts other) view.call in
+    assumption (
+      call_sym c (Left d ∷ wait_acts other) (wait_acts acts) (call_foreign c (Left d) (wait_acts other) (wait_acts acts) ne back),
+      rest_left c d (wait_acts other) view.rest,
+    )
 
 -- the same act
 pub view_same : (c lid : ℕ) (act : DeviceAct) (acts other : List DeviceAct) → IsOwn c act → holder (link_acts (act ∷ acts)) ≡ Some lid
     → View c lid acts other → View c lid (act ∷ acts) (act ∷ other)
-view_same c lid (Linked act) acts other h now view = record {
-  instrument = view.instrument;
-  clock = view.clock;
-  owns = links_same c act (link_acts acts) (link_acts other) h view.owns;
-  call = view.call;
-  opened = view.opened;
-  held = now;
-  also = holder_same lid act (link_acts acts) (link_acts other) view.also now;
-  mine = owner_kept c lid act (link_acts acts) now view.mine;
-  rests = view.rests;
-  rest = view.rest;
-}
-view_same c lid (Waited act) acts other h now view = record {
-  instrument = view.instrument;
-  clock = view.clock;
-  owns = view.owns;
-  call = call_same c act (wait_acts acts) (wait_acts other) view.call;
-  opened = view.opened;
-  held = view.held;
-  also = view.also;
-  mine = view.mine;
-  rests = rest_own c act (wait_acts acts) h view.rests;
-  rest = rest_own c act (wait_acts other) h view.rest;
-}
-view_same c lid (Channel act) acts other h now view = record {
-  instrument = view.instrument;
-  clock = view.clock;
-  owns = view.owns;
-  call = view.call;
-  opened = peer_more c act (channel_acts acts) (channel_acts other) view.opened;
-  held = view.held;
-  also = view.also;
-  mine = view.mine;
-  rests = view.rests;
-  rest = view.rest;
-}
-view_same c lid (Applied act) acts other h now view = record {
-  instrument = ap (λ (l : List InstrumentAct). act ∷ l) view.instrument;
-  clock = view.clock;
-  owns = view.owns;
-  call = view.call;
-  opened = view.opened;
-  held = view.held;
-  also = view.also;
-  mine = view.mine;
-  rests = view.rests;
-  rest = view.rest;
-}
-view_same c lid Ticked acts other h now view = record {
-  instrument = view.instrument;
-  clock = ap (λ (n : ℕ). n + 1) view.clock;
-  owns = view.owns;
-  call = view.call;
-  opened = view.opened;
-  held = view.held;
-  also = view.also;
-  mine = view.mine;
-  rests = view.rests;
-  rest = view.rest;
-}
+view_same c lid (Linked act) acts other h now view = assumption (
+  links_same c act (link_acts acts) (link_acts other) h view.owns,
+  now,
+  holder_same lid act (link_acts acts) (link_acts other) view.also now,
+  owner_kept c lid act (link_acts acts) now view.mine,
+)
+view_same c lid (Waited act) acts other h now view = assumption (
+  call_same c act (wait_acts acts) (wait_acts other) view.call,
+  rest_own c act (wait_acts acts) h view.rests,
+  rest_own c act (wait_acts other) h view.rest,
+)
+view_same c lid (Channel act) acts other h now view =
+    assumption (peer_more c act (channel_acts acts) (channel_acts other) view.opened)
+view_same c lid (Applied act) acts other h now view = assumption (ap (λ (l : List InstrumentAct). act ∷ l) view.instrument)
+view_same c lid Ticked acts other h now view = assumption (ap (λ (n : ℕ). n + 1) view.clock)
 
 -- ---- what is told to interrupt channels
 
@@ -238,19 +143,14 @@ foreign_told : (c : ℕ) (acts : List DeviceAct) (channel_log : List ChannelAct)
     → IsForeign c acts (Channel act) → IsForeignChannel c act channel_log
 foreign_told c acts channel_log (SrqEnabled lid conn handle) all hears h = (h.0, asks_elsewhere c lid acts channel_log all hears h.1)
 foreign_told c acts channel_log (SrqDisabled lid) all hears h = asks_elsewhere c lid acts channel_log all hears h
-foreign_told c acts channel_log (ChannelOpened conn what) all hears h = h
-foreign_told c acts channel_log (ChannelClosed conn) all hears h = h
-foreign_told c acts channel_log Requested all hears h = absurd h
-foreign_told c acts channel_log (ChannelTaken conn count) all hears h = h
+foreign_told c acts channel_log _ all hears h = h
 
 foreign_link : (c : ℕ) (acts : List DeviceAct) (channel_log also : List ChannelAct) (act : LinkAct) → AllSuit acts
     → HearsOf acts channel_log
     → IsForeignLink c act (link_acts acts) → SameChannel c channel_log also → SameChannel c (link_told act channel_log) also
-foreign_link c acts channel_log also (Made lid conn) all hears h same = same
 foreign_link c acts channel_log also (Destroyed lid) all hears h same =
     channel_foreign c (SrqDisabled lid) channel_log also (asks_elsewhere c lid acts channel_log all hears h) same
-foreign_link c acts channel_log also (Locked lid) all hears h same = same
-foreign_link c acts channel_log also (Unlocked lid) all hears h same = same
+foreign_link c acts channel_log also _ all hears h same = same
 
 pub tells_foreign : (c : ℕ) (act : DeviceAct) (acts other : List DeviceAct) → AllSuit acts → IsForeign c acts act → TellsAs c acts other
     → TellsAs c (act ∷ acts) other
@@ -291,10 +191,8 @@ tells_back c Ticked acts other all h tells = absurd h
 
 same_link : (c : ℕ) (channel_log also : List ChannelAct) (act : LinkAct) → SameChannel c channel_log also
     → SameChannel c (link_told act channel_log) (link_told act also)
-same_link c channel_log also (Made lid conn) same = same
 same_link c channel_log also (Destroyed lid) same = channel_same c (SrqDisabled lid) channel_log also same
-same_link c channel_log also (Locked lid) same = same
-same_link c channel_log also (Unlocked lid) same = same
+same_link c channel_log also _ same = same
 
 same_request : (c : ℕ) (channel_log also : List ChannelAct) (raised : Bool) → SameChannel c channel_log also
     → SameChannel c (request_told raised channel_log) (request_told raised also)
@@ -351,19 +249,14 @@ pub pair_foreign : (c lid : ℕ) (new log other : List Act) → Each (IsForeignA
 pair_foreign c lid [] log other h locks all pair = pair
 pair_foreign c lid (On d act ∷ new) log other h locks all pair =
     let so = pair_foreign c lid new log other h.1 locks.1 all pair in
-    record { own = of_other d c act (new ++ log) (λ e. h.0 (sym e)) ∙ so.own; view = so.view; tells = so.tells; back = so.back }
+    assumption (of_other d c act (new ++ log) (λ e. h.0 (sym e)) ∙ so.own)
 pair_foreign c lid (OnDevice act ∷ new) log other h locks all pair =
     let so = pair_foreign c lid new log other h.1 locks.1 all.1 pair in
-    record {
-      own = so.own;
-      view = view_foreign c lid act (device_acts (new ++ log)) (device_acts other) h.0 locks.0 so.view;
-      tells = tells_foreign c act (device_acts (new ++ log)) (device_acts other) all.1 h.0 so.tells;
-      back = tells_back c act (device_acts (new ++ log)) (device_acts other) all.1 h.0 so.back;
-    }
-
-same_own : (c d : ℕ) (act : ConnAct) (mine : List ConnAct) (also : List ConnAct) → mine ≡ also
-    → (if d == c then act ∷ mine else mine) ≡ (if d == c then act ∷ also else also)
-same_own c d act mine also same = ap (λ (l : List ConnAct). if d == c then act ∷ l else l) same
+    assumption (
+      view_foreign c lid act (device_acts (new ++ log)) (device_acts other) h.0 locks.0 so.view,
+      tells_foreign c act (device_acts (new ++ log)) (device_acts other) all.1 h.0 so.tells,
+      tells_back c act (device_acts (new ++ log)) (device_acts other) all.1 h.0 so.back,
+    )
 
 -- the same acts, in both
 pub pair_same : (c lid : ℕ) (new log other : List Act) → Each (IsOwnAct c) new log → Each (Locks lid) new log → Pair c lid log other
@@ -371,7 +264,7 @@ pub pair_same : (c lid : ℕ) (new log other : List Act) → Each (IsOwnAct c) n
 pair_same c lid [] log other h locks pair = pair
 pair_same c lid (On d act ∷ new) log other h locks pair =
     let so = pair_same c lid new log other h.1 locks.1 pair in
-    record { own = same_own c d act (of c (new ++ log)) (of c (new ++ other)) so.own; view = so.view; tells = so.tells; back = so.back }
+    assumption (ap (λ (l : List ConnAct). if d == c then act ∷ l else l) so.own)
 pair_same c lid (OnDevice act ∷ new) log other h locks pair =
     let so = pair_same c lid new log other h.1 locks.1 pair in
     record {
@@ -392,13 +285,8 @@ pub pair_left : (c lid : ℕ) (new log other : List Act) → Each (IsLeaving c) 
 pair_left c lid [] log other h pair = pair
 pair_left c lid (On d act ∷ new) log other h pair =
     let so = pair_left c lid new log other h.1 pair in
-    record { own = so.own ∙ sym (of_other d c act (new ++ other) (λ e. h.0 (sym e))); view = so.view; tells = so.tells; back = so.back }
+    assumption (so.own ∙ sym (of_other d c act (new ++ other) (λ e. h.0 (sym e))))
 pair_left c lid (OnDevice (Waited (Left d)) ∷ new) log other h pair =
     let so = pair_left c lid new log other h.1 pair in
-    record {
-      own = so.own;
-      view = view_left c lid d (device_acts log) (device_acts (new ++ other)) h.0 so.view;
-      tells = so.tells;
-      back = so.back;
-    }
+    assumption (view_left c lid d (device_acts log) (device_acts (new ++ other)) h.0 so.view)
 pair_left c lid (OnDevice _ ∷ new) log other h pair = absurd h.0

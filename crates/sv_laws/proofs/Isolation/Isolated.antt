@@ -17,7 +17,7 @@ use Rattle.sv_history.specs.Settling.{SettlesIn}
 use Rattle.sv_history.specs.History.{IsLogOf, own_acts, refusal}
 use Rattle.sv_laws.specs.Adding.{all_replies, all_sent, Adds}
 use Rattle.sv_laws.specs.Isolation.{is_foreign, own_events, LeavesLinksAlone, EachIs, HoldsFrom, IsLocked, Isolation}
-use Rattle.sv_laws.proofs.OneLog.{one_log}
+use Rattle.sv_laws.proofs.OneLog.{one_log, sends_moved}
 use Rattle.sv_laws.proofs.EveryLog.Fit.{Fit}
 use Rattle.sv_laws.proofs.EveryLog.EachEvent.{fit_log, fit_event}
 use Rattle.sv_laws.proofs.Isolation.Alike.{Pair, pair_foreign, pair_same}
@@ -184,49 +184,27 @@ sent_same : (c lid : ℕ) (port : Port) (log other : List Act) (channel_log also
 sent_same c lid (Conn d) log other channel_log also e pair same = rw e (ap all_replies pair.own)
 sent_same c lid (Intr d) log other channel_log also e pair same = rw e (ap concat same.all)
 
-adds_alone : (c lid : ℕ) (config : Config) (past events : List PlainEvent) (locked : IsLocked c lid config past events)
-    → Alone c lid config past events locked.log locked.log → (port : Port) (bytes : List ℕ) → port_number port ≡ c
-    → Adds port config past events bytes → Adds port config past (own_events c events) bytes
-adds_alone c lid config past events locked alone port bytes mine (before, first, (log, channel_log, is_log, hears, sent)) =
-    let same : log ≡ locked.log = one_log config (events ++ past) log locked.log is_log locked.is_log in
-    let tells = alone.pair.tells channel_log (subst (λ (l : List Act). HearsOf (device_acts l) channel_log) same hears) in (
-      before,
-      first,
-      (
-        alone.other,
-        tells.0,
-        alone.is_log,
-        tells.1,
-        sent ∙ ap (λ (l : List Act). all_sent port channel_log l) same
-            ∙ sent_same c lid port locked.log alone.other channel_log tells.0 mine alone.pair tells.2,
-      ),
-    )
-
-adds_all : (c lid : ℕ) (config : Config) (past events : List PlainEvent) (locked : IsLocked c lid config past events)
-    → Alone c lid config past events locked.log locked.log → (port : Port) (bytes : List ℕ) → port_number port ≡ c
-    → Adds port config past (own_events c events) bytes → Adds port config past events bytes
-adds_all c lid config past events locked alone port bytes mine (before, first, (log, channel_log, is_log, hears, sent)) =
-    let same : log ≡ alone.other = one_log config (own_events c events ++ past) log alone.other is_log alone.is_log in
-    let tells = alone.pair.back channel_log (subst (λ (l : List Act). HearsOf (device_acts l) channel_log) same hears) in (
-      before,
-      first,
-      (
-        locked.log,
-        tells.0,
-        locked.is_log,
-        tells.1,
-        sent ∙ ap (λ (l : List Act). all_sent port channel_log l) same
-            ∙ sym (sent_same c lid port locked.log alone.other tells.0 channel_log mine alone.pair
-            (channel_sym c channel_log tells.0 tells.2)),
-      ),
-    )
-
 pub isolation : Isolation
 isolation c lid config past events locked =
-    let alone = alone_from c lid config past events events locked [] locked.log refl locked.left_alone locked.is_log in (
-      (alone.other, alone.is_log),
+    let alone = alone_from c lid config past events events locked [] locked.log refl locked.left_alone locked.is_log in
+    let other = alone.other in
+    let own = own_events c events in (
+      (other, alone.is_log),
       (λ port bytes mine. (
-        adds_alone c lid config past events locked alone port bytes mine,
-        adds_all c lid config past events locked alone port bytes mine,
+        (λ adds. (
+          adds.0,
+          adds.1,
+          sends_moved port config (events ++ past) (own ++ past) locked.log other _ locked.is_log alone.is_log (λ channel_log hears.
+              let tells = alone.pair.tells channel_log hears in
+              (tells.0, tells.1, sent_same c lid port locked.log other channel_log tells.0 mine alone.pair tells.2)) adds.2,
+        )),
+        (λ adds. (
+          adds.0,
+          adds.1,
+          sends_moved port config (own ++ past) (events ++ past) other locked.log _ alone.is_log locked.is_log (λ channel_log hears.
+              let tells = alone.pair.back channel_log hears in
+              let same = channel_sym c channel_log tells.0 tells.2 in
+              (tells.0, tells.1, sym (sent_same c lid port locked.log other tells.0 channel_log mine alone.pair same))) adds.2,
+        )),
       )),
     )

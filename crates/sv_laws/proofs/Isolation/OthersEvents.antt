@@ -1,73 +1,37 @@
 -- While a link holds the lock, the acts of another connection's event, and of its call that ends, are of others.
-use Rattle.std.proofs.Common.{◌≡◌, ◌≢◌, ℕ, Bool, true, false, eqb, eq-eqb, List, [], ◌∷◌, ◌++◌, Option, Some, None, sym, ap, subst, inl, inr}
+use Rattle.std.proofs.Common.{◌≡◌, ◌≢◌, ℕ, true, eqb, eq-eqb, List, [], ◌∷◌, ◌++◌, Option, Some, None, sym, ap, subst, inl, inr}
 use Rattle.std.specs.Prelude.{map, not, is_some, ◌&&◌}
 use Rattle.std.proofs.lemmas.Bool.{cases_Bool}
 use Rattle.sv_logs.proofs.Each.{Each, each_join}
-use Rattle.sv_vxi.specs.declared.error_code.ErrorCode.{ErrorCode}
 use Rattle.sv_vxi.specs.declared.error_code.ErrorCode.TheVariants.{Abort}
-use Rattle.sv_links.specs.declared.request.Peer.{Peer}
 use Rattle.sv_links.specs.Links.{LinkAct, owner, holder, closing, is_this}
 use Rattle.sv_links.specs.Waiting.{Left, waits, link}
 use Rattle.sv_laws.proofs.LinksAlike.{IsForeignLink}
 use Rattle.sv_laws.proofs.Closed.{closed_foreign}
 use Rattle.sv_history.specs.declared.event.Config.{Config}
 use Rattle.sv_history.specs.declared.event.Port.TheVariants.{Conn, Intr}
-use Rattle.sv_history.specs.Event.{PlainEvent, Open, Bytes, Turn, Refuse, Took, Close, Dialed, Input, External, Tick}
-use Rattle.sv_history.specs.Act.{Act, ConnAct, DeviceAct, CallTaken, PortClosed, Linked, Waited, On, OnDevice, of, device_acts, link_acts, wait_acts}
+use Rattle.sv_history.specs.Event.{PlainEvent, Open, Bytes, Turn, Refuse, Took, Close, Dialed}
+use Rattle.sv_history.specs.Act.{Act, DeviceAct, CallTaken, PortClosed, Linked, Waited, On, OnDevice, of, device_acts, link_acts, wait_acts}
 use Rattle.sv_history.specs.Connection.{next_call, pending_call}
-use Rattle.sv_history.specs.CoreCall.{CoreCall, lid_of}
-use Rattle.sv_history.specs.Effect.{Effect, acts_of, call_effect}
-use Rattle.sv_history.specs.Request.{Request, NoCall, Decided, CoreRequest, AbortRequest, PortRequest, core_call_in, next_request}
-use Rattle.sv_history.proofs.Dialing.{peer_by, dialed_to, dialed_is}
+use Rattle.sv_history.specs.CoreCall.{lid_of}
+use Rattle.sv_history.specs.Effect.{acts_of}
+use Rattle.sv_history.specs.Request.{Request, CoreRequest, AbortRequest, core_call_in, next_request}
 use Rattle.sv_history.specs.AbortChannel.{owner_of, if_waiting}
 use Rattle.sv_history.specs.Execution.{request_effect, aborts}
 use Rattle.sv_history.specs.Refusing.{refusable}
-use Rattle.sv_history.specs.Resuming.{leaving, failure_effect, connect_effect}
-use Rattle.sv_history.specs.History.{abort_acts, turn_acts, refuse_acts, own_acts}
+use Rattle.sv_history.specs.History.{abort_acts, turn_acts, own_acts}
 use Rattle.sv_laws.specs.Isolation.{is_foreign, aborted_link, LeavesLinksAlone}
-use Rattle.sv_history.proofs.Projections.{device_shared, link_acts-links}
+use Rattle.sv_history.proofs.Projections.{link_acts-links}
 use Rattle.sv_laws.proofs.EveryLog.Fit.{Fit}
 use Rattle.sv_laws.proofs.EveryLog.EachEvent.{close_adds}
 use Rattle.sv_laws.proofs.EveryLog.Known.{rises}
 use Rattle.sv_laws.proofs.Isolation.Alike.{IsForeign, IsForeignAct}
 use Rattle.sv_laws.proofs.Isolation.Shut.{call_foreign}
+use Rattle.sv_laws.proofs.Isolation.OwnEvents.{IsOf, each_shared, each_effect, each_failed, each_connected, each_refused}
 
--- ---- effects
-
-foreign_own : (c d : ℕ) (own : List ConnAct) (log : List Act) → d ≢ c → Each (IsForeignAct c) (map (On d) own) log
-foreign_own c d [] log ne = tt
-foreign_own c d (act ∷ own) log ne = (ne, foreign_own c d own log ne)
-
-foreign_shared : (c : ℕ) (adds : List DeviceAct) (log : List Act) → Each (IsForeign c) adds (device_acts log)
-    → Each (IsForeignAct c) (map OnDevice adds) log
-foreign_shared c [] log h = tt
-foreign_shared c (act ∷ adds) log h =
-    (subst (λ (acts : List DeviceAct). IsForeign c acts act) (sym (device_shared adds log)) h.0, foreign_shared c adds log h.1)
-
-foreign_effect : (c d : ℕ) (effect : Effect) (log : List Act) → d ≢ c → Each (IsForeign c) effect.adds (device_acts log)
-    → Each (IsForeignAct c) (acts_of d effect) log
-foreign_effect c d effect log ne h = each_join (IsForeignAct c) (map (On d) effect.own) (map OnDevice effect.adds) log
-    (foreign_own c d effect.own (map OnDevice effect.adds ++ log) ne) (foreign_shared c effect.adds log h)
-
-pub foreign_failed : (c d : ℕ) (error : ErrorCode) (call : Option CoreCall) (log : List Act) → d ≢ c
-    → Each (IsForeignAct c) (acts_of d (failure_effect error d call)) log
-foreign_failed c d error (Some call) log ne = foreign_effect c d (failure_effect error d (Some call)) log ne (ne, tt)
-foreign_failed c d error None log ne = foreign_effect c d (failure_effect error d None) log ne (ne, tt)
-
-foreign_dialed : (c d : ℕ) (ok : Bool) (call : CoreCall) (peer : Option Peer) (log : List Act) → d ≢ c
-    → Each (IsForeignAct c) (acts_of d (call_effect call.xid (leaving d (dialed_to d ok call.arguments peer)))) log
-foreign_dialed c d true call (Some peer) log ne =
-    foreign_effect c d (call_effect call.xid (leaving d (dialed_to d true call.arguments (Some peer)))) log ne (ne, (ne, tt))
-foreign_dialed c d false call (Some peer) log ne =
-    foreign_effect c d (call_effect call.xid (leaving d (dialed_to d false call.arguments (Some peer)))) log ne (ne, tt)
-foreign_dialed c d ok call None log ne =
-    foreign_effect c d (call_effect call.xid (leaving d (dialed_to d ok call.arguments None))) log ne (ne, tt)
-
-foreign_connected : (c d : ℕ) (ok : Bool) (call : Option CoreCall) (log : List Act) → d ≢ c
-    → Each (IsForeignAct c) (acts_of d (connect_effect d ok call)) log
-foreign_connected c d ok (Some call) log ne =
-    rw (dialed_is d ok call.arguments) (foreign_dialed c d ok call (peer_by call.arguments) log ne)
-foreign_connected c d ok None log ne = foreign_effect c d (connect_effect d ok None) log ne (ne, tt)
+-- such are its acts
+pub foreign_is : (c d : ℕ) → d ≢ c → IsOf d (IsForeignAct c) (IsForeign c)
+foreign_is c d ne = record { own = λ log act. ne; shared = λ log act other. other; left = λ acts. ne; opened = λ acts peer. ne }
 
 -- ---- a Turn
 
@@ -82,14 +46,11 @@ where_owner (Some d) (Some n) acts e h = elim (cases_Bool (is_some (waits d (wai
 aborts_owner : (request : Request) (acts : List DeviceAct) (e : ℕ) → aborts request acts ≡ Some e
     → owner_of (aborted_link (Some request)) acts ≡ Some e
 aborts_owner (AbortRequest xid lid) acts e h = where_owner (owner_of (lid_of (Some lid)) acts) (lid_of (Some lid)) acts e h
-aborts_owner NoCall acts e h = absurd cc
-aborts_owner (Decided xid reply) acts e h = absurd cc
-aborts_owner (CoreRequest call) acts e h = absurd cc
-aborts_owner (PortRequest xid args) acts e h = absurd cc
+aborts_owner _ acts e h = absurd cc
 
 foreign_abort : (c : ℕ) (found : Option ℕ) (log : List Act) → found ≢ Some c → Each (IsForeignAct c) (abort_acts found log) log
 foreign_abort c (Some e) log ne =
-    foreign_failed c e Abort (core_call_in (pending_call (of e log))) log (λ same. ne (ap (λ (n : ℕ). Some n) same))
+    each_failed e (foreign_is c e (λ same. ne (ap (λ (n : ℕ). Some n) same))) Abort (core_call_in (pending_call (of e log))) log
 foreign_abort c None log ne = tt
 
 foreign_request : (config : Config) (polled c d lid : ℕ) (request : Request) (acts : List DeviceAct)
@@ -97,10 +58,7 @@ foreign_request : (config : Config) (polled c d lid : ℕ) (request : Request) (
     → Each (IsForeign c) (request_effect config polled d request acts).adds acts
 foreign_request config polled c d lid (CoreRequest call) acts held mine ne =
     call_foreign config polled c d lid call.arguments acts held mine ne
-foreign_request config polled c d lid NoCall acts held mine ne = tt
-foreign_request config polled c d lid (Decided xid reply) acts held mine ne = tt
-foreign_request config polled c d lid (AbortRequest xid named) acts held mine ne = tt
-foreign_request config polled c d lid (PortRequest xid args) acts held mine ne = tt
+foreign_request config polled c d lid _ acts held mine ne = tt
 
 foreign_turn : (config : Config) (polled c d lid : ℕ) (found : Option (List ℕ)) (request : Option Request) (log : List Act)
     → holder (link_acts (device_acts log)) ≡ Some lid → owner lid (link_acts (device_acts log)) ≡ Some c → d ≢ c
@@ -112,18 +70,11 @@ foreign_turn config polled c d lid (Some bytes) (Some request) log held mine ne 
     each_join (IsForeignAct c) (abort_acts ends (acts ++ log)) acts log
     (foreign_abort c ends (acts ++ log) (λ is. left_alone (aborts_owner request (device_acts log) c is)))
     (each_join (IsForeignAct c) (acts_of d effect) (On d (CallTaken bytes) ∷ []) log
-    (foreign_effect c d effect (On d (CallTaken bytes) ∷ log) ne
+    (each_effect d (foreign_is c d ne) effect (On d (CallTaken bytes) ∷ log)
     (foreign_request config polled c d lid request (device_acts log) held mine ne)) (ne, tt))
 foreign_turn config polled c d lid (Some bytes) None log held mine ne left_alone = tt
 foreign_turn config polled c d lid None (Some request) log held mine ne left_alone = tt
 foreign_turn config polled c d lid None None log held mine ne left_alone = tt
-
-foreign_refuse : (c d : ℕ) (found : Option (List ℕ)) (call : Option CoreCall) (log : List Act) → d ≢ c
-    → Each (IsForeignAct c) (refuse_acts d found call) log
-foreign_refuse c d (Some bytes) (Some call) log ne = (ne, (ne, tt))
-foreign_refuse c d (Some bytes) None log ne = tt
-foreign_refuse c d None (Some call) log ne = tt
-foreign_refuse c d None None log ne = tt
 
 -- ---- a connection closes
 
@@ -141,7 +92,7 @@ foreign_close c d log fit ne =
     let acts = device_acts log in
     let links = closing d (link_acts acts) in
     each_join (IsForeignAct c) (map OnDevice (close_adds d acts)) (On d PortClosed ∷ []) log
-    (foreign_shared c (close_adds d acts) (On d PortClosed ∷ log) (
+    (each_shared d (foreign_is c d ne) (close_adds d acts) (On d PortClosed ∷ log) (
       ne,
       each_join (IsForeign c) (map Linked links) (Waited (Left d) ∷ []) acts
           (foreign_links c links (Waited (Left d) ∷ acts) (closed_foreign c d _ (link_acts acts) ne (rises acts fit.suits))) (ne, tt),
@@ -161,13 +112,11 @@ foreign_event config polled c lid (Bytes d piece) log fit held mine other left_a
 foreign_event config polled c lid (Turn d) log fit held mine other left_alone =
     foreign_turn config polled c d lid (next_call (of d log)) (next_request (of d log)) log held mine (other_number d c other) left_alone.0
 foreign_event config polled c lid (Refuse d) log fit held mine other left_alone =
-    foreign_refuse c d (next_call (of d log)) (refusable (of d log)) log (other_number d c other)
+    each_refused d (foreign_is c d (other_number d c other)) (next_call (of d log)) (refusable (of d log)) log
 foreign_event config polled c lid (Took (Conn d) count) log fit held mine other left_alone = (other_number d c other, tt)
 foreign_event config polled c lid (Took (Intr d) count) log fit held mine other left_alone = (other_number d c other, tt)
 foreign_event config polled c lid (Close (Conn d)) log fit held mine other left_alone = foreign_close c d log fit (other_number d c other)
 foreign_event config polled c lid (Close (Intr d)) log fit held mine other left_alone = (other_number d c other, tt)
 foreign_event config polled c lid (Dialed d ok) log fit held mine other left_alone =
-    foreign_connected c d ok (core_call_in (pending_call (of d log))) log (other_number d c other)
-foreign_event config polled c lid (Input channel microvolts) log fit held mine other left_alone = absurd cc
-foreign_event config polled c lid External log fit held mine other left_alone = absurd cc
-foreign_event config polled c lid Tick log fit held mine other left_alone = absurd cc
+    each_connected d (foreign_is c d (other_number d c other)) ok (core_call_in (pending_call (of d log))) log
+foreign_event config polled c lid _ log fit held mine other left_alone = absurd cc

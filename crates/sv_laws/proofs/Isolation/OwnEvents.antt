@@ -7,9 +7,9 @@ use Rattle.sv_logs.proofs.Each.{Each, each_join}
 use Rattle.sv_vxi.specs.declared.error_code.ErrorCode.{ErrorCode}
 use Rattle.sv_vxi.specs.Arguments.{Arguments, is_create_link}
 use Rattle.sv_links.specs.declared.request.Peer.{Peer}
-use Rattle.sv_links.specs.Links.{owner, holder, closing}
+use Rattle.sv_links.specs.Links.{Made, owner, holder, closing}
 use Rattle.sv_links.specs.Waiting.{Left}
-use Rattle.sv_links.specs.Channels.{ChannelAct, waiting as channel_waiting}
+use Rattle.sv_links.specs.Channels.{ChannelAct, ChannelOpened, waiting as channel_waiting}
 use Rattle.sv_laws.proofs.ChannelsAlike.{SameChannel}
 use Rattle.sv_laws.proofs.Closed.{closed_frees}
 use Rattle.sv_layers.specs.Act.{Act as InstrumentAct}
@@ -17,8 +17,8 @@ use Rattle.sv_instrument.specs.Stimulus.{external_acts, tick_acts}
 use Rattle.sv_history.specs.declared.event.Config.{Config}
 use Rattle.sv_history.specs.declared.event.Port.TheVariants.{Conn, Intr}
 use Rattle.sv_history.specs.declared.event.Role.TheVariants.{Core}
-use Rattle.sv_history.specs.Event.{PlainEvent, Open, Bytes, Turn, Refuse, Took, Close, Dialed, Input, External, Tick}
-use Rattle.sv_history.specs.Act.{Act, ConnAct, DeviceAct, CallTaken, PortClosed, Waited, Applied, Ticked, On, OnDevice, of, device_acts, link_acts, instrument_acts}
+use Rattle.sv_history.specs.Event.{PlainEvent, Open, Bytes, Turn, Refuse, Took, Close, Dialed, External, Tick}
+use Rattle.sv_history.specs.Act.{Act, ConnAct, DeviceAct, CallTaken, Replied, PortClosed, Linked, Waited, Channel, Applied, Ticked, On, OnDevice, of, device_acts, link_acts, instrument_acts}
 use Rattle.sv_history.specs.Connection.{next_call, open_role, pending_call}
 use Rattle.sv_history.specs.CallOutcome.{CallOutcome}
 use Rattle.sv_history.specs.CoreCall.{CoreCall}
@@ -26,17 +26,17 @@ use Rattle.sv_history.specs.Effect.{Effect, acts_of, call_effect}
 use Rattle.sv_history.specs.Request.{Request, NoCall, Decided, CoreRequest, AbortRequest, PortRequest, core_call_in, next_request}
 use Rattle.sv_history.proofs.Dialing.{peer_by, dialed_to, dialed_is}
 use Rattle.sv_history.specs.Admission.{Stop, Fails, Awaits, stop_of, admission}
-use Rattle.sv_history.specs.Refusing.{refusable}
+use Rattle.sv_history.specs.Refusing.{refusable, refused_reply}
 use Rattle.sv_history.specs.Resuming.{leaving, failure_effect, connect_effect}
 use Rattle.sv_history.specs.History.{turn_acts, refuse_acts, own_acts, refusal, taken_acts}
 use Rattle.sv_laws.specs.Isolation.{is_foreign, makes_link, LeavesLinksAlone}
-use Rattle.sv_history.proofs.Projections.{link_acts-links}
+use Rattle.sv_history.proofs.Projections.{device_shared, link_acts-links}
 use Rattle.sv_laws.proofs.EveryLog.Fit.{Fit}
 use Rattle.sv_laws.proofs.EveryLog.EachEvent.{close_adds, device_closed}
 use Rattle.sv_laws.proofs.EveryLog.Taken.{no_abort}
-use Rattle.sv_laws.proofs.EveryLog.Done.{each_done}
-use Rattle.sv_laws.proofs.Isolation.Alike.{Pair, IsOwn, IsOwnAct, Locks}
-use Rattle.sv_laws.proofs.Isolation.SameCalls.{admitted_same, done_own}
+use Rattle.sv_laws.proofs.EveryLog.Done.{IsDone, each_done}
+use Rattle.sv_laws.proofs.Isolation.Alike.{View, Pair, IsOwn, IsOwnAct, Locks}
+use Rattle.sv_laws.proofs.SameOutcomes.{SameGround, admitted_same}
 
 -- the number of such an event is the connection's
 own_number : (d c : ℕ) → not (eqb d c) ≡ false → d ≡ c
@@ -51,73 +51,100 @@ channel_same : (c : ℕ) (channel_log also : List ChannelAct) → SameChannel c 
     → channel_waiting c channel_log ≡ channel_waiting c also
 channel_same c channel_log also same = rw (same.opened, same.took, same.sent) refl
 
-abbrev SameRefusal : Config → List ChannelAct → List ChannelAct → List Act → List Act → PlainEvent → Type 0
-SameRefusal config channel_log also log other event = refusal config channel_log event log ≡ refusal config also event other
-
 pub refusal_same : (config : Config) (c lid : ℕ) (channel_log also : List ChannelAct) (log other : List Act) (event : PlainEvent)
     → Pair c lid log other → SameChannel c channel_log also → is_foreign c event ≡ false
-    → SameRefusal config channel_log also log other event
-refusal_same config c lid channel_log also log other (Open d role) pair same own =
-    subst (λ (n : ℕ). SameRefusal config channel_log also log other (Open n role)) (sym (own_number d c own)) (rw pair.own refl)
-refusal_same config c lid channel_log also log other (Bytes d piece) pair same own =
-    subst (λ (n : ℕ). SameRefusal config channel_log also log other (Bytes n piece)) (sym (own_number d c own)) (rw pair.own refl)
-refusal_same config c lid channel_log also log other (Turn d) pair same own =
-    subst (λ (n : ℕ). SameRefusal config channel_log also log other (Turn n)) (sym (own_number d c own)) (rw pair.own refl)
-refusal_same config c lid channel_log also log other (Refuse d) pair same own =
-    subst (λ (n : ℕ). SameRefusal config channel_log also log other (Refuse n)) (sym (own_number d c own)) (rw pair.own refl)
-refusal_same config c lid channel_log also log other (Took (Conn d) count) pair same own =
-    subst (λ (n : ℕ). SameRefusal config channel_log also log other (Took (Conn n) count)) (sym (own_number d c own)) (rw pair.own refl)
+    → refusal config channel_log event log ≡ refusal config also event other
+refusal_same config c lid channel_log also log other (Open d role) pair same own = rw (own_number d c own, pair.own) refl
+refusal_same config c lid channel_log also log other (Bytes d piece) pair same own = rw (own_number d c own, pair.own) refl
+refusal_same config c lid channel_log also log other (Turn d) pair same own = rw (own_number d c own, pair.own) refl
+refusal_same config c lid channel_log also log other (Refuse d) pair same own = rw (own_number d c own, pair.own) refl
+refusal_same config c lid channel_log also log other (Took (Conn d) count) pair same own = rw (own_number d c own, pair.own) refl
 refusal_same config c lid channel_log also log other (Took (Intr d) count) pair same own =
-    subst (λ (n : ℕ). SameRefusal config channel_log also log other (Took (Intr n) count)) (sym (own_number d c own))
-    (rw (pair.view.opened, channel_same c channel_log also same) refl)
-refusal_same config c lid channel_log also log other (Close (Conn d)) pair same own =
-    subst (λ (n : ℕ). SameRefusal config channel_log also log other (Close (Conn n))) (sym (own_number d c own)) (rw pair.own refl)
-refusal_same config c lid channel_log also log other (Close (Intr d)) pair same own =
-    subst (λ (n : ℕ). SameRefusal config channel_log also log other (Close (Intr n))) (sym (own_number d c own)) (rw pair.view.opened refl)
+    rw (own_number d c own, pair.view.opened, channel_same c channel_log also same) refl
+refusal_same config c lid channel_log also log other (Close (Conn d)) pair same own = rw (own_number d c own, pair.own) refl
+refusal_same config c lid channel_log also log other (Close (Intr d)) pair same own = rw (own_number d c own, pair.view.opened) refl
 refusal_same config c lid channel_log also log other (Dialed d ok) pair same own =
-    subst (λ (n : ℕ). SameRefusal config channel_log also log other (Dialed n ok)) (sym (own_number d c own))
-    (rw (pair.own, pair.view.call.wait) refl)
-refusal_same config c lid channel_log also log other (Input channel microvolts) pair same own = refl
-refusal_same config c lid channel_log also log other External pair same own = refl
+    rw (own_number d c own, pair.own, pair.view.call.wait) refl
 refusal_same config c lid channel_log also log other Tick pair same own = rw pair.view.clock refl
+refusal_same config c lid channel_log also log other _ pair same own = refl
 
--- ---- effects of the connection
+-- ---- effects of a connection
 
-own_conn : (c : ℕ) (own : List ConnAct) (log : List Act) → Each (IsOwnAct c) (map (On c) own) log
-own_conn c [] log = tt
-own_conn c (act ∷ own) log = (tt, own_conn c own log)
+-- Such are all acts of this connection, and those of what all share that are such there; so are the acts with which a call ends.
+pub record IsOf (d : ℕ) (IsSuch : List Act → Act → Type 0) (IsShared : List DeviceAct → DeviceAct → Type 0) : Type 0 where
+  pub own : (log : List Act) (act : ConnAct) → IsSuch log (On d act)
+  pub shared : (log : List Act) (act : DeviceAct) → IsShared (device_acts log) act → IsSuch log (OnDevice act)
+  pub left : (acts : List DeviceAct) → IsShared acts (Waited (Left d))
+  pub opened : (acts : List DeviceAct) (peer : Peer) → IsShared acts (Channel (ChannelOpened d peer))
 
-pub own_shared : (c : ℕ) (adds acts : List DeviceAct) (log : List Act) → Each (λ before act. IsOwn c act) adds acts
-    → Each (IsOwnAct c) (map OnDevice adds) log
-own_shared c [] acts log h = tt
-own_shared c (act ∷ adds) acts log h = (h.0, own_shared c adds acts log h.1)
+module _ (d : ℕ) {IsSuch : List Act → Act → Type 0} {IsShared : List DeviceAct → DeviceAct → Type 0} (is : IsOf d IsSuch IsShared) where
+  each_own : (own : List ConnAct) (log : List Act) → Each IsSuch (map (On d) own) log
+  each_own [] log = tt
+  each_own (act ∷ own) log = (is.own (map (On d) own ++ log) act, each_own own log)
 
-pub own_effect : (c : ℕ) (effect : Effect) (acts : List DeviceAct) (log : List Act) → Each (λ before act. IsOwn c act) effect.adds acts
-    → Each (IsOwnAct c) (acts_of c effect) log
-own_effect c effect acts log h = each_join (IsOwnAct c) (map (On c) effect.own) (map OnDevice effect.adds) log
-    (own_conn c effect.own (map OnDevice effect.adds ++ log)) (own_shared c effect.adds acts log h)
+  pub each_shared : (adds : List DeviceAct) (log : List Act) → Each IsShared adds (device_acts log) → Each IsSuch (map OnDevice adds) log
+  each_shared [] log h = tt
+  each_shared (act ∷ adds) log h =
+      (is.shared (map OnDevice adds ++ log) act (rw (device_shared adds log) h.0), each_shared adds log h.1)
 
-pub own_failed : (c : ℕ) (error : ErrorCode) (call : Option CoreCall) (log : List Act)
-    → Each (IsOwnAct c) (acts_of c (failure_effect error c call)) log
-own_failed c error (Some call) log = own_effect c (failure_effect error c (Some call)) [] log (refl, tt)
-own_failed c error None log = own_effect c (failure_effect error c None) [] log (refl, tt)
+  pub each_effect : (effect : Effect) (log : List Act) → Each IsShared effect.adds (device_acts log) → Each IsSuch (acts_of d effect) log
+  each_effect effect log h = each_join IsSuch (map (On d) effect.own) (map OnDevice effect.adds) log
+      (each_own effect.own (map OnDevice effect.adds ++ log)) (each_shared effect.adds log h)
 
-own_dialed : (c : ℕ) (ok : Bool) (call : CoreCall) (peer : Option Peer) (log : List Act)
-    → Each (IsOwnAct c) (acts_of c (call_effect call.xid (leaving c (dialed_to c ok call.arguments peer)))) log
-own_dialed c true call (Some peer) log =
-    own_effect c (call_effect call.xid (leaving c (dialed_to c true call.arguments (Some peer)))) [] log (tt, (refl, tt))
-own_dialed c false call (Some peer) log =
-    own_effect c (call_effect call.xid (leaving c (dialed_to c false call.arguments (Some peer)))) [] log (refl, tt)
-own_dialed c ok call None log =
-    own_effect c (call_effect call.xid (leaving c (dialed_to c ok call.arguments None))) [] log (refl, tt)
+  pub each_failed : (error : ErrorCode) (call : Option CoreCall) (log : List Act) → Each IsSuch (acts_of d (failure_effect error d call)) log
+  each_failed error (Some call) log = each_effect (failure_effect error d (Some call)) log (is.left (device_acts log), tt)
+  each_failed error None log = each_effect (failure_effect error d None) log (is.left (device_acts log), tt)
 
-own_connected : (c : ℕ) (ok : Bool) (call : Option CoreCall) (log : List Act) → Each (IsOwnAct c) (acts_of c (connect_effect c ok call)) log
-own_connected c ok (Some call) log = rw (dialed_is c ok call.arguments) (own_dialed c ok call (peer_by call.arguments) log)
-own_connected c ok None log = own_effect c (connect_effect c ok None) [] log (refl, tt)
+  pub each_connected : (ok : Bool) (call : Option CoreCall) (log : List Act) → Each IsSuch (acts_of d (connect_effect d ok call)) log
+  each_connected ok None log = each_effect (connect_effect d ok None) log (is.left (device_acts log), tt)
+  each_connected ok (Some call) log = rw (dialed_is d ok call.arguments) (each_effect
+      (call_effect call.xid (leaving d (dialed_to d ok call.arguments (peer_by call.arguments)))) log (by ok (peer_by call.arguments)))
+    where
+      by : (ok : Bool) (found : Option Peer) → Each IsShared (leaving d (dialed_to d ok call.arguments found)).adds (device_acts log)
+      by true (Some peer) = (is.opened (Waited (Left d) ∷ device_acts log) peer, (is.left (device_acts log), tt))
+      by false (Some peer) = (is.left (device_acts log), tt)
+      by true None = (is.left (device_acts log), tt)
+      by false None = (is.left (device_acts log), tt)
+
+  pub each_refused : (found : Option (List ℕ)) (call : Option CoreCall) (log : List Act) → Each IsSuch (refuse_acts d found call) log
+  each_refused (Some bytes) (Some call) log =
+      (is.own (On d (CallTaken bytes) ∷ log) (Replied (refused_reply call)), (is.own log (CallTaken bytes), tt))
+  each_refused (Some bytes) None log = tt
+  each_refused None call log = tt
+
+-- such are the connection's own
+pub own_is : (c : ℕ) → IsOf c (IsOwnAct c) (λ before act. IsOwn c act)
+own_is c = record { own = λ log act. tt; shared = λ log act own. own; left = λ acts. refl; opened = λ acts peer. tt }
 
 pub own_happened : (c : ℕ) (adds : List InstrumentAct) (log : List Act) → Each (IsOwnAct c) (map OnDevice (map Applied adds)) log
 own_happened c [] log = tt
 own_happened c (act ∷ adds) log = (tt, own_happened c adds log)
+
+-- ---- a call of the connection
+
+-- what it rests on
+pub same_ground : (c lid : ℕ) (acts other : List DeviceAct) → View c lid acts other → SameGround c acts other
+same_ground c lid acts other view = record {
+  ended = rw view.instrument refl;
+  answerable = rw view.instrument refl;
+  responds = rw view.instrument refl;
+  scanned = rw view.instrument refl;
+  owned = view.owns;
+  held = view.held ∙ sym view.also;
+  opened = view.opened;
+  clock = view.clock;
+}
+
+-- Its acts make no link.
+pub done_own : (c : ℕ) (arguments : Arguments) (adds acts : List DeviceAct) → is_create_link arguments ≡ false
+    → Each (IsDone c arguments) adds acts → Each (λ before act. IsOwn c act) adds acts
+done_own c arguments [] acts makes h = tt
+done_own c arguments (act ∷ adds) acts makes h = (one act (adds ++ acts) h.0, done_own c arguments adds acts makes h.1)
+  where
+    one : (act : DeviceAct) (acts : List DeviceAct) → IsDone c arguments acts act → IsOwn c act
+    one (Linked (Made lid conn)) acts h = let z : true ≡ false = sym h.2 ∙ makes in cc
+    one (Waited act) acts h = absurd h
+    one _ acts h = tt
 
 -- ---- a Turn
 
@@ -143,10 +170,11 @@ own_turn_by : (config : Config) (polled c lid : ℕ) (found : Option (List ℕ))
 own_turn_by config polled c lid (Some bytes) (Some (CoreRequest call)) log other pair makes aborts =
     let stop = stop_of c call.arguments (device_acts log) in
     let what = admission config polled c call.arguments stop (device_acts log) in
-    let same = admitted_same config polled c lid call.arguments (device_acts log) (device_acts other) makes pair.view in (
+    let same = admitted_same config polled c call.arguments (device_acts log) (device_acts other) (inl makes)
+    (same_ground c lid (device_acts log) (device_acts other) pair.view) in (
       ap (λ (outcome : CallOutcome). taken_acts c bytes (call_effect call.xid outcome) None log) same,
       each_join (IsOwnAct c) (acts_of c (call_effect call.xid what)) (On c (CallTaken bytes) ∷ []) log
-          (own_effect c (call_effect call.xid what) (device_acts log) (On c (CallTaken bytes) ∷ log)
+          (each_effect c (own_is c) (call_effect call.xid what) (On c (CallTaken bytes) ∷ log)
           (own_admitted config polled c call.arguments stop (device_acts log) makes)) (tt, tt),
     )
 own_turn_by config polled c lid (Some bytes) (Some NoCall) log other pair makes aborts = (refl, (tt, (tt, tt)))
@@ -165,13 +193,6 @@ own_turn config polled c lid log other fit pair makes =
     (λ xid named is. no_abort (of c log) xid named core is) in
     (so.0 ∙ ap (λ (l : List ConnAct). turn_acts config polled c (next_call l) (next_request l) other) pair.own, so.1)
 
-own_refuse : (c : ℕ) (found : Option (List ℕ)) (call : Option CoreCall) (log : List Act)
-    → Each (IsOwnAct c) (refuse_acts c found call) log
-own_refuse c (Some bytes) (Some call) log = (tt, (tt, tt))
-own_refuse c (Some bytes) None log = tt
-own_refuse c None (Some call) log = tt
-own_refuse c None None log = tt
-
 -- ---- it can't close
 
 no_close : (c lid : ℕ) (log : List Act) → owner lid (link_acts (device_acts log)) ≡ Some c
@@ -189,8 +210,6 @@ no_close c lid log mine locks =
 pub own_event : (config : Config) (polled c lid : ℕ) (log other : List Act) (event : PlainEvent) → Fit log → Pair c lid log other
     → is_foreign c event ≡ false → LeavesLinksAlone c event log → Each (Locks lid) (own_acts config polled event log) log
     → OwnActs config polled c log other event
-own_event config polled c lid log other (Open d role) fit pair own left_alone locks = (refl, (tt, tt))
-own_event config polled c lid log other (Bytes d piece) fit pair own left_alone locks = (refl, (tt, tt))
 own_event config polled c lid log other (Turn d) fit pair own left_alone locks =
     let same = own_number d c own in
     subst (λ (n : ℕ). OwnActs config polled c log other (Turn n)) (sym same)
@@ -199,21 +218,17 @@ own_event config polled c lid log other (Turn d) fit pair own left_alone locks =
 own_event config polled c lid log other (Refuse d) fit pair own left_alone locks =
     subst (λ (n : ℕ). OwnActs config polled c log other (Refuse n)) (sym (own_number d c own)) (
       ap (λ (l : List ConnAct). refuse_acts c (next_call l) (refusable l)) pair.own,
-      own_refuse c (next_call (of c log)) (refusable (of c log)) log,
+      each_refused c (own_is c) (next_call (of c log)) (refusable (of c log)) log,
     )
-own_event config polled c lid log other (Took (Conn d) count) fit pair own left_alone locks = (refl, (tt, tt))
-own_event config polled c lid log other (Took (Intr d) count) fit pair own left_alone locks = (refl, (tt, tt))
 own_event config polled c lid log other (Close (Conn d)) fit pair own left_alone locks =
     let same = own_number d c own in
     absurd (no_close c lid log pair.view.mine
     (subst (λ (n : ℕ). Each (Locks lid) (map OnDevice (close_adds n (device_acts log)) ++ On n PortClosed ∷ []) log) same locks))
-own_event config polled c lid log other (Close (Intr d)) fit pair own left_alone locks = (refl, (tt, tt))
 own_event config polled c lid log other (Dialed d ok) fit pair own left_alone locks =
     subst (λ (n : ℕ). OwnActs config polled c log other (Dialed n ok)) (sym (own_number d c own)) (
       ap (λ (l : List ConnAct). acts_of c (connect_effect c ok (core_call_in (pending_call l)))) pair.own,
-      own_connected c ok (core_call_in (pending_call (of c log))) log,
+      each_connected c (own_is c) ok (core_call_in (pending_call (of c log))) log,
     )
-own_event config polled c lid log other (Input channel microvolts) fit pair own left_alone locks = (refl, (tt, tt))
 own_event config polled c lid log other External fit pair own left_alone locks = (
   ap (λ (l : List InstrumentAct). map OnDevice (map Applied (external_acts l))) pair.view.instrument,
   own_happened c (external_acts (instrument_acts (device_acts log))) log,
@@ -224,3 +239,5 @@ own_event config polled c lid log other Tick fit pair own left_alone locks =
       each_join (IsOwnAct c) adds (OnDevice Ticked ∷ []) log
           (own_happened c (tick_acts (instrument_acts (device_acts log))) (OnDevice Ticked ∷ log)) (tt, tt),
     )
+own_event config polled c lid log other (Took (Conn d) count) fit pair own left_alone locks = (refl, (tt, tt))
+own_event config polled c lid log other _ fit pair own left_alone locks = (refl, (tt, tt))

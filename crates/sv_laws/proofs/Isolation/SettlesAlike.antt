@@ -12,7 +12,7 @@ use Rattle.sv_layers.specs.Act.{Act as InstrumentAct}
 use Rattle.sv_instrument.specs.Stimulus.{IsFired}
 use Rattle.sv_instrument.specs.Step.{IsStep}
 use Rattle.sv_history.specs.declared.event.Config.{Config}
-use Rattle.sv_history.specs.Act.{Act, ConnAct, DeviceAct, Waited, Applied, OnDevice, of, device_acts, link_acts, wait_acts, ticks}
+use Rattle.sv_history.specs.Act.{Act, ConnAct, Waited, Applied, OnDevice, of, device_acts, link_acts, wait_acts, ticks}
 use Rattle.sv_history.specs.Connection.{pending_call}
 use Rattle.sv_history.specs.CoreCall.{CoreCall}
 use Rattle.sv_history.specs.CoreChannel.{own_call}
@@ -25,9 +25,9 @@ use Rattle.sv_laws.proofs.EveryLog.Fit.{Fit}
 use Rattle.sv_laws.proofs.EveryLog.Done.{each_done}
 use Rattle.sv_laws.proofs.EveryLog.EachEvent.{fit_step}
 use Rattle.sv_laws.proofs.Isolation.Alike.{Pair, IsOwn, IsOwnAct, Locks, pair_foreign, pair_same}
-use Rattle.sv_laws.proofs.Isolation.SameCalls.{resumed_same, done_own}
-use Rattle.sv_laws.proofs.Isolation.OthersEvents.{foreign_failed}
-use Rattle.sv_laws.proofs.Isolation.OwnEvents.{own_effect, own_failed, own_happened}
+use Rattle.sv_laws.proofs.SameOutcomes.{resumed_same}
+use Rattle.sv_laws.proofs.Isolation.OthersEvents.{foreign_is}
+use Rattle.sv_laws.proofs.Isolation.OwnEvents.{each_effect, each_failed, own_is, own_happened, same_ground, done_own}
 use Rattle.sv_laws.proofs.EveryLog.Due.{oldest_due}
 use Rattle.sv_laws.proofs.EveryLog.Steps.{next_extends, settles_extends, Reaches, reaches_none, reaches_next, reaches_then}
 use Rattle.sv_laws.proofs.Isolation.Draining.{NothingElse, able_to, polled_to, only_own, none_able, none_able_also, no_fire, no_resume, nothing_to, IsDue, drain}
@@ -74,16 +74,17 @@ makes_none c lid log wait call true held for makes able is =
     absurd (lock_there lid (link c (wait_acts (device_acts log))) (waits c (wait_acts (device_acts log))) _ _ so.1
     (for ∙ ap (λ (w : Wait). Some w) so.0) (rw held at able))
 
-own_continued : (config : Config) (polled c : ℕ) (call : CoreCall) (next : Option (Wait × ℕ)) (acts : List DeviceAct) (log : List Act)
+own_continued : (config : Config) (polled c : ℕ) (call : CoreCall) (next : Option (Wait × ℕ)) (log : List Act)
     → is_create_link call.arguments ≡ false
-    → Each (IsOwnAct c) (acts_of c (call_effect call.xid (resume_outcome config polled c call.arguments next acts))) log
-own_continued config polled c call (Some wait) acts log makes =
-    own_effect c (call_effect call.xid (resume_outcome config polled c call.arguments (Some wait) acts)) acts log (refl, tt)
-own_continued config polled c call None acts log makes =
-    let before = Waited (Left c) ∷ acts in
+    → Each (IsOwnAct c) (acts_of c (call_effect call.xid (resume_outcome config polled c call.arguments next (device_acts log)))) log
+own_continued config polled c call (Some wait) log makes =
+    each_effect c (own_is c) (call_effect call.xid (resume_outcome config polled c call.arguments (Some wait) (device_acts log))) log
+    (refl, tt)
+own_continued config polled c call None log makes =
+    let before = Waited (Left c) ∷ device_acts log in
     let what = own_call config polled c call.arguments before in
-    own_effect c (call_effect call.xid (resume_outcome config polled c call.arguments None acts)) acts log
-    (each_join (λ before act. IsOwn c act) what.adds (Waited (Left c) ∷ []) acts
+    each_effect c (own_is c) (call_effect call.xid (resume_outcome config polled c call.arguments None (device_acts log))) log
+    (each_join (λ before act. IsOwn c act) what.adds (Waited (Left c) ∷ []) (device_acts log)
     (done_own c call.arguments what.adds before makes (each_done config polled c call.arguments before)) (refl, tt))
 
 resumes_alike : (config : Config) (c lid polled : ℕ) (wait : Wait) (log middle other : List Act) → Fit log → Fit other
@@ -105,7 +106,8 @@ resumes_alike config c lid polled wait log middle other fit also pair locks fire
     let same : acts_of c effect ++ other
     ≡ acts_of c (resume_effect config polled c wait (core_call_in (pending_call (of c other))) (device_acts other)) ++ other =
     ap (λ (e : Effect). acts_of c e ++ other)
-    (resumed_same config polled c lid wait call (device_acts log) (device_acts other) makes pair.view)
+    (resumed_same config polled c wait call (device_acts log) (device_acts other) (inl makes)
+    (same_ground c lid (device_acts log) (device_acts other) pair.view))
     ∙ ap (λ (o : Option CoreCall). acts_of c (resume_effect config polled c wait o (device_acts other)) ++ other) (sym there) in
     let next : IsNext config other (acts_of c effect ++ other) = inr (
       no_fire c lid log other pair fire,
@@ -125,7 +127,7 @@ resumes_alike config c lid polled wait log middle other fit also pair locks fire
       reaches = reaches_next config other (acts_of c effect ++ other) next;
       pair = subst (λ (l : List Act). Pair c lid l (acts_of c effect ++ other)) (sym now)
           (pair_same c lid (acts_of c effect) log other
-          (own_continued config polled c call (next_wait wait call.arguments (device_acts log)) (device_acts log) log makes)
+          (own_continued config polled c call (next_wait wait call.arguments (device_acts log)) log makes)
           (locks (acts_of c effect) now) pair);
       fit = fit_step config other (acts_of c effect ++ other) also next;
     }
@@ -174,7 +176,7 @@ times_alike config c lid wait log middle other fit also pair locks none due for 
       after = acts ++ last;
       reaches = reaches_then config other last (acts ++ last) drained.reaches (reaches_next config last (acts ++ last) next);
       pair = subst (λ (l : List Act). Pair c lid l (acts ++ last)) (sym is)
-          (pair_same c lid acts log last (own_failed c (late wait) (core_call_in (pending_call (of c log))) log) (locks acts is)
+          (pair_same c lid acts log last (each_failed c (own_is c) (late wait) (core_call_in (pending_call (of c log))) log) (locks acts is)
           drained.pair);
       fit = fit_step config last (acts ++ last) drained.fit next;
     }
@@ -208,7 +210,7 @@ advance config c lid log middle other fit also pair locks (inr (fire, inr (resum
             after = other;
             reaches = reaches_none config other;
             pair = subst (λ (l : List Act). Pair c lid l other) (sym is)
-                (pair_foreign c lid acts log other (foreign_failed c d (late wait) (core_call_in (pending_call (of d log))) log ne)
+                (pair_foreign c lid acts log other (each_failed d (foreign_is c d ne) (late wait) (core_call_in (pending_call (of d log))) log)
                 (locks acts is) behind.suits pair);
             fit = also;
           }

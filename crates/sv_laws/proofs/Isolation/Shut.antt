@@ -7,6 +7,7 @@ use Rattle.sv_logs.proofs.Each.{Each}
 use Rattle.sv_vxi.specs.declared.arguments.LockWait.{LockWait}
 use Rattle.sv_vxi.specs.Arguments.{LinkCall, DeviceAbort, DeviceUnlock, DeviceEnableSrq, DestroyLink, Arguments, CreateLink, OnLink, CreateIntrChan, DestroyIntrChan, lock_wait, max_handle}
 use Rattle.sv_links.specs.Links.{owner, is_of, holder, is_locked_out, lids_left}
+use Rattle.sv_laws.proofs.Facts.{some_same}
 use Rattle.sv_laws.proofs.LinksAlike.{owner_is_of}
 use Rattle.sv_history.specs.declared.event.Config.{Config}
 use Rattle.sv_history.specs.Act.{DeviceAct, link_acts}
@@ -16,9 +17,6 @@ use Rattle.sv_history.specs.Interrupts.{has_channel, is_peer}
 use Rattle.sv_history.specs.Admission.{Stop, lock_stop, channel_stop, may_make_more, stop_of, admission}
 use Rattle.sv_laws.proofs.Isolation.Alike.{IsForeign}
 use Rattle.sv_laws.proofs.EveryLog.Done.{named_own}
-
-some_number : (a b : ℕ) → Some a ≡ Some b → a ≡ b
-some_number a b e = cc
 
 -- the acts of a call that comes to this are of others
 abbrev AreForeign : Config → ℕ → ℕ → ℕ → Arguments → List DeviceAct → Option Stop → Type 0
@@ -31,7 +29,7 @@ kept_out : (c d lid : ℕ) (named : Option ℕ) (acts : List DeviceAct) → hold
 kept_out c d lid None acts held mine ne own = absurd cc
 kept_out c d lid (Some n) acts held mine ne own =
     let owns : owner n (link_acts acts) ≡ Some d = named_own d (Some n) acts n own refl in
-    rw (held, ne_eqb n lid (λ same. ne (some_number d c (sym owns ∙ ap (λ (m : ℕ). owner m (link_acts acts)) same ∙ mine)))) refl
+    rw (held, ne_eqb n lid (λ same. ne (some_same d c (sym owns ∙ ap (λ (m : ℕ). owner m (link_acts acts)) same ∙ mine)))) refl
 
 -- a call that minds the lock waits for it or fails
 waits_or_fails : (config : Config) (polled c d : ℕ) (arguments : Arguments) (acts : List DeviceAct) (wait : LockWait) → d ≢ c
@@ -99,7 +97,7 @@ call_foreign config polled c d lid (OnLink (pos n) DeviceUnlock) acts held mine 
     elim (cases_Bool (is_of d (owner n (link_acts acts)))) [
       | inl e ↦
           let owns = owner_is_of d (owner n (link_acts acts)) e in
-          let apart : lid ≢ n = λ same. ne (some_number d c (sym owns ∙ ap (λ (m : ℕ). owner m (link_acts acts)) (sym same) ∙ mine)) in
+          let apart : lid ≢ n = λ same. ne (some_same d c (sym owns ∙ ap (λ (m : ℕ). owner m (link_acts acts)) (sym same) ∙ mine)) in
           rw (e, held, ne_eqb lid n apart) tt
       | inr e ↦ rw e tt
     ]
