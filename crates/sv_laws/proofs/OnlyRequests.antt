@@ -100,7 +100,8 @@ adds_requested c true channel_log = λ opened.
     (opened, refl, more.0, more.1)
 adds_requested c false channel_log = adds_none c channel_log
 
-adds_channel : (c : ℕ) (act : ChannelAct) (channel_log : List ChannelAct) → IsPlain (Channel act) → OnlyAdds c channel_log (act ∷ channel_log)
+adds_channel : (c : ℕ) (act : ChannelAct) (channel_log : List ChannelAct) → IsPlain (Channel act)
+    → OnlyAdds c channel_log (act ∷ channel_log)
 adds_channel c (ChannelOpened conn what) channel_log h = absurd h
 adds_channel c (ChannelTaken conn count) channel_log h = absurd h
 adds_channel c (ChannelClosed conn) channel_log h = elim (cases_Bool (eqb conn c)) [
@@ -297,7 +298,8 @@ from_log : (config : Config) (event : PlainEvent) (polled : ℕ) (before log : L
     → HearsOf (device_acts log) later → OnlyAdds c (tells event before ++ channel_log) later
 from_log config event polled before log channel_log later c x n settles y =
     let start = begins config event polled before in
-    let end = each_settled config (Behind start.base) (step_keeps config _ (steps_keep start.base config)) n (own_acts config polled event before ++ before) log
+    let end = each_settled config (Behind start.base) (step_keeps config _ (steps_keep start.base config)) n
+    (own_acts config polled event before ++ before) log
     start.behind settles in
     plain_tells c end.0 start.base (tells event before ++ channel_log) later end.1 (start.hears channel_log x)
     (subst (λ (acts : List DeviceAct). HearsOf acts later) end.2 y)
@@ -315,6 +317,7 @@ pub ticks_event : (config : Config) (event : PlainEvent) (polled : ℕ) (before 
     → ticks (device_acts log) ≡ ticks (device_acts before) + bit 0 (is_tick event)
 ticks_event config event polled before log n settles =
     let start = begins config event polled before in
-    let end = each_settled config (Behind start.base) (step_keeps config _ (steps_keep start.base config)) n (own_acts config polled event before ++ before) log
+    let end = each_settled config (Behind start.base) (step_keeps config _ (steps_keep start.base config)) n
+    (own_acts config polled event before ++ before) log
     start.behind settles in
     ap ticks end.2 ∙ plain_ticks end.0 start.base end.1 ∙ start.time

@@ -42,7 +42,8 @@ owns_same : (c : ℕ) (named : Option ℕ) (acts other : List DeviceAct) → Sam
 owns_same c None acts other ground = refl
 owns_same c (Some n) acts other ground = ground.owned n
 
-wait_same : (c : ℕ) (call : LinkCall) (acts other : List DeviceAct) → SameGround c acts other → device_wait call acts ≡ device_wait call other
+wait_same : (c : ℕ) (call : LinkCall) (acts other : List DeviceAct) → SameGround c acts other
+    → device_wait call acts ≡ device_wait call other
 wait_same c (DeviceWrite io_timeout lock_timeout flags bytes) acts other ground = rw ground.ended refl
 wait_same c (DeviceRead request_size io_timeout lock_timeout flags term_char) acts other ground = rw ground.answerable refl
 wait_same c _ acts other ground = refl

@@ -99,7 +99,8 @@ in_turn config polled c call request log next asks =
     let own : of c (acts_of c effect ++ On c (CallTaken call) ∷ log) ≡ effect.own ++ CallTaken call ∷ of c log =
     of_effect c effect (On c (CallTaken call) ∷ log) ∙ ap (λ (l : List ConnAct). effect.own ++ l) (of_mine c (CallTaken call) log) in
     subst (StandsIn c call (of c log)) (sym (turn_parts c call effect (aborts request (device_acts log)) log))
-    (abort_keeps config _ (steps_keep c call (of c log) config) (aborts request (device_acts log)) _ (subst (Stands call (of c log)) (sym own)
+    (abort_keeps config _ (steps_keep c call (of c log) config) (aborts request (device_acts log)) _
+    (subst (Stands call (of c log)) (sym own)
     (stands_request config polled c call (of c log) request (device_acts log) (xid_next (of c log) call request next asks))))
 
 asks_some : (acts : List ConnAct) (call : List ℕ) → is_open acts ≡ true → next_call acts ≡ Some call
@@ -131,7 +132,8 @@ turn_answered config history before log c call was now next =
     let begins : StandsIn c call (of c now.0) (own_acts config now.1 (Turn c) now.0 ++ now.0) =
     rw (first, asks) (in_turn config now.1 c call request.0 now.0 first request.1) in
     let ends = each_settled config (StandsIn c call (of c now.0))
-    (step_keeps config _ (steps_keep c call (of c now.0) config)) now.8.0 (own_acts config now.1 (Turn c) now.0 ++ now.0) log begins now.8.1 in
+    (step_keeps config _ (steps_keep c call (of c now.0) config)) now.8.0
+    (own_acts config now.1 (Turn c) now.0 ++ now.0) log begins now.8.1 in
     elim (subst (λ (l : List Act). Stands call (of c l) (of c log)) same ends) [
       | inl answered ↦ inl answered
       | inr (inl faulted) ↦ inr (inl faulted)

@@ -81,7 +81,8 @@ none_bad (Err BadHeader) e = refl
 xid_asked : (role : Option Role) (bytes : List ℕ) (request : Request) → request_for role (Some bytes) ≡ Some request
     → xid_of (call_at bytes) ≡ xid_in request
 xid_asked (Some role) bytes request e =
-    xid_is role (xid_of (call_at bytes)) request (asks_as role (call_at bytes) request (some_same (request_of role (call_at bytes)) request e))
+    xid_is role (xid_of (call_at bytes)) request
+    (asks_as role (call_at bytes) request (some_same (request_of role (call_at bytes)) request e))
 xid_asked None bytes request e = absurd cc
 
 pub xid_next : (acts : List ConnAct) (bytes : List ℕ) (request : Request) → next_call acts ≡ Some bytes

@@ -91,7 +91,8 @@ module _ (d : ℕ) {IsSuch : List Act → Act → Type 0} {IsShared : List Devic
   each_effect effect log h = each_join IsSuch (map (On d) effect.own) (map OnDevice effect.adds) log
       (each_own effect.own (map OnDevice effect.adds ++ log)) (each_shared effect.adds log h)
 
-  pub each_failed : (error : ErrorCode) (call : Option CoreCall) (log : List Act) → Each IsSuch (acts_of d (failure_effect error d call)) log
+  pub each_failed : (error : ErrorCode) (call : Option CoreCall) (log : List Act)
+      → Each IsSuch (acts_of d (failure_effect error d call)) log
   each_failed error (Some call) log = each_effect (failure_effect error d (Some call)) log (is.left (device_acts log), tt)
   each_failed error None log = each_effect (failure_effect error d None) log (is.left (device_acts log), tt)
 

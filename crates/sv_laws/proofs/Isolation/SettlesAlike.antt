@@ -210,7 +210,8 @@ advance config c lid log middle other fit also pair locks (inr (fire, inr (resum
             after = other;
             reaches = reaches_none config other;
             pair = subst (λ (l : List Act). Pair c lid l other) (sym is)
-                (pair_foreign c lid acts log other (each_failed d (foreign_is c d ne) (late wait) (core_call_in (pending_call (of d log))) log)
+                (pair_foreign c lid acts log other
+                (each_failed d (foreign_is c d ne) (late wait) (core_call_in (pending_call (of d log))) log)
                 (locks acts is) behind.suits pair);
             fit = also;
           }
