@@ -2,6 +2,7 @@
 //! memory, calls that no other crate makes, and the words, texts and exit statuses of the program.
 //! All else is tested in `test_scripts`, `test_driver`, `sv_sockets` and `test_parts`. The library
 //! itself is empty.
+#![tactic(auto)]
 
 #[cfg(test)]
 mod memory;
