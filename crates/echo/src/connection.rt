@@ -1,4 +1,4 @@
-//! A connection, and what of its bytes is still to be given back.
+//! A connection, and the bytes that it still has to send back.
 
 use mio::net::TcpStream;
 use mio::{Interest, Registry, Token};
@@ -11,7 +11,7 @@ pub(crate) struct Connection {
 }
 
 impl Connection {
-    /// A connection that is reported under this token.
+    /// A connection that the system reports under this token.
     pub(crate) fn new(
         mut stream: TcpStream,
         registry: &Registry,
@@ -22,7 +22,7 @@ impl Connection {
         Ok(Connection { stream })
     }
 
-    /// Reads once and sends it back. Returns false if the connection is to be closed.
+    /// Reads once and sends the bytes back. Returns false if the connection is to be closed.
     pub(crate) fn echo(&mut self, buffer: &mut [u8]) -> bool {
         match self.stream.read(buffer) {
             Ok(0) => false,

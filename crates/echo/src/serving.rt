@@ -32,7 +32,7 @@ fn accept(
     Ok(())
 }
 
-/// Gives back what a connection sent.
+/// Sends back what a connection sent.
 fn echo(connections: &mut Vec<Option<Connection>, Global>, number: usize, buffer: &mut [u8]) {
     let Some(place) = connections.get_mut(number) else {
         return;
@@ -77,8 +77,8 @@ impl Served {
         })
     }
 
-    /// Waits until something comes, or until a limit if there is one, and sends it back. Returns
-    /// whether something came.
+    /// Waits until bytes come, at most for `limit`, if there is one, and sends them back. Returns
+    /// whether any came.
     fn spin(&mut self, limit: Option<Duration>) -> io::Result<bool> {
         self.poll.poll(&mut self.events, limit)?;
         for event in self.events.iter() {
@@ -93,7 +93,7 @@ impl Served {
     }
 }
 
-/// Serves a port for so many looks.
+/// Serves a port for this number of polls.
 pub(crate) fn serve(rt: &HostRuntime, port: u16, looks: u32) -> io::Result<()> {
     let mut served = Served::listen(rt, port)?;
     println!(rt; "ready {port}")?;
@@ -115,7 +115,7 @@ pub(crate) fn serve(rt: &HostRuntime, port: u16, looks: u32) -> io::Result<()> {
     Ok(())
 }
 
-/// How long it may sleep, with so many polls left: without a limit, but for the last ones.
+/// How long it may sleep, with `left` polls left: without a limit, except before the last polls.
 fn sleep_time(pace: &Pace, now: u64, left: u32) -> Option<Duration> {
     if left > FEW {
         return None;

@@ -8,18 +8,16 @@
 //! for number in 1..100 {
 //!     heap.refuse(number);
 //!     let outcome = code_under_test(&heap);
-//! // No refusal was met: the code makes fewer allocations than `number`, and `outcome` is what it
-//! answers with all of them.
-//!     if heap.waits() { .. }
+//!     // If no refusal was met, the code makes fewer allocations than `number`, and `outcome` is
+//!     // its answer with all of them.
+//!     if heap.is_armed() { .. }
 //! }
 //! ```
 //!
-//! A contract cannot speak of what a cell holds, so `refuse` and `is_armed` have none, and the
-//! tests
-//! show what they do.
-//! What is proved is that memory is used safely: each block handed out is one that the inner
-//! allocator gave for that layout, and it is given back to it with that layout and at most once. No
-//! contract says that it is given back at all.
+//! A contract cannot speak of the contents of a cell, so `refuse` and `is_armed` have none, and the
+//! tests show what they do. What is proved is that memory is used safely: each block handed out is
+//! one that the inner allocator gave for that layout, and it is given back to it with that layout
+//! and at most once. No contract says that it is given back at all.
 #![tactic(auto)]
 
 use std::alloc::{AllocError, Allocator};
@@ -35,11 +33,10 @@ mod tests;
 /// and `is_armed` may be called while it is lent.
 ///
 /// A block that grows or shrinks is allocated anew and copied, whatever the inner allocator would
-/// do, so each time counts as one allocation and may be the one that is refused.
+/// do. So each time counts as one allocation, and may be the one that is refused.
 pub struct FailingAllocator<B: Allocator> {
     inner: B,
-    // How many allocations are left up to the refused one, which is among them; 0 if none is to
-    // be refused.
+    // How many allocations are left, up to the refused one and with it; 0 if none is to be refused.
     left: Cell<u64>,
 }
 
@@ -53,10 +50,9 @@ impl<B: Allocator> FailingAllocator<B> {
     }
 
     /// Refuses one allocation: the one with this number among those that come from now on, counted
-    /// from 1.
-    /// The others are passed on, also those after it. With 0 none is refused.
+    /// from 1. The others are passed on, also those after it. With 0 none is refused.
     ///
-    /// It takes the place of what an earlier call asked for.
+    /// This replaces what an earlier call asked for.
     pub fn refuse(&self, number: u64) {
         self.left.set(number);
     }
@@ -73,7 +69,7 @@ impl<B: Allocator> Drop for FailingAllocator<B> {
     }
 }
 
-// Counts one allocation, and says whether it is the one to refuse.
+// Counts one allocation, and returns whether it is the one to refuse.
 fn take_turn(left: &Cell<u64>) -> bool {
     let number = left.get();
     if number == 0 {

@@ -1,4 +1,4 @@
-//! Bytes: pieces put after others, and bytes dropped from the front.
+//! Appending bytes, and dropping bytes from the front.
 //!
 //! Nothing allocates.
 #![tactic(auto)]

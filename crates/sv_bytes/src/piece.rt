@@ -1,10 +1,10 @@
-//! Pieces put after bytes, and bytes dropped from their front.
+//! Appending bytes, and dropping bytes from the front.
 
 ghost use Rattle.std.specs.Prelude.{◌≡◌, ◌+◌, ◌≤◌, ◌++◌, drop, length, vec_len, vec_capacity};
 
 use std::alloc::Allocator;
 
-/// Puts a piece after bytes that have room for it. It doesn't allocate.
+/// Appends a piece to bytes that have room for it. It doesn't allocate.
 pub fn append<A: Allocator>(bytes: &mut Vec<u8, A>, piece: &[u8])
     requires { vec_len bytes.old + length piece.now ≤ vec_capacity bytes.old }
     ensures items { bytes.new.items ≡ bytes.old.items ++ piece.now }
@@ -13,7 +13,7 @@ pub fn append<A: Allocator>(bytes: &mut Vec<u8, A>, piece: &[u8])
     bytes.extend_from_slice(piece).unwrap();
 }
 
-/// Drops so many bytes from the front. It doesn't allocate.
+/// Drops the first `count` bytes. It doesn't allocate.
 pub fn drop_front<A: Allocator>(bytes: &mut Vec<u8, A>, count: usize)
     requires { count ≤ vec_len bytes.old }
     ensures items { bytes.new.items ≡ drop count bytes.old.items }

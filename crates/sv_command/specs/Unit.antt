@@ -20,22 +20,22 @@ abbrev pub unless : Option Code → Result Order Code → Result Order Code
 unless (Some code) outcome = Err code
 unless None outcome = outcome
 
--- What a command asks for in a unit: the spelling of the parameters is checked, then whether there are too many (-108), then their values.
+-- What a command asks for in a unit: the syntax of the parameters is checked, then whether there are too many (-108), then their values.
 abbrev pub order_of_unit : CommandId → List ℕ → Result Order Code
 order_of_unit command unit =
     unless (parameters_fault unit)
     (if nat_lt (most_parameters command) (count unit) then Err ParameterNotAllowed else order_of command (first_parameter unit))
 
--- The header names a command: the unit asks for what that command does, and the path follows the header. Or the header names no command
--- (-113), and the path stays.
+-- The header names a command: the unit asks for what that command does, and the path is updated. Or the header names no command (-113), and
+-- the path doesn't change.
 abbrev pub IsNamed : List (List ℕ) → List ℕ → Result Order Code → List (List ℕ) → Type 0
 IsNamed path unit outcome behind =
     ((command : CommandId) × Resolves path (header unit) command × (outcome ≡ order_of_unit command unit) × (behind ≡ next_path path
     (header unit)))
     ⊎ (((command : CommandId) → Resolves path (header unit) command → ⊥) × (outcome ≡ Err UndefinedHeader) × (behind ≡ path))
 
--- A unit, with the path before it, has this outcome: what it asks for, or its error. It leaves the path `behind`. The path follows a header
--- that is well spelled and names a command; otherwise it is unchanged.
+-- A unit, with the path before it, has this outcome: what it asks for, or its error. It leaves the path `behind`. The path is updated after
+-- a header that has the form of one and names a command; otherwise it is unchanged.
 abbrev pub IsReadAs : List (List ℕ) → List ℕ → Result Order Code → List (List ℕ) → Type 0
 IsReadAs path unit outcome behind = ((code : Code) × (unit_fault unit ≡ Some code) × (outcome ≡ Err code) × (behind ≡ path))
     ⊎ ((unit_fault unit ≡ None) × IsNamed path unit outcome behind)

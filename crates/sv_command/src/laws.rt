@@ -2,7 +2,7 @@
 
 ghost use Rattle.sv_command.specs.Laws.{OneReading};
 
-/// A unit, with the path before it, asks for one thing, and leaves one path.
+/// A unit, with the path before it, has only one meaning, and leaves only one path.
 pub fn one_reading()
     ensures { OneReading }
 {}

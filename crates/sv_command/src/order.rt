@@ -25,7 +25,7 @@ pub enum Order {
     Set(Setting),
     /// `CONFigure:VOLTage`: abort, and configure a measurement, with this list if any.
     Configure(Option<ScanList>),
-    /// `MEASure:VOLTage?`: as [`Order::Configure`], and then begin a measurement and answer its
-    /// readings.
+    /// `MEASure:VOLTage?`: configure as [`Order::Configure`] does, begin a measurement, and answer
+    /// its readings.
     Measure(Option<ScanList>),
 }

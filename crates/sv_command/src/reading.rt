@@ -11,15 +11,16 @@ use sv_errors::Code;
 use sv_header::{CommandId, Path, Table};
 use sv_lexer::Unit;
 
-/// Reads a unit, with the path before it, as what it asks for. `lexed` is the unit as `sv_lexer`
-/// read it, or its fault. If the header names a command, the path follows it, even if the
-/// parameters are wrong.
+/// Reads what a unit asks for, with the path before it. `lexed` is the unit as `sv_lexer` read it,
+/// or its error. If the header names a command, the path is updated, even if the parameters are
+/// wrong.
 ///
 /// # Errors
-/// The first of these: the fault that `lexed` is; [`Code::UndefinedHeader`] if the header names no
-/// command; [`Code::InvalidExpression`], then [`Code::SyntaxError`], of the parameters' spelling;
-/// [`Code::ParameterNotAllowed`]; [`Code::MissingParameter`]; then those of the parameter's value.
-/// A range may be any voltage here: the scanner checks that there is such a range.
+/// The first of these: the error in `lexed`; [`Code::UndefinedHeader`] if the header names no
+/// command; [`Code::InvalidExpression`], then [`Code::SyntaxError`], for the syntax of the
+/// parameters; [`Code::ParameterNotAllowed`]; [`Code::MissingParameter`]; then those of the
+/// parameter's value. A range may be any voltage here: the scanner checks that there is such a
+/// range.
 pub fn read_unit<A: Allocator>(
     table: &Table<A>,
     path: &mut Path,
@@ -34,7 +35,7 @@ pub fn read_unit<A: Allocator>(
     }
 }
 
-/// The order of a unit whose header is well spelled.
+/// The order of a unit whose header has the form of one.
 fn named<A: Allocator>(table: &Table<A>, path: &mut Path, unit: &Unit<'_>) -> Result<Order, Code>
     ensures { IsNamed path.old unit.now result path.new }
 {

@@ -1,4 +1,4 @@
-//! The values of parameters, as settings and orders have them.
+//! The values of parameters, in the form that settings and orders have.
 
 ghost use Rattle.std.specs.Prelude.{◌≡◌, Ok};
 ghost use Rattle.sv_errors.specs.Limits.{most_scans};
@@ -10,7 +10,7 @@ use sv_lexer::Token;
 use sv_scan::ScanList;
 use sv_value::{channel_list, whole};
 
-/// A mask of eight bits.
+/// Reads a mask of eight bits.
 pub(crate) fn mask(token: &Token<'_>) -> Result<u8, Code>
     ensures { result ≡ read_whole 0 255 token.now.kind token.now.text.now }
 {
@@ -20,7 +20,7 @@ pub(crate) fn mask(token: &Token<'_>) -> Result<u8, Code>
     }
 }
 
-/// How many scans a measurement has.
+/// Reads how many scans a measurement has.
 pub(crate) fn count(token: &Token<'_>) -> Result<u8, Code>
     ensures { result ≡ read_whole 1 most_scans token.now.kind token.now.text.now }
 {
@@ -30,7 +30,7 @@ pub(crate) fn count(token: &Token<'_>) -> Result<u8, Code>
     }
 }
 
-/// The channels of a scan.
+/// Reads the channels of a scan.
 pub(crate) fn list(token: &Token<'_>) -> Result<ScanList, Code>
     ensures { result ≡ read_channels token.now.kind token.now.text.now }
 {
@@ -40,7 +40,7 @@ pub(crate) fn list(token: &Token<'_>) -> Result<ScanList, Code>
     }
 }
 
-/// The channels of a list; `None` if the list is absent.
+/// Reads the channels of a list; `None` if there is no list.
 pub(crate) fn list_if_given(given: Option<Token<'_>>) -> Result<Option<ScanList>, Code>
     ensures { result ≡ channels_in (given_by given.entry) }
 {
@@ -53,7 +53,7 @@ pub(crate) fn list_if_given(given: Option<Token<'_>>) -> Result<Option<ScanList>
     }
 }
 
-/// The monitored channel: the one of a list.
+/// Reads the monitored channel: a list of one channel.
 pub(crate) fn monitor(token: &Token<'_>) -> Result<u8, Code>
     ensures { result ≡ only_channel (read_channels token.now.kind token.now.text.now) }
 {

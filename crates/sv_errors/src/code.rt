@@ -19,7 +19,7 @@ pub enum Code {
     NoError,
     /// A byte that no program message may have.
     InvalidCharacter,
-    /// A header or a parameter with a wrong spelling.
+    /// A header or a parameter with wrong syntax.
     SyntaxError,
     /// A parameter of another kind than the command takes.
     DataTypeError,
@@ -31,25 +31,25 @@ pub enum Code {
     ProgramMnemonicTooLong,
     /// A header that no command has.
     UndefinedHeader,
-    /// A byte that can't stand at its place in a number.
+    /// A byte that isn't allowed at its place in a number.
     InvalidCharacterInNumber,
     /// An exponent whose magnitude is above 32,000.
     ExponentTooLarge,
     /// A mantissa of more than 255 digits, not counting zeros in front.
     TooManyDigits,
-    /// A suffix that is no unit of the parameter.
+    /// A suffix that isn't a unit of the parameter.
     InvalidSuffix,
     /// A suffix on a parameter that has no unit.
     SuffixNotAllowed,
     /// Character data with a byte that isn't a letter, a digit or an underscore.
     InvalidCharacterData,
-    /// An expression with a wrong spelling.
+    /// An expression with wrong syntax.
     InvalidExpression,
     /// A trigger that nothing waited for.
     TriggerIgnored,
     /// An initiation while a measurement is under way.
     InitIgnored,
-    /// `READ?` with triggers from the bus, which couldn't come while it waits.
+    /// `READ?` with triggers from the bus, which can't come while the query waits.
     TriggerDeadlock,
     /// A setting that can't be changed now.
     SettingsConflict,
@@ -74,7 +74,7 @@ pub enum Code {
 }
 
 impl Code {
-    /// The number of the error, which isn't positive.
+    /// The number of the error: 0 for no error, else a negative number.
     pub fn number(self) -> i16
         ensures { result ≡ number_of self }
     {

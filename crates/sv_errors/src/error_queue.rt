@@ -26,7 +26,7 @@ pub enum QueueAct {
 /// The answer to an act of the error queue.
 #[derive(Clone, Copy, Debug, PartialEq, Eq)]
 pub enum QueueAnswer {
-    /// Whether the report overflowed.
+    /// Whether the report found a full queue.
     Reported(bool),
     /// The entry that was taken; `None` if there was none.
     Taken(Option<Code>),
@@ -67,8 +67,8 @@ impl<A: Allocator> ErrorQueue<A> {
         Ok(ErrorQueue { codes })
     }
 
-    /// Reports an error, and returns whether the queue was full: then its newest entry becomes
-    /// -350, and this error is lost.
+    /// Reports an error, and returns whether the queue was full. If it was, its newest entry
+    /// becomes -350, and this error is lost.
     pub fn report(&mut self, code: Code) -> bool
         ensures stands { (acts : List QueueAct) → StandsFor self.old acts
             → StandsFor self.new (QueueAct.Report code ∷ acts) }

@@ -1,8 +1,8 @@
-//! A layer of the instrument: its answers are those that a search of its acts gives.
+//! A layer of the instrument: its answers are those that a search through its acts gives.
 
 ghost use Rattle.std.specs.Prelude.{◌≡◌, List, ◌∷◌, ◌++◌, reverse};
 
-/// A part of the instrument, to which acts happen one after the other.
+/// A part of the instrument, on which acts are performed one after the other.
 ///
 /// Its law: if a value stands for a list of acts, then after `act` it stands for the list with that
 /// act in front, and the answer is the one that a search of the list gives. Lists of acts have the
@@ -16,7 +16,7 @@ pub trait Layer {
     /// The value stands for a list of acts.
     ghost stands_for: { Self → List Self.Act → Type 0 };
 
-    /// The answer to an act after this list is this one.
+    /// This is the answer to an act that follows this list of acts.
     ghost gives: { List Self.Act → Self.Act → Self.Answer → Type 0 };
 
     /// Performs an act, and gives its answer.

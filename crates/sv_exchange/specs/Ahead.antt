@@ -1,4 +1,4 @@
--- The unit that comes next, as far as its message was looked at.
+-- The next unit of a message, as far as the message was read.
 use Rattle.std.specs.Prelude.{◌≡◌, ℕ, ◌+◌, ◌≤◌, ◌==◌, Bool, true, false, List, [], ◌∷◌, ◌++◌, length, take, nat_lt, if◌then◌else◌}
 use Rattle.std.specs.List.{list_all, list_any}
 use Rattle.sv_text.specs.White.{is_white, trim_start, trim_end}
@@ -24,7 +24,7 @@ abbrev pub IsFound : Bool → (seen unit space : List ℕ) → Type 0
 IsFound true seen unit space = (is_something unit ≡ true) × ((more : List ℕ) → units (seen ++ more) ≡ unit ∷ units more)
 IsFound false seen unit space = IsOpen seen unit space
 
--- What was looked at: bytes before the first unit, that unit so far, and what follows it.
+-- The bytes that were read: those before the first unit, that unit so far, and those after it.
 pub record IsAhead (ahead : Ahead) (seen : List ℕ) : Type 0 where
   pub before : List ℕ
   pub unit : List ℕ
@@ -36,22 +36,22 @@ pub record IsAhead (ahead : Ahead) (seen : List ℕ) : Type 0 where
   pub reads : Reads ahead.partial unit
   pub found : IsFound ahead.closed seen unit space
 
--- A prefix of the text was looked at.
+-- A prefix of the text was read.
 pub record IsBegun (ahead : Ahead) (text : List ℕ) : Type 0 where
   pub within : ahead.looked ≤ length text
   pub seen : IsAhead ahead (take ahead.looked text)
 
--- The text was looked at up to the semicolon after the first unit, or to its end.
+-- The text was read up to the semicolon after the first unit, or to its end.
 pub record IsLooked (ahead : Ahead) (text : List ℕ) : Type 0 where
   pub begun : IsBegun ahead text
   pub all : ahead.closed ≡ false → ahead.looked ≡ length text
 
--- what is known after one more semicolon
+-- the state of reading after one more semicolon
 abbrev pub behind_semicolon : Ahead → Ahead
 behind_semicolon ahead = if nat_lt ahead.start ahead.end then record ahead { looked = ahead.looked + 1; closed = true }
     else record ahead { start = ahead.looked + 1; end = ahead.looked + 1; looked = ahead.looked + 1 }
 
--- what is known after one more byte of white space
+-- the state of reading after one more byte of white space
 abbrev pub behind_space : Ahead → Ahead
 behind_space ahead = if nat_lt ahead.start ahead.end then record ahead { looked = ahead.looked + 1 }
     else record ahead { start = ahead.looked + 1; end = ahead.looked + 1; looked = ahead.looked + 1 }

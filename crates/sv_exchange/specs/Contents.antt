@@ -1,12 +1,12 @@
--- What message exchange keeps, and when it stands for a list of acts.
+-- The state of message exchange, and when it stands for a list of acts.
 use Rattle.std.specs.Prelude.{◌≡◌, ◌≢◌, ℕ, ◌+◌, ◌*◌, ◌==◌, Bool, true, false, not, ◌&&◌, List, [], ◌∷◌, ◌++◌, length, drop, map, Option, None, nat_lt, slice_get, if◌then◌else◌}
 use Rattle.sv_exchange.specs.declared.exchange.Next.{Next}
 use Rattle.sv_exchange.specs.declared.exchange.Next.TheVariants as next
 use Rattle.sv_exchange.specs.Exchange.{ExchangeAct, Symbol, Byte, end_mark, text, messages, messages_finished, current, units_done, has_overrun, has_dropped, answers, units, is_something, joined_answers, response, Due, NothingDue, OverrunDue, InterruptDue, UnitDue, FinishDue, due_unit}
 use Rattle.sv_exchange.specs.Limits.{max_message}
 
--- what is kept: the rest of the current message, and whether it has ended; the text after it, and whether END follows that; what happened
--- to the message; and either its answers or what can be read
+-- the state: the rest of the current message, and whether it has ended; the text after it, and whether END follows that text; what happened
+-- to the current message; and either its answers or the response
 pub record Contents : Type 0 where
   pub rest : List ℕ
   pub ended : Bool
@@ -42,13 +42,13 @@ abbrev pub following : Bool → List ℕ → Bool → List (List ℕ)
 following true later end_pending = messages (symbols later end_pending)
 following false later end_pending = []
 
--- The output that is kept is the joined answers of the current message, and nothing can be read; or there is no answer, and it is the
--- response.
+-- The stored output is the joined answers of the current message, and nothing can be read; or there is no answer, and the stored output is
+-- the response.
 abbrev pub IsShown : Bool → List ℕ → List (List ℕ) → List ℕ → Type 0
 IsShown true output given readable = (given ≢ []) × (output ≡ joined_answers given) × (readable ≡ [])
 IsShown false output given readable = (given ≡ []) × (readable ≡ output)
 
--- What is kept stands for the acts: there is a current message, some of whose units were executed.
+-- The state stands for the acts: there is a current message, some of whose units were executed.
 pub record StandsFor (contents : Contents) (acts : List ExchangeAct) : Type 0 where
   pub message : List ℕ
   pub executed : List (List ℕ)
@@ -74,7 +74,7 @@ abbrev pub readable_of : Bool → List ℕ → List ℕ
 readable_of true output = []
 readable_of false output = output
 
--- what can be read of what is kept
+-- the bytes that can be read, by the state
 abbrev pub shown_by : Contents → List ℕ
 shown_by contents = readable_of contents.answering contents.output
 
@@ -83,7 +83,7 @@ abbrev pub unit_of : Contents → Option (List ℕ)
 unit_of contents = if contents.ended && (not contents.overlong && not contents.answers_dropped) then slice_get (units contents.rest) 0
     else None
 
--- what is due, by what is kept
+-- the step that is due, by the state
 abbrev pub next_of : Contents → Due
 next_of contents = if contents.overlong && not contents.overrun_reported then OverrunDue else due_unit (unit_of contents)
     (is_something (shown_by contents)) contents.ended
@@ -101,7 +101,7 @@ abbrev pub bit : Bool → ℕ
 bit true = 1
 bit false = 0
 
--- how much text is kept: the bytes of the current message; if it has ended, also 1 for its end, the bytes after it, and 1 if END follows
+-- how much text is stored: the bytes of the current message; if it has ended, also 1 for its end, the bytes after it, and 1 if END follows
 -- them
 abbrev pub text_size : Bool → ℕ → ℕ → Bool → ℕ
 text_size true rest later end_pending = rest + (1 + (later + bit end_pending))
@@ -112,7 +112,7 @@ abbrev pub exchange_measure : Contents → ℕ
 exchange_measure contents = 3 * text_size contents.ended (length contents.rest) (length contents.later) contents.end_pending +
     (bit (contents.overlong && not contents.overrun_reported) + bit (is_something (shown_by contents)))
 
--- what is due, as plain data
+-- the step that is due, as plain data
 abbrev pub plain_next : Next → Due
 plain_next next.Nothing = NothingDue
 plain_next next.Overrun = OverrunDue

@@ -131,8 +131,8 @@ bytes_read (_ ∷ acts) = bytes_read acts
 abbrev pub response : List ExchangeAct → List ℕ
 response acts = drop (bytes_read (since renews acts)) (new_response (newest renews acts))
 
--- What is due: a message that is too long is reported once; a unit starts, and before the first unit a response that is still there is
--- interrupted; a message that has ended is finished.
+-- The step that is due: a message that is too long is reported once; a unit starts, and before the first unit a response that isn't read to
+-- its end is interrupted; a message that has ended is finished.
 pub data Due : Type 0 where
   NothingDue : Due
   OverrunDue : Due
@@ -140,13 +140,13 @@ pub data Due : Type 0 where
   UnitDue : (text : List ℕ) → Due
   FinishDue : Due
 
--- what is due, given the next unit: it starts or, if `interrupts` is true, the response is interrupted; without a unit, a message that has
--- ended is finished
+-- the step that is due, given the next unit: it starts or, if `interrupts` is true, the response is interrupted; without a unit, a message
+-- that has ended is finished
 abbrev pub due_unit : Option (List ℕ) → Bool → Bool → Due
 due_unit (Some unit) interrupts ended = if interrupts then InterruptDue else UnitDue unit
 due_unit None interrupts ended = if ended then FinishDue else NothingDue
 
--- what is due after these acts
+-- the step that is due after these acts
 abbrev pub due : List ExchangeAct → Due
 due acts =
     if is_long acts && not (has_overrun (current acts)) then OverrunDue

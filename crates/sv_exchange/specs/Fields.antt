@@ -1,4 +1,4 @@
--- How the fields of message exchange keep its contents, and how the contents change.
+-- How the fields of message exchange represent its contents, and how the contents change.
 use Rattle.std.specs.Prelude.{◌≡◌, ℕ, ◌+◌, ◌==◌, ◌<◌, ◌≤◌, Bool, true, false, ◌&&◌, ◌||◌, List, [], ◌∷◌, ◌++◌, length, take, drop, nat_lt, slice_range, if◌then◌else◌}
 use Rattle.std.specs.List.{position_or_len}
 use Rattle.sv_exchange.specs.Contents.{Contents}
@@ -52,7 +52,7 @@ abbrev pub after_answer : Contents → List ℕ → Bool → Contents
 after_answer contents answer true = record contents { answering = true; output = with_answer contents.answering contents.output answer }
 after_answer contents answer false = record contents { answers_dropped = true; answering = false; output = [] }
 
--- the contents that the fields keep
+-- the contents that the fields represent
 abbrev pub contents_of : List ℕ → ℕ → ℕ → ℕ → Bool → Bool → Bool → Bool → Bool → Bool → List ℕ → ℕ → Contents
 contents_of text cursor end next_start ended end_pending overlong overrun_reported answers_dropped answering response read = record {
   rest = slice_range text cursor end;
@@ -76,7 +76,7 @@ abbrev pub IsText : Bool → ℕ → ℕ → ℕ → ℕ → Type 0
 IsText true size cursor end next_start = (size ≤ max_text) × (size ≤ next_start + max_message)
 IsText false size cursor end next_start = (end ≡ size) × (next_start ≡ size) × (end ≤ cursor + max_message)
 
--- The fields are in order, and there is memory for what they keep.
+-- The fields agree with each other, and there is memory for their contents.
 pub record IsValid (text : List ℕ) (cursor end next_start : ℕ) (ended : Bool) (space : ℕ) (response : List ℕ) (read : ℕ) (answering : Bool)
     (slots : ℕ) : Type 0 where
   pub order : (cursor ≤ end) × (end ≤ next_start) × (next_start ≤ length text)

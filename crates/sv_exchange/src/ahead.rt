@@ -1,4 +1,4 @@
-//! The unit that comes next, as far as its message was looked at.
+//! The next unit of a message, read while the bytes of the message come.
 
 ghost use Rattle.std.specs.Prelude.{◌≡◌, ◌+◌, ◌-◌, ◌^◌, ◌<◌, ℕ, List, [], false, length, MatchOption, Some, slice_get};
 ghost use Rattle.sv_lexer.specs.Unit.{IsLexed};
@@ -10,12 +10,12 @@ use sv_errors::Code;
 use sv_lexer::{Partial, Unit};
 use sv_text::is_space;
 
-/// The unit that comes next in a message (IEEE 488.2, 7.3.2 and 7.4.1). The message is looked at up
-/// to the semicolon after it, each byte once. Places count from where the text begins.
+/// The next unit of a message (IEEE 488.2, 7.3.2 and 7.4.1). The text is read up to the semicolon
+/// after the unit, each byte once. Positions count from the start of the text.
 #[derive(Drop)]
 pub(crate) struct Ahead {
-    /// Where the unit begins, and where it ends without white space after it. While it hasn't
-    /// begun, both are how far the text was looked at.
+    /// Where the unit begins, and where it ends without the white space after it. Before it has
+    /// begun, both are the number of bytes read.
     start: usize,
     end: usize,
     /// How many bytes of the text were read.
@@ -27,7 +27,7 @@ pub(crate) struct Ahead {
 }
 
 impl Ahead {
-    /// The unit that comes first in a text.
+    /// Reads the first unit of a text.
     pub(crate) fn of(text: &[u8]) -> Ahead
         ensures { IsLooked result text.now }
     {
@@ -42,7 +42,7 @@ impl Ahead {
         ahead
     }
 
-    /// Reads on: the text grew, or it is another one.
+    /// Reads on in a text that has grown, or reads a text from its start, if `anew`.
     pub(crate) fn look_on(&mut self, text: &[u8], anew: bool)
         requires { anew ≡ false → IsBegun self.old text.now }
         ensures { IsLooked self.new text.now }
@@ -54,8 +54,8 @@ impl Ahead {
         }
     }
 
-    /// The unit, and how many bytes are stepped over with it; none where only semicolons and white
-    /// space are left. The text has to be all of the message.
+    /// The unit, and how many bytes to step over with it, with the semicolon after it; `None` if
+    /// only semicolons and white space are left. The text must be all of the message.
     pub(crate) fn unit<'a>(&self, text: &'a [u8]) -> Option<(&'a [u8], usize)>
         requires { IsLooked self.now text.now }
         ensures { MatchOption result (units text.now ≡ [])
@@ -68,7 +68,7 @@ impl Ahead {
         }
     }
 
-    /// The unit, as it was read.
+    /// The header and parameters of the unit, or its error.
     pub(crate) fn lexed<'a>(&self, text: &'a [u8]) -> Result<Unit<'a>, Code>
         requires { IsLooked self.now text.now }
         ensures { (unit : List ℕ) → slice_get (units text.now) 0 ≡ Some unit
@@ -110,7 +110,7 @@ impl Ahead {
         }
     }
 
-    /// A semicolon ends the unit, or is stepped over where it hasn't begun.
+    /// Reads a semicolon: it ends the unit, or is skipped if no unit has begun.
     fn semicolon(&mut self)
         requires { self.old.looked < 2 ^ 64 - 1 }
         ensures { self.new ≡ behind_semicolon self.old }
@@ -124,7 +124,7 @@ impl Ahead {
         }
     }
 
-    /// White space before the unit is skipped.
+    /// Skips white space before the unit.
     fn space(&mut self)
         requires { self.old.looked < 2 ^ 64 - 1 }
         ensures { self.new ≡ behind_space self.old }

@@ -18,14 +18,14 @@ use sv_bytes::{append, drop_front};
 use sv_errors::Code;
 use sv_lexer::Unit;
 
-/// What is due.
+/// The step that is due.
 #[derive(Clone, Copy)]
 pub enum Next<'a> {
     /// Nothing is due until more text comes.
     Nothing,
     /// The current message is too long, which is to be reported.
     Overrun,
-    /// A unit is to be executed, but a response is still there, which has to be dropped before.
+    /// A unit is to be executed, but a response that isn't read completely has to be dropped first.
     Interrupt,
     /// This unit is to be executed.
     Unit(&'a [u8]),
@@ -43,21 +43,21 @@ pub struct Exchange<A: Allocator = Global> {
     cursor: usize,
     /// Where the current message ends.
     end: usize,
-    /// The unit at `cursor`, as far as the current message was read.
+    /// What was read ahead of the unit that begins at `cursor`.
     ahead: Ahead,
     /// Where the next message begins.
     next_start: usize,
     /// Whether the current message has ended.
     ended: bool,
-    /// Whether END came with the last byte of the later text.
+    /// Whether END came with the last byte of the text after the current message.
     end_pending: bool,
     /// Whether the current message is too long; its bytes are then dropped.
     overlong: bool,
-    /// Whether that was reported.
+    /// Whether it was reported that the current message is too long.
     overrun_reported: bool,
     /// Whether the answers of the current message were dropped.
     answers_dropped: bool,
-    /// Whether the response isn't a response yet, but the answers of the current message.
+    /// Whether `response` holds answers of the current message, which can't be read yet.
     answering: bool,
     response: Vec<u8, A>,
     /// How many bytes of the response were read.
@@ -108,7 +108,7 @@ impl<A: Allocator + Copy> Exchange<A> {
 }
 
 impl<A: Allocator> Exchange<A> {
-    /// Whether text is accepted: no ended message waits to be finished.
+    /// Whether text is accepted: it is, unless a message has ended and isn't finished yet.
     pub fn open_for_write(&self) -> bool
         ensures value { result ≡ is_open self.now }
         ensures answer { (acts : List ExchangeAct) → StandsFor self.now acts
@@ -118,9 +118,9 @@ impl<A: Allocator> Exchange<A> {
     }
 
     /// Accepts the bytes of a write, with END after the last of them or without (VXI-11,
-    /// device_write). A message ends at END or at a new line (IEEE 488.2, 7.5). Of one above
-    /// [`MAX_MESSAGE`] bytes none are kept. The exchange has to be open for a write, of at most as
-    /// many bytes.
+    /// device_write). A message ends at END or at a new line (IEEE 488.2, 7.5). Of a message above
+    /// [`MAX_MESSAGE`] bytes none are kept. The exchange must be open for a write, and a write may
+    /// have at most [`MAX_MESSAGE`] bytes.
     pub fn accept(&mut self, bytes: &[u8], ended: bool)
         requires open { IsTrue (is_open self.old) }
         requires short { length bytes.now ≤ max_message }
@@ -144,9 +144,9 @@ impl<A: Allocator> Exchange<A> {
             .look_on(&self.text[self.cursor..self.end], self.overlong);
     }
 
-    /// What is due: a report that the message is too long, the end of a response that is
-    /// interrupted, a unit to execute, or the end of the message. A message that is too long, or
-    /// lost its answers, has no unit that is due.
+    /// The step that is due: to report that the message is too long, to drop the response that a
+    /// new message interrupts, to execute a unit, or to finish the message. If a message is too
+    /// long, or its answers were dropped, none of its units is due.
     pub fn next_unit(&self) -> Next<'_>
         ensures value { plain_next result ≡ next_of self.now }
         ensures answer { (acts : List ExchangeAct) → StandsFor self.now acts
@@ -173,7 +173,7 @@ impl<A: Allocator> Exchange<A> {
         }
     }
 
-    /// The unit that is due, as it was read while its bytes came.
+    /// The header and parameters of the unit that is due, which were read while its bytes came.
     ///
     /// # Errors
     /// Those of [`unit`](sv_lexer::unit) for its bytes.
@@ -184,7 +184,7 @@ impl<A: Allocator> Exchange<A> {
         self.ahead.lexed(&self.text[self.cursor..self.end])
     }
 
-    /// Steps over the unit that was due: it was executed.
+    /// Steps over the unit that is due: it has been executed.
     pub fn done(&mut self)
         requires { IsUnitDue (next_of self.old) }
         ensures value { self.new ≡ record self.old { rest = self.new.rest } }
@@ -200,7 +200,7 @@ impl<A: Allocator> Exchange<A> {
         }
     }
 
-    /// The message that is too long was reported. It is dropped up to its end.
+    /// Notes that the message that is too long was reported. The message is dropped up to its end.
     pub fn overran(&mut self)
         requires { next_of self.old ≡ OverrunDue }
         ensures value { self.new ≡ record self.old { overrun_reported = true } }
@@ -249,9 +249,9 @@ impl<A: Allocator> Exchange<A> {
     }
 
     /// Adds an answer after those of the units before, separated by a semicolon (IEEE 488.2,
-    /// 8.4.1); a unit has to have been executed before. Returns whether it fits. If the response
-    /// would exceed [`MAX_RESPONSE`] bytes, all answers of the message are dropped, and no further
-    /// unit of it is executed.
+    /// 8.4.1). A unit must have been executed before. Returns whether the answer fits. If the
+    /// response would exceed [`MAX_RESPONSE`] bytes, all answers of the message are dropped, and
+    /// none of its further units is executed.
     pub fn respond(&mut self, answer: &[u8]) -> bool
         requires { IsTrue (may_respond self.old) }
         ensures value { self.new ≡ after_answer self.old answer.now result }
@@ -300,7 +300,7 @@ impl<A: Allocator> Exchange<A> {
         read_of(self.shown(), most, term)
     }
 
-    /// Drops so many bytes of the response, which were read (VXI-11, device_read).
+    /// Drops the first `count` bytes of the response, which were read (VXI-11, device_read).
     pub fn take(&mut self, count: usize)
         requires { count ≤ length (shown_by self.old) }
         ensures value { self.new ≡ record self.old { output = drop count self.old.output } }
@@ -358,7 +358,7 @@ impl<A: Allocator> Exchange<A> {
         self.answers_dropped = false;
     }
 
-    /// What can be read.
+    /// The bytes of the response that can be read now.
     fn shown(&self) -> &[u8]
         ensures { result.now ≡ shown_by self.now }
     {
@@ -370,7 +370,7 @@ impl<A: Allocator> Exchange<A> {
     }
 }
 
-/// Drops the bytes that were executed.
+/// Drops the first `count` bytes, whose units were executed.
 fn drop_done<A: Allocator>(bytes: &mut Vec<u8, A>, count: usize)
     requires { count ≤ vec_len bytes.old }
     ensures items { bytes.new.items ≡ drop count bytes.old.items }
@@ -381,7 +381,8 @@ fn drop_done<A: Allocator>(bytes: &mut Vec<u8, A>, count: usize)
     }
 }
 
-/// Puts an answer after those before it, with a semicolon between; or in the place of all bytes.
+/// Appends an answer to those before, with a semicolon between, if it joins them; else replaces all
+/// bytes by the answer.
 fn put_answer<A: Allocator>(bytes: &mut Vec<u8, A>, joins: bool, answer: &[u8])
     requires { length (with_answer joins bytes.old.items answer.now) ≤ vec_capacity bytes.old }
     ensures items { bytes.new.items ≡ with_answer joins bytes.old.items answer.now }
@@ -395,7 +396,7 @@ fn put_answer<A: Allocator>(bytes: &mut Vec<u8, A>, joins: bool, answer: &[u8])
     append(bytes, answer);
 }
 
-/// Ends the answers by a new line, if there are any.
+/// Appends a new line, if the bytes are answers.
 fn end_response<A: Allocator>(bytes: &mut Vec<u8, A>, answers: bool)
     requires { IsTrue answers → vec_len bytes.old < vec_capacity bytes.old }
     ensures items { bytes.new.items

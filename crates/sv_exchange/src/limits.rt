@@ -1,4 +1,4 @@
-//! How much message exchange takes, keeps and gives, in bytes.
+//! How many bytes message exchange takes, stores and gives.
 
 /// How long a program message may be, and how long one write may be.
 pub const MAX_MESSAGE: usize = 4096;

@@ -8,11 +8,11 @@ use sv_text::place_of;
 /// The first message of some text.
 #[derive(Clone, Copy)]
 pub(crate) struct Cut {
-    /// How many bytes it has.
+    /// How many bytes the message has.
     pub(crate) size: usize,
     /// Where the next message begins.
     pub(crate) next_start: usize,
-    /// Whether it has ended.
+    /// Whether the message has ended.
     pub(crate) ended: bool,
     /// Whether END comes after the bytes of the later messages.
     pub(crate) end_pending: bool,

@@ -46,7 +46,7 @@ fn count_of(response: &[u8], most: u32, term: Option<u8>) -> usize
     }
 }
 
-/// Whether the last of the first so many bytes is the termination character.
+/// Whether the last of the first `count` bytes is the termination character.
 fn ends_at(response: &[u8], count: usize, term: Option<u8>) -> bool
     requires { count ≤ length response.now }
     ensures { result ≡ ends_at_term response.now count term }

@@ -17,7 +17,7 @@ path_before _ path = []
 abbrev pub full : List (List ℕ) → List ℕ → List (List ℕ)
 full path header = path_before (lead header) path ++ mnemonics header
 
--- whether an asterisk leads the header
+-- whether the header begins with an asterisk
 abbrev pub leads_common : Lead → Bool
 leads_common Common = true
 leads_common _ = false
@@ -37,12 +37,12 @@ but_last [] = []
 but_last (part ∷ []) = []
 but_last (part ∷ other ∷ others) = part ∷ but_last (other ∷ others)
 
--- the path that a header leaves, by what leads the header, the path before it, and all mnemonics, with those of the path
+-- the path that a header leaves, by what the header begins with, the path before it, and all mnemonics, with those of the path
 abbrev pub kept_by : Lead → List (List ℕ) → List (List ℕ) → List (List ℕ)
 kept_by Common path all = path
 kept_by _ path all = but_last all
 
--- The path that a header leaves: its mnemonics with the path before them, as they were sent, without the last one. A common command leaves
--- the path as it was.
+-- The path that a header leaves: its mnemonics with the path before them, as they were sent, without the last one. A common command doesn't
+-- change the path.
 abbrev pub next_path : List (List ℕ) → List ℕ → List (List ℕ)
 next_path path header = kept_by (lead header) path (full path header)

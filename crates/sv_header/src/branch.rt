@@ -9,13 +9,13 @@ use crate::command::CommandId;
 use crate::left::Mnemonics;
 use crate::pattern::Node;
 
-/// A node at its place. The nodes below it stand right after it, and after these its next
+/// A node, as it is stored in a list: right after it come the nodes below it, and then its next
 /// sibling.
 #[derive(Clone, Copy, Debug)]
 pub(crate) struct Branch {
     /// The mnemonic.
     pub(crate) node: Node,
-    /// How many nodes stand below it.
+    /// How many nodes are below it, at any depth.
     pub(crate) below: usize,
     /// The command of the headers that end here without the question mark.
     pub(crate) plain: Option<CommandId>,
@@ -24,14 +24,14 @@ pub(crate) struct Branch {
 }
 
 impl Branch {
-    /// The command of a header that ends here.
+    /// The command of a header that ends at this node.
     fn command(&self, query: bool) -> Option<CommandId>
         ensures { result ≡ command_of query self.now }
     {
         if query { self.query } else { self.plain }
     }
 
-    /// The command of the header that ends here; `None` if a mnemonic is left.
+    /// The command of the header that ends at this node; `None` if mnemonics are left.
     pub(crate) fn ending(&self, left: &Mnemonics<'_>, query: bool) -> Option<CommandId>
         ensures { IsFound result
             (λ command. Ends (left_of left.now) (command_of query self.now) command) }

@@ -14,7 +14,8 @@ pub enum CommandId {
     Set(SettingName),
     /// `CONFigure:VOLTage[:DC]`: configure a measurement, with the given channels, if any.
     Configure,
-    /// `MEASure:VOLTage[:DC]?`: the same, and then measure and answer the readings.
+    /// `MEASure:VOLTage[:DC]?`: configure as [`CommandId::Configure`] does, measure, and answer the
+    /// readings.
     Measure,
 }
 
@@ -43,7 +44,7 @@ pub enum Action {
     Read,
 }
 
-/// What a query asks for that is answered at once.
+/// What a query that is answered at once asks for.
 #[derive(Clone, Copy, Debug, PartialEq, Eq)]
 pub enum Question {
     /// `*IDN?`: the identification of the instrument.
@@ -52,15 +53,15 @@ pub enum Question {
     SelfTest,
     /// `SYSTem:VERSion?`: the version of SCPI.
     Version,
-    /// `*ESR?`: the standard events, which this clears.
+    /// `*ESR?`: the standard events, which the query clears.
     StandardEvents,
     /// `*STB?`: the status byte, with the master summary in bit 6.
     StatusByte,
-    /// `SYSTem:ERRor[:NEXT]?`: the oldest entry of the error queue, which this takes.
+    /// `SYSTem:ERRor[:NEXT]?`: the oldest entry of the error queue, which the query takes.
     Error,
     /// `SYSTem:ERRor:COUNt?`: how many entries the error queue has.
     ErrorCount,
-    /// `STATus:..[:EVENt]?`: the event bits of a register, which this clears.
+    /// `STATus:..[:EVENt]?`: the event bits of a register, which the query clears.
     Events(RegisterName),
     /// `STATus:..:CONDition?`: the condition of a register.
     Condition(RegisterName),

@@ -6,14 +6,14 @@ ghost use Rattle.sv_header.specs.Plain.{left_of, sent_of};
 use crate::path::Mnemonic;
 use sv_text::first_part;
 
-/// The mnemonics that are left: the first, and after it some of a path, and those of a text.
+/// The mnemonics that are left: the first, then those left of a path, then those in a text.
 #[derive(Clone, Copy, Debug)]
 pub(crate) struct Mnemonics<'a> {
-    /// The first; `None` if none is left.
+    /// The first mnemonic; `None` if none is left.
     pub(crate) first: Option<&'a [u8]>,
     /// The mnemonics of the path that follow it.
     pub(crate) kept: &'a [Mnemonic],
-    /// The text after that, where any mnemonic of it is left.
+    /// The text with the mnemonics after those; `None` if there are no more.
     pub(crate) sent: Option<&'a [u8]>,
 }
 
@@ -44,7 +44,7 @@ impl<'a> Mnemonics<'a> {
         }
     }
 
-    /// All but the first.
+    /// All mnemonics but the first.
     pub(crate) fn others(&self) -> Mnemonics<'a>
         ensures { left_of result ≡ self.now.kept.now ++ sent_of self.now.sent }
     {

@@ -56,8 +56,9 @@ impl Mnemonic {
     }
 }
 
-/// The path: the mnemonics, as they were sent, that come before those of the next header, unless it
-/// starts at the root or is a common command. At most four, since no pattern has more than five.
+/// The path: the mnemonics, as they were sent, that the next header continues, unless that header
+/// starts at the root or is a common command. There are at most four, since no pattern has more
+/// than five.
 #[derive(Debug, Drop)]
 pub struct Path {
     mnemonics: ArrayVec<Mnemonic, 4>,
@@ -81,9 +82,9 @@ impl Path {
         }
     }
 
-    /// Follows a header that names a command: all its mnemonics but the last, with the path before
-    /// them unless it started at the root, become the path. A common command leaves the path as it
-    /// was.
+    /// Updates the path after a header that names a command. The new path is the old one, unless
+    /// the header starts at the root, followed by all mnemonics of the header but the last. A
+    /// common command doesn't change the path.
     pub fn follow(&mut self, header: &[u8])
         requires { (command : Command) × Resolves self.old header.now command }
         ensures { self.new ≡ next_path self.old header.now }

@@ -19,14 +19,14 @@ pub(crate) struct Node {
 }
 
 impl Node {
-    /// Whether a mnemonic is the short or the long form, in any case.
+    /// Whether a mnemonic is the short or the long form, in upper or lower case.
     fn takes(&self, mnemonic: &[u8]) -> bool
         ensures { IsTrue result ↔ IsForm mnemonic.now (part self.now) }
     {
         mnemonic.eq_ignore_ascii_case(self.short) || mnemonic.eq_ignore_ascii_case(self.long)
     }
 
-    /// The other mnemonics, if the first is a form of this one.
+    /// The mnemonics after the first, if the first is a form of this node's.
     pub(crate) fn behind<'a>(&self, left: &Mnemonics<'a>) -> Option<Mnemonics<'a>>
         ensures { IsBehind (left_of left.now) (part self.now) result }
     {
@@ -38,7 +38,7 @@ impl Node {
         }
     }
 
-    /// All mnemonics, if this one may be absent.
+    /// All mnemonics, if this node's may be absent.
     pub(crate) fn absent<'a>(&self, left: &Mnemonics<'a>) -> Option<Mnemonics<'a>>
         ensures { IsAllOf (left_of left.now) (part self.now) result }
     {

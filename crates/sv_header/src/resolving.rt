@@ -16,7 +16,7 @@ use std::alloc::{AllocError, Allocator, Global};
 use std::marker::Model;
 use sv_errors::Code;
 
-/// How many nodes are of common commands; these come first.
+/// How many nodes belong to common commands, which come first.
 const COMMON_NODES: usize = 11;
 
 /// The table of commands in memory: a tree of nodes, one for each mnemonic at its place.
@@ -53,7 +53,7 @@ impl<A: Allocator> Table<A> {
     /// The command that a header names, with the path before it (SCPI-1999, volume 1, chapter 6).
     ///
     /// # Errors
-    /// [`Code::UndefinedHeader`] if it names none.
+    /// [`Code::UndefinedHeader`] if it names no command.
     pub fn resolve(&self, path: &Path, header: &[u8]) -> Result<CommandId, Code>
         ensures { MatchResult result (λ command. Resolves path.now header.now command)
             (λ code. (code ≡ UndefinedHeader)
@@ -63,7 +63,8 @@ impl<A: Allocator> Table<A> {
         walk(&sent.mnemonics, sent.query, self.roots(sent.common)).ok_or(Code::UndefinedHeader)
     }
 
-    /// The nodes at the root, with those below them: of common commands, or of the others.
+    /// The nodes at the root, with those below them: those of common commands if `common`, else the
+    /// others.
     fn roots(&self, common: bool) -> &[Branch]
         ensures { tree_rows common result.now ≡ rows_with common }
     {

@@ -1,4 +1,4 @@
-//! The table of commands, as nodes in the order in which they are kept, in pieces.
+//! The table of commands: the nodes of the tree in their order, in several arrays.
 
 use crate::branch::Branch;
 use crate::command::{Action, CommandId, Question, SettingName};
@@ -14,14 +14,14 @@ use sv_status::RegisterName;
 /// How many nodes the tree has.
 pub(crate) const NODES: usize = 63;
 
-/// A node that ends no header, with how many stand below it.
+/// A node that ends no header, with the number of nodes below it.
 macro_rules! group {
     ($node:ident, $below:literal) => {
         ending!($node, $below, None, None)
     };
 }
 
-/// A node with how many stand below it, and its commands without the question mark and with it.
+/// A node with the number of nodes below it, and its commands without and with the question mark.
 macro_rules! ending {
     ($node:ident, $below:literal, $plain:expr, $query:expr) => {
         Branch {
@@ -33,7 +33,7 @@ macro_rules! ending {
     };
 }
 
-/// A node that ends the header of something to do.
+/// A node that ends the header of an action.
 macro_rules! does {
     ($node:ident, $action:ident) => {
         ending!($node, 0, Some(CommandId::Do(Action::$action)), None)
@@ -88,8 +88,8 @@ pub(crate) static SYSTEM_NODES: [Branch; 5] = [
     asks!(VERSION, Question::Version),
 ];
 
-/// STATus (SCPI-1999, volume 2): the preset, and each register by its node, how many nodes stand
-/// below that, and its name.
+/// STATus (SCPI-1999, volume 2): the preset, and each register. A register is given by its node,
+/// the number of nodes below that, and its name.
 macro_rules! status_nodes {
     ($below:literal, $($register:ident, $count:literal, $name:ident;)*) => {
         [
@@ -107,7 +107,7 @@ macro_rules! status_nodes {
     };
 }
 
-/// STATus with its registers; a nested one follows the nodes of the one above it.
+/// STATus with its registers; the nodes of a nested register follow those of the register above it.
 pub(crate) static STATUS_NODES: [Branch; 20] = status_nodes!(
     19,
     OPERATION, 5, Operation;
@@ -115,7 +115,7 @@ pub(crate) static STATUS_NODES: [Branch; 20] = status_nodes!(
     LIMIT, 5, Limit;
 );
 
-/// What is measured, and how (SCPI-1999, volume 2).
+/// The settings: what is measured, and how (SCPI-1999, volume 2).
 pub(crate) static SETTINGS: [Branch; 16] = [
     group!(ROUTE, 2),
     sets!(SCAN, SettingName::ScanList),

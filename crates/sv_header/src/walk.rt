@@ -8,8 +8,8 @@ use crate::branch::{Branch, parted};
 use crate::command::CommandId;
 use crate::left::Mnemonics;
 
-/// The command to which mnemonics lead among siblings and what stands below them. The first of
-/// these takes the first mnemonic, or is absent where it may be, or is passed by.
+/// The command to which mnemonics lead among sibling nodes and the nodes below them. The first
+/// sibling takes the first mnemonic, or is absent if it may be, or is passed over.
 #[cycle(walk)]
 pub(crate) fn walk(left: &Mnemonics<'_>, query: bool, branches: &[Branch]) -> Option<CommandId>
     ensures { (fuel : ℕ) → length branches.now ≤ fuel
@@ -29,8 +29,8 @@ pub(crate) fn walk(left: &Mnemonics<'_>, query: bool, branches: &[Branch]) -> Op
     walk(left, query, siblings)
 }
 
-/// The command to which what is left after a node leads: that node's own where nothing is left, or
-/// one below it.
+/// The command to which the mnemonics left after a node lead: the node's own command if none is
+/// left, or one below it.
 #[cycle(walk)]
 fn below(
     left: Option<Mnemonics<'_>>,

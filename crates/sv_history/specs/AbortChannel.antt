@@ -6,7 +6,7 @@ use Rattle.sv_links.specs.Links.{owner, is_this}
 use Rattle.sv_links.specs.Waiting.{waits, link}
 use Rattle.sv_history.specs.Act.{DeviceAct, link_acts, wait_acts}
 
--- the connection that made a link; `None` if the link isn't live
+-- the connection that made a link; `None` if there is no such link
 abbrev pub owner_of : Option ℕ → List DeviceAct → Option ℕ
 owner_of (Some lid) acts = owner lid (link_acts acts)
 owner_of None acts = None
@@ -17,6 +17,6 @@ if_waiting (Some c) (Some lid) acts =
     if is_some (waits c (wait_acts acts)) && is_this lid (link c (wait_acts acts)) then Some c else None
 if_waiting _ _ acts = None
 
--- the result of device_abort: error 4 if the link isn't live
+-- the result of device_abort: error 4 if there is no such link
 abbrev pub abort_result : Option ℕ → List DeviceAct → Outcome
 abort_result lid acts = Plain (if is_some (owner_of lid acts) then NoError else InvalidLink)

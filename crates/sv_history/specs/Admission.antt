@@ -30,8 +30,8 @@ pub data Stop : Type 0 where
 abbrev pub lock_stop : LockWait → Stop
 lock_stop wait = if wait.waits then Awaits Lock (Some wait.timeout) else Fails DeviceLocked
 
--- What a call waits for besides the lock, and its timeout in milliseconds. A write waits while an ended message is unfinished, a read until
--- it can be answered.
+-- What a call waits for besides the lock, and its timeout in milliseconds. A write waits while a message that has ended isn't finished, a
+-- read until it can be answered.
 abbrev pub device_wait : LinkCall → List DeviceAct → Option (Wait × ℕ)
 device_wait (DeviceWrite timeout lock_timeout flags bytes) acts = if has_ended (exchange_acts acts) then Some (Input, timeout) else None
 device_wait (DeviceRead request_size timeout lock_timeout flags term_char) acts =
@@ -39,7 +39,7 @@ device_wait (DeviceRead request_size timeout lock_timeout flags term_char) acts 
 device_wait _ acts = None
 
 -- What stops a call on a link, the first of these: the connection doesn't own the link; a write is too long; another link holds the lock;
--- what the call waits for isn't there.
+-- the call has to wait for the device.
 abbrev pub call_stop : ℕ → Option ℕ → LinkCall → List DeviceAct → Option Stop
 call_stop c lid call acts =
     if not (owns c lid acts) then Some (Fails InvalidLink)

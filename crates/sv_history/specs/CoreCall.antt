@@ -21,7 +21,7 @@ abbrev pub lid_of : Option ℤ → Option ℕ
 lid_of (Some (pos lid)) = Some lid
 lid_of _ = None
 
--- whether a write brings more than 4,096 bytes
+-- whether a call is a write of more than 4,096 bytes
 abbrev pub is_too_long : LinkCall → Bool
 is_too_long (DeviceWrite io_timeout lock_timeout flags bytes) = nat_lt max_message (length bytes)
 is_too_long _ = false

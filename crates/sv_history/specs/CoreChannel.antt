@@ -26,7 +26,7 @@ abbrev pub owns : ℕ → Option ℕ → List DeviceAct → Bool
 owns c (Some lid) acts = is_of c (owner lid (link_acts acts))
 owns c None acts = false
 
--- create_link: a link is made, and gets the lock if it asks for it; error 9 if no number is left
+-- create_link: a link is made, and gets the lock if the call asks for the lock; error 9 if no number is left
 abbrev pub make_link : Config → ℕ → Bool → List DeviceAct → CallOutcome
 make_link config c lock_device acts =
     if not (lids_left (link_acts acts)) then only (Link OutOfResources (pos 0) 0 0)
@@ -44,7 +44,7 @@ abbrev pub device_unlock : ℕ → List DeviceAct → CallOutcome
 device_unlock lid acts =
     if is_this lid (holder (link_acts acts)) then answer_with (Linked (Unlocked lid) ∷ []) (Plain NoError) else only (Plain NoLock)
 
--- device_write: the bytes are accepted; error 5 above 4,096 bytes, error 15 if an ended message waits to be finished
+-- device_write: the bytes are accepted; error 5 above 4,096 bytes, error 15 if a message that has ended isn't finished
 abbrev pub device_write : ℕ → List ℕ → List DeviceAct → CallOutcome
 device_write flags bytes acts =
     if nat_lt max_message (length bytes) then only (Size ParameterError 0)
@@ -55,15 +55,14 @@ device_write flags bytes acts =
 abbrev pub term_of : ℕ → ℕ → Option ℕ
 term_of flags term_char = if bit_at flags 7 == 1 then Some (term_char % 256) else None
 
--- the result of a read of these bytes: as many as were requested, or up to the termination character; with each reason for which it ends
--- there
+-- the result of a read of these bytes: as many as were requested, or up to the termination character; with each reason why it ends there
 abbrev pub read_of : List ℕ → ℕ → Option ℕ → Outcome
 read_of bytes most term =
     let count = read_count bytes most term in
     Read NoError (record { request_count = count == most; character = ends_at_term bytes count term; end = count == length bytes })
     (take count bytes)
 
--- a read of a response that is there
+-- a read, while there is a response
 abbrev pub reads : List ℕ → ℕ → Option ℕ → CallOutcome
 reads bytes most term = answer_with (Applied (Exchanged (ResponseRead (read_count bytes most term))) ∷ []) (read_of bytes most term)
 

@@ -72,12 +72,12 @@ abbrev pub head_of : Result Did Refused → List ℕ
 head_of (Ok did) = []
 head_of (Err refusal) = refusal_line refusal
 
--- whether an event was refused for out of memory
+-- whether an event was refused for lack of memory
 abbrev pub is_no_memory : Refused → Bool
 is_no_memory NoMemory = true
 is_no_memory _ = false
 
--- the ports whose lines are printed: none after out of memory
+-- the ports whose lines are printed: none if the event was refused for lack of memory
 abbrev pub ports_after : Result Did Refused → List Port
 ports_after (Ok did) = ports
 ports_after (Err refusal) = if is_no_memory refusal then [] else ports

@@ -71,16 +71,16 @@ request_for _ _ = None
 abbrev pub next_request : List ConnAct → Option Request
 next_request acts = request_for (open_role acts) (next_call acts)
 
--- the call of the core channel that a request is; `None` if it is another request
+-- a request as a call of the core channel; `None` if it is another request
 abbrev pub core_call_of : Request → Option CoreCall
 core_call_of (CoreRequest call) = Some call
 core_call_of _ = None
 
--- the call of the core channel that a record is; `None` if it isn't one
+-- a record as a call of the core channel; `None` if it isn't one
 abbrev pub core_call : List ℕ → Option CoreCall
 core_call bytes = core_call_of (request_of Core (call_at bytes))
 
--- the call of the core channel that a record is; `None` if there is no record, or if it isn't such a call
+-- a record as a call of the core channel; `None` if there is no record, or it isn't such a call
 abbrev pub core_call_in : Option (List ℕ) → Option CoreCall
 core_call_in (Some bytes) = core_call bytes
 core_call_in None = None

@@ -1,5 +1,5 @@
--- The log of the interrupt channels (VXI-11 revision 1.0, section B.6, device_intr_srq; IEEE 488.2, 11.3). It has their own acts. If a link
--- is destroyed, its service requests are disabled. Each service request that is raised is in it.
+-- The log of the interrupt channels (VXI-11 revision 1.0, section B.6, device_intr_srq; IEEE 488.2, 11.3). It has the acts of the channels
+-- and each service request that is raised; and if a link is destroyed, an act that disables the link's service requests.
 use Rattle.std.specs.Prelude.{◌≡◌, ◌↔◌, Bool, true, false, List, [], ◌∷◌}
 use Rattle.sv_links.specs.Links.{LinkAct, Destroyed}
 use Rattle.sv_links.specs.Channels.{ChannelAct, SrqDisabled, Requested}

@@ -1,4 +1,4 @@
--- When nothing waits for time to pass.
+-- When nothing becomes due as time passes.
 use Rattle.std.specs.Prelude.{◌≡◌, ℕ, ◌+◌, false, List}
 use Rattle.sv_links.specs.Waiting.{IsExpired}
 use Rattle.sv_scan.specs.Counted.{is_scanning}

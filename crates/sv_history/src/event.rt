@@ -1,4 +1,4 @@
-//! Events, and what the server answers to them.
+//! Events, and the server's answers to them.
 
 ghost use Rattle.std.specs.Prelude.{◌≡◌};
 
@@ -29,33 +29,33 @@ pub enum Port {
 pub enum Event<'a> {
     /// A connection opens, of number 0 to 15.
     Open {
-        /// Its number.
+        /// The connection's number.
         conn: u8,
-        /// Its role.
+        /// The connection's role.
         role: Role,
     },
     /// Bytes come on a connection.
     Bytes {
-        /// Its number.
+        /// The connection's number.
         conn: u8,
         /// The bytes, at most as many as the connection has room for.
         piece: &'a [u8],
     },
-    /// The next call of a connection is taken.
+    /// The server takes the next call of a connection.
     Turn {
-        /// Its number.
+        /// The connection's number.
         conn: u8,
     },
-    /// The next call of a connection is refused: it is answered with error 9, out of resources.
+    /// The server refuses the next call of a connection: it answers error 9, out of resources.
     Refuse {
-        /// Its number.
+        /// The connection's number.
         conn: u8,
     },
-    /// The peer took bytes that waited.
+    /// The peer took bytes that waited to be sent.
     Took {
         /// The port.
         port: Port,
-        /// How many bytes.
+        /// How many bytes the peer took.
         count: u32,
     },
     /// A connection or an interrupt channel closes.
@@ -63,11 +63,11 @@ pub enum Event<'a> {
         /// The port.
         port: Port,
     },
-    /// The connection to the peer of an interrupt channel was tried.
+    /// An attempt to connect an interrupt channel to its peer has ended.
     Dialed {
         /// The number of the channel's connection.
         conn: u8,
-        /// Whether it was made, so that the channel opens.
+        /// Whether the attempt succeeded, so that the channel opens.
         ok: bool,
     },
     /// The input of a channel changes.
@@ -112,7 +112,7 @@ pub struct Dial {
     pub port: u16,
 }
 
-/// Why an event was refused. It changed nothing, and isn't in the history.
+/// Why an event was refused. A refused event changed nothing, and isn't in the history.
 #[derive(Clone, Copy, Debug, PartialEq, Eq, Error)]
 pub enum Refused {
     /// Out of memory for a link or an interrupt channel.
@@ -124,8 +124,8 @@ pub enum Refused {
     /// The number is above 15, or nothing of that number is open.
     #[error("there is no such connection")]
     NoConn = 3,
-    /// There are more Bytes than the connection has room for; or a Turn or a Refuse finds fewer
-    /// than 8,232 outgoing bytes free.
+    /// A Bytes event has more bytes than the connection has room for; or, at a Turn or a Refuse,
+    /// there is room for fewer than 8,232 bytes of replies.
     #[error("there is no room")]
     NoRoom = 4,
     /// More bytes were taken than waited.

@@ -1,4 +1,4 @@
--- What the instrument keeps, and when it stands for a log.
+-- The state of the instrument, and when it stands for a log.
 use Rattle.std.specs.Prelude.{◌≡◌, ℕ, ◌+◌, ◌*◌, ⊤, List, Option, Some, None}
 use Rattle.sv_scan.specs.declared.setting.State.{State}
 use Rattle.sv_scan.specs.declared.setting.State.TheVariants.{Idle, Waiting, Scanning}
@@ -10,19 +10,19 @@ use Rattle.sv_instrument.specs.HeldUnit.{held_unit}
 use Rattle.sv_instrument.specs.Path.{IsPath}
 use Rattle.sv_instrument.specs.RequestCount.{Raises}
 
--- what is kept: the layers, what the held unit will answer, and the path
+-- the state: the layers, what the held unit will answer, and the path
 pub record Kept : Type 0 where
   pub layers : LayerState
   pub held : Option Awaited
   pub path : List (List ℕ)
 
--- What the instrument keeps stands for the log.
+-- The state of the instrument stands for the log.
 pub record StandsFor (kept : Kept) (log : List Act) : Type 0 where
   pub layers : Layers kept.layers log
   pub held : kept.held ≡ held_unit log
   pub path : IsPath log kept.path
 
--- What the instrument keeps stands for the log `new`, and `count` requests for service were raised since `log`.
+-- The state of the instrument stands for the log `new`, and `count` requests for service were raised since `log`.
 pub record Ran (kept : Kept) (count : ℕ) (log new : List Act) : Type 0 where
   pub stands : StandsFor kept new
   pub raises : Raises log new count
@@ -37,7 +37,7 @@ abbrev pub one_if_unheld : Option Awaited → ℕ
 one_if_unheld None = 1
 one_if_unheld (Some awaited) = 0
 
--- 1 if a trigger is waited for, else 0
+-- 1 if the scanner waits for a trigger, else 0
 abbrev pub waits : State → ℕ
 waits Waiting = 1
 waits Idle = 0

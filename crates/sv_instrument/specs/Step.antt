@@ -55,6 +55,6 @@ abbrev pub is_held : Option Awaited → Bool
 is_held None = false
 is_held (Some awaited) = true
 
--- whether a read is answered now: there is a response, or nothing is under way that could make one
+-- whether a read can be answered now: there is a response, or nothing is under way that could make one, so that the read fails at once
 abbrev pub is_answerable : List Act → Bool
 is_answerable log = is_something (response (exchange_acts log)) || (not (is_held (held_unit log)) && not (has_ended (exchange_acts log)))

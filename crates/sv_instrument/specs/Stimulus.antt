@@ -15,7 +15,7 @@ abbrev pub or_reported : Option Code → Act
 or_reported None = Scanned (Trigger Bus)
 or_reported (Some code) = Reported code
 
--- the acts of a trigger from the controller (VXI-11, device_trigger): if no such trigger is waited for, -211 is reported
+-- the acts of a trigger from the controller (VXI-11, device_trigger): if the scanner doesn't wait for it, -211 is reported
 abbrev pub trigger_acts : List Act → List Act
 trigger_acts log = or_reported (trigger_fault (effective_acts log) Bus) ∷ []
 
@@ -24,7 +24,7 @@ abbrev pub or_nothing : Option Code → List Act
 or_nothing None = Scanned (Trigger External) ∷ []
 or_nothing (Some code) = []
 
--- the acts of a trigger at the trigger input: if no such trigger is waited for, nothing happens
+-- the acts of a trigger at the trigger input: if the scanner doesn't wait for it, nothing happens
 abbrev pub external_acts : List Act → List Act
 external_acts log = or_nothing (trigger_fault (effective_acts log) External)
 
@@ -37,6 +37,6 @@ where_scanning _ = []
 abbrev pub tick_acts : List Act → List Act
 tick_acts log = where_scanning (state (effective_acts log))
 
--- An immediate trigger comes, as soon as one is waited for.
+-- An immediate trigger comes, as soon as the scanner waits for one.
 abbrev pub IsFired : List Act → List Act → Type 0
 IsFired log new = (trigger_fault (effective_acts log) Immediate ≡ None) × (new ≡ Scanned (Trigger Immediate) ∷ log)

@@ -1,4 +1,4 @@
-//! The instrument, and what it keeps.
+//! The instrument and its state.
 
 ghost use Rattle.std.specs.Prelude.{[], IfOk};
 ghost use Rattle.sv_instrument.specs.Representation.{StandsFor};
@@ -12,11 +12,11 @@ use sv_layers::{Awaited, Layers};
 /// A simulated instrument.
 #[derive(Drop)]
 pub struct Instrument<A: Allocator = Global> {
-    /// The table that names the command of a header.
+    /// The table that finds the command of a header.
     pub(crate) table: Table<A>,
     /// The path that the next header continues.
     pub(crate) path: Path,
-    /// The layers.
+    /// Message exchange, error queue, scanner and status registers.
     pub(crate) layers: Layers<A>,
     /// What the held unit will answer; `None` if no unit is held.
     pub(crate) held: Option<Awaited>,

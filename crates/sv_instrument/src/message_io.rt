@@ -18,7 +18,7 @@ use sv_header::Path;
 use sv_layers::Change;
 
 impl<A: Allocator> Instrument<A> {
-    /// Whether a write is accepted now: no ended message waits to be finished.
+    /// Whether a write is accepted now: it is, unless a message has ended and isn't finished yet.
     pub fn can_write(&self) -> bool
         ensures value { result ≡ is_open self.now.layers.exchange }
         ensures answer { (log : List Act) → StandsFor self.now log
@@ -28,9 +28,8 @@ impl<A: Allocator> Instrument<A> {
     }
 
     /// Accepts the bytes of a write, with END after the last of them or without (VXI-11,
-    /// device_write). A write must be acceptable now, and have at most [`MAX_MESSAGE`] bytes. The
-    /// result is how many requests for service were raised, as of all calls here that change
-    /// something.
+    /// device_write). A write must be acceptable now, and have at most [`MAX_MESSAGE`] bytes. Like
+    /// every call here that changes something, it returns how many requests for service it raised.
     pub fn write(&mut self, bytes: &[u8], ended: bool) -> u8
         requires open { IsTrue (is_open self.old.layers.exchange) }
         requires short { length bytes.now ≤ max_message }
@@ -50,7 +49,8 @@ impl<A: Allocator> Instrument<A> {
         self.layers.exchange().readable()
     }
 
-    /// Whether a read is answered now: there is a response, or none is on its way.
+    /// Whether a read can be answered now: there is a response, or none will come, so that the read
+    /// fails at once.
     pub fn can_read(&self) -> bool
         ensures value { result ≡ (is_something (shown_by self.now.layers.exchange)
             || is_open self.now.layers.exchange) }
@@ -69,7 +69,7 @@ impl<A: Allocator> Instrument<A> {
         self.layers.exchange().peek(most, term)
     }
 
-    /// Drops so many bytes of the response, which were read (VXI-11, device_read).
+    /// Drops the first `count` bytes of the response, which were read (VXI-11, device_read).
     pub fn take(&mut self, count: usize) -> u8
         requires { count ≤ length (shown_by self.old.layers.exchange) }
         ensures { (log : List Act) → StandsFor self.old log
@@ -79,8 +79,9 @@ impl<A: Allocator> Instrument<A> {
         self.take_requests()
     }
 
-    /// A read where no response will come: the text of the unfinished message is dropped, and -420
-    /// is reported (IEEE 488.2, 6.3.2.2). No ended message may wait to be finished.
+    /// Handles a read to which no response will come: drops the text of the unfinished message, and
+    /// reports -420 (IEEE 488.2, 6.3.2.2). It can't be called while a message that has ended isn't
+    /// finished.
     pub fn unterminated(&mut self) -> u8
         requires { IsTrue (is_open self.old.layers.exchange) }
         ensures { (log : List Act) → StandsFor self.old log → Ran self.new result log

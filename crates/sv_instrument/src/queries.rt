@@ -52,7 +52,8 @@ fn refused<A: Allocator>(layers: &Layers<A>, question: Question) -> Option<Code>
     }
 }
 
-/// Takes or clears what a query reads: an entry of the error queue, or an event register.
+/// Does what a query does besides answering: takes an entry of the error queue, or clears an event
+/// register.
 fn take<A: Allocator>(layers: &mut Layers<A>, question: Question)
     ensures counts { (start log : List Act) → Counts start layers.old log
         → Counts start layers.new (after_query question log) }
@@ -66,8 +67,8 @@ fn take<A: Allocator>(layers: &mut Layers<A>, question: Question)
     }
 }
 
-/// Puts the answer of a query in the place of the bytes there. Readings that can't be fetched
-/// aren't put.
+/// Replaces all bytes by the answer of a query. The readings must be complete if they are asked
+/// for.
 pub(crate) fn put_answer<A: Allocator>(out: &mut Vec<u8, A>, layers: &Layers<A>, question: Question)
     requires { max_response ≤ vec_capacity out.old }
     ensures says { (log : List Act) → Stands layers.now log → question_fault question log ≡ None

@@ -10,7 +10,7 @@ use sv_bytes::append;
 use sv_scan::Reading;
 use sv_value::printing::{put_overload, put_voltage};
 
-/// Puts readings, with commas between them, after bytes that have room for 13 more for each.
+/// Appends readings, with commas between them, to bytes that have room for 13 more for each.
 pub(crate) fn put_readings<A: Allocator>(out: &mut Vec<u8, A>, readings: &[Reading])
     requires room { vec_len out.old + 13 * length readings.now ≤ vec_capacity out.old }
     requires small { list_all is_bounded readings.now ≡ true }
@@ -27,7 +27,7 @@ pub(crate) fn put_readings<A: Allocator>(out: &mut Vec<u8, A>, readings: &[Readi
     }
 }
 
-/// Puts a reading: a voltage, or an overload (SCPI-1999, volume 1, 7.2.1.5).
+/// Appends a reading: a voltage, or an overload (SCPI-1999, volume 1, 7.2.1.5).
 fn put_reading<A: Allocator>(out: &mut Vec<u8, A>, reading: Reading)
     requires room { vec_len out.old + 12 ≤ vec_capacity out.old }
     requires small { is_bounded reading ≡ true }

@@ -21,7 +21,7 @@ use sv_scan::{ScanAct, ScanList, Setting};
 /// The range that a measurement is configured with, in microvolts.
 const RANGE: i64 = 10_000_000;
 
-/// Applies a trigger from the controller; reports -211 if none is waited for.
+/// Applies a trigger from the controller; reports -211 if the scanner doesn't wait for one.
 pub(crate) fn trigger<A: Allocator>(layers: &mut Layers<A>) -> Option<Awaited>
     requires { IsUnitDue (next_of layers.old.exchange) }
     ensures behaves { (start log : List Act) → Counts start layers.old log
@@ -95,8 +95,8 @@ fn set_list<A: Allocator>(layers: &mut Layers<A>, list: Option<ScanList>)
     }
 }
 
-/// Begins a measurement anew, and holds the unit until its readings are there; reports -214 if the
-/// controller would have to trigger it.
+/// Aborts the measurement, begins a new one, and holds the unit until its readings are complete;
+/// reports -214 if the controller would have to trigger it.
 pub(crate) fn read<A: Allocator>(layers: &mut Layers<A>) -> Option<Awaited>
     requires { IsUnitDue (next_of layers.old.exchange) }
     ensures behaves { (start log : List Act) → Counts start layers.old log
@@ -113,7 +113,7 @@ pub(crate) fn read<A: Allocator>(layers: &mut Layers<A>) -> Option<Awaited>
     }
 }
 
-/// Configures and begins a measurement, and holds the unit until its readings are there.
+/// Configures and begins a measurement, and holds the unit until its readings are complete.
 pub(crate) fn measure<A: Allocator>(
     layers: &mut Layers<A>,
     list: Option<ScanList>,

@@ -20,8 +20,8 @@ use sv_layers::{Awaited, Change};
 use sv_scan::State;
 
 impl<A: Allocator> Instrument<A> {
-    /// Triggers if the source is immediate and a trigger is waited for. The result is how many
-    /// requests for service were raised; `None` if no trigger was due, and then nothing changes.
+    /// Triggers the scan that waits for a trigger, if triggers are immediate. Returns how many
+    /// requests for service were raised; `None` if no trigger was due: then nothing changes.
     pub fn fire(&mut self) -> Option<u8>
         ensures fires { (log : List Act) → StandsFor self.old log
             → Takes IsFired self.new result log }
@@ -37,8 +37,8 @@ impl<A: Allocator> Instrument<A> {
 
     /// Takes the step of message exchange that is due: a held unit ends, the next unit starts, a
     /// message that is too long is reported, or one that has ended is finished (IEEE 488.2, 6.1.4
-    /// and 6.3). The result is how many requests for service were raised; `None` if no step was
-    /// due, and then nothing changes.
+    /// and 6.3). Returns how many requests for service were raised; `None` if no step was due: then
+    /// nothing changes.
     pub fn step(&mut self) -> Option<u8>
         ensures steps { (log : List Act) → StandsFor self.old log
             → Takes IsStep self.new result log }

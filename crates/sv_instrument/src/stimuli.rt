@@ -17,8 +17,8 @@ use sv_scan::{ScanAct, State};
 
 impl<A: Allocator> Instrument<A> {
     /// Sets the input of a channel to this voltage, in microvolts; nothing changes if there is no
-    /// such channel. The result is how many requests for service were raised, as of all calls
-    /// below.
+    /// such channel. Like each call below that changes something, it returns how many requests for
+    /// service it raised.
     pub fn input(&mut self, channel: u8, microvolts: i64) -> u8
         ensures { (log : List Act) → StandsFor self.old log
             → Ran self.new result log (Scanned (Input channel microvolts) ∷ log) }
@@ -28,8 +28,8 @@ impl<A: Allocator> Instrument<A> {
         self.take_requests()
     }
 
-    /// A trigger at the trigger input: the next scan begins if an external trigger is waited for;
-    /// else nothing happens.
+    /// A trigger at the trigger input: the next scan begins if the scanner waits for an external
+    /// trigger; else nothing happens.
     pub fn external(&mut self) -> u8
         ensures { (log : List Act) → StandsFor self.old log
             → Ran self.new result log (external_acts log ++ log) }
@@ -40,8 +40,8 @@ impl<A: Allocator> Instrument<A> {
         }
     }
 
-    /// A trigger from the controller: the next scan begins if one from there is waited for; else
-    /// -211 is reported (VXI-11, device_trigger).
+    /// A trigger from the controller: the next scan begins if the scanner waits for a trigger from
+    /// the controller; else -211 is reported (VXI-11, device_trigger).
     pub fn trigger(&mut self) -> u8
         ensures { (log : List Act) → StandsFor self.old log
             → Ran self.new result log (trigger_acts log ++ log) }
@@ -53,7 +53,7 @@ impl<A: Allocator> Instrument<A> {
         self.take_requests()
     }
 
-    /// A millisecond passes: in a scan the next channel is read.
+    /// A millisecond passes: if a scan is under way, its next channel is read.
     pub fn tick(&mut self) -> u8
         ensures { (log : List Act) → StandsFor self.old log
             → Ran self.new result log (tick_acts log ++ log) }

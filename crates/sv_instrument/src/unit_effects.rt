@@ -1,4 +1,4 @@
-//! One act after the other.
+//! How a unit ends, is held, or answers.
 
 ghost use Rattle.std.specs.Prelude.{◌≡◌, ◌≤◌, List, ◌∷◌, None, IsTrue};
 ghost use Rattle.sv_exchange.specs.Contents.{IsUnitDue, next_of, may_respond, exchange_measure};
@@ -21,8 +21,8 @@ pub(crate) fn end<A: Allocator>(layers: &mut Layers<A>)
     layers.done();
 }
 
-/// Applies a change, and ends the unit that is due: no unit is held. Every function that performs a
-/// unit returns what it will answer, if it is held.
+/// Applies a change, and ends the unit that is due. The result is `None`: no unit is held. Each
+/// function that performs a unit returns what the unit will answer, if it is held.
 pub(crate) fn carry_out<A: Allocator>(layers: &mut Layers<A>, change: Change) -> Option<Awaited>
     requires { IsUnitDue (next_of layers.old.exchange) }
     ensures behaves { (start log : List Act) → Counts start layers.old log

@@ -3,6 +3,7 @@ use Rattle.std.proofs.Common.{◌≡◌, ◌≢◌, ℕ, ◌+◌, ◌<◌, ◌�
 use Rattle.std.specs.Prelude.{filter, not}
 use Rattle.std.specs.List.{AllByRecursion, cons_option}
 use Rattle.std.proofs.lemmas.Bool.{cases_Bool, eqb-true, ne_eqb, lt-ltb, le-ltb, ltb-false, ltb-true}
+use Rattle.std.proofs.lemmas.List.Elements.{filter-append}
 use Rattle.sv_links.specs.declared.enabled.Enabled.{Enabled}
 use Rattle.sv_links.specs.Channels.{ChannelAct, SrqEnabled, SrqDisabled, ChannelOpened, ChannelClosed, Requested, ChannelTaken, srq_enabled, past, enabled_links, peer, bytes_taken, calls, all_calls}
 use Rattle.sv_links.specs.ChannelRepresentation.{IsSorted}
@@ -46,13 +47,6 @@ filter_comm p q (x ∷ xs) = elim (cases_Bool (p x)) [
     | inl k ↦ rw (e, k, e) (filter_comm p q xs)
     | inr k ↦ rw (e, k) (filter_comm p q xs)
   ]
-]
-
-filter_join : (p : Enabled → Bool) (xs ys : List Enabled) → filter p (xs ++ ys) ≡ filter p xs ++ filter p ys
-filter_join p [] ys = refl
-filter_join p (x ∷ xs) ys = elim (cases_Bool (p x)) [
-  | inl e ↦ rw e (ap (λ (l : List Enabled). x ∷ l) (filter_join p xs ys))
-  | inr e ↦ rw e (filter_join p xs ys)
 ]
 
 -- each link that asks is the one of its number
@@ -113,20 +107,13 @@ kept_differ lid (x ∷ xs) h = rw (ne_eqb x.lid lid h.0) (ap (λ (l : List Enabl
 
 own_with : (c : ℕ) (link : Enabled) (links : List Enabled) → own_links c (with_link link links)
     ≡ below link.lid (own_links c links) ++ (own_links c (link ∷ []) ++ above link.lid (own_links c links))
-own_with c link links = elim (cases_Bool (eqb link.conn c)) [
-  | inl e ↦ filter_join (λ link. eqb link.conn c) (below link.lid links) (link ∷ above link.lid links)
-      ∙ rw (
-        e,
-        filter_comm (λ link. eqb link.conn c) (λ other. ltb other.lid link.lid) links,
-        filter_comm (λ link. eqb link.conn c) (λ other. ltb link.lid other.lid) links,
-      ) refl
-  | inr e ↦ filter_join (λ link. eqb link.conn c) (below link.lid links) (link ∷ above link.lid links)
-      ∙ rw (
-        e,
-        filter_comm (λ link. eqb link.conn c) (λ other. ltb other.lid link.lid) links,
-        filter_comm (λ link. eqb link.conn c) (λ other. ltb link.lid other.lid) links,
-      ) refl
-]
+own_with c link links =
+    filter-append (λ link. eqb link.conn c) (below link.lid links) (link ∷ above link.lid links)
+    ∙ rw (
+      filter-append (λ link. eqb link.conn c) (link ∷ []) (above link.lid links),
+      filter_comm (λ link. eqb link.conn c) (λ other. ltb other.lid link.lid) links,
+      filter_comm (λ link. eqb link.conn c) (λ other. ltb link.lid other.lid) links,
+    ) refl
 
 own_enabled : (c : ℕ) (link : Enabled) (acts : List ChannelAct)
     → own_links c (enabled_links (SrqEnabled link.lid link.conn link.handle ∷ acts))

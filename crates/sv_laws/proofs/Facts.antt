@@ -2,12 +2,15 @@
 use Rattle.std.proofs.Common.{◌≡◌, List, [], ◌∷◌, ◌++◌, Bool, true, false, Option, Some, None, sym, subst, ◌∙◌}
 use Rattle.std.specs.List.{AllByRecursion}
 
+-- what is the same within `Some`
 pub some_same : {A : Type 0} (a b : A) → Some a ≡ Some b → a ≡ b
 some_same a b e = cc
 
+-- Nothing is both `None` and `Some`.
 pub some_none : {A B : Type 0} (found : Option B) (b : B) → found ≡ None → found ≡ Some b → A
 some_none {A} {B} found b none some = absurd (let z : None ≡ Some b = sym none ∙ some in cc)
 
+-- Nothing is both true and false.
 pub not_both : {A : Type 0} (b : Bool) → b ≡ true → b ≡ false → A
 not_both {A} b on off = absurd (let z : true ≡ false = sym on ∙ off in cc)
 

@@ -30,7 +30,7 @@ use Rattle.sv_history.proofs.Dialing.{peer_by, dialed_to, dialed_is}
 use Rattle.sv_history.specs.Resuming.{connect_effect}
 use Rattle.sv_history.specs.History.{is_shut, refusal, own_acts, did, wants_memory, AnswersBy, IsLogOf}
 use Rattle.sv_laws.specs.Laws.{NothingLost}
-use Rattle.sv_history.proofs.Projections.{device_effect, device_shared, link_acts-links, wait_acts-links}
+use Rattle.sv_history.proofs.Projections.{device_effect, device_shared, link_acts-links, wait_acts-links, link_acts-happened, wait_acts-happened}
 use Rattle.sv_history.proofs.Telling.{tells_once, has_channel_told}
 use Rattle.sv_laws.proofs.ShutIsClear.{clear_free, shut_is_clear}
 use Rattle.sv_laws.proofs.Facts.{some_none, not_both}
@@ -98,57 +98,44 @@ dialed_modest c ok call =
     by (Some call) = rw (dialed_is c ok call.arguments) (at_peer ok call (peer_by call.arguments))
     by None = left_modest c (Waited (Left c) ∷ []) refl refl
 
-happened_none : (adds : List InstrumentAct) → (link_acts (map Applied adds) ≡ []) × (wait_acts (map Applied adds) ≡ [])
-happened_none [] = (refl, refl)
-happened_none (act ∷ adds) = happened_none adds
-
 none_wanted : (acts : List DeviceAct) → link_acts acts ≡ [] → wait_acts acts ≡ [] → wants_memory acts ≡ false
 none_wanted acts none still =
     let a : links_made (link_acts acts) ≡ 0 = ap links_made none in
     let b : creating (wait_acts acts) ≡ 0 = ap creating still in
     let c : dialing (wait_acts acts) ≡ 0 = ap dialing still in rw (a, b, c) refl
 
-pub happened_modest : (adds : List InstrumentAct) → wants_memory (device_acts (map OnDevice (map Applied adds))) ≡ false
-happened_modest adds =
-    let is : device_acts (map OnDevice (map Applied adds)) ≡ map Applied adds =
-    ap device_acts (sym (append-nil (map OnDevice (map Applied adds)))) ∙ device_shared (map Applied adds) []
-    ∙ append-nil (map Applied adds) in
-    subst (λ (acts : List DeviceAct). wants_memory acts ≡ false) (sym is)
-    (none_wanted (map Applied adds) (happened_none adds).0 (happened_none adds).1)
+-- what happens to the instrument
+none_behind : (adds : List InstrumentAct) (log : List Act) → link_acts (device_acts log) ≡ [] → wait_acts (device_acts log) ≡ []
+    → wants_memory (device_acts (map OnDevice (map Applied adds) ++ log)) ≡ false
+none_behind adds log none still = rw (device_shared (map Applied adds) log) (none_wanted (map Applied adds ++ device_acts log)
+    (link_acts-happened adds (device_acts log) ∙ none) (wait_acts-happened adds (device_acts log) ∙ still))
 
-happened_ticked : (adds : List InstrumentAct)
-    → (link_acts (map Applied adds ++ Ticked ∷ []) ≡ []) × (wait_acts (map Applied adds ++ Ticked ∷ []) ≡ [])
-happened_ticked [] = (refl, refl)
-happened_ticked (act ∷ adds) = happened_ticked adds
+pub happened_modest : (adds : List InstrumentAct) → wants_memory (device_acts (map OnDevice (map Applied adds))) ≡ false
+happened_modest adds = subst (λ (acts : List Act). wants_memory (device_acts acts) ≡ false)
+    (append-nil (map OnDevice (map Applied adds))) (none_behind adds [] refl refl)
 
 pub happened_wants : (adds : List InstrumentAct)
     → wants_memory (device_acts (map OnDevice (map Applied adds) ++ OnDevice Ticked ∷ [])) ≡ false
-happened_wants adds = subst (λ (acts : List DeviceAct). wants_memory acts ≡ false)
-    (sym (device_shared (map Applied adds) (OnDevice Ticked ∷ [])))
-    (none_wanted (map Applied adds ++ Ticked ∷ []) (happened_ticked adds).0 (happened_ticked adds).1)
+happened_wants adds = none_behind adds (OnDevice Ticked ∷ []) refl refl
 
 -- ---- which are of an open one
 
 not_shut : (c : ℕ) (log : List Act) → c < 16 → is_open (of c log) ≡ true → is_shut c log ≡ false
 not_shut c log lt opened = ap (λ (b : Bool). b || not (is_open (of c log))) (le-ltb 15 c (omega (arith, lt))) ∙ ap not opened
 
+open_if : (opened : Bool) (n : ℕ) → (opened ≡ false → n ≡ 0) → 0 < n → opened ≡ true
+open_if true n shut lt = refl
+open_if false n shut lt = absurd (let none = shut refl in omega (arith, lt, none))
+
 open_room : (acts : List ConnAct) → 0 < room acts → is_open acts ≡ true
-open_room acts lt = elim (cases_Bool (is_open acts)) [
-  | inl e ↦ e
-  | inr e ↦ absurd (let no : room acts ≡ 0 = rw e refl in omega (arith, lt, no))
-]
+open_room acts lt = open_if (is_open acts) (room acts) (λ e. rw e refl) lt
 
 open_waiting : (acts : List ConnAct) → 0 < length (waiting acts) → is_open acts ≡ true
-open_waiting acts lt = elim (cases_Bool (is_open acts)) [
-  | inl e ↦ e
-  | inr e ↦ absurd (let no : length (waiting acts) ≡ 0 = rw e refl in omega (arith, lt, no))
-]
+open_waiting acts lt = open_if (is_open acts) (length (waiting acts)) (λ e. rw e refl) lt
 
 channel_there : (c : ℕ) (channel_log : List ChannelAct) → 0 < length (channel_waiting c channel_log) → is_channel_open c channel_log ≡ true
-channel_there c channel_log lt = elim (cases_Bool (is_channel_open c channel_log)) [
-  | inl e ↦ e
-  | inr e ↦ absurd (let no : length (channel_waiting c channel_log) ≡ 0 = rw e refl in omega (arith, lt, no))
-]
+channel_there c channel_log lt =
+    open_if (is_channel_open c channel_log) (length (channel_waiting c channel_log)) (λ e. rw e refl) lt
 
 some_role : (found : Option Role) → (found ≡ None → ⊥) → is_some found ≡ true
 some_role (Some role) h = refl
@@ -172,36 +159,33 @@ not_none false e = absurd cc
 
 pub nothing_lost : NothingLost
 nothing_lost config history (Open c role) channel_log log result was tells suits (also, hears, h) =
-    let free : refusal config also (Open c role) log ≡ None =
-    rw (le-ltb 15 c (let lt = suits.0 in omega (arith, lt)), suits.1) refl in
-    is_done config also (Open c role) log result free refl (λ polled. refl) h
+    let lt = suits.0 in
+    is_done config also (Open c role) log result (rw (le-ltb 15 c (omega (arith, lt)), suits.1) refl) refl (λ polled. refl) h
 nothing_lost config history (Bytes c piece) channel_log log result was tells suits (also, hears, h) =
-    let free : refusal config also (Bytes c piece) log ≡ None =
-    rw (not_shut c log suits.0 (open_room (of c log) suits.1), le-ltb (room (of c log)) (length piece) suits.2) refl in
-    is_done config also (Bytes c piece) log result free refl (λ polled. refl) h
+    let open_one = not_shut c log suits.0 (open_room (of c log) suits.1) in
+    is_done config also (Bytes c piece) log result (rw (open_one, le-ltb (room (of c log)) (length piece) suits.2) refl) refl
+    (λ polled. refl) h
 nothing_lost config history (Took (Conn c) n) channel_log log result was tells suits (also, hears, h) =
-    let free : refusal config also (Took (Conn c) n) log ≡ None =
-    rw (not_shut c log suits.0 (open_waiting (of c log) suits.1), le-ltb (length (waiting (of c log))) n suits.2) refl in
-    is_done config also (Took (Conn c) n) log result free refl (λ polled. refl) h
+    let open_one = not_shut c log suits.0 (open_waiting (of c log) suits.1) in
+    is_done config also (Took (Conn c) n) log result (rw (open_one, le-ltb (length (waiting (of c log))) n suits.2) refl) refl
+    (λ polled. refl) h
 nothing_lost config history (Took (Intr c) n) channel_log log result was tells suits (also, hears, h) =
     let same = tells_once (device_acts log) also channel_log hears tells in
     let there : has_channel c (device_acts log) ≡ true =
     sym (has_channel_told c (device_acts log) channel_log tells) ∙ channel_there c channel_log suits.1 in
-    let free : refusal config channel_log (Took (Intr c) n) log ≡ None =
-    rw (le-ltb 15 c (let lt = suits.0 in omega (arith, lt)), there, le-ltb (length (channel_waiting c channel_log)) n suits.2) refl in
-    is_done config channel_log (Took (Intr c) n) log result free refl (λ polled. refl)
+    let lt = suits.0 in
+    is_done config channel_log (Took (Intr c) n) log result
+    (rw (le-ltb 15 c (omega (arith, lt)), there, le-ltb (length (channel_waiting c channel_log)) n suits.2) refl) refl (λ polled. refl)
     (subst (λ (l : List ChannelAct). AnswersBy config l (Took (Intr c) n) log result) same h)
 nothing_lost config history (Close (Conn c)) channel_log log result was tells suits (also, hears, h) =
-    let free : refusal config also (Close (Conn c)) log ≡ None = rw suits refl in
-    is_done config also (Close (Conn c)) log result free refl (λ polled. close_modest c log) h
+    is_done config also (Close (Conn c)) log result (rw suits refl) refl (λ polled. close_modest c log) h
 nothing_lost config history (Close (Intr c)) channel_log log result was tells suits (also, hears, h) =
-    let free : refusal config also (Close (Intr c)) log ≡ None = rw suits refl in
-    is_done config also (Close (Intr c)) log result free refl (λ polled. refl) h
+    is_done config also (Close (Intr c)) log result (rw suits refl) refl (λ polled. refl) h
 nothing_lost config history (Dialed c ok) channel_log log result was tells suits (also, hears, h) =
     let both = dials (is_dialing c (wait_acts (device_acts log))) _ suits.1 suits.2 in
-    let free : refusal config also (Dialed c ok) log ≡ None =
-    rw (not_shut c log suits.0 (open_dialing config history log c suits.1 was both.1), both.0) refl in
-    is_done config also (Dialed c ok) log result free refl (λ polled. dialed_modest c ok (core_call_in (pending_call (of c log)))) h
+    let open_one = not_shut c log suits.0 (open_dialing config history log c suits.1 was both.1) in
+    is_done config also (Dialed c ok) log result (rw (open_one, both.0) refl) refl
+    (λ polled. dialed_modest c ok (core_call_in (pending_call (of c log)))) h
 nothing_lost config history (Input channel microvolts) channel_log log result was tells suits (also, hears, h) =
     is_done config also (Input channel microvolts) log result suits refl (λ polled. refl) h
 nothing_lost config history External channel_log log result was tells suits (also, hears, h) =

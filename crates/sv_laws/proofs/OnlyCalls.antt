@@ -1,7 +1,7 @@
 -- An event adds to each connection its own act, and behind it acts of calls alone.
 use Rattle.std.proofs.Common.{◌≡◌, ℕ, eqb, true, false, List, [], ◌∷◌, ◌++◌, Option, Some, None, refl, sym, ap, subst, ◌∙◌, inl, inr, append_assoc}
 use Rattle.std.specs.Prelude.{map}
-use Rattle.std.proofs.lemmas.Bool.{cases_eq, cases_Bool}
+use Rattle.std.proofs.lemmas.Bool.{cases_Bool}
 use Rattle.sv_vxi.specs.Arguments.{Arguments}
 use Rattle.sv_vxi.specs.Results.{Outcome}
 use Rattle.sv_links.specs.Links.{closing}
@@ -25,9 +25,10 @@ use Rattle.sv_history.specs.Resuming.{effect_of, leaving}
 use Rattle.sv_history.specs.Refusing.{refusable}
 use Rattle.sv_history.specs.History.{own_acts}
 use Rattle.sv_laws.proofs.Brought.{brings, AreCalls, OnlyCalls}
-use Rattle.sv_history.proofs.Projections.{of_shared, of_effect, others_effect}
+use Rattle.sv_history.proofs.Projections.{of_shared}
 use Rattle.sv_laws.proofs.OneLog.{one_log}
 use Rattle.sv_laws.proofs.EveryLog.EachEvent.{each_settled, StepsKeep, ends_keep, step_keeps, turn_keeps, refuse_keeps}
+use Rattle.sv_laws.proofs.EveryLog.Fit.{of_each}
 
 pub calls_join : (one other : List ConnAct) → AreCalls one → AreCalls other → AreCalls (one ++ other)
 calls_join [] other h k = k
@@ -53,13 +54,9 @@ more_calls base acts adds h (calls, k, is) =
 
 behind_effect : (base : ℕ → List ConnAct) (c : ℕ) (effect : Effect) (log : List Act) → AreCalls effect.own → Behind base log
     → Behind base (acts_of c effect ++ log)
-behind_effect base c effect log h all d = elim (cases_eq d c) [
-  | inl e ↦ subst (λ (n : ℕ). (calls : List ConnAct) × AreCalls calls × (of n (acts_of c effect ++ log) ≡ calls ++ base n)) (sym e)
-      (subst (λ (l : List ConnAct). (calls : List ConnAct) × AreCalls calls × (l ≡ calls ++ base c)) (sym (of_effect c effect log))
-      (more_calls (base c) (of c log) effect.own h (all c)))
-  | inr ne ↦ subst (λ (l : List ConnAct). (calls : List ConnAct) × AreCalls calls × (l ≡ calls ++ base d))
-      (sym (others_effect c d effect log ne)) (all d)
-]
+behind_effect base c effect log h all =
+    of_each (λ d acts. (calls : List ConnAct) × AreCalls calls × (acts ≡ calls ++ base d)) c effect log
+    (more_calls (base c) (of c log) effect.own h (all c)) (λ d ne. all d)
 
 behind_call : (base : ℕ → List ConnAct) (c : ℕ) (act : ConnAct) (log : List Act) → AreCalls (act ∷ []) → Behind base log
     → Behind base (On c act ∷ log)

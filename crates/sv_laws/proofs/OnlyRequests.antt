@@ -293,14 +293,20 @@ begins config Tick polled log =
       time = refl;
     }
 
+-- what is settled behind an event
+ends_behind : (config : Config) (event : PlainEvent) (polled : ℕ) (before log : List Act) (n : ℕ)
+    → SettlesIn n config (own_acts config polled event before ++ before) log → Behind (begins config event polled before).base log
+ends_behind config event polled before log n settles =
+    let start = begins config event polled before in
+    each_settled config (Behind start.base) (step_keeps config _ (steps_keep start.base config)) n
+    (own_acts config polled event before ++ before) log start.behind settles
+
 from_log : (config : Config) (event : PlainEvent) (polled : ℕ) (before log : List Act) (channel_log later : List ChannelAct) (c : ℕ)
     → HearsOf (device_acts before) channel_log → (n : ℕ) → SettlesIn n config (own_acts config polled event before ++ before) log
     → HearsOf (device_acts log) later → OnlyAdds c (tells event before ++ channel_log) later
 from_log config event polled before log channel_log later c x n settles y =
     let start = begins config event polled before in
-    let end = each_settled config (Behind start.base) (step_keeps config _ (steps_keep start.base config)) n
-    (own_acts config polled event before ++ before) log
-    start.behind settles in
+    let end = ends_behind config event polled before log n settles in
     plain_tells c end.0 start.base (tells event before ++ channel_log) later end.1 (start.hears channel_log x)
     (subst (λ (acts : List DeviceAct). HearsOf acts later) end.2 y)
 
@@ -317,7 +323,5 @@ pub ticks_event : (config : Config) (event : PlainEvent) (polled : ℕ) (before 
     → ticks (device_acts log) ≡ ticks (device_acts before) + bit 0 (is_tick event)
 ticks_event config event polled before log n settles =
     let start = begins config event polled before in
-    let end = each_settled config (Behind start.base) (step_keeps config _ (steps_keep start.base config)) n
-    (own_acts config polled event before ++ before) log
-    start.behind settles in
+    let end = ends_behind config event polled before log n settles in
     ap ticks end.2 ∙ plain_ticks end.0 start.base end.1 ∙ start.time

@@ -48,6 +48,7 @@ wait_same c (DeviceWrite io_timeout lock_timeout flags bytes) acts other ground 
 wait_same c (DeviceRead request_size io_timeout lock_timeout flags term_char) acts other ground = rw ground.answerable refl
 wait_same c _ acts other ground = refl
 
+-- any call
 pub stop_same : (c : ℕ) (arguments : Arguments) (acts other : List DeviceAct) → MayMake arguments acts other → SameGround c acts other
     → stop_of c arguments acts ≡ stop_of c arguments other
 stop_same c (CreateLink client_id lock_device lock_timeout device) acts other (inl none) ground = absurd cc
@@ -85,6 +86,7 @@ admitted_by config polled c arguments None acts other may ground = done_same con
 admitted_by config polled c arguments (Some (Fails error)) acts other may ground = refl
 admitted_by config polled c arguments (Some (Awaits wait timeout)) acts other may ground = rw ground.clock refl
 
+-- both together
 pub admitted_same : (config : Config) (polled c : ℕ) (arguments : Arguments) (acts other : List DeviceAct)
     → MayMake arguments acts other → SameGround c acts other
     → admission config polled c arguments (stop_of c arguments acts) acts
@@ -111,6 +113,7 @@ continued_by config polled c arguments None acts other may ground =
     ap (λ (what : CallOutcome). record what { adds = what.adds ++ Waited (Left c) ∷ [] })
     (done_same config polled c arguments (Waited (Left c) ∷ acts) (Waited (Left c) ∷ other) made behind)
 
+-- any call that resumes
 pub resumed_same : (config : Config) (polled c : ℕ) (wait : Wait) (call : CoreCall) (acts other : List DeviceAct)
     → MayMake call.arguments acts other → SameGround c acts other
     → resume_effect config polled c wait (Some call) acts ≡ resume_effect config polled c wait (Some call) other

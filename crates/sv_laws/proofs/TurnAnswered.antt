@@ -1,7 +1,6 @@
 -- A call that a Turn takes is answered; or it is no call; or it waits, for what isn't there.
 use Rattle.std.proofs.Common.{◌≡◌, ℕ, true, List, ◌∷◌, ◌++◌, Option, Some, None, refl, sym, ap, subst, ◌∙◌, inl, inr, ◌⊎◌}
 use Rattle.std.specs.Prelude.{map, is_some, Err}
-use Rattle.std.proofs.lemmas.Bool.{cases_eq}
 use Rattle.sv_rpc.specs.declared.call.CallFault.TheVariants.{BadHeader}
 use Rattle.sv_rpc.specs.Call.{call_at}
 use Rattle.sv_vxi.specs.Arguments.{Arguments}
@@ -21,13 +20,14 @@ use Rattle.sv_history.specs.Execution.{request_effect, aborts}
 use Rattle.sv_history.specs.Resuming.{effect_of}
 use Rattle.sv_history.specs.History.{turn_acts, own_acts, IsLogOf}
 use Rattle.sv_laws.specs.Laws.{TurnAnswered}
-use Rattle.sv_history.proofs.Projections.{of_mine, of_shared, of_effect, others_effect}
+use Rattle.sv_history.proofs.Projections.{of_mine, of_shared, of_effect}
 use Rattle.sv_laws.proofs.OneLog.{one_log}
 use Rattle.sv_laws.proofs.NoneLate.{none_late}
 use Rattle.sv_laws.proofs.EveryLog.EachEvent.{each_settled, StepsKeep, ends_keep, step_keeps, abort_keeps, turn_parts}
 use Rattle.sv_laws.proofs.EveryLog.EachAct.{none_bad, xid_next, open_unless}
 use Rattle.sv_laws.proofs.EveryLog.Taken.{xid_of, xid_in}
 use Rattle.sv_laws.proofs.EveryLog.BusyWaits.{busy_waits}
+use Rattle.sv_laws.proofs.EveryLog.Fit.{of_each}
 
 -- ---- the connection of the call
 
@@ -69,13 +69,9 @@ in_shared c call before adds log h = subst (Stands call before) (sym (of_shared 
 in_ended : (c : ℕ) (call : List ℕ) (before : List ConnAct) (d : ℕ) (does : Arguments → CallOutcome) (log : List Act)
     → StandsIn c call before log → StandsIn c call before (acts_of d (effect_of d does (core_call_in (pending_call (of d log)))) ++ log)
 in_ended c call before d does log h =
-    let effect = effect_of d does (core_call_in (pending_call (of d log))) in
-    elim (cases_eq c d) [
-      | inl e ↦ subst (λ (n : ℕ). Stands call before (of n (acts_of d effect ++ log))) (sym e)
-          (subst (Stands call before) (sym (of_effect d effect log))
-          (stands_ended d does call before (of d log) (subst (λ (n : ℕ). Stands call before (of n log)) e h)))
-      | inr ne ↦ subst (Stands call before) (sym (others_effect d c effect log ne)) h
-    ]
+    of_each (λ n acts. c ≡ n → Stands call before acts) d (effect_of d does (core_call_in (pending_call (of d log)))) log
+    (λ e. stands_ended d does call before (of d log) (subst (λ (n : ℕ). Stands call before (of n log)) e h))
+    (λ n ne e. subst (λ (m : ℕ). Stands call before (of m log)) e h) c refl
 
 steps_keep : (c : ℕ) (call : List ℕ) (before : List ConnAct) (config : Config) → StepsKeep config (StandsIn c call before)
 steps_keep c call before config =
@@ -131,8 +127,7 @@ turn_answered config history before log c call was now next =
     ∙ request.1 in
     let begins : StandsIn c call (of c now.0) (own_acts config now.1 (Turn c) now.0 ++ now.0) =
     rw (first, asks) (in_turn config now.1 c call request.0 now.0 first request.1) in
-    let ends = each_settled config (StandsIn c call (of c now.0))
-    (step_keeps config _ (steps_keep c call (of c now.0) config)) now.8.0
+    let ends = each_settled config (StandsIn c call (of c now.0)) (step_keeps config _ (steps_keep c call (of c now.0) config)) now.8.0
     (own_acts config now.1 (Turn c) now.0 ++ now.0) log begins now.8.1 in
     elim (subst (λ (l : List Act). Stands call (of c l) (of c log)) same ends) [
       | inl answered ↦ inl answered

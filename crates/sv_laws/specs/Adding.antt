@@ -1,4 +1,4 @@
--- All bytes that a history sends on a port, and what further events add to them. They are totalled across reconnects: the bytes of all
+-- All bytes that a history sends on a port, and what further events add to them. They are counted across reconnects: the bytes of all
 -- replies, or of all calls for service requests, also those of a port that was closed since.
 use Rattle.std.specs.Prelude.{◌≡◌, ℕ, List, [], ◌∷◌, ◌++◌}
 use Rattle.std.specs.List.{concat}

@@ -1,5 +1,5 @@
--- Isolation: while a link holds the lock, other connections change nothing that is sent on its connection and on its interrupt channel
--- (VXI-11 revision 1.0, section B.4.4: device locking).
+-- Isolation: while a link holds the lock, other connections change nothing that is sent on the link's connection and on its interrupt
+-- channel (VXI-11 revision 1.0, section B.4.4: device locking).
 use Rattle.std.specs.Prelude.{◌≡◌, ◌≢◌, ◌↔◌, ◌==◌, not, ℕ, Bool, false, ⊤, List, [], ◌∷◌, ◌++◌, filter, Option, Some, None}
 use Rattle.sv_vxi.specs.Arguments.{is_create_link}
 use Rattle.sv_links.specs.declared.waiting.Wait.TheVariants.{Input as ForInput, Response as ForResponse}

@@ -23,20 +23,19 @@ use Rattle.sv_history.specs.History.{is_port_shut, input_refusal, last_clock, Is
 abbrev pub OneLog : Type 0
 OneLog = (config : Config) (history : List PlainEvent) (a b : List Act) → IsLogOf config history a → IsLogOf config history b → a ≡ b
 
--- While nothing waits for time, ticks change nothing but the clock, up to its last value. The log gains nothing but the ticks.
+-- While nothing becomes due as time passes, ticks change nothing but the clock, up to its last value. The log gains nothing but the ticks.
 abbrev pub TimeOnlyCounts : Type 0
 TimeOnlyCounts = (config : Config) (history : List PlainEvent) (log : List Act) (most : ℕ) → IsLogOf config history log
     → IsStill most config (device_acts log) → config.clock + ticks (device_acts log) + most ≤ last_clock
     → IsLogOf config (replicate most Tick ++ history) (replicate most (OnDevice Ticked) ++ log)
 
--- Between two events no suspended call is past its deadline, and none waits for something that is there (VXI-11 revision 1.0, section
--- B.4.4).
+-- Between two events no suspended call is past its deadline, and none could resume (VXI-11 revision 1.0, section B.4.4).
 abbrev pub NoneLate : Type 0
 NoneLate = (config : Config) (history : List PlainEvent) (log : List Act) (c : ℕ) → IsLogOf config history log
     → (IsExpired (config.clock + ticks (device_acts log)) (wait_acts (device_acts log)) c → ⊥) × (CanResume (device_acts log) c → ⊥)
 
--- The event fits the answers of the queries at this moment. It is an Open of a free number; Bytes that fit the room; a Took of at most what
--- waits, if anything waits; a Close of an open port; a Dialed that is waited for; an Input that isn't refused; or the external trigger.
+-- The event fits the answers of the queries at this moment. It is an Open of a free number; Bytes that fit the room; a Took of at most the
+-- bytes that wait, if any wait; a Close of an open port; a Dialed that is waited for; an Input that isn't refused; or the external trigger.
 abbrev pub Suits : PlainEvent → List ChannelAct → List Act → Type 0
 Suits (Open c role) channel_log log = (c < 16) × (is_open (of c log) ≡ false)
 Suits (Bytes c piece) channel_log log = (c < 16) × (0 < room (of c log)) × (length piece ≤ room (of c log))
@@ -76,14 +75,14 @@ EachAnswered = (config : Config) (history : List PlainEvent) (log : List Act) (c
 abbrev pub HasXidOf : List ℕ → List ℕ → Type 0
 HasXidOf call reply = (4 ≤ length call) × (take 4 (drop 4 reply) ≡ take 4 call)
 
--- Each reply answers the call that was unanswered until then, and has its xid.
+-- Each reply answers the call that was unanswered until then, and has that call's xid.
 abbrev pub RepliesMatch : Type 0
 RepliesMatch = (config : Config) (history : List PlainEvent) (log : List Act) (c : ℕ) (newer older : List ConnAct) (reply : List ℕ)
     → IsLogOf config history log → of c log ≡ newer ++ Replied reply ∷ older
     → (call : List ℕ) × (pending_call older ≡ Some call) × HasXidOf call reply
 
--- What a Turn takes is answered if it is a call, or it is suspended because what it waits for isn't there (VXI-11 revision 1.0, section
--- B.4.4). If it isn't a call, its connection is at fault.
+-- If a record that a Turn takes is a call, it is answered, or it is suspended and can't resume yet (VXI-11 revision 1.0, section B.4.4). If
+-- it isn't a call, its connection is at fault.
 abbrev pub TurnAnswered : Type 0
 TurnAnswered = (config : Config) (history : List PlainEvent) (before log : List Act) (c : ℕ) (call : List ℕ) → IsLogOf config history before
     → IsLogOf config (Turn c ∷ history) log → next_call (of c before) ≡ Some call

@@ -9,36 +9,36 @@ pub fn one_log()
     ensures { OneLog }
 {}
 
-/// While a link holds the lock, other connections change nothing that is sent on its connection and
-/// on its interrupt channel (VXI-11 revision 1.0, section B.4.4), if no device_abort names a link
-/// of its connection, no create_link comes on it, and at the beginning no read or write of another
-/// connection is suspended for input or output.
+/// While a link holds the lock, other connections change nothing that is sent on the connection
+/// that made the link, and on its interrupt channel (VXI-11 revision 1.0, section B.4.4). This
+/// holds if no device_abort names a link of that connection, no create_link comes on it, and at the
+/// beginning no read or write of another connection is suspended for input or output.
 pub fn isolation()
     ensures { Isolation }
 {}
 
-/// How input is split into pieces, records into fragments and text into writes changes nothing but
-/// the writes' own replies, if each piece finds room, each write is answered without error for all
-/// its bytes, only the last one has END or a new line, and no read or write was suspended before
-/// (RFC 5531, section 11: record marking; VXI-11 revision 1.0, section B.6, device_write; IEEE
-/// 488.2, 6.1).
+/// How input is split into pieces, records into fragments and text into writes makes no difference,
+/// except to the replies to the writes. This holds if each piece finds room, each write is answered
+/// without error for all its bytes, only the last write has END or a new line, and no read or write
+/// was suspended before (RFC 5531, section 11: record marking; VXI-11 revision 1.0, section B.6,
+/// device_write; IEEE 488.2, 6.1).
 pub fn cuts()
     ensures pieces { RecordsCut }
     ensures writes { WritesCut }
 {}
 
-/// While nothing waits for time, ticks change nothing but the clock.
+/// While nothing becomes due as time passes, ticks change nothing but the clock.
 pub fn stillness()
     ensures { TimeOnlyCounts }
 {}
 
-/// Between two events no suspended call is past its deadline, and none waits for what is there.
+/// Between two events no suspended call is past its deadline, and none could resume.
 pub fn none_late()
     ensures { NoneLate }
 {}
 
-/// An event that fits the answers of the queries is never refused: bytes for which there is room,
-/// and bytes taken that waited, are never lost.
+/// An event that fits the answers of the queries is never refused. So no bytes are lost for which
+/// there was room, or that waited when the peer took them.
 pub fn nothing_lost()
     ensures { NothingLost }
 {}
@@ -48,14 +48,14 @@ pub fn each_answered()
     ensures { EachAnswered }
 {}
 
-/// Each reply answers the call that was unanswered until then, and has its xid (RFC 5531, section
-/// 9).
+/// Each reply answers the call that was unanswered until then, and has that call's xid (RFC 5531,
+/// section 9).
 pub fn replies_match()
     ensures { RepliesMatch }
 {}
 
-/// A call that a Turn takes is answered, or is no call, or is suspended for what isn't there
-/// (VXI-11 revision 1.0, section B.4.4).
+/// A call that a Turn takes is answered at once, unless it is suspended because it can't go on yet;
+/// or the record isn't a call (VXI-11 revision 1.0, section B.4.4).
 pub fn turn_answered()
     ensures { TurnAnswered }
 {}

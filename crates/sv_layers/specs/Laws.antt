@@ -64,7 +64,7 @@ abbrev pub OneAccount : Type 0
 OneAccount = (log : List Act) → (status_log : List StatusAct) × IsStatus log status_log
     × ((other : List StatusAct) → IsStatus log other → other ≡ status_log)
 
--- By the acts of the status byte, a request for service stands exactly if it stands by the instrument's log.
+-- By the acts of the status byte, a request for service is pending exactly if it is pending by the instrument's log.
 abbrev pub SameRequests : Type 0
 SameRequests = (log : List Act) (status_log : List StatusAct) → IsStatus log status_log → status.Request status_log ↔ Request log
 

@@ -38,11 +38,11 @@ abbrev pub Lasts : List Act → Type 0
 Lasts (Polled ∷ log) = ⊥
 Lasts log = Master log
 
--- A request for service stands: a reason arose, and at each moment since then the master summary was set and no poll came.
+-- A request for service is pending: a reason arose, and at each moment since then the master summary was set and no poll came.
 abbrev pub Request : List Act → Type 0
 Request log = Since Reason Lasts log
 
--- A request is raised at the newest act: it stands after that act, and didn't stand before.
+-- A request is raised at the newest act: it is pending after that act, and wasn't before.
 abbrev pub IsRaised : List Act → Type 0
 IsRaised [] = ⊥
 IsRaised (act ∷ before) = Request (act ∷ before) × (Request before → ⊥)

@@ -1,4 +1,4 @@
-//! The changes of the layers, but those of message exchange.
+//! The changes that the layers apply, except those of message exchange.
 
 use sv_errors::Code;
 use sv_scan::ScanAct;
@@ -15,12 +15,12 @@ pub enum Awaited {
     Readings,
 }
 
-/// A change of the instrument, but of program text and response.
+/// A change of the instrument, other than of program text and the response.
 #[derive(Drop)]
 pub enum Change {
     /// An act of the scanner.
     Scan(ScanAct),
-    /// A unit is held, and will answer this.
+    /// A unit is held, and will answer this when it is released.
     Hold(Awaited),
     /// An error is reported.
     Report(Code),
@@ -30,7 +30,7 @@ pub enum Change {
     ClearStatus,
     /// `STATus:PRESet`: enables and filters of all registers are preset.
     Preset,
-    /// `*OPC`: operation complete is asked for.
+    /// `*OPC`: the event operation complete is requested.
     AskComplete,
     /// The standard events are read, which clears them.
     ReadStandard,

@@ -77,8 +77,8 @@ impl<A: Allocator> Layers<A> {
         self.scanner.act(act);
     }
 
-    /// Reports an error: sets the standard event of its class, and that of an overflow of the
-    /// queue.
+    /// Reports an error: puts it into the error queue, and sets the standard event of its class; if
+    /// the queue overflows, also that of device-specific errors.
     fn report(&mut self, code: Code)
         ensures stands { (at : LayerLogs) (status_log : List StatusAct)
             → Represents self.old at status_log
@@ -94,8 +94,8 @@ impl<A: Allocator> Layers<A> {
     /// A trigger from this source begins the next scan.
     ///
     /// # Errors
-    /// [`Code::TriggerIgnored`] if no trigger is waited for, or one from another source; then
-    /// nothing happens.
+    /// [`Code::TriggerIgnored`] if the scanner doesn't wait for a trigger, or waits for one from
+    /// another source; then nothing changes.
     pub fn trigger(&mut self, source: Source) -> Result<(), Code>
         ensures applied { (log : List Act) → StandsFor self.old log
             → MatchResult result (λ done. (trigger_fault (effective_acts log) source ≡ None)

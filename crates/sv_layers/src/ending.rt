@@ -19,17 +19,17 @@ use crate::status::mask_if;
 use std::alloc::Allocator;
 use sv_status::{Register, RegisterName, StandardEvent};
 
-/// Operation complete, of the standard events.
+/// The bit of operation complete in the standard events.
 const COMPLETE: u8 = 1 << 0;
 
-/// The summary of a nested register, of the condition of the register above it.
+/// The bit of a nested register's summary in the condition of the register above it.
 const SUMMARY: u16 = 1 << 9;
 
 impl<A: Allocator> Layers<A> {
-    /// Ends an act that has begun in its own layer. For one register after the other, a condition
-    /// that may have changed is first run through the filters as they were; then the act's own
-    /// effect on the register is applied. A nested register comes before the register above it, so
-    /// that its summary is known there.
+    /// Ends an act that has begun in its own layer, by updating one register after the other. If
+    /// the condition of a register may have changed, it is first run through the filters as they
+    /// were; then the act's own effect on the register is applied. A nested register comes before
+    /// the register above it, so that its summary is known there.
     pub(crate) fn end(&mut self, change: &Change)
         ensures stands { (log : List Act) (act : Act) (status_log : List StatusAct)
             → EndsAs (act_of change.now) act
@@ -70,14 +70,14 @@ impl<A: Allocator> Layers<A> {
     }
 }
 
-/// Whether exactly one of two holds.
+/// Whether exactly one of the two is true.
 fn differ(first: bool, second: bool) -> bool
     ensures { result ≡ false → first ≡ second }
 {
     if first { !second } else { second }
 }
 
-/// Bit 9 of the condition of the register above a nested one, if the summary of that is set.
+/// Bit 9 if the summary of a nested register is set, else 0.
 fn summary_bit(stands: bool) -> u16
     ensures { result ≡ bit 9 stands }
 {

@@ -1,4 +1,4 @@
-//! All layers, and what they keep.
+//! All layers and their state.
 
 ghost use Rattle.std.specs.Prelude.{◌≡◌, List, [], IfOk};
 ghost use Rattle.sv_errors.specs.ErrorQueue.{StandsFor as Queues};
@@ -23,13 +23,13 @@ use sv_status::{Register, RegisterName, StandardEvent, StatusByte};
 pub struct Layers<A: Allocator = Global> {
     /// Program text and the response.
     pub(crate) exchange: Exchange<A>,
-    /// The errors that were reported.
+    /// The error queue.
     pub(crate) errors: ErrorQueue<A>,
     /// The operation status register.
     pub(crate) operation: Register,
     /// The questionable status register.
     pub(crate) questionable: Register,
-    /// The register of limits, which is summed up in the questionable one.
+    /// The register of limits, whose summary is a bit of the questionable condition.
     pub(crate) limit: Register,
     /// The standard event status register.
     pub(crate) standard: StandardEvent,
@@ -41,7 +41,8 @@ pub struct Layers<A: Allocator = Global> {
     pub(crate) service: u8,
     /// Whether an `*OPC` waits for the end of a measurement.
     pub(crate) waits: bool,
-    /// How many requests for service were raised that weren't read yet; 255 if there are more.
+    /// How many requests for service were raised since the count was last taken; 255 if there are
+    /// more.
     pub(crate) requests: u8,
 }
 

@@ -1,4 +1,4 @@
-//! What happens to program text and the response, and what follows.
+//! Changes of program text and the response, and what follows from them.
 
 ghost use Rattle.std.specs.Prelude.{◌≡◌, ◌+◌, ◌*◌, ◌<◌, ◌≤◌, List, ◌∷◌, drop, length, IsTrue, if◌then◌else◌};
 ghost use Rattle.sv_exchange.specs.Exchange.{Accepted, TextDropped, Overran, UnitDone, Answered, AnswersDropped, Finished, Interrupted, ResponseRead, OverrunDue, InterruptDue, FinishDue, answers, fits_response};
@@ -11,8 +11,9 @@ use crate::layers::Layers;
 use std::alloc::Allocator;
 
 impl<A: Allocator> Layers<A> {
-    /// Accepts the bytes of a write, with END after the last of them or without. It has to be open
-    /// for a write, of at most [`MAX_MESSAGE`](sv_exchange::MAX_MESSAGE) bytes.
+    /// Accepts the bytes of a write, with END after the last of them or without. Message exchange
+    /// must be open for a write, which may have at most [`MAX_MESSAGE`](sv_exchange::MAX_MESSAGE)
+    /// bytes.
     pub fn accept(&mut self, bytes: &[u8], ended: bool)
         requires open { IsTrue (is_open self.old.exchange) }
         requires short { length bytes.now ≤ max_message }
@@ -25,7 +26,7 @@ impl<A: Allocator> Layers<A> {
         self.update_status();
     }
 
-    /// Steps over the unit that was due: it was executed.
+    /// Steps over the unit that is due: it has been executed.
     pub fn done(&mut self)
         requires { IsUnitDue (next_of self.old.exchange) }
         ensures applied { (log : List Act) → StandsFor self.old log
@@ -38,7 +39,7 @@ impl<A: Allocator> Layers<A> {
         self.update_status();
     }
 
-    /// The message that is too long was reported.
+    /// Notes that the message that is too long was reported.
     pub fn overran(&mut self)
         requires { next_of self.old.exchange ≡ OverrunDue }
         ensures applied { (log : List Act) → StandsFor self.old log
@@ -74,7 +75,7 @@ impl<A: Allocator> Layers<A> {
         self.update_status();
     }
 
-    /// Adds an answer after those of the units before, and returns whether it fits; if it doesn't,
+    /// Adds an answer after those of the units before, and returns whether it fits. If it doesn't,
     /// all answers of the message are dropped.
     pub fn respond(&mut self, answer: &[u8]) -> bool
         requires { IsTrue (may_respond self.old.exchange) }
@@ -91,7 +92,7 @@ impl<A: Allocator> Layers<A> {
         fits
     }
 
-    /// Drops so many bytes of the response, which were read.
+    /// Drops the first `count` bytes of the response, which were read.
     pub fn take(&mut self, count: usize)
         requires { count ≤ length (shown_by self.old.exchange) }
         ensures applied { (log : List Act) → StandsFor self.old log

@@ -48,7 +48,8 @@ impl<A: Allocator> Layers<A> {
         self.requests = self.requests.saturating_add(u8::from(raised));
     }
 
-    /// How many requests for service were raised since this was asked last; 255 if there are more.
+    /// How many requests for service were raised since the last call of this function; 255 if there
+    /// are more.
     pub fn take_requests(&mut self) -> u8
         ensures count { result ≡ self.old.requests }
         ensures stands { (log : List Act) → StandsFor self.old log → AllRead self.new log }
@@ -71,7 +72,7 @@ impl<A: Allocator> Layers<A> {
     }
 }
 
-/// A mask if its condition holds, else 0.
+/// The mask if `holds` is true, else 0.
 pub(crate) fn mask_if(mask: u8, holds: bool) -> u8
     ensures { result ≡ (if holds then mask else 0) }
 {

@@ -49,7 +49,7 @@ abbrev pub longest : List (List ℕ) → ℕ
 longest [] = 0
 longest (word ∷ words) = max (length word) (longest words)
 
--- whether an asterisk leads the text
+-- whether the text begins with an asterisk
 abbrev pub is_common : List ℕ → Bool
 is_common [] = false
 is_common (b ∷ text) = b == 42

@@ -1,4 +1,4 @@
--- How headers are spelled (IEEE 488.2, 7.6.1; SCPI-1999, volume 1, chapter 6).
+-- The syntax of headers (IEEE 488.2, 7.6.1; SCPI-1999, volume 1, chapter 6).
 use Rattle.std.specs.Prelude.{ℕ, ◌==◌, ◌&&◌, ◌||◌, Bool, false, List, [], ◌∷◌}
 use Rattle.std.specs.List.{list_all}
 use Rattle.std.specs.Char.{is_ascii_alphabetic as is_letter, is_ascii_alphanumeric}

@@ -1,4 +1,4 @@
--- The tokens of a unit: their kinds, and where they stand.
+-- The tokens of a unit: their kinds and positions.
 use Rattle.std.specs.Prelude.{◌≡◌, ℕ, min, ◌==◌, ◌||◌, Bool, List, [], ◌∷◌, ◌++◌, length, if◌then◌else◌}
 use Rattle.std.specs.Char.{is_ascii_digit, is_ascii_alphabetic as is_letter}
 use Rattle.sv_lexer.specs.declared.token.Kind.{Kind}
@@ -19,7 +19,7 @@ kind_of (b ∷ text) =
 abbrev pub in_u32 : ℕ → ℕ
 in_u32 place = min place 4294967295
 
--- The text stands in the unit at this place.
+-- The text is in the unit at this place.
 abbrev pub StandsAt : List ℕ → ℕ → List ℕ → Type 0
 StandsAt unit place text = (front behind : List ℕ) × (unit ≡ front ++ (text ++ behind)) × (length front ≡ place)
 

@@ -1,4 +1,4 @@
--- The header of a program message unit, the text after it, and the faults of its spelling (IEEE 488.2, 7.3 and 7.6).
+-- The header of a program message unit, the text after it, and the faults of their syntax (IEEE 488.2, 7.3 and 7.6).
 use Rattle.std.specs.Prelude.{◌≡◌, ℕ, ◌+◌, ◌&&◌, ◌||◌, not, Bool, List, take, drop, Option, Some, None, Result, MatchResult, nat_lt, nat_le, length, if◌then◌else◌}
 use Rattle.std.specs.List.{prefix_len, position_or_len, list_all}
 use Rattle.sv_errors.specs.declared.code.Code.{Code}

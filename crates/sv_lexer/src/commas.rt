@@ -43,7 +43,7 @@ pub(crate) fn filled(text: &[u8]) -> Option<usize>
     if is_blank(rest) { None } else { Some(count) }
 }
 
-/// The part at this place of their order, and where it stands; none if there are fewer.
+/// The part with this index, from 0, and its position in the text; `None` if there are fewer parts.
 pub(crate) fn part_at(text: &[u8], index: usize) -> Option<(&[u8], usize)>
     ensures { MatchOption result (length (cut_outside [] text.now) ≤ index)
         (λ found. (index < length (cut_outside [] text.now))
@@ -63,15 +63,15 @@ pub(crate) fn part_at(text: &[u8], index: usize) -> Option<(&[u8], usize)>
     Some((first_outside(rest).0, place))
 }
 
-/// Whether a part is white space alone.
+/// Whether a part is empty or white space alone.
 fn is_blank(part: &[u8]) -> bool
     ensures { result ≡ is_blank_part part.now }
 {
     trim(part).is_empty()
 }
 
-/// The part before the first comma outside of parentheses, and what follows that; none
-/// if there is no such comma, and then the part is all of the text.
+/// The part before the first comma outside of parentheses, and the text after this comma. Without
+/// such a comma the part is all of the text, and there is no text after it.
 fn first_outside(text: &[u8]) -> (&[u8], Option<&[u8]>)
     ensures parts { MatchOption result.1 (cut_outside [] text.now ≡ result.0.now ∷ [])
         (λ behind. cut_outside [] text.now ≡ result.0.now ∷ cut_outside [] behind.now) }
@@ -88,7 +88,8 @@ fn first_outside(text: &[u8]) -> (&[u8], Option<&[u8]>)
     }
 }
 
-/// Where the first comma outside of parentheses stands, or the length if there is none.
+/// The position of the first comma outside of parentheses, or the length of the text if there is
+/// none.
 fn comma_in(text: &[u8]) -> usize
     ensures value { result ≡ first_size false text.now }
     ensures within { result ≤ length text.now }
@@ -107,7 +108,7 @@ fn comma_in(text: &[u8]) -> usize
     place
 }
 
-/// Whether a parenthesis is open after a byte, if one was before it.
+/// Whether a parenthesis is open after a byte; `inside` says whether one was open before it.
 fn is_inside_behind(inside: bool, byte: u8) -> bool
     ensures { result ≡ opens inside byte }
 {

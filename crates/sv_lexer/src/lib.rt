@@ -1,5 +1,5 @@
-//! Program message units: the header and the parameters of one, each a slice of it at its place
-//! (IEEE 488.2, 7.6 and 7.7).
+//! Program message units: the header and the parameters of a unit, each a slice of the unit with
+//! its position (IEEE 488.2, 7.6 and 7.7).
 //!
 //! A unit is read at once by [`unit`], or by [`Partial`] while its bytes come one by one. Nothing
 //! allocates.

@@ -20,9 +20,9 @@ pub struct Params<'a> {
     bytes: &'a [u8],
     /// The parameters and the commas between them.
     text: &'a [u8],
-    /// Where they stand in the unit.
+    /// The position of this text in the unit.
     place: usize,
-    /// How many there are.
+    /// How many parameters there are.
     count: usize,
 }
 
@@ -42,7 +42,7 @@ impl<'a> Model for Params<'a> {
 }
 
 impl<'a> Params<'a> {
-    /// The parameters in a text that stands at a place of a unit.
+    /// Reads the parameters from the text of a unit after its header, which begins at `place`.
     pub(crate) fn new(bytes: &'a [u8], text: &'a [u8], place: usize) -> Result<Params<'a>, Code>
         requires text { text.now ≡ rest_of bytes.now }
         requires place { place ≡ rest_place bytes.now }

@@ -15,22 +15,22 @@ use sv_errors::Code;
 /// The most characters of a mnemonic.
 const MOST: usize = 12;
 
-/// A unit whose bytes come one by one (IEEE 488.2, 7.3). It keeps none of them, only how far it was
-/// read: what it ends in, and where its header and its program data stand.
+/// A unit whose bytes come one by one (IEEE 488.2, 7.3). It stores no bytes, only what they end in
+/// so far, and where the header and the program data begin and end.
 #[derive(Debug, Drop)]
 pub struct Partial {
-    /// The stage in which it ends.
+    /// What the bytes end in so far.
     stage: Stage,
-    /// How many bytes it has.
+    /// How many bytes the unit has so far.
     size: usize,
-    /// Where its header begins, and where it ends.
+    /// Where the header begins, and where it ends.
     header_start: usize,
     header_end: usize,
     /// How many characters the last mnemonic has.
     mnemonic: usize,
-    /// How many characters the longest mnemonic before it has.
+    /// How many characters the longest mnemonic before the last one has.
     longest: usize,
-    /// Where its program data begin, and where they end without white space after them.
+    /// Where the program data begin, and where they end, without the white space after them.
     data_start: usize,
     data_end: usize,
 }
@@ -87,7 +87,7 @@ impl Partial {
         }
     }
 
-    /// Ends the unit and gives it. `text` must be the bytes that were read.
+    /// Ends the unit and returns it. `text` must be the bytes that were read.
     ///
     /// # Errors
     /// Those of [`unit`](crate::unit).
@@ -105,7 +105,7 @@ impl Partial {
         }
     }
 
-    /// One more byte, which leads to this stage.
+    /// Counts one more byte, which leads to this stage.
     fn move_to(&mut self, stage: Stage)
         ensures { self.new ≡ progress_to stage self.old }
     {
@@ -136,7 +136,7 @@ impl Partial {
         }
     }
 
-    /// What is wrong with it if it ends here.
+    /// The error of the unit if it ends here; `None` if it has none.
     fn fault(&self) -> Option<Code>
         ensures { result ≡ fault_of self.now.stage self.now }
     {
@@ -155,7 +155,7 @@ impl Partial {
         }
     }
 
-    /// Whether one of its mnemonics is too long.
+    /// The error of a unit in which a mnemonic is too long; `None` if none is.
     fn length_fault(&self) -> Option<Code>
         ensures { result ≡ length_fault_of self.now }
     {
@@ -166,7 +166,8 @@ impl Partial {
         }
     }
 
-    /// Where its program data stand if it ends here; after the header if it has none.
+    /// Where the program data begin and end if the unit ends here. Without program data, both are
+    /// the end of the header.
     fn data(&self) -> (usize, usize)
         ensures start { result.0 ≡ data_of self.now.stage self.now.header_end self.now.data_start }
         ensures end { result.1 ≡ data_of self.now.stage self.now.header_end self.now.data_end }
@@ -187,7 +188,7 @@ impl Partial {
     }
 }
 
-/// The unit whose header and whose program data stand at these places of a text.
+/// The unit whose header and program data are at these positions of a text.
 fn cut(
     text: &[u8],
     header_start: usize,

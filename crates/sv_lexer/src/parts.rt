@@ -10,16 +10,16 @@ use crate::token::Token;
 use std::marker::Model;
 use sv_errors::Code;
 
-/// A unit whose header is spelled as one. Contracts see it as the bytes that it was read from.
+/// A unit whose header has the form of one. Contracts see it as the bytes that it was read from.
 #[derive(Debug, Drop)]
 pub struct Unit<'a> {
     /// The bytes that it was read from.
     pub(crate) bytes: &'a [u8],
     /// The header.
     pub(crate) header: Token<'a>,
-    /// What follows the header, without white space around it.
+    /// The text after the header, without white space around it.
     pub(crate) rest: &'a [u8],
-    /// Where that stands, in bytes.
+    /// The position of this text in the unit, in bytes.
     pub(crate) place: usize,
 }
 

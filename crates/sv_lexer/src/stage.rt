@@ -1,4 +1,4 @@
-//! What a unit ends in, while its bytes come one by one.
+//! The stages of reading a unit whose bytes come one by one.
 
 ghost use Rattle.std.specs.Prelude.{◌≡◌};
 ghost use Rattle.sv_lexer.specs.Spelled.{is_word_byte as is_word};
@@ -6,7 +6,7 @@ ghost use Rattle.sv_lexer.specs.Inside.Stage.{behind_graphic as graphic, behind_
 
 use sv_text::is_space;
 
-/// The stage in which a unit ends, as far as it was read (IEEE 488.2, 7.3 and 7.6).
+/// What the bytes of a unit that were read so far end in (IEEE 488.2, 7.3 and 7.6).
 #[derive(Clone, Copy, Debug)]
 pub(crate) enum Stage {
     /// Nothing, or white space before the program header.
@@ -27,9 +27,9 @@ pub(crate) enum Stage {
     ProgramData,
     /// White space after program data.
     DataSpace,
-    /// A header that isn't spelled as one, and what follows it.
+    /// A header that doesn't have the form of one, and the bytes after it.
     Misspelled,
-    /// A byte that no unit has, and what follows it.
+    /// A byte that no unit may have, and the bytes after it.
     Illegal,
 }
 
@@ -97,7 +97,8 @@ fn header_begun(byte: u8) -> Stage
     }
 }
 
-/// A letter begins a mnemonic, which the unit ends in then (IEEE 488.2, 7.6.1.4).
+/// The stage after a byte that must begin a mnemonic: `mnemonic` if it is a letter (IEEE 488.2,
+/// 7.6.1.4).
 fn mnemonic_begun(mnemonic: Stage, byte: u8) -> Stage
     ensures { result ≡ letter_stage mnemonic byte }
 {

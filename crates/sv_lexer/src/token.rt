@@ -23,7 +23,7 @@ pub enum Kind {
 pub struct Token<'a> {
     /// Its bytes, without white space around them.
     pub text: &'a [u8],
-    /// Where it stands in the unit, in bytes; 4,294,967,295 if that is more.
+    /// Its position in the unit, in bytes; 4,294,967,295 if that is less than the position.
     pub start: u32,
     /// Its kind, by its first byte.
     pub kind: Kind,

@@ -1,4 +1,4 @@
--- What is kept of interrupt channels, and when it stands for a list of acts.
+-- The state of interrupt channels, and when it stands for a list of acts.
 use Rattle.std.specs.Prelude.{◌≡◌, ℕ, ◌-◌, ◌==◌, ◌<◌, ◌≤◌, nat_lt, not, Bool, true, false, List, [], ◌∷◌, length, map, filter, Option, Some, None, is_some, slice_get, slice_index_or, if◌then◌else◌, ⊤}
 use Rattle.std.specs.List.{concat, AllByRecursion}
 use Rattle.sv_links.specs.declared.enabled.Enabled.{Enabled}
@@ -37,17 +37,17 @@ abbrev pub left_in : ℕ → List ℕ → List ℕ
 left_in count [] = []
 left_in count (size ∷ sizes) = if nat_lt count size then (size - count) ∷ sizes else left_in (count - size) sizes
 
--- The channel keeps what is left of these calls after the peer took `count` of their bytes, which are no more than there are.
+-- The channel stores what is left of these calls after the peer took `count` of their bytes, which are no more than there are.
 abbrev pub IsQueued : Channel → ℕ → List (List ℕ) → Type 0
 IsQueued kept count calls = (kept.made ≡ length calls) × (kept.sizes ≡ map length (calls_left count calls))
     × (kept.bytes ≡ concat (calls_left count calls)) × (count ≤ length (concat calls))
 
--- If the channel is open, it keeps what is left of these calls after the peer took `count` of their bytes.
+-- If the channel is open, it stores what is left of these calls after the peer took `count` of their bytes.
 abbrev pub IsChannelFor : Option Peer → Channel → ℕ → List (List ℕ) → Type 0
 IsChannelFor (Some what) kept count calls = IsQueued kept count calls
 IsChannelFor None kept count calls = ⊤
 
--- The channel of a connection keeps what the acts determine.
+-- The channel of a connection has the state that the acts determine.
 abbrev pub IsChannel : Channel → ℕ → List ChannelAct → Type 0
 IsChannel kept c acts = (opened_for kept.stage ≡ peer c acts) × IsChannelFor (peer c acts) kept (bytes_taken c acts) (calls c acts)
 
@@ -82,7 +82,7 @@ bytes_of kept c = bytes_in (slice_get kept.channels c)
 abbrev pub IsReady : Channels → ℕ → Type 0
 IsReady kept c = (other : Channel) → is_prepared (slice_index_or kept.channels c other).stage ≡ true
 
--- Links and channels are kept as the acts determine, and no channel of a connection above 15 is open.
+-- Links and channels have the state that the acts determine, and no channel of a connection above 15 is open.
 pub record AreChannels (kept : Channels) (acts : List ChannelAct) : Type 0 where
   pub enabled : kept.enabled ≡ enabled_links acts
   pub each : (c : ℕ) (other : Channel) → c < max_connections → IsChannel (slice_index_or kept.channels c other) c acts

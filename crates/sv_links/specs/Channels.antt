@@ -17,7 +17,7 @@ pub data ChannelAct : Type 0 where
   Requested : ChannelAct
   ChannelTaken : (conn count : ℕ) → ChannelAct
 
--- the connection and the newest handle of a link that has service requests enabled; `None` if it hasn't
+-- the connection and the newest handle of a link that has service requests enabled; `None` if the link hasn't enabled them
 abbrev pub srq_enabled : ℕ → List ChannelAct → Option Enabled
 srq_enabled lid [] = None
 srq_enabled lid (SrqEnabled other conn handle ∷ acts) =

@@ -1,5 +1,5 @@
--- Links (VXI-11 revision 1.0, sections B.4.4 and B.6): which of them are live, which connection owns each, and which holds the lock. Lists
--- of acts have the newest first.
+-- Links (VXI-11 revision 1.0, sections B.4.4 and B.6): which links there are, which connection owns each, and which link holds the lock. A
+-- link is live if it was made and not destroyed. Lists of acts have the newest first.
 use Rattle.std.specs.Prelude.{ℕ, ◌+◌, ◌==◌, not, ◌&&◌, ◌||◌, Bool, true, false, List, [], ◌∷◌, ◌++◌, length, map, filter, find, reverse, option_map, Option, Some, None, nat_lt}
 use Rattle.std.specs.List.{filter_map}
 use Rattle.std.specs.Option.{option_map_or}
@@ -70,7 +70,7 @@ is_locked lid (_ ∷ acts) = is_locked lid acts
 abbrev pub holder : List LinkAct → Option ℕ
 holder acts = find (λ lid. is_locked lid acts) (lock_order acts)
 
--- whether another link than this one holds the lock; for a call that names no link, whether any link does
+-- whether a link other than this one holds the lock; for a call that names no link, whether any link does
 abbrev pub is_locked_out : Option ℕ → Option ℕ → Bool
 is_locked_out (Some holder) (Some lid) = not (lid == holder)
 is_locked_out (Some holder) None = true

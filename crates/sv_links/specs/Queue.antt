@@ -1,4 +1,4 @@
--- What is kept of suspended calls, and when it stands for a list of acts.
+-- The state of the queue of suspended calls, and when it stands for a list of acts.
 use Rattle.std.specs.Prelude.{◌≡◌, ◌≢◌, ℕ, ◌==◌, ◌<◌, nat_le, Bool, false, List, [], ◌∷◌, Option, Some, None, is_none, option_map, find, filter, length, not, ◌&&◌, ◌+◌, if◌then◌else◌, ⊤}
 use Rattle.std.specs.List.{AllByRecursion}
 use Rattle.sv_links.specs.declared.waiting.Entry.{Entry}

@@ -1,10 +1,10 @@
--- What the table of links keeps, and when it stands for a list of acts.
+-- The state of the table of links, and when it stands for a list of acts.
 use Rattle.std.specs.Prelude.{◌≡◌, ℕ, ◌<◌, ◌≤◌, List, [], ◌∷◌, ◌++◌, is_some, count_by, Option, Some, None, ⊤}
 use Rattle.std.specs.List.{AllByRecursion}
 use Rattle.sv_links.specs.declared.links.Link.{Link}
 use Rattle.sv_links.specs.Links.{LinkAct, links_made, live, is_locked, is_this}
 
--- what is kept: how many links were ever made; the slots, each with a live link or empty; the link that holds the lock; for how many more
+-- the state: how many links were ever made; the slots, each with a live link or empty; the link that holds the lock; for how many more
 -- links there is memory
 pub record Table : Type 0 where
   pub made : ℕ
@@ -28,7 +28,7 @@ abbrev pub IsRising : List Link → ℕ → Type 0
 IsRising [] last = ⊤
 IsRising (link ∷ links) last = (link.lid ≤ last) × AllByRecursion (λ other. link.lid < other.lid) links × IsRising links last
 
--- The table keeps what the acts determine: each live link in one slot, and nothing else.
+-- The table has the state that the acts determine: each live link in one slot, and nothing else.
 pub record IsTable (table : Table) (acts : List LinkAct) : Type 0 where
   pub made : table.made ≡ links_made acts
   pub kept : IsKept table.slots (live acts)

@@ -45,7 +45,7 @@ link_of = elim [ Entered conn link wait deadline ∷ acts ↦ link | _ ↦ None 
 abbrev pub link : ℕ → List WaitAct → Option ℕ
 link c acts = link_of (newest (enters c) acts)
 
--- whether the lock is waited for
+-- whether the wait is for the lock
 abbrev pub is_lock : Option Wait → Bool
 is_lock = elim [ Some Lock ↦ true | _ ↦ false ]
 
@@ -53,7 +53,7 @@ is_lock = elim [ Some Lock ↦ true | _ ↦ false ]
 abbrev pub connections : List ℕ
 connections = range_with_len 0 max_connections
 
--- whether what a call waits for is there: the lock is free for its link, a write is accepted now, or a read is answered now
+-- whether a call needn't wait any longer: the lock is free for its link, a write is accepted now, or a read is answered now
 abbrev pub is_there : Option ℕ → Bool → Bool → Option ℕ → Option Wait → Bool
 is_there holder can_write can_read named (Some Lock) = not (is_locked_out holder named)
 is_there holder can_write can_read named (Some Input) = can_write

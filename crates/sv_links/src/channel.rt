@@ -14,26 +14,26 @@ use std::alloc::{AllocError, Allocator};
 use std::marker::Model;
 use sv_bytes::drop_front;
 
-/// The state of a channel.
+/// The state of an interrupt channel.
 #[derive(Clone, Copy, Debug, PartialEq, Eq)]
 pub(crate) enum Stage {
-    /// It is closed.
+    /// The channel is closed.
     Closed,
-    /// Its memory is allocated, and it may be opened.
+    /// The memory of the channel is allocated, and it may be opened.
     Prepared,
-    /// It is open to this peer.
+    /// The channel is open to this peer.
     Open(Peer),
 }
 
-/// The channel of a connection.
+/// The interrupt channel of a connection.
 #[derive(Drop)]
 pub(crate) struct Channel<A: Allocator> {
     stage: Stage,
     /// How many calls were sent.
     made: u32,
-    /// How many bytes wait of each call that the peer didn't take completely.
+    /// For each call that the peer didn't take completely: how many of its bytes wait.
     sizes: ArrayVec<u8, MAX_CALLS>,
-    /// The bytes that wait.
+    /// The bytes that wait to be sent.
     bytes: Vec<u8, A>,
 }
 
@@ -73,14 +73,15 @@ impl<A: Allocator> Channel<A> {
         }
     }
 
-    /// Whether it is open.
+    /// Whether the channel is open.
     pub(crate) fn is_open(&self) -> bool
         ensures { result ≡ is_some (opened_for self.now.stage) }
     {
         matches!(self.stage, Stage::Open(_))
     }
 
-    /// Allocates its memory, so that it may be opened; an open one stays as it is.
+    /// Allocates the memory of the channel, so that it may be opened. An open channel doesn't
+    /// change.
     pub(crate) fn prepare(&mut self) -> Result<(), AllocError>
         ensures open { OnOk result (opened_for self.new.stage ≡ opened_for self.old.stage) }
         ensures ready { OnOk result (opened_for self.old.stage ≡ None
@@ -98,7 +99,7 @@ impl<A: Allocator> Channel<A> {
         Ok(())
     }
 
-    /// It isn't to be opened any more; an open one stays as it is.
+    /// Undoes the preparation: the channel won't be opened. An open channel doesn't change.
     pub(crate) fn cancel(&mut self)
         ensures open { opened_for self.new.stage ≡ opened_for self.old.stage }
         ensures unready { is_prepared self.new.stage ≡ false }
@@ -110,7 +111,7 @@ impl<A: Allocator> Channel<A> {
         }
     }
 
-    /// Opens it, with nothing to send; one that isn't prepared stays as it is.
+    /// Opens the channel, with nothing to send. A channel that isn't prepared doesn't change.
     pub(crate) fn open(&mut self, peer: Peer)
         ensures { is_prepared self.old.stage ≡ true
             → (opened_for self.new.stage ≡ Some peer) × IsQueued self.new 0 [] }
@@ -121,7 +122,7 @@ impl<A: Allocator> Channel<A> {
         }
     }
 
-    /// Closes it, if it is open.
+    /// Closes the channel, if it is open.
     pub(crate) fn close(&mut self)
         ensures closed { opened_for self.new.stage ≡ None }
         ensures ready { is_prepared self.new.stage ≡ is_prepared self.old.stage }
@@ -132,7 +133,7 @@ impl<A: Allocator> Channel<A> {
         }
     }
 
-    /// Nothing was sent on it.
+    /// Drops all calls, and counts from 0 again.
     fn clear(&mut self)
         ensures stage { self.new.stage ≡ self.old.stage }
         ensures queued { IsQueued self.new 0 [] }
@@ -142,7 +143,7 @@ impl<A: Allocator> Channel<A> {
         self.bytes.clear();
     }
 
-    /// The bytes that wait.
+    /// The bytes that wait to be sent.
     pub(crate) fn waiting(&self) -> &[u8]
         ensures same { result.now ≡ self.now.bytes }
         ensures bounded { length result.now ≤ max_queued }
@@ -150,7 +151,7 @@ impl<A: Allocator> Channel<A> {
         self.bytes.as_slice()
     }
 
-    /// Drops bytes that the peer took.
+    /// Drops the first `count` bytes that wait: the peer took them.
     pub(crate) fn take(&mut self, count: usize)
         requires { count ≤ length self.old.bytes }
         ensures stage { self.new.stage ≡ self.old.stage }
@@ -161,8 +162,8 @@ impl<A: Allocator> Channel<A> {
         let_go(&mut self.sizes, count);
     }
 
-    /// Appends a call with this handle, if fewer calls wait than
-    /// [`MAX_CALLS`] and a number is left.
+    /// Appends a call with this handle, if fewer calls wait than [`MAX_CALLS`] and a number for the
+    /// call is left.
     fn request(&mut self, peer: Peer, handle: &[u8])
         requires open { self.old.stage ≡ Stage.Open peer }
         requires short { length handle.now ≤ max_handle }
@@ -180,7 +181,7 @@ impl<A: Allocator> Channel<A> {
         self.made += 1;
     }
 
-    /// If it is open, appends a call for each of these links that is of its connection.
+    /// If the channel is open, appends a call for each of these links that its connection made.
     pub(crate) fn request_each(&mut self, conn: u8, enabled: &[Enabled])
         ensures stage { self.new.stage ≡ self.old.stage }
         ensures queued { (count : ℕ) (calls : List (List ℕ)) (peer : Peer)
@@ -199,7 +200,7 @@ impl<A: Allocator> Channel<A> {
     }
 }
 
-/// Drops so many bytes of calls with these sizes.
+/// Takes `count` bytes off calls of these sizes, beginning with the first call.
 fn let_go(sizes: &mut ArrayVec<u8, MAX_CALLS>, count: usize)
     ensures { sizes.new.items ≡ left_in count sizes.old.items }
 {

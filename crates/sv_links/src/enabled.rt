@@ -33,7 +33,7 @@ impl Handle {
         Handle { bytes }
     }
 
-    /// Its bytes.
+    /// The bytes of the handle.
     fn bytes(&self) -> &[u8]
         ensures same { result.now ≡ self.now }
         ensures short { length result.now ≤ max_handle }
@@ -42,14 +42,14 @@ impl Handle {
     }
 }
 
-/// A link that asks for service requests.
+/// A link that has service requests enabled.
 #[derive(Debug, Drop)]
 pub(crate) struct Enabled {
-    /// Its number.
+    /// The number of the link.
     pub(crate) lid: u32,
-    /// The connection that made it.
+    /// The connection that made the link.
     pub(crate) conn: u8,
-    /// The handle that its controller gave.
+    /// The handle that the link's controller gave.
     pub(crate) handle: Handle,
 }
 
@@ -66,7 +66,7 @@ impl Enabled {
         }
     }
 
-    /// The bytes of its handle.
+    /// The bytes of the link's handle.
     pub(crate) fn handle(&self) -> &[u8]
         ensures same { result.now ≡ self.now.handle }
         ensures short { length result.now ≤ max_handle }

@@ -1,5 +1,5 @@
-//! Interrupt channels: which links have service requests enabled, and what waits to be sent on the
-//! channel of each connection.
+//! Interrupt channels: which links have service requests enabled, and the bytes that wait to be
+//! sent on the channel of each connection.
 
 ghost use Rattle.std.specs.Prelude.{◌≡◌, ◌<◌, ◌≤◌, ◌==◌, ◌++◌, ℕ, List, [], ◌∷◌, map, length, filter, not, IfOk, OnOk, OnErr, false, true};
 ghost use Rattle.sv_links.specs.Limits.{max_connections, max_handle, max_queued};
@@ -66,7 +66,7 @@ impl<A: Allocator> Intr<A> {
     }
 
     /// Allocates the memory of the channel of a connection, below [`MAX_CONNECTIONS`], so that it
-    /// may be opened; if it is open, nothing changes.
+    /// may be opened. If the channel is open, nothing changes.
     ///
     /// # Errors
     /// If memory is refused; nothing changes then.
@@ -84,8 +84,8 @@ impl<A: Allocator> Intr<A> {
         self.channels[usize::from(conn)].prepare()
     }
 
-    /// The channel of a connection, below [`MAX_CONNECTIONS`], won't be opened: it isn't prepared
-    /// any more. An open one stays open.
+    /// Undoes the preparation of the channel of a connection, below [`MAX_CONNECTIONS`]: it won't
+    /// be opened. An open channel stays open.
     pub fn cancel(&mut self, conn: u8)
         requires { conn < max_connections }
         ensures unready { IsReady self.new conn → ⊥ }
@@ -98,8 +98,8 @@ impl<A: Allocator> Intr<A> {
         self.channels[usize::from(conn)].cancel();
     }
 
-    /// Opens the channel of a connection, below [`MAX_CONNECTIONS`], with nothing to send. It has
-    /// to be prepared.
+    /// Opens the channel of a connection, below [`MAX_CONNECTIONS`], with nothing to send. The
+    /// channel must be prepared.
     pub fn open(&mut self, conn: u8, peer: Peer)
         requires { conn < max_connections }
         ensures others { (other : ℕ) → (other ≡ conn → ⊥) → IsReady self.old other
@@ -112,8 +112,8 @@ impl<A: Allocator> Intr<A> {
         self.channels[usize::from(conn)].open(peer);
     }
 
-    /// Closes the channel of a connection, below [`MAX_CONNECTIONS`], and drops what waits on it.
-    /// Returns whether it was open.
+    /// Closes the channel of a connection, below [`MAX_CONNECTIONS`], and drops the bytes that wait
+    /// on it. Returns whether it was open.
     pub fn close(&mut self, conn: u8) -> bool
         requires { conn < max_connections }
         ensures answer { (acts : List ChannelAct) → AreChannels self.old acts
@@ -130,8 +130,8 @@ impl<A: Allocator> Intr<A> {
     }
 
     /// Enables service requests of a link, with this handle of at most
-    /// [`MAX_HANDLE`](crate::MAX_HANDLE) bytes. It has to have them enabled already, or fewer than
-    /// 32 links have.
+    /// [`MAX_HANDLE`](crate::MAX_HANDLE) bytes. The link must have them enabled already, or fewer
+    /// than 32 links have them enabled.
     pub fn enable(&mut self, lid: u32, conn: u8, handle: &[u8])
         ensures stands { length handle.now ≤ max_handle → HasRoomFor lid self.old
             → (acts : List ChannelAct) → AreChannels self.old acts
@@ -168,9 +168,9 @@ impl<A: Allocator> Intr<A> {
         self.enabled.retain(|other| other.conn != conn);
     }
 
-    /// Raises a service request: a call is sent on the channel of each link that has them enabled,
-    /// by rising number of the links. A call is left out while 32 of its channel are pending, or
-    /// once its numbers are used up.
+    /// Raises a service request. For each link that has service requests enabled, by rising number,
+    /// a call is sent on the channel of the link's connection. The call is left out while 32 calls
+    /// wait on that channel, or once the numbers for its calls are used up.
     pub fn raise(&mut self)
         ensures stands { (acts : List ChannelAct) → AreChannels self.old acts
             → AreChannels self.new (Requested ∷ acts) }
@@ -182,8 +182,8 @@ impl<A: Allocator> Intr<A> {
         }
     }
 
-    /// The bytes that wait on the channel of a connection, below [`MAX_CONNECTIONS`]; none if it
-    /// isn't open.
+    /// The bytes that wait on the channel of a connection, below [`MAX_CONNECTIONS`]; none if the
+    /// channel isn't open.
     pub fn waiting(&self, conn: u8) -> &[u8]
         requires { conn < max_connections }
         ensures same { result.now ≡ bytes_of self.now conn }
@@ -199,8 +199,8 @@ impl<A: Allocator> Intr<A> {
         }
     }
 
-    /// Drops bytes that the peer took of the channel of a connection, below [`MAX_CONNECTIONS`]. So
-    /// many have to wait there.
+    /// Drops the first `count` bytes that wait on the channel of a connection, below
+    /// [`MAX_CONNECTIONS`]: the peer took them. There must be at least as many.
     pub fn take(&mut self, conn: u8, count: usize)
         requires within { conn < max_connections }
         requires waits { count ≤ length (bytes_of self.old conn) }

@@ -2,13 +2,13 @@
 
 /// How many connections there may be; they are numbered from 0.
 pub const MAX_CONNECTIONS: usize = 16;
-/// How many calls may wait: one of each connection.
+/// How many calls may be suspended: one of each connection.
 pub(crate) const MAX_WAITING: usize = MAX_CONNECTIONS;
-/// How many links may live.
+/// How many links there may be at once.
 pub const MAX_LINKS: usize = 32;
-/// How many links may have service requests enabled: all that live.
+/// How many links may have service requests enabled: all that there may be.
 pub(crate) const MAX_ENABLED: usize = MAX_LINKS;
-/// How many calls may wait on an interrupt channel that its peer didn't take completely.
+/// How many calls may wait on an interrupt channel, with one that the peer took in part.
 pub(crate) const MAX_CALLS: usize = 32;
 /// How long the handle of a service request may be, in bytes (VXI-11 revision 1.0, section B.6,
 /// device_enable_srq).
@@ -16,8 +16,8 @@ pub const MAX_HANDLE: usize = 40;
 /// The length of the longest device_intr_srq, in bytes: its header (40), the length of the handle
 /// (4), and the longest handle, which needs no padding.
 pub(crate) const LONGEST_TEXT: usize = 44 + MAX_HANDLE;
-/// How long its record may be, in bytes: the header of its one fragment (4; RFC 5531, section 11),
-/// and the call.
+/// The length of the longest record of a device_intr_srq, in bytes: the header of its one fragment
+/// (4; RFC 5531, section 11), and the call.
 const LONGEST_CALL: usize = 4 + LONGEST_TEXT;
-/// How many bytes may wait on an interrupt channel: those of so many calls.
+/// How many bytes may wait on an interrupt channel: those of [`MAX_CALLS`] calls.
 pub(crate) const MAX_QUEUED: usize = MAX_CALLS * LONGEST_CALL;

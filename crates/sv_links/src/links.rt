@@ -1,4 +1,4 @@
-//! Links: which live, which connection made one, and which holds the lock.
+//! Links: which there are, which connection made each, and which link holds the lock.
 
 ghost use Rattle.std.specs.Prelude.{◌≡◌, ◌+◌, ◌<◌, ◌≤◌, ◌^◌, ◌↔◌, not, ℕ, List, [], ◌∷◌, ◌++◌, length, IfOk, OnOk, OnErr, IsOk, Some, Err, true, false};
 ghost use Rattle.sv_links.specs.Limits.{max_links};
@@ -14,19 +14,19 @@ use thiserror::Error;
 /// The last number of a link.
 const LAST: u32 = i32::MAX as u32;
 
-/// A live link.
+/// A link that wasn't destroyed.
 #[derive(Clone, Copy, Debug, PartialEq, Eq)]
 pub struct Link {
-    /// Its number.
+    /// The number of the link.
     pub lid: u32,
-    /// The connection that made it.
+    /// The connection that made the link.
     pub conn: u8,
 }
 
 /// Why no link was made.
 #[derive(Clone, Copy, Debug, PartialEq, Eq, Error)]
 pub enum CreateRefused {
-    /// There are [`MAX_LINKS`], or no number is left (VXI-11 error 9).
+    /// There are [`MAX_LINKS`] links, or no number is left (VXI-11 error 9).
     #[error("no further link may be made")]
     OutOfResources,
     /// Out of memory.
@@ -34,13 +34,14 @@ pub enum CreateRefused {
     NoMemory,
 }
 
-/// The live links, at most [`MAX_LINKS`]; how many were ever made; and which holds the lock.
+/// The links that there are, at most [`MAX_LINKS`]; how many were ever made; and which holds the
+/// lock.
 #[derive(Drop)]
 pub struct Links<A: Allocator = Global> {
     made: u32,
     links: Slab<Link, A>,
     holder: Option<u32>,
-    /// For how many links memory was reserved.
+    /// For how many further links memory is reserved.
     spare: u8,
 }
 
@@ -77,7 +78,7 @@ impl<A: Allocator> Links<A> {
         }
     }
 
-    /// How many links live, at most [`MAX_LINKS`].
+    /// How many links there are, at most [`MAX_LINKS`].
     pub fn count(&self) -> u8
         ensures value { result ≡ count_of self.now }
         ensures bounded { result ≤ max_links }
@@ -94,7 +95,8 @@ impl<A: Allocator> Links<A> {
         self.made < LAST
     }
 
-    /// Allocates the memory for so many links, unless it is there. A later `create` uses it.
+    /// Allocates the memory for this many further links, unless it is reserved already. A later
+    /// `create` uses it.
     ///
     /// # Errors
     /// If memory is refused; nothing changes then.
@@ -114,7 +116,7 @@ impl<A: Allocator> Links<A> {
     }
 
     /// Makes a link and returns its number: one above the last; the first is 1. With reserved
-    /// memory it never runs out of memory.
+    /// memory it can't run out of memory.
     ///
     /// # Errors
     /// `OutOfResources` if there are [`MAX_LINKS`] links or no number is left; else `NoMemory` if
@@ -142,7 +144,7 @@ impl<A: Allocator> Links<A> {
         Ok(lid)
     }
 
-    /// The connection that made the link of this number; `None` if it doesn't live.
+    /// The connection that made the link of this number; `None` if there is no such link.
     pub fn owner(&self, lid: u32) -> Option<u8>
         ensures { (acts : List LinkAct) → IsTable self.now acts → result ≡ owner lid acts }
     {
@@ -150,7 +152,7 @@ impl<A: Allocator> Links<A> {
         Some(link.conn)
     }
 
-    /// The lowest number of a connection's live links; `None` if it has none.
+    /// The lowest number of a connection's links; `None` if it has no link.
     pub fn lowest(&self, conn: u8) -> Option<u32>
         ensures { (acts : List LinkAct) → IsTable self.now acts → result ≡ lowest conn acts }
     {
@@ -161,7 +163,8 @@ impl<A: Allocator> Links<A> {
             .min()
     }
 
-    /// Destroys a link, which frees the lock if it holds it. If it doesn't live, nothing changes.
+    /// Destroys a link; if the link holds the lock, the lock becomes free. If there is no such
+    /// link, nothing changes.
     pub fn destroy(&mut self, lid: u32)
         ensures stands { (acts : List LinkAct) → IsTable self.old acts
             → IsTable self.new (Destroyed lid ∷ acts) }
@@ -173,8 +176,8 @@ impl<A: Allocator> Links<A> {
         }
     }
 
-    /// Destroys the links of a connection, which frees the lock if one of them holds it. Their
-    /// numbers are never used again.
+    /// Destroys the links of a connection; if one of them holds the lock, the lock becomes free.
+    /// The numbers of these links are never used again.
     pub fn close_connection(&mut self, conn: u8)
         ensures stands { (acts : List LinkAct) → IsTable self.old acts
             → IsTable self.new (closing conn acts ++ acts) }
@@ -188,7 +191,7 @@ impl<A: Allocator> Links<A> {
         self.links.retain(|_key, link| link.conn != conn);
     }
 
-    /// The link that holds the lock; `None` if it is free.
+    /// The link that holds the lock; `None` if the lock is free.
     pub fn holder(&self) -> Option<u32>
         ensures value { result ≡ self.now.holder }
         ensures answer { (acts : List LinkAct) → IsTable self.now acts → result ≡ holder acts }

@@ -15,13 +15,13 @@ const DEVICE_INTR_SRQ: u32 = 30;
 /// The program that an interrupt channel calls.
 #[derive(Clone, Copy, Debug, PartialEq, Eq)]
 pub struct Peer {
-    /// Its program.
+    /// The number of the program.
     pub prog: u32,
-    /// The version of it.
+    /// The version of the program.
     pub vers: u32,
 }
 
-/// Puts a call after the outgoing bytes.
+/// Appends a call to the outgoing bytes.
 pub(crate) fn put_request<A: Allocator>(out: &mut Vec<u8, A>, xid: u32, peer: Peer, handle: &[u8])
     requires room { vec_len out.old + longest_call ≤ vec_capacity out.old }
     requires short { length handle.now ≤ max_handle }

@@ -19,20 +19,20 @@ pub enum Wait {
     Input,
     /// That a read is answered.
     Response,
-    /// That the interrupt channel's peer is connected, or can't be.
+    /// That the attempt to connect the interrupt channel's peer has ended.
     Dial,
 }
 
 /// A suspended call.
 #[derive(Clone, Copy, Debug, PartialEq, Eq)]
 pub struct Entry {
-    /// Its connection, below [`MAX_CONNECTIONS`](crate::MAX_CONNECTIONS).
+    /// The connection of the call, below [`MAX_CONNECTIONS`](crate::MAX_CONNECTIONS).
     pub conn: u8,
-    /// The link that it names; a create_link names none.
+    /// The link that the call names; a create_link names none.
     pub lid: Option<u32>,
-    /// What it waits for.
+    /// What the call waits for.
     pub wait: Wait,
-    /// The clock at which it times out, in milliseconds; `None` if it never does.
+    /// The clock at which the call times out, in milliseconds; `None` if it never does.
     pub deadline: Option<u64>,
 }
 
@@ -51,7 +51,7 @@ pub fn is_locked_out(holder: Option<u32>, named: Option<u32>) -> bool
 }
 
 impl Entry {
-    /// Whether what the call waits for is there.
+    /// Whether the call can resume, since it needn't wait any longer.
     fn is_able(&self, holder: Option<u32>, can_write: bool, can_read: bool) -> bool
         ensures { result ≡ is_there holder can_write can_read self.now.lid (Some self.now.wait) }
     {
@@ -63,7 +63,7 @@ impl Entry {
         }
     }
 
-    /// Whether its deadline has come.
+    /// Whether the deadline of the call has come.
     fn has_expired(&self, clock: u64) -> bool
         ensures { result ≡ is_past clock self.now.deadline }
     {
@@ -73,7 +73,7 @@ impl Entry {
         }
     }
 
-    /// Whether it is a create_link, which waits for the lock and has no link to name.
+    /// Whether the call is a create_link, which waits for the lock and has no link to name.
     fn creates(&self) -> bool
         ensures { result ≡ creates self.now }
     {
@@ -83,7 +83,7 @@ impl Entry {
         }
     }
 
-    /// If this is the call of the connection, it is suspended anew.
+    /// Suspends the call anew, if it is that of this connection.
     fn renew(&mut self, conn: u8, wait: Wait, deadline: Option<u64>)
         ensures { self.new ≡ anew conn wait deadline self.old }
     {
@@ -117,7 +117,7 @@ impl<A: Allocator> Model for Waiting<A> {
 }
 
 impl<A: Allocator> Waiting<A> {
-    /// No call is suspended. It allocates the memory of all that may be.
+    /// A queue without calls. It allocates the memory of all that there may be.
     ///
     /// # Errors
     /// If memory is refused.
@@ -170,8 +170,8 @@ impl<A: Allocator> Waiting<A> {
         self.entries.iter().filter(|entry| entry.creates()).count() as u8
     }
 
-    /// Suspends the call of a connection anew, until another deadline, in its place of the order.
-    /// If it isn't suspended, nothing changes.
+    /// Suspends the call of a connection anew, until another deadline. The call keeps its place in
+    /// the order. If it isn't suspended, nothing changes.
     pub fn again(&mut self, conn: u8, wait: Wait, deadline: Option<u64>)
         ensures value { self.new ≡ map (anew conn wait deadline) self.old }
         ensures stands { (acts : List WaitAct) → IsQueue self.old acts
@@ -186,7 +186,7 @@ impl<A: Allocator> Waiting<A> {
         }
     }
 
-    /// The call of a connection isn't suspended any more.
+    /// Ends the suspension of a connection's call.
     pub fn leave(&mut self, conn: u8)
         ensures value { self.new ≡ without conn self.old }
         ensures stands { (acts : List WaitAct) → IsQueue self.old acts
@@ -195,8 +195,8 @@ impl<A: Allocator> Waiting<A> {
         self.entries.retain(|entry| entry.conn != conn);
     }
 
-    /// The oldest call that can resume, given who holds the lock, and whether a write is accepted
-    /// and a read is answered now; `None` if none can.
+    /// The oldest call that can resume, given which link holds the lock, and whether a write is
+    /// accepted and a read is answered now; `None` if no call can resume.
     pub fn oldest_able(&self, holder: Option<u32>, can_write: bool, can_read: bool) -> Option<Entry>
         ensures answer { (acts : List WaitAct) → IsQueue self.now acts
             → IsOldest acts (IsAble holder can_write can_read acts)
@@ -216,7 +216,7 @@ impl<A: Allocator> Waiting<A> {
             .copied()
     }
 
-    /// The oldest call whose deadline has come at this clock; `None` if there is none.
+    /// The oldest call whose deadline has come at this clock; `None` if there is no such call.
     pub fn expired(&self, clock: u64) -> Option<Entry>
         ensures answer { (acts : List WaitAct) → IsQueue self.now acts
             → IsOldest acts (IsExpired clock acts) (option_map (λ entry. entry.conn) result) }

@@ -16,7 +16,7 @@ abbrev pub last_given : {A B : Type 0} → (A → Option B) → B → List A →
 last_given gives default [] = default
 last_given gives default (act ∷ acts) = unwrap_or (gives act) (last_given gives default acts)
 
--- `IsFind` holds of the list as it was some number of acts ago. `Keeps` holds of the list at each moment since then, that one included.
+-- `IsFind` held of the list as it was some number of acts ago. `Keeps` held of the list at that moment and at each moment since then.
 pub record Since {A : Type 0} (IsFind Keeps : List A → Type 0) (log : List A) : Type 0 where
   pub ago : ℕ
   pub within : ago ≤ length log

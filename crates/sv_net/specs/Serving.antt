@@ -15,11 +15,11 @@ pub data Doing (W : Type 0) : Type 0 where
   Waited : (limit : Option Duration) (reported : Bool) (ended : ℕ) → Doing W
   Told : (wire : W) → Doing W
 
--- the nanosecond at which the last wait ended; 0 before the first
+-- when the last wait ended, in nanoseconds since the beginning; 0 before the first wait
 abbrev pub time_of : {W : Type 0} → List (Doing W) → ℕ
 time_of = last_given (elim [ Waited limit reported ended ↦ Some ended | _ ↦ None ]) 0
 
--- the nanosecond at which the last sweep began; 0 before the first
+-- when the last sweep began, in nanoseconds since the beginning; 0 before the first sweep
 abbrev pub swept_at : {W : Type 0} → List (Doing W) → ℕ
 swept_at [] = 0
 swept_at (MadeSweep ∷ doings) = time_of doings
@@ -29,13 +29,13 @@ swept_at (_ ∷ doings) = swept_at doings
 abbrev pub ticks_between : ℕ → ℕ → ℕ
 ticks_between before now = min (now / 1000000 - before / 1000000) 1000
 
--- the milliseconds that each sweep gets: those since the sweep before it
+-- the milliseconds that pass in each sweep: those since the sweep before it
 abbrev pub handed_in : {W : Type 0} → List (Doing W) → List ℕ
 handed_in [] = []
 handed_in (MadeSweep ∷ doings) = ticks_between (swept_at doings) (time_of doings) ∷ handed_in doings
 handed_in (_ ∷ doings) = handed_in doings
 
--- whether the last thing was a wait, whose reports weren't passed on yet, or nothing was done yet
+-- whether the last thing done was a wait, whose reports weren't passed on yet, or nothing was done yet
 abbrev pub is_fresh : {W : Type 0} → List (Doing W) → Bool
 is_fresh = elim [ MadeSweep ∷ doings ↦ false | Told wire ∷ doings ↦ false | _ ↦ true ]
 
@@ -43,8 +43,8 @@ is_fresh = elim [ MadeSweep ∷ doings ↦ false | Told wire ∷ doings ↦ fals
 abbrev pub is_told : {W : Type 0} → List (Doing W) → Bool
 is_told = last_given (elim [ Waited limit true ended ↦ Some false | Told wire ↦ Some true | _ ↦ None ]) true
 
--- The loop leads from one state of the driver to another. Each sweep gets its milliseconds; a sweep that gets some comes before the reports
--- of the last wait are passed on. No wait is longer than it may be, and none begins before all reports were passed on.
+-- The loop leads from one state of the driver to another. In each sweep its milliseconds pass; a sweep in which some pass comes before the
+-- reports of the last wait are passed on. No wait is longer than allowed, and none begins before all reports were passed on.
 abbrev pub Serves : {W : Type 0} → (W → Heard → W → Type 0) → List (Doing W) → DriverState W → DriverState W → Type 0
 Serves hears [] start now = now ≡ start
 Serves hears (MadeSweep ∷ doings) start now = let ticks = ticks_between (swept_at doings) (time_of doings) in

@@ -14,7 +14,7 @@ abbrev pub NoneReady : {W : Type 0} → DriverState W → Type 0
 NoneReady driving = (config : Config) (history : List PlainEvent) → StandsFor driving.server config history
     → (c : ℕ) → IsReady c config (driver_view driving history) false
 
--- No connection has a call to take, and nothing waits for time within `most` milliseconds.
+-- No connection has a call to take, and nothing becomes due within `most` milliseconds.
 abbrev pub IsIdle : {W : Type 0} → ℕ → DriverState W → Type 0
 IsIdle most driving = NoneReady driving × ((config : Config) (history : List PlainEvent) → StandsFor driving.server config history
     → StaysStill most config (driver_view driving history) true)

@@ -17,7 +17,7 @@ abbrev pub Gives : {S : Type 0} → (S → Option (List ℕ)) → Answer (List �
 Gives left (Got bytes) old new = Consumes (left old) (left new) bytes
 Gives left answer old new = Keeps (left old) (left new)
 
--- With `drops`, a probe reads and discards what came; else nothing changes.
+-- With `drops`, a probe reads and discards the bytes that came; else nothing changes.
 abbrev pub Skips : {S : Type 0} → (S → Option (List ℕ)) → Bool → S → S → Type 0
 Skips left true old new = (dropped : Answer (List ℕ)) × Gives left dropped old new
 Skips left false old new = Keeps (left old) (left new)

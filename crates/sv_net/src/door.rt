@@ -1,4 +1,4 @@
-//! A listening socket, with what was reported of it.
+//! A listening socket, with what the system reported of it.
 
 ghost use Rattle.std.specs.Prelude.{◌≤◌};
 
@@ -10,13 +10,13 @@ use std::net::{Ipv4Addr, Net as Network, SocketAddr, SocketAddrV4};
 use sv_pace::STILL;
 use sv_serve::Answer;
 
-/// A listening socket, and whether connections may be there.
+/// A listening socket, and whether connections may be waiting to be accepted.
 #[derive(Drop)]
 pub(crate) struct Door {
     listener: TcpListener,
-    /// Connections may be there.
+    /// Connections may be waiting to be accepted.
     knocked: Cell<bool>,
-    /// How many milliseconds to wait for the next accept, since the last one failed; else 0.
+    /// How many milliseconds to wait before the next accept, if the last one failed; else 0.
     delay: Cell<u32>,
 }
 
@@ -31,28 +31,28 @@ impl Door {
         })
     }
 
-    /// Registers it for reports with this token.
+    /// Registers the socket for reports with this token.
     pub(crate) fn register(&mut self, registry: &Registry, token: Token) -> io::Result<()> {
         registry.register(&mut self.listener, token, Interest::READABLE)
     }
 
-    /// Remembers that it was reported.
+    /// Remembers that the system reported the socket.
     pub(crate) fn report(&self) {
         self.knocked.set(true);
     }
 
-    /// Whether a connection may be there.
+    /// Whether a connection may be waiting to be accepted.
     pub(crate) fn is_knocked(&self) -> bool {
         self.knocked.get()
     }
 
-    /// Whether a connection may be there, and the last one could be accepted.
+    /// Whether a connection may be waiting to be accepted, and the last accept didn't fail.
     pub(crate) fn is_waiting(&self) -> bool {
         self.knocked.get() & (self.delay.get() == 0)
     }
 
-    /// How many milliseconds to sleep before the next accept: doubled after each one that fails, at
-    /// most 100; 100 if none failed.
+    /// How many milliseconds to sleep before the next accept: 100 if no connection may be waiting;
+    /// else 1, doubled after each further accept that fails, at most 100.
     pub(crate) fn patience(&self) -> u32
         ensures { result ≤ 100 }
     {

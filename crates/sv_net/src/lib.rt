@@ -1,5 +1,5 @@
 //! The sockets of a server, over mio: the wire of a driver on a real machine. It answers at once,
-//! by what the system last reported of each socket.
+//! from what the system last reported of each socket.
 #![tactic(auto)]
 
 mod door;

@@ -10,28 +10,28 @@ use std::io;
 use std::net::Net as Network;
 use std::time::{Clock, Duration, Instant};
 
-/// A clock, and the reports of sockets.
+/// A clock, and the reports that sockets are ready.
 pub(crate) trait Machine<S: Stream> {
     ghost use Rattle.sv_net.specs.Serving.{Doing, Waited, Told};
     ghost use Rattle.std.specs.Prelude.{List, Option, ⊤};
 
-    /// The machine after a wait with this outcome; nothing is known of a real machine.
+    /// How a wait and its outcome change the machine; nothing is known of a real machine.
     ghost answers: { Self → Doing (List (Option S)) → Self → Type 0 } = { λ before doing after. ⊤ };
 
-    /// Waits until a socket is reported, or until a limit if there is one. Returns whether one was,
-    /// and the nanosecond since the beginning at which the wait ended.
+    /// Waits until something is reported of a socket, at most for `limit`, if there is one. Returns
+    /// whether something was reported, and when the wait ended, in nanoseconds since the beginning.
     ///
     /// # Errors
-    /// If the system tells no time, or fails to wait.
+    /// If the system's clock can't be read, or the wait fails.
     fn wait(&mut self, limit: Option<Duration>) -> io::Result<(bool, u64)>
         ensures { IfOk result (λ ended. answers self.old (Waited limit ended.0 ended.1) self.new) };
 
-    /// Tells the sockets what was reported to the last wait.
+    /// Passes the reports of the last wait to the sockets.
     fn report<N: Network + Drop, B: Allocator>(&mut self, net: &Net<N, B, S>)
         ensures { answers self.old (Told net.now) self.new };
 }
 
-/// The machine's clock, when it was first read, and what waits for reports of its sockets.
+/// The machine's clock, the time of its first reading, and what waits for reports of the sockets.
 #[derive(Drop)]
 pub(crate) struct System<'a, C: Clock, A: Allocator> {
     clock: &'a C,
@@ -43,7 +43,7 @@ impl<'a, C: Clock, A: Allocator> System<'a, C, A> {
     /// A machine at its beginning.
     ///
     /// # Errors
-    /// If the system tells no time.
+    /// If the system's clock can't be read.
     pub(crate) fn begin(clock: &'a C, watch: &'a mut Watch<A>) -> io::Result<System<'a, C, A>> {
         let start = Instant::now(clock)?;
         Ok(System {

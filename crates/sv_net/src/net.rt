@@ -17,13 +17,15 @@ use std::net::Net as Network;
 use sv_serve::{Answer, Wire};
 use sv_server::{Dial, Port, Role};
 
-/// How many sockets there may be: sixteen connections, and after them their interrupt channels.
+/// How many sockets there may be: those of sixteen connections, and after them those of their
+/// interrupt channels.
 const SOCKETS: usize = 32;
 
-/// Sixteen connections and their interrupt channels as sockets, with three ports of 127.0.0.1 on
-/// which connections come.
+/// The sockets of sixteen connections and their interrupt channels, and three listening sockets on
+/// ports of 127.0.0.1.
 ///
-/// No call blocks, and none asks the system unless something was reported since it last said that
+/// No call blocks. A socket that answered that it would block isn't asked again until the system
+/// reports something of it.
 /// it would block.
 #[derive(Drop)]
 pub struct Net<N: Network + Drop, A: Allocator = Global, S: Stream = TcpStream> {
@@ -127,7 +129,7 @@ impl<N: Network + Drop, A: Allocator, S: Stream> Net<N, A, S> {
         })
     }
 
-    /// Remembers what was reported of a socket or a port.
+    /// Remembers a report of a socket or of a listening socket.
     pub(crate) fn report(&self, event: &Event) {
         let Token(number) = event.token();
         match self.sockets.get(number) {
@@ -137,24 +139,24 @@ impl<N: Network + Drop, A: Allocator, S: Stream> Net<N, A, S> {
         }
     }
 
-    /// Remembers that a port was reported.
+    /// Remembers a report of a listening socket.
     fn report_door(&self, number: usize) {
         if let Some(door) = self.doors.get(number.saturating_sub(SOCKETS)) {
             door.report();
         }
     }
 
-    /// Whether a connection may be there to be accepted.
+    /// Whether a connection may be waiting to be accepted, and the last accept didn't fail.
     pub(crate) fn is_called(&self) -> bool {
         self.doors[0].is_waiting() | self.doors[1].is_waiting() | self.doors[2].is_waiting()
     }
 
-    /// Whether a connection may be there, also if the last accept failed.
+    /// Whether a connection may be waiting to be accepted; the last accept may have failed.
     pub(crate) fn is_knocked(&self) -> bool {
         self.doors[0].is_knocked() | self.doors[1].is_knocked() | self.doors[2].is_knocked()
     }
 
-    /// How many milliseconds to sleep before an accept is tried again, at most 100.
+    /// How many milliseconds to sleep before the next accept, at most 100.
     pub(crate) fn patience(&self) -> u32
         ensures { result ≤ 100 }
     {
@@ -172,7 +174,7 @@ impl<N: Network + Drop, A: Allocator, S: Stream> Net<N, A, S> {
         }
     }
 
-    /// Keeps a socket under its number, and registers it for reports.
+    /// Stores a socket under its number, and registers it for reports.
     fn keep(&mut self, port: Port, mut socket: Socket<S>) -> io::Result<()>
         ensures ok { IfOk result (λ _. (stream : S)
             × (self.new ≡ slice_set self.old (socket_number port) (Some stream))) }

@@ -21,17 +21,18 @@ use sv_serve::Driver;
 /// The most polls in one pause before it sleeps.
 const LOOKS: u32 = 1_000;
 
-/// Makes so many sweeps. Between two sweeps it waits until a socket is reported or something is
-/// due. Each sweep gets the whole milliseconds since the one before, at most 1,000.
+/// Makes this number of sweeps. Between two sweeps it waits until something is reported of a
+/// socket, or something is due. In each sweep the whole milliseconds since the one before pass, at
+/// most 1,000.
 ///
-/// A wait ends at the next whole millisecond, or at the hundredth if nothing waits for time in
-/// these. If nothing ever waits for time, and more than a million sweeps are left, it ends at a
-/// report alone. For 50 microseconds after a report it looks again without sleeping, if that paid
-/// of late. The clock is read after each wait, so that deadlines come while many peers ask without
-/// a pause.
+/// Without a report, a wait ends at the next whole millisecond, or at the hundredth if nothing
+/// becomes due before. If nothing will ever be due, and more than a million sweeps are left, only a
+/// report ends it. For 50 microseconds after a report it polls without sleeping, if that was
+/// worthwhile of late. The clock is read after each wait, so that deadlines are met even while many
+/// peers send calls without a pause.
 ///
 /// # Errors
-/// If the system tells no time, or fails to wait.
+/// If the system's clock can't be read, or a wait fails.
 pub fn serve<N: Network + Drop, A: Allocator, S: Stream>(
     clock: &impl Clock,
     watch: &mut Watch<A>,
@@ -47,7 +48,7 @@ pub fn serve<N: Network + Drop, A: Allocator, S: Stream>(
     run(&mut machine, driver, sweeps)
 }
 
-/// Makes so many sweeps, by the clock and the waits of a machine.
+/// Makes this number of sweeps, by the clock and the waits of a machine.
 fn run<M: Machine<S>, N: Network + Drop, A: Allocator, S: Stream>(
     machine: &mut M,
     driver: &mut Driver<Net<N, A, S>, A>,
@@ -67,8 +68,8 @@ fn run<M: Machine<S>, N: Network + Drop, A: Allocator, S: Stream>(
     Ok(())
 }
 
-/// Makes a sweep. Milliseconds that passed while it slept are handed in first; what was reported
-/// then is left to the next sweep.
+/// Makes a sweep. If milliseconds passed during the wait, they are applied first, and the reports
+/// of the wait are left to the next sweep.
 fn sweep<M: Machine<S>, N: Network + Drop, A: Allocator, S: Stream>(
     machine: &mut M,
     driver: &mut Driver<Net<N, A, S>, A>,
@@ -86,8 +87,8 @@ fn sweep<M: Machine<S>, N: Network + Drop, A: Allocator, S: Stream>(
     }
 }
 
-/// Waits for reports, until a limit if there is one. Returns whether one came, and when the wait
-/// ended.
+/// Waits for reports, at most for `limit`, if there is one. Returns whether something was reported,
+/// and when the wait ended.
 fn wait<M: Machine<S>, S: Stream>(
     machine: &mut M,
     pace: &mut Pace,
@@ -104,8 +105,8 @@ fn wait<M: Machine<S>, S: Stream>(
     Ok((reported, now))
 }
 
-/// Waits for the next sweep; so many are left. Returns when it begins: at once if a sweep finds
-/// something to do. That is only checked if the first poll finds no report.
+/// Waits for the next sweep, with `left` sweeps left, and returns when it begins. It begins at once
+/// if it will find something to do, which is only checked if the first poll finds no report.
 fn pause<M: Machine<S>, N: Network + Drop, A: Allocator, S: Stream>(
     machine: &mut M,
     driver: &Driver<Net<N, A, S>, A>,
@@ -129,8 +130,8 @@ fn pause<M: Machine<S>, N: Network + Drop, A: Allocator, S: Stream>(
     spin(machine, driver, pace, now, left)
 }
 
-/// Polls until something is reported, or polling isn't worth it any more; then it sleeps. Returns
-/// when that ended.
+/// Polls until something is reported, or sleeps once polling isn't worthwhile any more. Returns
+/// when the wait ended.
 fn spin<M: Machine<S>, N: Network + Drop, A: Allocator, S: Stream>(
     machine: &mut M,
     driver: &Driver<Net<N, A, S>, A>,
@@ -158,7 +159,7 @@ fn spin<M: Machine<S>, N: Network + Drop, A: Allocator, S: Stream>(
     Ok(now)
 }
 
-/// Sleeps until something is reported or is due. Returns when that was.
+/// Sleeps until something is reported or is due, and returns when the sleep ended.
 fn sleep<M: Machine<S>, N: Network + Drop, A: Allocator, S: Stream>(
     machine: &mut M,
     driver: &Driver<Net<N, A, S>, A>,

@@ -24,7 +24,7 @@ fn is_ready<N: Network + Drop, A: Allocator, S: Stream>(driver: &Driver<Net<N, A
     false
 }
 
-/// Whether nothing is due within so many milliseconds of sleep, and no call waits for room.
+/// Whether nothing becomes due within this number of milliseconds, and no call waits to be taken.
 fn is_idle<N: Network + Drop, A: Allocator, S: Stream>(
     driver: &Driver<Net<N, A, S>, A>,
     ticks: u32,
@@ -34,8 +34,8 @@ fn is_idle<N: Network + Drop, A: Allocator, S: Stream>(
     driver.is_still(ticks) & !is_ready(driver)
 }
 
-/// How many milliseconds after the last sweep it may sleep at most: until something is due, or an
-/// accept is tried again.
+/// How many milliseconds after the last sweep the server may sleep at most: until something is due,
+/// or until the next accept.
 fn longest<N: Network + Drop, A: Allocator, S: Stream>(driver: &Driver<Net<N, A, S>, A>) -> u32
     ensures { (result ≡ 1) ⊎ ((result ≤ 100) × IsIdle 100 driver.now) }
 {
@@ -46,8 +46,9 @@ fn longest<N: Network + Drop, A: Allocator, S: Stream>(driver: &Driver<Net<N, A,
     }
 }
 
-/// How long it may sleep, with so many sweeps left; `None` without a limit, if nothing is due. The
-/// timeout of a call is at most 4,294,967,295 ms (VXI-11 revision 1.0, section B.4.4).
+/// How long the server may sleep, with `left` sweeps left; `None` for no limit, if nothing will
+/// ever be due. The timeout of a call is at most 4,294,967,295 ms (VXI-11 revision 1.0, section
+/// B.4.4).
 pub(crate) fn sleep_time<N: Network + Drop, A: Allocator, S: Stream>(
     driver: &Driver<Net<N, A, S>, A>,
     pace: &Pace,

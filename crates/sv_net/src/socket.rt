@@ -1,4 +1,4 @@
-//! A socket, with what was reported of it.
+//! A socket, with what the system reported of it.
 
 ghost use Rattle.std.specs.Prelude.{◌≡◌, ◌⊎◌, true, length};
 ghost use Rattle.sv_serve.specs.Heard.{IsWithin, bytes_of};
@@ -12,22 +12,22 @@ use std::io::{self, ErrorKind};
 use std::marker::Model;
 use sv_serve::Answer;
 
-/// How many bytes are dropped at once, at most.
+/// How many bytes one read discards, at most.
 const DROPPED: usize = 1_024;
 
-/// A socket, and what was reported of it since it last said that it would block.
+/// A socket, and what was reported of it since its last answer that it would block.
 #[derive(Drop)]
 pub(crate) struct Socket<S: Stream> {
     stream: S,
-    /// Bytes may be there, or the stream's end.
+    /// Bytes or the end of the stream may be waiting to be read.
     readable: Cell<bool>,
-    /// It may take bytes.
+    /// The socket may take bytes.
     writable: Cell<bool>,
-    /// The peer sends no more, so nothing more is reported of its bytes.
+    /// The peer sends no more, so that the system makes no further report of bytes to read.
     ended: Cell<bool>,
-    /// It was reset, or is closed in both directions.
+    /// The socket was reset, or is closed in both directions.
     broken: Cell<bool>,
-    /// Urgent bytes may be there: a read ends before them, though more bytes follow.
+    /// Urgent bytes may be waiting: a read ends before them, though more bytes follow.
     urgent: Cell<bool>,
 }
 
@@ -52,7 +52,7 @@ impl<S: Stream> Socket<S> {
         }
     }
 
-    /// A socket that began to connect: it can be written to once this is reported.
+    /// A socket that has begun to connect. It can be written to once the system reports it.
     pub(crate) fn connecting(stream: S) -> Socket<S>
         ensures { result ≡ stream }
     {
@@ -66,7 +66,7 @@ impl<S: Stream> Socket<S> {
         }
     }
 
-    /// Registers it for reports with this token.
+    /// Registers the socket for reports with this token.
     pub(crate) fn register(&mut self, registry: &Registry, token: Token) -> io::Result<()>
         ensures { S.keeps self.old self.new }
     {
@@ -77,7 +77,7 @@ impl<S: Stream> Socket<S> {
         )
     }
 
-    /// Remembers what was reported.
+    /// Remembers what the system reported.
     pub(crate) fn report(&self, event: &Event) {
         let broken = event.is_error();
         let ended = broken | event.is_read_closed();
@@ -92,23 +92,24 @@ impl<S: Stream> Socket<S> {
         self.urgent.set(self.urgent.get() | event.is_priority());
     }
 
-    /// Whether it was reset, or is closed in both directions.
+    /// Whether the socket was reset, or is closed in both directions.
     pub(crate) fn is_broken(&self) -> bool {
         self.broken.get()
     }
 
-    /// Whether bytes may be there, or the stream's end.
+    /// Whether bytes or the end of the stream may be waiting to be read.
     pub(crate) fn is_readable(&self) -> bool {
         self.readable.get()
     }
 
-    /// Whether it may take bytes, or tell whether it is connected.
+    /// Whether the socket may take bytes, or know whether it is connected.
     pub(crate) fn is_writable(&self) -> bool {
         self.writable.get()
     }
 
-    /// Reads what is there. A read that fills less than the buffer emptied the socket, so more is
-    /// reported again, unless the peer had ended its stream, or sent urgent bytes.
+    /// Reads the bytes that are waiting. A read that gives less than the buffer holds has emptied
+    /// the socket; it isn't read again until the system reports more, unless the peer had ended its
+    /// stream, or sent urgent bytes.
     pub(crate) fn read(&mut self, buffer: &mut [u8]) -> Answer<usize>
         ensures within { IsWithin result (length buffer.old) }
         ensures gives { Gives S.remaining (bytes_of result buffer.new) self.old self.new }
@@ -130,8 +131,8 @@ impl<S: Stream> Socket<S> {
         }
     }
 
-    /// Whether it is gone, for a socket that isn't read: it is broken, or its stream ended while
-    /// its bytes are dropped.
+    /// Whether a socket that isn't read is gone: it is broken, or its stream ended while its bytes
+    /// are dropped.
     pub(crate) fn probe(&mut self, drops: bool) -> Answer<()>
         ensures { Skips S.remaining drops self.old self.new }
     {
@@ -141,7 +142,7 @@ impl<S: Stream> Socket<S> {
         if drops { self.skip() } else { Answer::Pending }
     }
 
-    /// Reads what comes, and drops it.
+    /// Reads the bytes that come, and drops them.
     fn skip(&mut self) -> Answer<()>
         ensures { Skips S.remaining true self.old self.new }
     {
@@ -152,7 +153,7 @@ impl<S: Stream> Socket<S> {
         }
     }
 
-    /// Writes as much as it takes.
+    /// Writes as many bytes as the socket takes.
     pub(crate) fn write(&mut self, bytes: &[u8]) -> Answer<usize>
         ensures within { IsWithin result (length bytes.now) }
         ensures takes { Takes S.contents bytes.now result self.old self.new }
@@ -185,8 +186,8 @@ impl<S: Stream> Socket<S> {
     }
 }
 
-/// The answer of a call that failed: pending if it would block. Then it isn't asked again until it
-/// is reported.
+/// The answer of a call that failed: pending if it would block. Then the socket isn't asked again
+/// until the system reports something of it.
 fn would_wait(flag: &Cell<bool>, kind: ErrorKind) -> Answer<usize>
     ensures { (result ≡ Answer.Pending) ⊎ (result ≡ Answer.Failed) }
 {

@@ -14,10 +14,10 @@ pub trait Stream: Read + Write + Source + Drop {
     /// Begins to call a peer.
     ///
     /// # Errors
-    /// If the system can't begin to.
+    /// If the system can't begin the call.
     fn call(network: &impl Network, dial: Dial) -> io::Result<Self>;
 
-    /// Whether the peer that it calls answered.
+    /// Whether the peer that was called answered.
     ///
     /// # Errors
     /// If the peer refused, or can't be reached.

@@ -10,7 +10,7 @@ use std::io;
 use std::net::Net as Network;
 use std::time::Duration;
 
-/// How many reports are taken at once.
+/// How many reports one wait takes, at most.
 const REPORTS: usize = 64;
 
 /// Waits for reports of the system.
@@ -22,7 +22,8 @@ pub struct Watch<A: Allocator = Global> {
 
 impl<A: Allocator + Copy> Watch<A> {
     /// Listens on three ports of 127.0.0.1: of the core channel, the abort channel and the port
-    /// mapper. Gives the sockets, without a connection yet, and what waits for their reports.
+    /// mapper. Returns the watch, which waits for reports, and the sockets, none of which is
+    /// connected yet.
     ///
     /// # Errors
     /// If a port can't be listened on, or memory is refused (`ErrorKind::OutOfMemory`).
@@ -41,17 +42,17 @@ impl<A: Allocator + Copy> Watch<A> {
 }
 
 impl<A: Allocator> Watch<A> {
-    /// Waits until something is reported, or until a limit if there is one. Returns whether
-    /// something was.
+    /// Waits until something is reported, at most for `limit`, if there is one. Returns whether
+    /// something was reported.
     ///
     /// # Errors
-    /// If the system fails to wait.
+    /// If the wait fails.
     pub(crate) fn wait(&mut self, limit: Option<Duration>) -> io::Result<bool> {
         self.poll.poll(&mut self.events, limit)?;
         Ok(!self.events.is_empty())
     }
 
-    /// Tells the sockets what was reported to the last wait.
+    /// Passes the reports of the last wait to the sockets.
     pub(crate) fn report<N: Network + Drop, B: Allocator, S: Stream>(&self, net: &Net<N, B, S>) {
         for event in self.events.iter() {
             net.report(event);

@@ -1,4 +1,4 @@
-//! Whether a sweep finds something to do without a report.
+//! Whether the next sweep will find something to do without a report.
 
 use crate::net::Net;
 use crate::socket::Socket;
@@ -8,8 +8,9 @@ use std::net::Net as Network;
 use sv_serve::Driver;
 use sv_server::Port;
 
-/// Whether a sweep finds something to do on a connection that wasn't reported: waiting bytes can be
-/// written; or, if none wait, there is a call; or there may be bytes for which it has room.
+/// Whether the next sweep will find something to do on a connection without a report: bytes wait
+/// and can be written, or none wait and there is a call to take; or it will read the connection; or
+/// there is something to do on its interrupt channel.
 fn has_work_on<N: Network + Drop, A: Allocator, S: Stream>(
     driver: &Driver<Net<N, A, S>, A>,
     conn: u8,
@@ -26,8 +27,8 @@ fn has_work_on<N: Network + Drop, A: Allocator, S: Stream>(
     goes_on || has_input(driver, conn, socket) || has_work_for(driver, conn)
 }
 
-/// Whether a sweep reads it: there may be bytes for which it has room, or which are dropped; or it
-/// is gone.
+/// Whether the next sweep will have input on a connection: bytes may be waiting that the connection
+/// has room for, or that are dropped; or the socket is broken.
 fn has_input<N: Network + Drop, A: Allocator, S: Stream>(
     driver: &Driver<Net<N, A, S>, A>,
     conn: u8,
@@ -38,7 +39,8 @@ fn has_input<N: Network + Drop, A: Allocator, S: Stream>(
     socket.is_broken() || socket.is_readable() && reads
 }
 
-/// Whether a sweep finds something to do on the connection's interrupt channel without a report.
+/// Whether the next sweep will find something to do on the connection's interrupt channel without a
+/// report.
 fn has_work_for<N: Network + Drop, A: Allocator, S: Stream>(
     driver: &Driver<Net<N, A, S>, A>,
     conn: u8,
@@ -51,7 +53,7 @@ fn has_work_for<N: Network + Drop, A: Allocator, S: Stream>(
     channel.is_writable() && wanted
 }
 
-/// Whether a sweep finds something to do without a report.
+/// Whether the next sweep will find something to do without a report.
 pub(crate) fn has_work<N: Network + Drop, A: Allocator, S: Stream>(
     driver: &Driver<Net<N, A, S>, A>,
 ) -> bool {

@@ -7,14 +7,14 @@ pub data Wait : Type 0 where
   Missed : Wait
   Slept : Wait
 
--- how often polling found nothing since it last found something
+-- how many times polling found nothing since it last found something
 abbrev pub misses : List Wait → ℕ
 misses [] = 0
 misses (Found ∷ waits) = 0
 misses (Missed ∷ waits) = suc (misses waits)
 misses (Slept ∷ waits) = misses waits
 
--- how often the server slept at once since it last polled
+-- how many times the server slept at once since it last polled
 abbrev pub sleeps : List Wait → ℕ
 sleeps [] = 0
 sleeps (Found ∷ waits) = 0
@@ -31,21 +31,21 @@ abbrev pub is_any : ℕ → Bool
 is_any zero = false
 is_any (suc n) = true
 
--- how often the server sleeps at once before it polls again, after this many misses in a row: 0, 0, 1, 2, 4 .. times
+-- how many times the server sleeps at once before it polls again, after this many misses in a row: 0, 0, 1, 2, 4 .. times
 abbrev pub pause_after : ℕ → ℕ
 pause_after zero = 0
 pause_after (suc n) = longer (is_any n) (pause_after n)
 
--- The waits, with one more, in which the server polled this many times before it found something or gave up. What it finds before it polls
--- was there already, and such a wait isn't counted.
+-- The waits, with one more, in which the server polled this many times before it found something or gave up. A wait that finds something
+-- before it polls isn't counted, since that was there already.
 abbrev pub after_wait : ℕ → Bool → List Wait → List Wait
 after_wait zero true waits = waits
 after_wait zero false waits = Slept ∷ waits
 after_wait (suc n) true waits = Found ∷ waits
 after_wait (suc n) false waits = Missed ∷ waits
 
--- What is kept: the nanosecond at which the last sweep began, and the one at which something was last reported; whether polling last found
--- nothing; how often the server then sleeps at once, and how often of these it still has to.
+-- The state: the nanosecond at which the last sweep began, and the one at which something was last reported; whether the last run of polls
+-- found nothing; how many times the server sleeps at once after that, and how many of these sleeps are left.
 pub record Kept : Type 0 where
   pub swept : ℕ
   pub worked : ℕ
@@ -53,12 +53,12 @@ pub record Kept : Type 0 where
   pub pause : ℕ
   pub left : ℕ
 
--- What is kept stands for these waits.
+-- The state stands for these waits.
 pub record StandsFor (kept : Kept) (waits : List Wait) : Type 0 where
   pub missed : kept.missed ≡ is_any (misses waits)
   pub pause : kept.pause ≡ pause_after (misses waits)
   pub left : kept.left ≡ pause_after (misses waits) - sleeps waits
 
--- The server may poll again: it slept at once as often as it has to.
+-- The server may poll again: it slept at once as many times as it has to.
 abbrev pub IsDue : List Wait → Type 0
 IsDue waits = pause_after (misses waits) ≤ sleeps waits

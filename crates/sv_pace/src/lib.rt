@@ -1,6 +1,6 @@
-//! The busy-polling policy of a server, and the clock of a sweep: whether to look again without
-//! sleeping, which costs a core, or to sleep at once, which costs a wake-up; and how many
-//! milliseconds a sweep gets.
+//! The busy-polling policy of a server: whether to poll again without sleeping, which costs a core,
+//! or to sleep at once, which costs a wake-up. And the clock of sweeps: how many milliseconds pass
+//! in each.
 #![tactic(auto)]
 
 mod pace;

@@ -5,35 +5,37 @@ ghost use Rattle.sv_pace.specs.Pace.{Wait, StandsFor, IsDue, after_wait, longer}
 
 use std::marker::Model;
 
-/// How many milliseconds a server sleeps at most, if nothing waits for time within so many.
+/// How many milliseconds a server sleeps at most, if nothing is due earlier.
 pub const STILL: u32 = 100;
-/// With more sweeps left than these, a server for which nothing waits for time sleeps until it is
-/// called. The last ones are made every [`STILL`] milliseconds, so that they end.
+/// With more sweeps left than this, a server for which nothing will ever be due sleeps until
+/// something is reported. The last sweeps are made every [`STILL`] milliseconds, so that they come
+/// to an end.
 pub const FEW: u32 = 1_000_000;
-/// The most milliseconds that pass at a sweep.
+/// The most milliseconds that pass in one sweep.
 const MOST_TICKS: u64 = 1_000;
-/// For so many nanoseconds after a report it may poll without sleeping.
+/// For how many nanoseconds after a report the server may poll without sleeping.
 const WINDOW: u64 = 50_000;
 /// Nanoseconds of a millisecond.
 const MILLISECOND: u64 = 1_000_000;
-/// The most sleeps before it polls again.
+/// The most sleeps between one run of polls and the next.
 const MOST_SLEEPS: u32 = 1_024;
 
-/// What a loop of sweeps keeps of the time, in nanoseconds since its beginning, and of its waits.
+/// What a loop of sweeps remembers of the time, in nanoseconds since its beginning, and of its
+/// waits.
 ///
-/// Looking has to pay: if it found nothing of late, as on a machine whose cores are busy, the
-/// server sleeps at once, and looks again now and then.
+/// Polling has to be worthwhile: if it found nothing of late, as on a machine whose cores are busy,
+/// the server sleeps at once, and polls again only now and then.
 #[derive(Drop)]
 pub struct Pace {
     /// When the last sweep began.
     swept: u64,
     /// When something was reported last.
     worked: u64,
-    /// Whether the last polling found nothing.
+    /// Whether the last run of polls found nothing.
     missed: bool,
-    /// How often it sleeps after that, before it polls again.
+    /// How many times it sleeps between one run of polls and the next.
     pause: u32,
-    /// How many of these sleeps are left.
+    /// How many sleeps are left before the next run of polls.
     left: u32,
 }
 
@@ -54,7 +56,7 @@ impl Model for Pace {
     ghost invariant = { λ a. a.pause ≤ 1024 };
 }
 
-/// How often it sleeps after one more polling that found nothing.
+/// How many times to sleep after another run of polls that found nothing.
 fn longer(missed: bool, pause: u32) -> u32
     requires { pause ≤ 1024 }
     ensures value { result ≡ longer missed pause }
@@ -82,7 +84,8 @@ impl Pace {
         }
     }
 
-    /// A sweep begins now: how many whole milliseconds passed since the last one, at most 1,000.
+    /// Begins a sweep, and returns how many whole milliseconds have passed since the last one, at
+    /// most 1,000.
     pub fn ticks(&mut self, now: u64) -> u32
         ensures count { result ≡ min (now / 1000000 - self.old.swept / 1000000) 1000 }
         ensures kept { self.new ≡ record self.old { swept = now } }
@@ -92,15 +95,15 @@ impl Pace {
         whole.min(MOST_TICKS) as u32
     }
 
-    /// Something was reported now.
+    /// Records that something was reported now.
     pub fn work(&mut self, now: u64)
         ensures { self.new ≡ record self.old { worked = now } }
     {
         self.worked = now;
     }
 
-    /// Whether to look again without sleeping: something was reported less than 50 microseconds
-    /// ago, and looking paid of late, or is due to be tried again.
+    /// Whether to poll again without sleeping: something was reported less than 50 microseconds
+    /// ago, and polling found something of late, or is due to be tried again.
     pub fn is_spinning(&self, now: u64) -> bool
         ensures { (waits : List Wait) → StandsFor self.now waits
             → (result ≡ true) ↔ ((now - self.now.worked < 50000) × IsDue waits) }
@@ -108,7 +111,8 @@ impl Pace {
         (self.left == 0) & (now.saturating_sub(self.worked) < WINDOW)
     }
 
-    /// A wait ended: the server looked so often before it found something, or gave up and slept.
+    /// Records the end of a wait: after `looks` polls the server found something, or gave up and
+    /// slept.
     pub fn end(&mut self, looks: u32, found: bool)
         ensures times { (self.new.swept ≡ self.old.swept) × (self.new.worked ≡ self.old.worked) }
         ensures stands { (waits : List Wait) → StandsFor self.old waits
@@ -122,7 +126,7 @@ impl Pace {
         }
     }
 
-    /// It slept at once.
+    /// Records that the server slept at once.
     fn sleep(&mut self)
         ensures times { (self.new.swept ≡ self.old.swept) × (self.new.worked ≡ self.old.worked) }
         ensures stands { (waits : List Wait) → StandsFor self.old waits
@@ -131,7 +135,7 @@ impl Pace {
         self.left = self.left.saturating_sub(1);
     }
 
-    /// Polling found something.
+    /// Records that a run of polls found something.
     fn spin_hit(&mut self)
         ensures times { (self.new.swept ≡ self.old.swept) × (self.new.worked ≡ self.old.worked) }
         ensures stands { (waits : List Wait) → StandsFor self.new (Wait.Found ∷ waits) }
@@ -141,7 +145,7 @@ impl Pace {
         self.left = 0;
     }
 
-    /// Polling found nothing.
+    /// Records that a run of polls found nothing.
     fn spin_miss(&mut self)
         ensures times { (self.new.swept ≡ self.old.swept) × (self.new.worked ≡ self.old.worked) }
         ensures stands { (waits : List Wait) → StandsFor self.old waits
@@ -152,8 +156,8 @@ impl Pace {
         self.left = self.pause;
     }
 
-    /// How many nanoseconds the server may sleep, until so many whole milliseconds have passed
-    /// since the last sweep; 0 if they have.
+    /// How many nanoseconds the server may sleep until `ticks` whole milliseconds have passed since
+    /// the last sweep; 0 if they have passed.
     pub fn sleep_time(&self, now: u64, ticks: u32) -> u64
         ensures { result ≡ ticks * 1000000 - (now - self.now.swept / 1000000 * 1000000) }
     {

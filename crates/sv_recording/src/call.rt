@@ -12,13 +12,13 @@ pub enum Call {
         conn: Option<u8>,
         answer: Answer<()>,
     },
-    /// The bytes that were read of a connection; at most so many were asked for.
+    /// The bytes that were read of a connection, and how many were asked for at most.
     Read {
         conn: u8,
         most: usize,
         answer: Answer<Vec<u8>>,
     },
-    /// Whether a connection that isn't read is gone; with `drops` what came on it was dropped.
+    /// Whether a connection that isn't read is gone; with `drops` its bytes were dropped.
     Probe {
         conn: u8,
         drops: bool,
@@ -36,7 +36,7 @@ pub enum Call {
         dial: Dial,
         answer: Answer<()>,
     },
-    /// Whether that peer answered.
+    /// Whether the peer that was called for a connection's interrupt channel answered.
     Dialed {
         conn: u8,
         answer: Answer<()>,

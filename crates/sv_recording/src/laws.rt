@@ -5,7 +5,8 @@ ghost use Rattle.sv_recording.specs.Recorded.{TraceIsKept};
 use crate::recorder::Recorder;
 use sv_serve::Wire;
 
-/// The trace of which the laws of a driver speak is what a recorder kept, as long as it is whole.
+/// As long as a recorder is whole, the trace that the laws of a driver speak of is the list of
+/// calls that it recorded.
 pub fn trace_is_kept<W: Wire + Drop>()
     ensures { TraceIsKept W.hears ⟦<Recorder<W> as Wire>⟧.hears }
 {}

@@ -1,4 +1,4 @@
-//! The wire that keeps calls.
+//! The wire that records calls.
 
 ghost use Rattle.std.specs.Prelude.{◌≡◌, [], true, map, reverse, length, IfOk};
 ghost use Rattle.sv_serve.specs.Heard.{Heard, WasRead, WasWritten, bytes_of, IsWithin};
@@ -10,7 +10,8 @@ use std::marker::Model;
 use sv_serve::{Answer, Wire};
 use sv_server::{Dial, Port, Role};
 
-/// A wire that keeps each of its calls, in order. Once memory was refused, it isn't whole any more.
+/// A wire that records each of its calls, in order. If memory for a call is refused, it isn't whole
+/// any more.
 #[derive(Drop)]
 pub struct Recorder<W: Wire + Drop> {
     alloc: Global,
@@ -34,7 +35,7 @@ impl<W: Wire + Drop> Model for Recorder<W> {
     ghost invariant = { λ a. ⊤ };
 }
 
-/// The call that read so much of a buffer.
+/// A read as a call to record: the answer, with the bytes that came into the buffer.
 fn read_call(
     alloc: Global,
     conn: u8,
@@ -54,7 +55,7 @@ fn read_call(
     Ok(Call::Read { conn, most, answer })
 }
 
-/// The call that wrote these bytes.
+/// A write of these bytes as a call to record.
 fn write_call(
     alloc: Global,
     port: Port,
@@ -91,21 +92,21 @@ impl<W: Wire + Drop> Recorder<W> {
         &self.wire
     }
 
-    /// The calls that were kept, the first call first.
+    /// The calls that were recorded, the first call first.
     pub fn calls(&self) -> &[Call]
         ensures { self.now.trace ≡ reverse (map heard_of result.now) }
     {
         &self.calls
     }
 
-    /// Whether every call was kept.
+    /// Whether every call was recorded.
     pub fn is_whole(&self) -> bool
         ensures { result ≡ self.now.is_whole }
     {
         self.is_whole
     }
 
-    /// Keeps a call, if there was memory for it.
+    /// Records a call, if there was memory for it.
     fn keep_if(&mut self, call: Result<Call, AllocError>)
         ensures { (heard : Heard) → IfOk call (λ kept. heard_of kept ≡ heard)
             → Keeps self.old heard self.new × (self.new.wire ≡ self.old.wire) }
@@ -116,7 +117,7 @@ impl<W: Wire + Drop> Recorder<W> {
         }
     }
 
-    /// Keeps a call.
+    /// Records a call.
     fn keep(&mut self, call: Call)
         ensures { Keeps self.old (heard_of call) self.new × (self.new.wire ≡ self.old.wire) }
     {

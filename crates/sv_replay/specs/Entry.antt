@@ -1,4 +1,4 @@
--- The entries of a scenario: what the bytes of a line say as an entry, and the event of a stimulus.
+-- The entries of a scenario: which entry a line is, and the event of a stimulus.
 use Rattle.std.specs.Prelude.{◌≡◌, ℕ, ◌≤◌, List, ◌∷◌, ◌++◌, length, None, ⊤}
 use Rattle.sv_history.specs.Event.{PlainEvent, Input, External}
 use Rattle.sv_history.specs.History.{input_refusal}
@@ -7,7 +7,7 @@ use Rattle.sv_replay.specs.declared.entry.Stimulus.{Stimulus}
 use Rattle.sv_replay.specs.declared.entry.Stimulus.TheVariants as stimuli
 use Rattle.sv_replay.specs.Line.{IsNumber, SaysEvent}
 
--- the event of the server that a stimulus is
+-- the event of the server that a stimulus causes
 abbrev pub stimulus_event : Stimulus → PlainEvent
 stimulus_event (stimuli.Input channel microvolts) = Input channel microvolts
 stimulus_event stimuli.External = External

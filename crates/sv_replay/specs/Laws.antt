@@ -5,14 +5,14 @@ use Rattle.sv_replay.specs.Line.{Line, Says}
 use Rattle.sv_replay.specs.Script.{parts}
 use Rattle.sv_replay.specs.Scenario.{Tells, IsScenario}
 
--- A line says at most one thing.
+-- A line has at most one meaning.
 abbrev pub OneLine : Type 0
 OneLine = (line : List ℕ) (a b : Line) → Says line a → Says line b → a ≡ b
 
--- A text has at most one reading as entries of a scenario.
+-- A text can be read in at most one way as entries of a scenario.
 abbrev pub OneScenario : Type 0
 OneScenario = (text : List ℕ) (a b : List Entry) → Tells 0 (parts text) a → Tells 0 (parts text) b → a ≡ b
 
--- The entries that a text says are a scenario: the server accepts each of them, and the ticks never fall.
+-- The entries of a text are a scenario: the server accepts each of them, and the ticks never fall.
 abbrev pub ToldInOrder : Type 0
 ToldInOrder = (text : List ℕ) (entries : List Entry) → Tells 0 (parts text) entries → IsScenario 0 entries

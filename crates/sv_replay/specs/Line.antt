@@ -1,4 +1,4 @@
--- What a line of a replay says, as a relation to its bytes.
+-- The meaning of a line of a replay, as a relation to its bytes.
 use Rattle.std.specs.Prelude.{◌≡◌, ◌≢◌, ◌⊎◌, ℕ, ◌+◌, ◌-◌, ◌*◌, ◌<◌, ◌≤◌, ℤ, pos, negsuc, Bool, true, false, List, [], ◌∷◌, ◌++◌, length, codes, fold}
 use Rattle.std.specs.List.{AllByRecursion}
 use Rattle.sv_history.specs.declared.event.Role.{Role}
@@ -6,7 +6,7 @@ use Rattle.sv_history.specs.declared.event.Role.TheVariants.{Core, Abort, Portma
 use Rattle.sv_history.specs.declared.event.Port.TheVariants.{Conn, Intr}
 use Rattle.sv_history.specs.Event.{PlainEvent, Open, Bytes, Turn, Refuse, Took, Close, Dialed, Input, External, Tick}
 
--- what a line says: nothing, one event, or a number of ticks
+-- the meaning of a line: nothing, one event, or a number of ticks
 pub data Line : Type 0 where
   Blank : Line
   One : PlainEvent → Line
@@ -61,7 +61,7 @@ abbrev pub ok_word : Bool → List ℕ
 ok_word true = codes "ok"
 ok_word false = codes "failed"
 
--- The line says this event; its words are separated by one space.
+-- The line means this event; its words are separated by one space.
 abbrev pub SaysEvent : List ℕ → PlainEvent → Type 0
 SaysEvent line (Open c role) = (number : List ℕ) × IsPlain 255 number c × (line ≡ codes "open " ++ (number ++ 32 ∷ role_word role))
 SaysEvent line (Bytes c piece) = (number hex : List ℕ) × IsPlain 255 number c × IsHex hex piece
@@ -77,7 +77,7 @@ SaysEvent line (Input channel microvolts) = (number voltage : List ℕ) × IsPla
 SaysEvent line External = line ≡ codes "external"
 SaysEvent line Tick = line ≡ codes "tick"
 
--- The line says this: nothing, one event, or a number of ticks.
+-- The line means this: nothing, one event, or a number of ticks.
 abbrev pub Says : List ℕ → Line → Type 0
 Says line Blank = line ≡ []
 Says line (One event) = SaysEvent line event

@@ -165,11 +165,11 @@ words_at word text =
     if bytes_eq word (codes "tick") then ticks_at text
     else (if bytes_eq word (codes "input") then option_map One (input_at text) else option_map One (event_at word text))
 
--- what a line says, from the line and from its two parts around the first space
+-- the meaning of a line, from the line and from its two parts around the first space
 abbrev pub cut_line_at : List ℕ → Option (List ℕ × List ℕ) → Option Line
 cut_line_at line None = lone_at line
 cut_line_at line (Some cut) = words_at cut.0 cut.1
 
--- what a line says; `None` if it isn't a line of a replay
+-- the meaning of a line; `None` if it isn't a line of a replay
 unfoldable pub line_at : List ℕ → Option Line
 line_at line = cut_line_at line (cut_at line)

@@ -1,4 +1,4 @@
--- How often a reader was read, and what each read gave.
+-- How many times a reader was read, and what each read gave.
 use Rattle.std.specs.Prelude.{◌≡◌, ◌⊎◌, ℕ, ◌≤◌, List, [], ◌∷◌, length, Option, Bool, Result, Ok, Err, ⊤}
 use Rattle.sv_replay.specs.declared.fault.RunFault.{RunFault}
 use Rattle.sv_replay.specs.declared.fault.RunFault.TheVariants.{Input}
@@ -14,11 +14,11 @@ abbrev pub Reads : {S : Type 0} → (S → Gave → S → Type 0) → S → List
 Reads gives first [] last = last ≡ first
 Reads gives first (gave ∷ reads) last = (between : _) × Reads gives first reads between × gives between gave last
 
--- how often a reader may be read
+-- how many times a reader may be read
 abbrev pub most_reads : ℕ
 most_reads = 4294967294
 
--- These reads led a reader from one state to another, and they are no more than there may be.
+-- These reads led a reader from one state to another, and there are no more of them than allowed.
 abbrev pub Made : {S : Type 0} → (S → Gave → S → Type 0) → S → List Gave → S → Type 0
 Made gives first reads last = Reads gives first reads last × (length reads ≤ most_reads)
 
@@ -26,7 +26,7 @@ Made gives first reads last = Reads gives first reads last × (length reads ≤ 
 abbrev pub HasFailed : List Gave → Type 0
 HasFailed = elim [ Err fault ∷ reads ↦ ⊤ | _ ↦ ⊥ ]
 
--- No read may follow: the newest one failed, or there were as many as there may be.
+-- No read may follow: the newest one failed, or there were as many as allowed.
 abbrev pub IsLast : List Gave → Type 0
 IsLast reads = HasFailed reads ⊎ (length reads ≡ most_reads)
 
@@ -45,6 +45,6 @@ abbrev pub IsTurned : {S : Type 0} → (S → Gave → S → Type 0) → S → S
 IsTurned gives first last count result = (reads : List Gave) × Made gives first reads last × WhileGoing result (length reads ≡ count)
     × OnInput result (IsLast reads)
 
--- In a run the reader was read no more often than it may be. If the result is the input's fault, no further read was allowed.
+-- In a run the reader was read no more often than allowed. If the result is the input's fault, no further read was allowed.
 abbrev pub IsReadOut : {S : Type 0} → (S → Gave → S → Type 0) → S → S → Result ⊤ RunFault → Type 0
 IsReadOut gives first last result = (reads : List Gave) × Made gives first reads last × OnInput result (IsLast reads)

@@ -30,9 +30,9 @@ PrintedUpTo lines fault text = (events after : List PlainEvent) × IsScript line
 abbrev pub IsWhole : List (List ℕ) → Option (List ℕ) → Type 0
 IsWhole behind rest = (behind ≢ []) ⊎ IsAtEnd rest
 
--- What a run prints for the text that it read. Success: what all its lines say. A bad line: what the lines before it say. The input failed:
--- what the complete lines say. Memory was refused, or the output failed, perhaps after another fault: what some first lines say, the last
--- of them perhaps in part.
+-- What a run prints for the text that it read. Success: the print of all its lines. A bad line: that of the lines before it. The input
+-- failed: that of the complete lines. Memory was refused, or the output failed, perhaps after another fault: that of some first lines, of
+-- the last of them perhaps only a part.
 abbrev pub Runs : List ℕ → Option (List ℕ) → Result ⊤ RunFault → List ℕ → Type 0
 Runs read rest (Ok all) text = Printed (parts read) text
 Runs read rest (Err (BadLine n)) text = (lines behind : List (List ℕ)) × (line : List ℕ) × (parts read ≡ lines ++ line ∷ behind)

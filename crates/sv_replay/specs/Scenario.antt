@@ -1,4 +1,4 @@
--- The entries that the lines of a scenario say.
+-- The entries that the lines of a scenario are.
 use Rattle.std.specs.Prelude.{◌≡◌, ◌≢◌, ◌⊎◌, ℕ, ◌+◌, ◌<◌, ◌≤◌, List, [], ◌∷◌, ◌++◌, length, Result, Ok, Err, fold, ⊤}
 use Rattle.sv_replay.specs.declared.entry.Entry.{Entry}
 use Rattle.sv_replay.specs.declared.scenario.ScenarioFault.{ScenarioFault}
@@ -6,11 +6,11 @@ use Rattle.sv_replay.specs.declared.scenario.ScenarioFault.TheVariants.{BadLine,
 use Rattle.sv_replay.specs.Entry.{SaysEntry, IsAccepted}
 use Rattle.sv_replay.specs.Script.{parts}
 
--- The line has at most 65,536 bytes, and says an entry of the tick `least` or a later one.
+-- The line has at most 65,536 bytes, and is an entry whose tick is `least` or later.
 abbrev pub SaysFrom : ℕ → List ℕ → Entry → Type 0
 SaysFrom least line entry = (length line ≤ 65536) × SaysEntry line entry × (least ≤ entry.tick)
 
--- The lines that aren't empty say these entries. None is earlier than the one before it, and the first isn't earlier than the tick `least`.
+-- The lines that aren't empty are these entries. None is earlier than the one before it, and the first isn't earlier than the tick `least`.
 abbrev pub Tells : ℕ → List (List ℕ) → List Entry → Type 0
 Tells least [] entries = entries ≡ []
 Tells least (line ∷ lines) entries = ((line ≡ []) × Tells least lines entries)
@@ -25,11 +25,11 @@ IsScenario least (entry ∷ entries) = (least ≤ entry.tick) × IsAccepted entr
 abbrev pub last_tick : ℕ → List Entry → ℕ
 last_tick least entries = fold (λ tick entry. entry.tick) least entries
 
--- The line is too long; or it isn't empty, and says no entry of the tick `least` or a later one.
+-- The line is too long; or it isn't empty, and isn't an entry whose tick is `least` or later.
 abbrev pub IsBadFrom : ℕ → List ℕ → Type 0
 IsBadFrom least line = (65536 < length line) ⊎ ((line ≢ []) × ((entry : Entry) → SaysEntry line entry → entry.tick < least))
 
--- Success: the entries that all lines of the text say. A bad line: the lines before it say entries, and it can't follow them. Out of
+-- Success: the entries that all lines of the text are. A bad line: the lines before it are entries, and it can't follow them. Out of
 -- memory: memory was refused for the entry of a line that may follow the lines before it.
 abbrev pub Reads : List ℕ → Result (List Entry) ScenarioFault → Type 0
 Reads text (Ok entries) = Tells 0 (parts text) entries

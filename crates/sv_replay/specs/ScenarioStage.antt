@@ -13,7 +13,7 @@ Adds least line number old new (Ok tick) = ((line ≡ []) × (new ≡ old) × (t
 Adds least line number old new (Err (BadLine n)) = (n ≡ number) × IsBadFrom least line
 Adds least line number old new (Err Memory) = (entry : Entry) × SaysFrom least line entry
 
--- The first `number` lines of the text were read. They say these entries, of which the last is at the tick `least`. `left` is the rest of
+-- The first `number` lines of the text were read. They are these entries, of which the last is at the tick `least`. `left` is the rest of
 -- the text.
 abbrev pub IsRead : List ℕ → ℕ → List Entry → ℕ → List ℕ → Type 0
 IsRead text number entries least left = (front : List (List ℕ)) × (parts text ≡ front ++ parts left) × (number ≡ length front)

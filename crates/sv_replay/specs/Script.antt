@@ -1,4 +1,4 @@
--- The script of a text: the events that its lines say. And the print of events, one after the other.
+-- The script of a text: the events that its lines mean. And the print of events, one after the other.
 use Rattle.std.specs.Prelude.{◌≡◌, ◌⊎◌, ℕ, ◌<◌, ◌≤◌, List, [], ◌∷◌, ◌++◌, length, replicate, Result, Ok, Err, ⊤}
 use Rattle.sv_text.specs.Cut.{cut_at}
 use Rattle.sv_history.specs.declared.event.Config.{Config}
@@ -7,7 +7,7 @@ use Rattle.sv_history.specs.Event.{PlainEvent, Tick}
 use Rattle.sv_server.specs.Replay.Replays.{Replays}
 use Rattle.sv_replay.specs.Line.{Line, Blank, One, Ticks, Says}
 
--- the text cut at each new line; the last part is what follows the last new line
+-- the text cut at each new line; the last part is the text after the last new line
 abbrev pub parts : List ℕ → List (List ℕ)
 parts text = cut_at 10 text
 
@@ -17,7 +17,7 @@ events_of Blank = []
 events_of (One event) = event ∷ []
 events_of (Ticks n) = replicate n Tick
 
--- The lines have at most 65,536 bytes each, and say these events.
+-- The lines have at most 65,536 bytes each, and mean these events.
 abbrev pub IsScript : List (List ℕ) → List PlainEvent → Type 0
 IsScript [] events = events ≡ []
 IsScript (line ∷ lines) events = (said : Line) × (others : List PlainEvent) × (length line ≤ 65536) × Says line said × IsScript lines others

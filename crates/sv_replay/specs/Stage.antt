@@ -12,7 +12,7 @@ use Rattle.sv_replay.specs.Script.{parts, events_of, IsScript, IsBad, Prints, St
 use Rattle.sv_replay.specs.Text.{Held}
 use Rattle.sv_replay.specs.Run.{set_up, Runs}
 
--- The first `number` lines of what was read are done, and what they say was printed. `left` is the rest of what was read.
+-- The first `number` lines of what was read are done, and their print was written. `left` is the rest of what was read.
 abbrev pub IsStage : State → List ℕ → ℕ → List ℕ → List ℕ → Type 0
 IsStage server left number read text = (lines : List (List ℕ)) × (events history : List PlainEvent) × (parts read ≡ lines ++ parts left)
     × (number ≡ length lines) × IsScript lines events
@@ -43,8 +43,8 @@ abbrev pub WhileGoing : {E : Type 0} → Result Bool E → Type 0 → Type 0
 WhileGoing (Ok true) fact = fact
 WhileGoing answer fact = Unit {0}
 
--- The progress of a step that goes on: one more line is done, or one more read was made. The lines done and the bytes kept stay within
--- 131,072 for each read. The reader isn't read more often than it may be.
+-- The progress of a step that goes on: one more line is done, or one more read was made. The number of lines done and of bytes stored stays
+-- within 131,072 for each read. The reader isn't read more often than allowed.
 pub record Progress (lines : ℕ) (held : Held) (done : ℕ) (left : Held) : Type 0 where
   pub counted : done + left.reads ≡ lines + held.reads + 1
   pub bounded : lines + length held.text ≤ 131072 * held.reads → done + length left.text ≤ 131072 * left.reads

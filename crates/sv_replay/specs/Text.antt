@@ -1,10 +1,10 @@
--- The text of a replay that was read and not yet used, and how it is kept.
+-- The text of a replay that was read and not yet used, and how it is stored.
 use Rattle.std.specs.Prelude.{◌≡◌, ℕ, ◌+◌, ◌==◌, ◌≤◌, Bool, true, false, List, [], ◌++◌, length, take, Option, Some, None, Result, Ok, Err, slice_range}
 use Rattle.std.specs.List.{position, position_or_len}
 use Rattle.std.specs.Io.KnownBytes.{Consumes, IsAtEnd}
 use Rattle.sv_replay.specs.declared.input.InputFault.{InputFault}
 
--- the text, and how often a reader was read for it
+-- the text, and how many times a reader was read for it
 pub record Held : Type 0 where
   pub text : List ℕ
   pub reads : ℕ
@@ -13,7 +13,7 @@ pub record Held : Type 0 where
 abbrev pub nothing_held : Held
 nothing_held = record { text = []; reads = 0 }
 
--- where the first new line stands; `None` if there is none
+-- the position of the first new line; `None` if there is none
 abbrev pub first_end : List ℕ → Option ℕ
 first_end text = position (λ b. b == 10) text
 
@@ -33,15 +33,15 @@ IsBehind before rest free (Ok (Some count)) = (count ≤ length free) × Consume
 IsBehind before rest free (Ok None) = Consumes before rest [] × IsAtEnd rest
 IsBehind before rest free (Err fault) = Consumes before rest []
 
--- the text, and the number of reads, that the fields of the buffer keep
+-- the text, and the number of reads, that the fields of the buffer represent
 abbrev pub held_of : List ℕ → ℕ → ℕ → ℕ → Held
 held_of buffer start end reads = record { text = slice_range buffer start end; reads = reads }
 
--- how many bytes stand before the first new line; all if there is none
+-- how many bytes come before the first new line; all if there is none
 abbrev pub line_size : List ℕ → ℕ
 line_size text = position_or_len (λ b. b == 10) text
 
--- The fields are in order, the buffer has its size, and no new line stands before `clean`.
+-- The fields are in order, the buffer has its size, and there is no new line before `clean`.
 pub record IsKept (buffer : List ℕ) (start clean end reads : ℕ) : Type 0 where
   pub order : (start ≤ clean) × (clean ≤ end) × (end ≤ 131072)
   pub size : length buffer ≡ 131072

@@ -27,14 +27,14 @@ pub enum Stimulus {
 /// An entry of a scenario: what happens, and when.
 #[derive(Clone, Copy, Debug, PartialEq, Eq)]
 pub struct Entry {
-    /// When, in ticks of a millisecond, from 0 to 999,999,999,999,999,999.
+    /// When it happens, in ticks of a millisecond, from 0 to 999,999,999,999,999,999.
     pub tick: u64,
-    /// What.
+    /// What happens.
     pub stimulus: Stimulus,
 }
 
 impl Stimulus {
-    /// The server's event of this stimulus.
+    /// The event of the server that this stimulus causes.
     pub fn event(self) -> Event<'static>
         ensures { plain result ≡ stimulus_event self }
     {
@@ -51,7 +51,7 @@ impl Stimulus {
     }
 }
 
-/// Reads a line of at most 65,536 bytes, which says an entry of the tick `least` or a later one.
+/// Reads a line of at most 65,536 bytes: an entry whose tick is `least` or later.
 #[tactic(auto, unfolding(crate::specs::EntryReading::entry_from))]
 pub(crate) fn timely(line: &[u8], least: u64) -> Option<Entry>
     ensures { result ≡ entry_from least line.now }
@@ -77,7 +77,7 @@ fn entry_of(line: &[u8]) -> Option<Entry>
     Some(Entry { tick, stimulus })
 }
 
-/// Reads a stimulus: at its first space it is cut into a word and a text.
+/// Reads a stimulus. It is cut at its first space into a word and a text.
 #[tactic(auto, unfolding(crate::specs::EntryReading::stimulus_at))]
 fn stimulus_of(text: &[u8]) -> Option<Stimulus>
     ensures { result ≡ stimulus_at text.now }
@@ -99,7 +99,7 @@ fn lone(word: &[u8]) -> Option<Stimulus>
     }
 }
 
-/// Reads a stimulus of words, the first of which is `word`.
+/// Reads a stimulus of several words, the first of which is `word`.
 #[tactic(auto, unfolding(crate::specs::EntryReading::worded_stimulus_at))]
 fn worded(word: &[u8], text: &[u8]) -> Option<Stimulus>
     ensures { result ≡ worded_stimulus_at word.now text.now }

@@ -17,7 +17,7 @@ fn hex_digit(digit: u8) -> Option<u8>
     }
 }
 
-/// The byte that two hexadecimal digits spell.
+/// The byte with these two hexadecimal digits.
 #[tactic(auto, unfolding(crate::specs::Reading::pair_at))]
 fn pair(high: u8, low: u8) -> Option<u8>
     ensures { result ≡ pair_at high low }
@@ -38,8 +38,8 @@ fn skip_space(text: &[u8]) -> &[u8]
     }
 }
 
-/// Puts the bytes that the text spells into the front of `buffer`, and says how many they are.
-/// There may be a space between two bytes.
+/// Reads bytes of two hexadecimal digits each, with at most one space between two bytes. Puts them
+/// at the front of `buffer`, and returns how many they are; `None` for other text.
 pub(crate) fn decode(text: &[u8], buffer: &mut [u8]) -> Option<usize>
     requires { length text.now ≤ length buffer.old }
     ensures exact { option_map (λ len. take len buffer.new) result ≡ hex_at text.now }

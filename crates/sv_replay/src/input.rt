@@ -5,20 +5,22 @@ ghost use Rattle.sv_replay.specs.Text.{IsBehind};
 
 use std::io::{ErrorKind, Read};
 
-/// The reader failed, or was read too often.
+/// The reader failed, or was read too many times.
 #[derive(Clone, Copy, Debug, PartialEq, Eq)]
 pub struct InputFault;
 
-/// A reader whose reads a contract can name. Every reader is one; nothing is known of what the
-/// system's give.
+/// A reader whose reads contracts can speak of. Every reader is one; nothing is known of what the
+/// system's readers give.
 pub trait Source: Read {
     ghost use Rattle.std.specs.Prelude.{⊤};
     ghost use Rattle.sv_replay.specs.Reads.{Gave};
 
-    /// What a read leads to, by what it gave: so many bytes; none, at the reader's end; or a fault.
+    /// How a read changes the reader, by what it gave: a number of bytes; none, at the reader's
+    /// end; or a fault.
     ghost gives: { Self → Gave → Self → Type 0 } = { λ before gave after. ⊤ };
 
-    /// Reads once, into a buffer with room. An interrupted read gives no bytes, but another may.
+    /// Reads once, into a buffer with room. Returns the number of bytes; `None` at the reader's
+    /// end. An interrupted read gives no bytes, but the next read may.
     ///
     /// # Errors
     /// If the reader fails.

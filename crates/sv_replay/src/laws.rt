@@ -2,17 +2,17 @@
 
 ghost use Rattle.sv_replay.specs.Laws.{OneLine, OneScenario, ToldInOrder};
 
-/// A line says at most one thing.
+/// A line has at most one meaning.
 pub fn one_line()
     ensures { OneLine }
 {}
 
-/// A text says at most one list of entries.
+/// A text can be read as at most one list of entries.
 pub fn one_scenario()
     ensures { OneScenario }
 {}
 
-/// What a text says is a scenario: the server accepts each entry, and the ticks never fall.
+/// What is read from a text is a scenario: the server accepts each entry, and the ticks never fall.
 pub fn told_in_order()
     ensures { ToldInOrder }
 {}

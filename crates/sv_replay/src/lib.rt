@@ -1,5 +1,6 @@
-//! Scripts and scenarios. A script is replayed: its lines are read, what they say happens to a
-//! server, and what follows is printed. A scenario is read: what happens to a server, and when.
+//! Scripts and scenarios. A script is replayed: its lines are read, the events that they describe
+//! are applied to a server, and the replies are printed. A scenario is read: it lists what happens
+//! to a server, and when.
 #![tactic(auto)]
 
 mod entry;

@@ -10,30 +10,30 @@ use crate::hex::decode;
 use crate::number::{byte, plain, voltage};
 use sv_server::{Event, Port, Role};
 
-/// What a line of a replay says.
+/// The meaning of a line of a replay.
 #[derive(Clone, Copy, Debug, PartialEq, Eq)]
 pub enum Line<'a> {
-    /// Nothing.
+    /// Nothing happens.
     Blank,
     /// This event happens.
     One(Event<'a>),
-    /// So many milliseconds pass.
+    /// This number of milliseconds passes.
     Ticks(u32),
 }
 
-/// Reads a line, without its new line; `None` if it says nothing that a replay knows. The bytes of
-/// a `bytes` line are put into `buffer`, which has to be as long as the line.
+/// Reads a line, without its new line; `None` if it isn't one that a replay knows. The bytes of a
+/// `bytes` line are put into `buffer`, which must be at least as long as the line.
 pub fn read_line<'a>(line: &[u8], buffer: &'a mut [u8]) -> Option<Line<'a>>
     requires { length line.now ≤ length buffer.old }
-    // What is read is said there.
+    // The result is a meaning of the line.
     ensures found { IfSome result (λ l. Says line.now (plain_line l)) }
-    // What is said there is read.
+    // A meaning of the line is the result.
     ensures only { (l : Said) → Says line.now l → IsSomeAnd result (λ f. plain_line f ≡ l) }
 {
     line_of(line, buffer)
 }
 
-/// Reads a line: at its first space it is cut into a word and a text.
+/// Reads a line. It is cut at its first space into a word and a text.
 #[tactic(auto, unfolding(crate::specs::Reading::line_at))]
 fn line_of<'a>(line: &[u8], buffer: &'a mut [u8]) -> Option<Line<'a>>
     requires { length line.now ≤ length buffer.old }
@@ -67,7 +67,7 @@ fn lone<'a>(word: &[u8]) -> Option<Line<'a>>
     }
 }
 
-/// Reads a line of words, the first of which is `word`.
+/// Reads a line of several words, the first of which is `word`.
 #[tactic(auto, unfolding(crate::specs::Reading::words_at))]
 fn words<'a>(word: &[u8], text: &[u8], buffer: &'a mut [u8]) -> Option<Line<'a>>
     requires { length text.now ≤ length buffer.old }
@@ -80,7 +80,7 @@ fn words<'a>(word: &[u8], text: &[u8], buffer: &'a mut [u8]) -> Option<Line<'a>>
     }
 }
 
-/// Reads an event of a connection, in words, the first of which is `word`.
+/// Reads an event of a connection. `word` is the first word of its line.
 #[tactic(auto, unfolding(crate::specs::Reading::event_at))]
 fn event<'a>(word: &[u8], text: &[u8], buffer: &'a mut [u8]) -> Option<Event<'a>>
     requires { length text.now ≤ length buffer.old }
@@ -108,7 +108,7 @@ fn traffic<'a>(word: &[u8], text: &[u8], buffer: &'a mut [u8]) -> Option<Event<'
     }
 }
 
-/// Reads a number and a space. Returns the number and what follows.
+/// Reads a number and a space. Returns the number and the text after the space.
 #[tactic(auto, unfolding(crate::specs::Reading::numbered_at))]
 pub(crate) fn numbered(text: &[u8]) -> Option<(u8, &[u8])>
     ensures exact { option_map (λ x. (x.0, x.1.now)) result ≡ numbered_at text.now }

@@ -6,7 +6,7 @@ ghost use Rattle.sv_replay.specs.Reading.{number_at, plain_at, short_at, voltage
 /// The greatest number of 18 digits.
 const MOST_OF_18: u64 = 999_999_999_999_999_999;
 
-/// The number that these digits spell, if it is at most `most`.
+/// The value of these digits, if it is at most `most`.
 fn number(digits: &[u8], most: u64) -> Option<u64>
     requires { most < 10 ^ 18 }
     ensures exact { result ≡ number_at most digits.now }
@@ -28,7 +28,7 @@ fn number(digits: &[u8], most: u64) -> Option<u64>
     Some(value)
 }
 
-/// The number that these digits spell without leading zeros, if it is at most `most`.
+/// The value of these digits, without leading zeros, if it is at most `most`.
 #[tactic(auto, unfolding(crate::specs::Reading::plain_at))]
 pub(crate) fn plain(digits: &[u8], most: u64) -> Option<u64>
     requires { most < 10 ^ 18 }
@@ -48,7 +48,7 @@ pub(crate) fn byte(digits: &[u8]) -> Option<u8>
     Some(plain(digits, 255)? as u8)
 }
 
-/// The number that at most 18 digits spell.
+/// The value of at most 18 digits.
 #[tactic(auto, unfolding(crate::specs::Reading::short_at))]
 pub(crate) fn short(digits: &[u8]) -> Option<u64>
     ensures exact { result ≡ short_at digits.now }
@@ -60,7 +60,7 @@ pub(crate) fn short(digits: &[u8]) -> Option<u64>
     number(digits, MOST_OF_18)
 }
 
-/// The voltage that at most 18 digits spell, without a sign.
+/// Reads a voltage of at most 18 digits, without a sign.
 fn unsigned(digits: &[u8]) -> Option<i64>
     ensures exact { result ≡ option_map pos (short_at digits.now) }
     ensures positive { IfSome result (λ n. pos 0 ≤ℤ n) }
@@ -68,7 +68,7 @@ fn unsigned(digits: &[u8]) -> Option<i64>
     Some(short(digits)? as i64)
 }
 
-/// The voltage that at most 18 digits spell, with a minus before them if it is below zero.
+/// Reads a voltage of at most 18 digits, with a minus before them if it is below zero.
 #[tactic(auto, unfolding(crate::specs::Reading::voltage_at))]
 pub(crate) fn voltage(text: &[u8]) -> Option<i64>
     ensures { result ≡ voltage_at text.now }

@@ -1,4 +1,4 @@
-//! Doing what a line says.
+//! Performing a line.
 
 ghost use Rattle.std.specs.Prelude.{◌≡◌, ℕ, List, replicate};
 ghost use Rattle.std.specs.Io.KnownBytes.{Appends};
@@ -13,7 +13,7 @@ use std::alloc::Allocator;
 use std::io::Write;
 use sv_server::{Event, ReplayFault, Server};
 
-/// Does what a line says, and writes what follows from it.
+/// Applies the events that a line describes, and writes the refusals and replies that follow.
 pub fn perform<A: Allocator, W: Write>(
     server: &mut Server<A>,
     line: Line<'_>,
@@ -32,7 +32,7 @@ pub fn perform<A: Allocator, W: Write>(
     }
 }
 
-/// Applies so many ticks, one after the other.
+/// Applies this number of ticks, one after the other.
 fn pass<A: Allocator, W: Write>(
     server: &mut Server<A>,
     count: u32,

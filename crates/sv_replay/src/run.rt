@@ -38,15 +38,15 @@ struct Run<A: Allocator> {
     ghost room: { length bytes.items ≡ 65536 },
 }
 
-/// Runs the replay of a script that is read line by line, and prints it onto the writer. The writer
-/// is flushed before each read, so that whoever waits for an answer before sending more gets it;
+/// Replays a script, which is read line by line, and prints to the writer. The writer is flushed
+/// before each read, so that a peer that waits for an answer before it sends more gets the answer;
 /// and at the end, whatever stopped the run.
 ///
 /// # Errors
 /// The first of these that happens. `Memory`: memory was refused at the start or to an event.
-/// `Input`: the reader failed, or was read 4,294,967,294 times. `BadLine`: a line isn't one of a
-/// replay. `Output`: the writer failed; this also replaces another fault if what was printed
-/// before it can't be flushed.
+/// `Input`: the reader failed, or was read 4,294,967,294 times. `BadLine`: a line isn't one that a
+/// replay knows. `Output`: the writer failed; this also replaces another fault if the text printed
+/// before that fault can't be flushed.
 pub fn run_replay<A: Allocator + Copy, R: Source, W: Write + Drop, B: Allocator>(
     alloc: A,
     reader: &mut R,
@@ -58,8 +58,8 @@ pub fn run_replay<A: Allocator + Copy, R: Source, W: Write + Drop, B: Allocator>
         (writer_contents W.contents writer.new) text
         × Runs read (R.remaining reader.new) result text }
     ensures end { OnOk result (IsAtEnd (R.remaining reader.new)) }
-    // The reader is read 4,294,967,294 times at most. The input's fault comes where the last read
-    // failed, or after so many.
+    // The reader is read 4,294,967,294 times at most. An input fault means that the last read
+    // failed, or that there were as many reads.
     ensures reads { IsReadOut R.gives reader.old reader.new result }
     // Unless the output failed, nothing that was printed is left in the buffer.
     ensures flushed { result ≢ Err RunFault.Output → writer_buffer writer.new ≡ [] }
@@ -68,7 +68,7 @@ pub fn run_replay<A: Allocator + Copy, R: Source, W: Write + Drop, B: Allocator>
     pass_on(writer, answer)
 }
 
-/// Flushes the writer, and returns this result; if the output fails, its fault.
+/// Flushes the writer, and returns `answer`; if flushing fails, the output's fault instead.
 fn pass_on<W: Write + Drop, B: Allocator>(
     writer: &mut BufWriter<W, B>,
     answer: Result<(), RunFault>,
@@ -159,7 +159,7 @@ fn do_line<A: Allocator, W: Write>(
 }
 
 impl<A: Allocator> Run<A> {
-    /// Executes the next line, or reads on if no line is complete; false at the end.
+    /// Executes the next line, or reads on if no line is complete. Returns false at the end.
     fn turn<R: Source, W: Write>(
         &mut self,
         reader: &mut R,
@@ -197,7 +197,7 @@ impl<A: Allocator> Run<A> {
         }
     }
 
-    /// Reads on; at the reader's end, executes the last line. False at the end.
+    /// Reads on; at the reader's end, executes the last line. Returns false at the end.
     fn read_on<R: Source, W: Write>(
         &mut self,
         reader: &mut R,

@@ -1,4 +1,4 @@
-//! Reading a scenario: the entries that the lines of a text say, one after the other.
+//! Reading a scenario: each line of a text is empty or an entry.
 
 ghost use Rattle.std.specs.Prelude.{◌≡◌, List, [], ◌++◌, ◌∷◌, MatchResult, Ok, Err};
 ghost use Rattle.sv_replay.specs.Scenario.{Reads};
@@ -12,8 +12,8 @@ use thiserror::Error;
 /// Why a scenario can't be read.
 #[derive(Clone, Copy, Debug, PartialEq, Eq, Error)]
 pub enum ScenarioFault {
-    /// The line of this number, from 1, is above 65,536 bytes, says nothing that a scenario knows,
-    /// or has an earlier tick than the line before it.
+    /// The line of this number, from 1, is above 65,536 bytes, isn't an entry, or has an earlier
+    /// tick than the line before it.
     #[error("bad line {0}")]
     BadLine(u64),
     /// Memory was refused.
@@ -21,11 +21,12 @@ pub enum ScenarioFault {
     Memory,
 }
 
-/// Reads a scenario: each line is empty or says an entry, and no entry is earlier than the one
-/// before it.
+/// Reads a scenario: each line is empty or an entry, and no entry is earlier than the one before
+/// it.
 ///
 /// # Errors
-/// Line by line: `BadLine` if the line isn't so, `Memory` if memory is refused to its entry.
+/// The first line that fails decides: `BadLine` if it breaks this rule, `Memory` if there is no
+/// memory for its entry.
 pub fn read_scenario<A: Allocator + Copy>(
     alloc: A,
     text: &[u8],
@@ -46,8 +47,8 @@ pub fn read_scenario<A: Allocator + Copy>(
     Ok(entries)
 }
 
-/// Appends the entry of a line, unless the line is empty, and returns the tick of
-/// the last one; `least` is the tick of the last one before.
+/// Appends the entry of a line, unless the line is empty. Returns the tick of the newest entry;
+/// before this line it was `least`.
 fn add<A: Allocator>(
     entries: &mut Vec<Entry, A>,
     line: &[u8],

@@ -11,9 +11,9 @@ use std::marker::Model;
 
 /// How many bytes a line may have, without its new line.
 pub const LONGEST_LINE: usize = 65_536;
-/// How much text is kept: a line and its new line, and what is read after it.
+/// How many bytes of text are stored: a line with its new line, and the text read after it.
 const SIZE: usize = 131_072;
-/// How often a reader is read; the read after these is an input fault.
+/// How many times a reader may be read; a further read is an input fault.
 const MOST_READS: u32 = 4_294_967_294;
 
 /// Text that was read and not yet used.
@@ -23,11 +23,11 @@ pub struct Text<A: Allocator = Global> {
     buffer: Vec<u8, A>,
     /// Where the text begins.
     start: usize,
-    /// The text has no new line up to here.
+    /// Up to here the text is known to have no new line.
     clean: usize,
     /// Where the text ends.
     end: usize,
-    /// How often a reader was read.
+    /// How many times the reader was read.
     reads: u32,
 }
 
@@ -44,14 +44,14 @@ impl<A: Allocator> Model for Text<A> {
 }
 
 impl<A: Allocator> Text<A> {
-    /// No text. It allocates all the memory that it ever uses.
+    /// A buffer without text. It allocates all the memory that it ever uses.
     pub fn new(alloc: A) -> Result<Text<A>, AllocError>
         ensures { IfOk result (λ text. text ≡ nothing_held) }
     {
         Ok(Text::over(vec![in alloc; 0; SIZE]?))
     }
 
-    /// No text yet, in a buffer of full length.
+    /// A buffer without text, from memory of its full length.
     fn over(buffer: Vec<u8, A>) -> Text<A>
         requires { length buffer.items ≡ 131072 }
         ensures { result ≡ nothing_held }
@@ -72,7 +72,7 @@ impl<A: Allocator> Text<A> {
         self.end - self.start
     }
 
-    /// How long the first line is, without its new line, if its new line was read.
+    /// The length of the first line, without its new line; `None` if its new line wasn't read yet.
     pub fn whole_line(&mut self) -> Option<usize>
         ensures same { self.new ≡ self.old }
         ensures value { result ≡ first_end self.old.text }
@@ -89,7 +89,7 @@ impl<A: Allocator> Text<A> {
         }
     }
 
-    /// The first bytes of the text.
+    /// The first `len` bytes of the text.
     pub fn front(&self, len: usize) -> &[u8]
         requires { len ≤ length self.now.text }
         ensures { result.now ≡ take len self.now.text }
@@ -97,7 +97,7 @@ impl<A: Allocator> Text<A> {
         &self.buffer[self.start..self.start + len]
     }
 
-    /// Drops the first bytes of the text, which the caller is done with.
+    /// Drops the first `len` bytes of the text, which the caller has used.
     pub fn drop_front(&mut self, len: usize)
         requires { len ≤ length self.old.text }
         ensures { self.new ≡ record { text = drop len self.old.text; reads = self.old.reads } }
@@ -106,9 +106,9 @@ impl<A: Allocator> Text<A> {
         self.clean = self.clean.max(self.start);
     }
 
-    /// Reads once, after the text, and tells whether more may come: at the reader's end it
-    /// doesn't, and an interrupted read gives nothing, but another may. Where too little of the
-    /// buffer is free after the text, it moves to the front first.
+    /// Reads once, and appends to the text. Returns whether more may come: false at the reader's
+    /// end; true also after an interrupted read, which gives no bytes. If too little of the buffer
+    /// is free after the text, the text is first moved to the front.
     pub fn fill<R: Source>(&mut self, reader: &mut R) -> Result<bool, InputFault>
         requires { length self.old.text ≤ 65536 }
         ensures took { Filled (R.remaining reader.old)
@@ -140,7 +140,7 @@ impl<A: Allocator> Text<A> {
 }
 
 /// Moves a part of a buffer to the buffer's front, if too little is free after it. Returns by how
-/// much.
+/// many bytes it was moved.
 fn make_room(buffer: &mut [u8], start: usize, end: usize) -> usize
     requires order { (start ≤ end) × (end ≤ 131072) }
     requires size { length buffer.old ≡ 131072 }
@@ -156,8 +156,8 @@ fn make_room(buffer: &mut [u8], start: usize, end: usize) -> usize
     start
 }
 
-/// Reads once, after so many bytes of a buffer. Returns how many bytes came; `None` at the reader's
-/// end.
+/// Reads once, into a buffer from place `at` on. Returns how many bytes came; `None` at the
+/// reader's end.
 fn read_behind<R: Source>(
     reader: &mut R,
     buffer: &mut [u8],

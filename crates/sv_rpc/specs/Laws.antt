@@ -10,7 +10,7 @@ use Rattle.sv_rpc.specs.declared.ports.Ports.{Ports}
 use Rattle.sv_rpc.specs.Ports.{PortIs, port_at}
 use Rattle.sv_rpc.specs.Reply.{reply_fields}
 
--- A stream has one reading: one list of records, and one tail.
+-- A stream can be read in only one way: as one list of records, and one tail.
 abbrev pub OneReading : Type 0
 OneReading = (stream : List ℕ) (a b : List (List ℕ)) (s t : Tail) → Splits stream a s → Splits stream b t → (a ≡ b) × (s ≡ t)
 
@@ -35,14 +35,14 @@ PortAsSpelled = (ports : Ports) (args : List ℕ) → All (λ byte. byte < 256) 
 abbrev pub OneCall : Type 0
 OneCall = (bytes : List ℕ) (a b : Result PlainCall CallFault) → CallIs bytes a → CallIs bytes b → a ≡ b
 
--- If two headers of calls begin the same bytes, the headers are equal, and so are the bytes after them. So no header of a call is a proper
+-- If bytes begin with two headers of calls, the headers are equal, and so are the bytes after them. So no header of a call is a proper
 -- prefix of another.
 abbrev pub CallsPrefixFree : Type 0
 CallsPrefixFree = (x y : PlainCall) (c d v w : Auth) (bytes after behind : List ℕ) → BeginsAll bytes (heading x c v) after
     → BeginsAll bytes (heading y d w) behind
     → (heading x c v ≡ heading y d w) × (after ≡ behind)
 
--- If two headers of replies begin the same bytes, their xids and replies are equal, and so are the bytes after them.
+-- If bytes begin with two headers of replies, their xids and replies are equal, and so are the bytes after them.
 abbrev pub RepliesPrefixFree : Type 0
 RepliesPrefixFree = (x y : ℕ) (r s : Reply) (bytes after behind : List ℕ) → BeginsAll bytes (reply_fields x r) after
     → BeginsAll bytes (reply_fields y s) behind

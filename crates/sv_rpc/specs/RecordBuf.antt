@@ -22,8 +22,8 @@ pub record StandsFor (held : Records) (stream : List ℕ) (dropped : ℕ) : Type
   pub bounded : dropped ≤ length all
   pub kept : held.records ≡ drop dropped all
 
--- How many bytes of the capacity are used. Each complete record uses 4 more than its length. The unfinished record uses 4, even if nothing
--- of it came, and its data that came, and the bytes of an unfinished header. Once a record is too long, the whole capacity is used.
+-- How many bytes of the capacity are used. Each complete record uses 4 more than its length. The unfinished record uses 4, even before any
+-- of it has come, plus its data so far, plus the bytes of an unfinished header. Once a record is too long, the whole capacity is used.
 abbrev pub used_by : List (List ℕ) → Tail → ℕ
 used_by records (Header payload header) = sum_by (λ r. 4 + length r) records + (4 + length payload + length header)
 used_by records (Data payload missing last) = sum_by (λ r. 4 + length r) records + (4 + length payload)

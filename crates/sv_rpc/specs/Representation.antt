@@ -1,4 +1,4 @@
--- How the fields of a record buffer keep what it holds, and how pieces and bytes change that.
+-- How the fields of a record buffer represent what it holds, and how pieces and bytes change that.
 use Rattle.std.specs.Prelude.{◌≡◌, ℕ, ◌+◌, ◌-◌, ◌*◌, ◌%◌, ◌<◌, ◌≤◌, ◌^◌, Bool, List, [], ◌∷◌, ◌++◌, length, take, drop, sum, nat_lt, nat_le, if◌then◌else◌}
 use Rattle.std.specs.Int.{w32, from_be_bytes}
 use Rattle.sv_rpc.specs.declared.record_buf.Place.{Place}
@@ -12,13 +12,13 @@ abbrev pub cut : List ℕ → List ℕ → List (List ℕ)
 cut [] bytes = []
 cut (n ∷ ns) bytes = take n bytes ∷ cut ns (drop n bytes)
 
--- the tail that the fields keep
+-- the tail that the fields represent
 abbrev pub tail_of : Place → List ℕ → List ℕ → Tail
 tail_of place.Header payload header = Header payload header
 tail_of (place.Data missing last) payload header = Data payload missing last
 tail_of place.TooLong payload header = TooLong
 
--- the records and the tail that the fields keep
+-- the records and the tail that the fields represent
 abbrev pub held_of : List ℕ → List ℕ → List ℕ → Place → Records
 held_of bytes lengths header place = record { records = cut lengths bytes; tail = tail_of place (drop (sum lengths) bytes) header }
 

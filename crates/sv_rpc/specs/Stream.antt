@@ -1,5 +1,5 @@
--- The records of a stream as a function, which reads fragment after fragment. Two laws tie it to the relation `Splits`: the stream splits
--- into what the function returns, and in no other way.
+-- The records of a stream as a function, which reads fragment after fragment. Two laws relate it to `Splits`: the stream splits into what
+-- the function returns, and in no other way.
 use Rattle.std.specs.Prelude.{ℕ, zero, suc, ◌+◌, ◌-◌, ◌%◌, ◌^◌, Bool, true, false, List, [], ◌∷◌, ◌++◌, length, take, drop, nat_le, nat_lt, if◌then◌else◌}
 use Rattle.std.specs.Int.{w32, from_be_bytes}
 use Rattle.sv_rpc.specs.Limits.{max_record}

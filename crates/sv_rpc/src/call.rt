@@ -21,19 +21,19 @@ pub struct Call<'a> {
     pub vers: u32,
     /// The procedure's number.
     pub proc: u32,
-    /// The arguments and what follows them, a slice of the record.
+    /// The arguments and any bytes after them, a slice of the record.
     pub args: &'a [u8],
 }
 
-/// Why a record is no call that a program can answer.
+/// Why a record isn't a call that a program can answer.
 #[derive(Clone, Copy, Debug, PartialEq, Eq, Error)]
 pub enum CallFault {
-    /// The record is no call: it is too short, its message type isn't 0, or under version 2 of RPC
-    /// a later field of the header can't be read. Nothing is answered.
+    /// The record isn't a call: it is too short, its message type isn't 0, or, with version 2 of
+    /// RPC, a later field of the header can't be read. Nothing is answered.
     #[error("the record is no call")]
     BadHeader,
-    /// The call of this transaction is under another version of RPC than 2, whatever follows the
-    /// version. It is denied.
+    /// The call of this transaction uses another version of RPC than 2. It is denied, whatever
+    /// follows the version.
     #[error("another version of RPC than 2")]
     Version(u32),
 }
@@ -49,20 +49,20 @@ impl From<XdrFault> for CallFault {
     }
 }
 
-/// Reads the bytes of a record as a call (RFC 5531, section 9). What a credential or a verifier
-/// says is ignored.
+/// Reads the bytes of a record as a call (RFC 5531, section 9). The contents of credential and
+/// verifier are ignored.
 ///
 /// # Errors
 /// `BadHeader` if the transaction, the message type or the version of RPC is missing, or the
 /// message type isn't 0. Then `Version`, whatever follows, if the version isn't 2. Then `BadHeader`
 /// if a later field can't be read, or the body of a credential or a verifier is above 400 bytes.
 pub fn read_call(bytes: &[u8]) -> Result<Call<'_>, CallFault>
-    // What is read is spelled there.
+    // The result is one that the bytes encode.
     ensures found { CallIs bytes.now (plain_call_result result) }
-    // What is spelled there is read.
+    // The bytes encode no other result.
     ensures only { (outcome : Result PlainCall CallFault) → CallIs bytes.now outcome
         → plain_call_result result ≡ outcome }
-    // Which of the three it is, as a function of the bytes.
+    // The result, a call or one of two faults, as a function of the bytes.
     ensures exact { plain_call_result result ≡ call_at bytes.now }
 {
     call_of(bytes)

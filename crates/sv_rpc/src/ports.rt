@@ -9,7 +9,7 @@ use sv_xdr::{Garbage, Reader};
 const CORE: u32 = 0x0607AF;
 /// The number of the abort channel's program.
 const ABORT: u32 = 0x0607B0;
-/// The version of both.
+/// The version of both programs.
 const VERSION: u32 = 1;
 /// The protocol TCP.
 const TCP: u32 = 6;
@@ -17,9 +17,9 @@ const TCP: u32 = 6;
 /// The ports on which the channels are served.
 #[derive(Clone, Copy, Debug, PartialEq, Eq)]
 pub struct Ports {
-    /// Of the core channel.
+    /// The port of the core channel.
     pub core: u16,
-    /// Of the abort channel.
+    /// The port of the abort channel.
     pub abort: u16,
 }
 
@@ -27,11 +27,11 @@ pub struct Ports {
 /// for every other program, version or protocol. Bytes after the arguments are ignored.
 ///
 /// # Errors
-/// [`Garbage`] if fewer than 16 bytes are there, the four numbers of the arguments.
+/// [`Garbage`] if there are fewer than 16 bytes, those of the four numbers of the arguments.
 #[tactic(auto, unfolding(crate::specs::Ports::port_at))]
 pub fn getport(args: &[u8], ports: Ports) -> Result<u32, Garbage>
     ensures answer { PortIs ports args.now result }
-    // Which answer it is, as a function of the bytes.
+    // The answer as a function of the bytes.
     ensures exact { result ≡ port_at ports args.now }
 {
     let mut reader = Reader::new(args);
@@ -42,7 +42,7 @@ pub fn getport(args: &[u8], ports: Ports) -> Result<u32, Garbage>
     Ok(port_of(ports, prog, vers, prot))
 }
 
-/// The port at which a version of a program is served over a protocol; 0 if it isn't.
+/// The port at which a version of a program is served over a protocol; 0 if it isn't served.
 fn port_of(ports: Ports, prog: u32, vers: u32, prot: u32) -> u32
     ensures { result ≡ port_for ports (record { prog = prog; vers = vers; prot = prot; port = 0 }) }
 {

@@ -13,9 +13,9 @@ use std::marker::Model;
 use sv_bytes::{append, drop_front};
 use thiserror::Error;
 
-/// How many bytes the records in a buffer may take, with 4 for each.
+/// How many bytes the records in a buffer may take, counting 4 more for each.
 const CAPACITY: usize = 16384;
-/// How many records may stand in a buffer: the shortest is empty and takes 4 bytes.
+/// How many records a buffer may hold: the shortest is empty and takes 4 bytes.
 const MAX_RECORDS: usize = CAPACITY / 4;
 /// The longest record, in bytes.
 const MAX_RECORD: usize = 8192;
@@ -33,9 +33,9 @@ pub enum RpcFault {
 enum Place {
     /// A fragment's header.
     Header,
-    /// A fragment's data, of which so many bytes are missing.
+    /// A fragment's data, of which `missing` bytes are still to come.
     Data { missing: usize, last: bool },
-    /// Nothing, since a record was too long.
+    /// Nothing, because a record was too long.
     TooLong,
 }
 
@@ -43,15 +43,15 @@ enum Place {
 /// stays in the buffer, and counts against its room, until it is dropped.
 #[derive(Drop)]
 pub struct RecordBuf<A: Allocator = Global> {
-    /// The records, and after them what came of the unfinished one.
+    /// The complete records, and after them the data of the unfinished record so far.
     bytes: Vec<u8, A>,
-    /// The length of each whole record.
+    /// The length of each complete record.
     lengths: Vec<u16, A>,
-    /// How many data bytes of the unfinished record came.
+    /// How many data bytes of the unfinished record have come.
     payload: usize,
     /// The bytes of an unfinished header.
     header: [u8; 4],
-    /// How many bytes of it there are.
+    /// How many bytes of the unfinished header have come.
     header_len: usize,
     place: Place,
 }
@@ -91,9 +91,10 @@ impl<A: Allocator + Copy> RecordBuf<A> {
 }
 
 impl<A: Allocator> RecordBuf<A> {
-    /// How many bytes may be pushed. Of the capacity of 16,384 bytes these are taken: 4 and its
-    /// bytes for each complete record that wasn't dropped; 4 and its bytes for the unfinished one;
-    /// and what came of an unfinished fragment header. It is 0 once a record was too long.
+    /// How many bytes may be pushed. The capacity is 16,384 bytes. Each complete record that wasn't
+    /// dropped takes 4 of them plus its length. The unfinished record takes 4, plus its data so
+    /// far, plus the bytes of an unfinished fragment header. Once a record was too long, there is
+    /// no room.
     pub fn room(&self) -> usize
         ensures value { result ≡ room_of self.now }
         ensures answer { (stream : List ℕ) (dropped : ℕ) → StandsFor self.now stream dropped
@@ -151,7 +152,7 @@ impl<A: Allocator> RecordBuf<A> {
         drop_front(&mut self.bytes, size);
     }
 
-    /// Drops everything: the buffer is as a new one.
+    /// Drops everything: the buffer is like a new one.
     pub fn clear(&mut self)
         ensures value { self.new ≡ no_records }
         ensures stands { StandsFor self.new [] 0 }
@@ -163,8 +164,8 @@ impl<A: Allocator> RecordBuf<A> {
         self.place = Place::Header;
     }
 
-    /// Takes in the next bytes of the stream, which have to fit the room. The records in the buffer
-    /// stay.
+    /// Takes in the next bytes of the stream, for which there must be room. The records in the
+    /// buffer stay.
     pub fn push(&mut self, piece: &[u8])
         requires { length piece.now ≤ room_of self.old }
         ensures stands { GoesOn self.old self.new piece.now }
@@ -220,7 +221,7 @@ impl<A: Allocator> RecordBuf<A> {
         self.open((word % (1 << 31)) as usize, word >= 1 << 31);
     }
 
-    /// Begins a fragment of this size, which is the last of its record or not.
+    /// Begins a fragment of this size; `last` says whether it is the last of its record.
     fn open(&mut self, size: usize, last: bool)
         requires header { IsBeforeHeader self.old.tail }
         requires size { size < 2 ^ 31 }
@@ -239,7 +240,7 @@ impl<A: Allocator> RecordBuf<A> {
         }
     }
 
-    /// Takes in some of a fragment's data, of which so many bytes are missing.
+    /// Takes in some of a fragment's data, of which `missing` bytes are still to come.
     fn take_data(&mut self, piece: &[u8], missing: usize, last: bool)
         requires data { IsInData self.old.tail missing last }
         requires some { length piece.now ≤ missing }
@@ -261,7 +262,7 @@ impl<A: Allocator> RecordBuf<A> {
         }
     }
 
-    /// Ends the unfinished record: it is whole.
+    /// Ends the unfinished record, which is now complete.
     fn finish(&mut self)
         requires header { IsBeforeHeader self.old.tail }
         requires fits { used_by self.old.records self.old.tail ≤ capacity }

@@ -10,9 +10,9 @@ use sv_xdr::{Writer, XdrFault};
 /// How a call is answered (RFC 5531, section 9).
 #[derive(Clone, Copy, Debug, PartialEq, Eq)]
 pub enum Reply {
-    /// It was executed, and its result follows.
+    /// The call was executed, and its result follows.
     Success,
-    /// It is denied: the version of RPC is not 2.
+    /// The call is denied: its version of RPC is not 2.
     Mismatch,
     /// The program is not served here.
     ProgUnavail,
@@ -68,7 +68,7 @@ pub fn write_call(
     words(writer, &[xid, 0, 2, prog, vers, proc, 0, 0, 0, 0])
 }
 
-/// Writes words; opaque data of length 0 are the word 0.
+/// Writes words. A word 0 also encodes opaque data of length 0.
 fn words(writer: &mut Writer<'_>, words: &[u32]) -> Result<(), XdrFault>
     ensures same_buffer { writer.new.out.ghost_name ≡ writer.old.out.ghost_name }
     ensures writes { WritesEach (map (λ word. spelling (Unsigned word)) words.now) result writer.old

@@ -11,7 +11,7 @@ use Rattle.sv_scan.specs.Counted.{is_idle, is_waiting, is_scanning}
 abbrev pub bit : ℕ → Bool → ℕ
 bit place holds = if holds then 2 ^ place else 0
 
--- the operation word; bit 4: a scan is under way; bit 5: a trigger is waited for; bit 8: a measurement is under way
+-- the operation word; bit 4: a scan is under way; bit 5: a scan waits for its trigger; bit 8: a measurement is under way
 abbrev pub operation : List ScanAct → ℕ
 operation log = bit 4 (is_scanning (state log)) + bit 5 (is_waiting (state log)) + bit 8 (not (is_idle (state log)))
 

@@ -17,7 +17,7 @@ use Rattle.sv_scan.specs.Scan.{state}
 abbrev pub is_idle : State → Bool
 is_idle = elim [ Idle ↦ true | _ ↦ false ]
 
--- whether a trigger is waited for
+-- whether a scan waits for its trigger
 abbrev pub is_waiting : State → Bool
 is_waiting = elim [ Waiting ↦ true | _ ↦ false ]
 
@@ -42,11 +42,11 @@ setting_fault log setting =
 abbrev pub init_fault : List ScanAct → Option Code
 init_fault log = if is_idle (state log) then None else Some InitIgnored
 
--- why a trigger is refused: -211 if no trigger is waited for, or only one from another source
+-- why a trigger is refused: -211 if no scan waits for a trigger, or it waits for one from another source
 abbrev pub trigger_fault : List ScanAct → Source → Option Code
 trigger_fault log from = if is_waiting (state log) && same_source (source log) from then None else Some TriggerIgnored
 
--- why a reading can't be waited for: -214 if triggers come from the controller, which would be the one that waits
+-- why the controller can't wait for a reading: -214 if triggers come from the controller, which can't send one while it waits
 abbrev pub read_fault : List ScanAct → Option Code
 read_fault log = if same_source (source log) Bus then Some TriggerDeadlock else None
 

@@ -1,4 +1,4 @@
--- What always holds of what the scanner keeps.
+-- What always holds of the state of the scanner.
 use Rattle.std.specs.Prelude.{◌≡◌, ℕ, ◌*◌, ◌==◌, ◌≤◌, ℤ, pos, int_le, unsigned_abs, Bool, true, false, List, length, Option, Some, None}
 use Rattle.std.specs.List.{list_all}
 use Rattle.sv_scan.specs.declared.setting.Setting.TheVariants.{Count}
@@ -50,7 +50,7 @@ pub record IsValid (contents : Contents) (capacity : ℕ) : Type 0 where
   pub run : IsRunOf contents.run (length contents.readings)
   pub readings : list_all is_bounded contents.readings ≡ true
 
--- the contents of the scanner, from the fields that keep them
+-- the contents of the scanner, from its fields
 abbrev pub contents_of : List ℤ → Settings → Option Run → List Reading → Touched → Contents
 contents_of inputs settings run readings touched = record {
   inputs = inputs;

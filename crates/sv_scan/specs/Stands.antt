@@ -1,4 +1,4 @@
--- What the scanner keeps, and when it stands for a list of acts.
+-- The state of the scanner, and when it stands for a list of acts.
 use Rattle.std.specs.Prelude.{◌≡◌, ℕ, ◌-◌, ℤ, pos, Bool, true, List, Option, slice_index_or}
 use Rattle.std.specs.Prelude.{option_map}
 use Rattle.sv_scan.specs.declared.setting.Reading.{Reading}
@@ -11,7 +11,7 @@ use Rattle.sv_scan.specs.Scan.{before_init, triggers, readings}
 use Rattle.sv_scan.specs.Counted.{effective}
 use Rattle.sv_scan.specs.Touched.{IsTouched}
 
--- a measurement: its scan list and count, as they were when it was initiated, and how many triggers it had
+-- a measurement: its scan list and count, as they were when it was initiated, and the number of its triggers so far
 pub record Run : Type 0 where
   pub channels : List ℕ
   pub scans : ℕ
@@ -22,7 +22,7 @@ abbrev pub current_run : List ScanAct → Option Run
 current_run log = option_map (λ before. record { channels = scan_list before; scans = count before; triggers = triggers log })
     (before_init log)
 
--- what the scanner keeps
+-- the state of the scanner
 pub record Contents : Type 0 where
   pub inputs : List ℤ
   pub list : List ℕ
@@ -52,6 +52,6 @@ pub record Holds (contents : Contents) (log : List ScanAct) : Type 0 where
   pub readings : contents.readings ≡ readings log
   pub touched : IsTouched contents.touched log
 
--- What the scanner keeps stands for these acts: it is what those of them that count determine.
+-- The state of the scanner stands for these acts: it is the one that the acts that count determine.
 abbrev pub StandsFor : Contents → List ScanAct → Type 0
 StandsFor contents acts = Holds contents (effective acts)

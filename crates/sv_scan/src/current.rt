@@ -1,4 +1,4 @@
-//! The settings as they are now.
+//! The current settings.
 
 ghost use Rattle.std.specs.Prelude.{◌≡◌, ◌≤◌, true, List, unsigned_abs};
 ghost use Rattle.sv_errors.specs.Limits.{is_channel, is_channel_list, most_scans};

@@ -10,14 +10,14 @@ use sv_errors::{MOST_MICROVOLTS, MOST_SCANS, is_channel, is_channel_list};
 /// The ranges, in microvolts: 1, 10 and 100 V.
 const RANGES: (i64, i64, i64) = (1_000_000, 10_000_000, 100_000_000);
 
-/// Whether this may be a limit, in microvolts: up to 1,000 V in magnitude.
+/// Whether a limit may have this value, in microvolts: up to 1,000 V in magnitude.
 fn is_limit(microvolts: i64) -> bool
     ensures { result ≡ is_within microvolts }
 {
     -i64::from(MOST_MICROVOLTS) <= microvolts && microvolts <= i64::from(MOST_MICROVOLTS)
 }
 
-/// The smallest range that is at least this, in microvolts.
+/// The smallest range that is at least the wanted one, in microvolts.
 pub(crate) fn least_range(wanted: i64) -> i64
     ensures { result ≡ least_range_of wanted }
 {

@@ -8,13 +8,13 @@ use crate::scan_list::ScanList;
 use crate::setting::State;
 use std::marker::Model;
 
-/// A measurement: its list and count, as they were when it was initiated, and how many triggers it
-/// had.
+/// A measurement: its scan list and count, as they were when it was initiated, and the number of
+/// its triggers so far.
 #[derive(Drop)]
 pub(crate) struct Run {
     /// The channels that each scan reads.
     list: ScanList,
-    /// How many scans it has.
+    /// How many scans the measurement has.
     scans: u8,
     triggers: u8,
 }
@@ -39,7 +39,7 @@ impl Run {
         }
     }
 
-    /// Its state after so many samples.
+    /// The state of the measurement after this number of samples.
     pub(crate) fn state(&self, samples: usize) -> State
         ensures { result ≡ state_by self.now.triggers samples
             (length self.now.channels) self.now.scans }
@@ -54,14 +54,14 @@ impl Run {
         }
     }
 
-    /// Whether each channel of each scan was read, after so many samples.
+    /// Whether each channel of each scan has been read after this number of samples.
     pub(crate) fn is_complete(&self, samples: usize) -> bool
         ensures { result ≡ (samples == self.now.scans * length self.now.channels) }
     {
         samples == usize::from(self.scans) * self.list.channels().len()
     }
 
-    /// The channel to read after so many samples: the list is read again and again.
+    /// The channel to read after this number of samples: the list is read again and again.
     pub(crate) fn channel(&self, samples: usize) -> u8
         requires { 0 < length self.now.channels }
         ensures { result ≡ channel_at self.now.channels samples }

@@ -27,17 +27,17 @@ use std::alloc::{AllocError, Allocator, Global};
 use std::marker::Model;
 use sv_errors::{CHANNELS, Code, Layer, MOST_READINGS, Source, is_channel};
 
-/// The measuring part of the instrument: its inputs, its settings, the measurement that is under
-/// way or was the last, and its readings.
+/// The measuring part of the instrument: its inputs, its settings, and the current or last
+/// measurement with its readings.
 #[derive(Drop)]
 pub struct Scanner<A: Allocator = Global> {
     /// The input of each channel, in microvolts; that of channel 1 first.
     inputs: [i64; CHANNELS],
     /// The settings.
     pub(crate) settings: Settings,
-    /// The measurement since the last initiation.
+    /// The measurement that was initiated last, unless it was aborted.
     run: Option<Run>,
-    /// Its readings, oldest first; none without a measurement.
+    /// The readings of the measurement, oldest first; none without a measurement.
     readings: Vec<Reading, A>,
     /// Which conditions the newest act may have changed.
     pub(crate) touched: Touched,
@@ -80,7 +80,7 @@ impl<A: Allocator> Scanner<A> {
     }
 
     /// Sets the input of a channel to this voltage, in microvolts. Nothing changes if there is no
-    /// such channel. No condition is touched if it isn't the monitored one.
+    /// such channel. If it isn't the monitored channel, no condition changes.
     pub fn input(&mut self, channel: u8, microvolts: i64)
         ensures stands { (acts : List ScanAct) → StandsFor self.old acts
             → StandsFor self.new (ScanAct.Input channel microvolts ∷ acts) }
@@ -100,8 +100,8 @@ impl<A: Allocator> Scanner<A> {
     /// Changes a setting.
     ///
     /// # Errors
-    /// [`Code::DataOutOfRange`] if it may not have this value, then [`Code::SettingsConflict`] if
-    /// it can't be changed now. Nothing changes.
+    /// [`Code::DataOutOfRange`] if the setting may not have this value, then
+    /// [`Code::SettingsConflict`] if it can't be changed now. Then nothing changes.
     pub fn configure(&mut self, setting: Setting) -> Result<(), Code>
         ensures stands { (acts : List ScanAct) → StandsFor self.old acts
             → StandsFor self.new (ScanAct.Configure setting ∷ acts) }
@@ -142,10 +142,10 @@ impl<A: Allocator> Scanner<A> {
         Ok(())
     }
 
-    /// Initiates a measurement, with scan list and count as they are now.
+    /// Initiates a measurement with the current scan list and count.
     ///
     /// # Errors
-    /// [`Code::InitIgnored`] if a measurement is under way. Nothing changes.
+    /// [`Code::InitIgnored`] if a measurement is under way. Then nothing changes.
     pub fn init(&mut self) -> Result<(), Code>
         ensures stands { (acts : List ScanAct) → StandsFor self.old acts
             → StandsFor self.new (ScanAct.Init ∷ acts) }
@@ -182,10 +182,11 @@ impl<A: Allocator> Scanner<A> {
         Ok(())
     }
 
-    /// Whether a reading can be waited for.
+    /// Whether the controller may wait for readings.
     ///
     /// # Errors
-    /// [`Code::TriggerDeadlock`] if triggers come from the controller, which would be waiting.
+    /// [`Code::TriggerDeadlock`] if triggers come from the controller, which can't send one while
+    /// it waits.
     pub fn may_read(&self) -> Result<(), Code>
         ensures { (acts : List ScanAct) → StandsFor self.now acts
             → result ≡ refused_by (read_fault (effective acts)) }
@@ -225,11 +226,11 @@ impl<A: Allocator> Scanner<A> {
         };
     }
 
-    /// A trigger from this source: the next scan begins.
+    /// Applies a trigger from this source: the next scan begins.
     ///
     /// # Errors
-    /// [`Code::TriggerIgnored`] if no trigger is waited for, or one from another source. Nothing
-    /// changes.
+    /// [`Code::TriggerIgnored`] if the scanner doesn't wait for a trigger, or waits for one from
+    /// another source. Then nothing changes.
     pub fn trigger(&mut self, source: Source) -> Result<(), Code>
         ensures stands { (acts : List ScanAct) → StandsFor self.old acts
             → StandsFor self.new (ScanAct.Trigger source ∷ acts) }
@@ -260,7 +261,8 @@ impl<A: Allocator> Scanner<A> {
     /// Whether [`Scanner::trigger`] with this source would begin the next scan.
     ///
     /// # Errors
-    /// [`Code::TriggerIgnored`] if no trigger is waited for, or one from another source.
+    /// [`Code::TriggerIgnored`] if the scanner doesn't wait for a trigger, or waits for one from
+    /// another source.
     pub fn may_trigger(&self, source: Source) -> Result<(), Code>
         ensures answer { (acts : List ScanAct) → StandsFor self.now acts
             → result ≡ refused_by (trigger_fault (effective acts) source) }
@@ -273,8 +275,8 @@ impl<A: Allocator> Scanner<A> {
         Ok(())
     }
 
-    /// Reads the next channel of the scan, and returns whether one was read. Outside a scan nothing
-    /// changes.
+    /// Reads the next channel of the scan that is under way, and returns whether it did. Outside a
+    /// scan nothing changes.
     pub fn sample(&mut self) -> bool
         ensures stands { (acts : List ScanAct) → StandsFor self.old acts
             → StandsFor self.new (ScanAct.Sample ∷ acts) }
@@ -350,7 +352,7 @@ impl<A: Allocator> Scanner<A> {
     /// list.
     ///
     /// # Errors
-    /// [`Code::DataCorruptOrStale`] if they aren't complete, or were aborted.
+    /// [`Code::DataCorruptOrStale`] if the readings aren't complete, or were aborted.
     pub fn readings(&self) -> Result<&[Reading], Code>
         ensures { (acts : List ScanAct) → StandsFor self.now acts
             → MatchResult result (λ found. (completes (effective acts) ≡ true)
@@ -365,8 +367,8 @@ impl<A: Allocator> Scanner<A> {
         }
     }
 
-    /// The readings of the measurement that is under way or was the last, oldest first, complete or
-    /// not. There are at most [`MOST_READINGS`], and none is a voltage beyond 1,000 V in magnitude.
+    /// The readings of the current or last measurement, oldest first, complete or not. There are at
+    /// most [`MOST_READINGS`], and none is a voltage beyond 1,000 V in magnitude.
     pub fn readings_so_far(&self) -> &[Reading]
         ensures answer { (acts : List ScanAct) → StandsFor self.now acts
             → result.now ≡ readings_of (effective acts) }

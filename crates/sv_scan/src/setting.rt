@@ -3,28 +3,27 @@
 use crate::scan_list::ScanList;
 use sv_errors::Source;
 
-/// A setting and its value. All but [`Setting::Monitor`] and those of the limits can only be
-/// changed in the idle state.
+/// A setting and its value. [`Setting::Monitor`] and the settings of the limits can be changed at
+/// any time, the others only in the idle state.
 #[derive(Clone, Copy, Debug)]
 pub enum Setting {
-    /// The channels of a scan, in order; at least one. At first
-    /// channel 1.
+    /// The channels of a scan, in order; at least one. The default is channel 1.
     List(ScanList),
-    /// The monitored channel, whose input is compared with the limits. At first 1.
+    /// The monitored channel, whose input is compared with the limits. The default is 1.
     Monitor(u8),
-    /// The range, in microvolts, 0 to 100 V: the lowest of 1, 10 and 100 V that isn't below it is
-    /// set. At first 10 V.
+    /// A voltage to measure, in microvolts, 0 to 100 V: the smallest of the ranges 1, 10 and 100 V
+    /// that is at least as large is set. The default is 10 V.
     Range(i64),
-    /// The upper limit, in microvolts, up to 1,000 V in magnitude. At first 1,000 V.
+    /// The upper limit, in microvolts, up to 1,000 V in magnitude. The default is 1,000 V.
     Upper(i64),
-    /// The lower limit, in microvolts, up to 1,000 V in magnitude. At first -1,000 V.
+    /// The lower limit, in microvolts, up to 1,000 V in magnitude. The default is -1,000 V.
     Lower(i64),
-    /// Whether the limits are on. At first they are off.
+    /// Whether the limits are on. By default they are off.
     Limits(bool),
-    /// Where triggers come from. At first [`Source::Immediate`].
+    /// Where triggers come from. The default is [`Source::Immediate`].
     Source(Source),
     /// How many scans a measurement has, one for each trigger: 1 to
-    /// [`MOST_SCANS`](sv_errors::MOST_SCANS). At first 1.
+    /// [`MOST_SCANS`](sv_errors::MOST_SCANS). The default is 1.
     Count(u8),
 }
 
@@ -33,7 +32,7 @@ pub enum Setting {
 pub enum State {
     /// No measurement is under way.
     Idle,
-    /// A trigger is waited for.
+    /// A scan waits for a trigger.
     Waiting,
     /// A scan is under way.
     Scanning,

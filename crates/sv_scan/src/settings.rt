@@ -18,7 +18,7 @@ pub(crate) struct Settings {
     pub(crate) upper: i64,
     /// The lower limit, in microvolts.
     pub(crate) lower: i64,
-    /// Whether the limits count.
+    /// Whether the limits are on.
     pub(crate) limits: bool,
     /// Where triggers come from.
     pub(crate) source: Source,
@@ -30,7 +30,7 @@ impl Settings {
     ghost use Rattle.std.specs.Prelude.{[]};
     ghost use Rattle.sv_scan.specs.Together.{AreOf, IsSet};
 
-    /// All defaults.
+    /// All settings at their defaults.
     pub(crate) fn new() -> Settings
         ensures { AreOf result [] }
     {

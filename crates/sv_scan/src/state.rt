@@ -8,7 +8,7 @@ use crate::run::Run;
 use crate::setting::State;
 use sv_errors::Source;
 
-/// The state of a measurement after so many samples; idle without one.
+/// The state of a measurement after this number of samples; idle without a measurement.
 pub(crate) fn state_in(run: &Option<Run>, samples: usize) -> State
     ensures { result ≡ run_state run.now samples }
 {

@@ -9,8 +9,8 @@ ghost use Rattle.sv_scan.specs.Touched.{IsTouched};
 use crate::scanner::Scanner;
 use std::alloc::Allocator;
 
-/// Which condition words the newest act that counts may have changed: where a field is false, that
-/// word is what it was before the act (SCPI-1999, chapter 20).
+/// Which condition words the newest effective act may have changed. If a field is false, its word
+/// is as before the act (SCPI-1999, chapter 20).
 #[derive(Clone, Copy)]
 pub struct Touched {
     /// The word of the operation register.

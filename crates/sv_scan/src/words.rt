@@ -6,30 +6,30 @@ ghost use Rattle.sv_scan.specs.Condition.{bit};
 
 use crate::setting::State;
 
-/// Measuring, of the operation register.
+/// Bit of the operation register: measuring.
 const MEASURING: u16 = 1 << 4;
-/// Waiting for a trigger.
+/// Bit of the operation register: waiting for a trigger.
 const WAITING: u16 = 1 << 5;
-/// Acquisition in progress.
+/// Bit of the operation register: acquisition in progress.
 const ACQUIRING: u16 = 1 << 8;
-/// The last reading is an overload, of the questionable register.
+/// Bit of the questionable register: the last reading is an overload.
 const OVERLOAD: u16 = 1 << 0;
-/// The last reading is below the lower limit, of the register of limits.
+/// Bit of the register of limits: the last reading is below the lower limit.
 const BELOW: u16 = 1 << 0;
-/// The last reading is above the upper limit.
+/// Bit of the register of limits: the last reading is above the upper limit.
 const ABOVE: u16 = 1 << 1;
-/// The live input of the monitored channel is outside the limits.
+/// Bit of the register of limits: the live input of the monitored channel is outside.
 const OUTSIDE: u16 = 1 << 2;
 
 /// The condition words of the status registers, as they are now (SCPI-1999, chapter 20).
 #[derive(Clone, Copy, Debug, PartialEq, Eq)]
 pub struct Conditions {
-    /// Bit 4 measuring, bit 5 waiting for a trigger, bit 8 acquisition in progress.
+    /// Bit 4: measuring; bit 5: waiting for a trigger; bit 8: acquisition in progress.
     pub operation: u16,
-    /// Bit 0 the last reading is an overload. Bit 9, the summary of the register of limits, is 0.
+    /// Bit 0: the last reading is an overload. Bit 9, the summary of the register of limits, is 0.
     pub questionable: u16,
-    /// With limits on: bit 0 the last reading is below the lower limit, bit 1 above the upper one,
-    /// bit 2 the input of the monitored channel is outside them.
+    /// With limits on, bit 0: the last reading is below the lower limit; bit 1: it is above the
+    /// upper limit; bit 2: the input of the monitored channel is outside the limits.
     pub limit: u16,
 }
 
@@ -65,7 +65,7 @@ pub(crate) fn limit_word(limits: bool, below: bool, above: bool, outside: bool) 
     }
 }
 
-/// A mask if its condition holds, else 0.
+/// The mask if `holds` is true, else 0.
 fn mask_if(mask: u16, holds: bool) -> u16
     ensures { result ≡ (if holds then mask else 0) }
 {

@@ -21,7 +21,7 @@ use Rattle.sv_serve.specs.Sweep.{Sweeps}
 use Rattle.sv_serve.specs.Timed.{is_timed, time_events, handed_ticks}
 use Rattle.sv_serve.specs.Served.{Through, event_of, is_outer, IsServed}
 
--- Sweeps lead from one state of the driver to another, each with the milliseconds that it was given.
+-- Sweeps lead from one state of the driver to another, each with the milliseconds that pass in it.
 abbrev pub Swept : {W : Type 0} → (W → Heard → W → Type 0) → List ℕ → DriverState W → DriverState W → Type 0
 Swept hears [] start now = now ≡ start
 Swept hears (ticks ∷ passed) start now = (between : DriverState _) × Swept hears passed start between × Steps

@@ -7,7 +7,7 @@ use Rattle.sv_server.specs.Server.State.{State, StandsFor}
 use Rattle.sv_replay.specs.declared.entry.Entry.{Entry}
 
 -- The state of a driver: a server, a wire, which peer was called for the interrupt channel of each connection, the entries of the scenario
--- still to come, and how many milliseconds passed.
+-- still to come, and how many milliseconds have passed.
 pub record DriverState (W : Type 0) : Type 0 where
   pub server : State
   pub wire : W

@@ -7,7 +7,7 @@ use Rattle.sv_serve.specs.declared.wire.Answer.{Answer}
 use Rattle.sv_serve.specs.declared.wire.Answer.TheVariants.{Got, Pending, Failed}
 
 -- One call of a wire, with its answer. `most` is how many bytes a read asked for. A probe asks whether a connection that isn't read is
--- gone; with `drops` it discards what comes on it.
+-- gone; with `drops` it discards the bytes that come on the connection.
 pub data Heard : Type 0 where
   WasAccepted : (role : Role) (conn : Option ℕ) (answer : Answer ⊤) → Heard
   WasRead : (conn : ℕ) (most : ℕ) (answer : Answer (List ℕ)) → Heard

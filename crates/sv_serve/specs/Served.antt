@@ -52,7 +52,7 @@ abbrev pub Offers : ℕ → List Act → List Heard → Type 0
 Offers c log piece = (waiting (of c log) ≡ []) ⊎ ((more : List ℕ) × (answer : Answer ℕ) × (newer older : List Heard)
     × (piece ≡ newer ++ (WasWritten (Conn c) (waiting (of c log) ++ more) answer ∷ older)))
 
--- In a sweep a connection has its turn after all reads, and what waits then is given to the wire in the same sweep.
+-- In a sweep a connection has its turn after all reads, and the bytes that wait then are given to the wire in the same sweep.
 abbrev pub Serves : Config → ℕ → List PlainEvent → List PlainEvent → List Heard → Type 0
 Serves config c history events piece = (first turn behind : List PlainEvent) × (before after : List Act)
     × (events ≡ behind ++ (turn ++ first)) × AllByRecursion (λ event. (d : ℕ) (bytes : List ℕ) → event ≡ Bytes d bytes → ⊥) behind

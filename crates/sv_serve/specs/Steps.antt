@@ -68,7 +68,7 @@ abbrev pub ClosesIf : {W : Type 0} → (W → Heard → W → Type 0) → ℕ �
 ClosesIf hears c true = Closes hears c
 ClosesIf hears c false = Unchanged
 
--- What was read on a connection is given to the server; if reading failed, the connection is closed.
+-- The bytes that were read on a connection are given to the server; if reading failed, the connection is closed.
 abbrev pub Comes : {W : Type 0} → (W → Heard → W → Type 0) → ℕ → Answer (List ℕ) → Config → DriverView W → DriverView W → Type 0
 Comes hears c (Got bytes) = IsApplied (Bytes c bytes)
 Comes hears c Pending = Unchanged
@@ -89,7 +89,7 @@ ProbesIf hears c false config before after = after ≡ before
 ProbesIf hears c true config before after = (drops : Bool) × (answer : Answer ⊤) × IsOverlong c config before drops
     × (Hears hears (WasProbed c drops answer) then Drops hears c answer) config before after
 
--- An open connection without room isn't read, but the wire is asked whether it is gone. What comes after a record that is too long is
+-- An open connection without room isn't read, but the wire is asked whether it is gone. Bytes after a record that is too long are
 -- discarded.
 abbrev pub Probes : {W : Type 0} → (W → Heard → W → Type 0) → ℕ → Config → DriverView W → DriverView W → Type 0
 Probes hears c config before after = (opened : Bool) × IsOpen (Conn c) config before opened × ProbesIf hears c opened config before after
@@ -128,19 +128,19 @@ abbrev pub is_wanted : Dial → Option Dial → Bool
 is_wanted called (Some wanted) = (called.addr == wanted.addr) && (called.port == wanted.port)
 is_wanted called None = false
 
--- A peer that was called is kept if the flag is true, and let go if it is false.
+-- A peer that was called is kept if the flag is true, and dropped if it is false.
 abbrev pub KeepsCall : {W : Type 0} → (W → Heard → W → Type 0) → ℕ → Bool → Config → DriverView W → DriverView W → Type 0
 KeepsCall hears c true = Unchanged
 KeepsCall hears c false = ClosesChannel hears c
 
--- A peer that was called is let go, unless its interrupt channel is open or it is still wanted.
+-- A peer that was called is dropped, unless its interrupt channel is open or it is still wanted.
 abbrev pub CancelsUnwanted : {W : Type 0} → (W → Heard → W → Type 0) → ℕ → Option Dial → Config → DriverView W → DriverView W → Type 0
 CancelsUnwanted hears c None config before after = after ≡ before
 CancelsUnwanted hears c (Some called) config before after = (channel : Bool) × (wanted : Option Dial) × IsOpen
     (Intr c) config before channel
     × Wants c config before wanted × KeepsCall hears c (channel || is_wanted called wanted) config before after
 
--- The peer that was called for a connection's interrupt channel is let go, unless the channel is open or the peer is still wanted.
+-- The peer that was called for a connection's interrupt channel is dropped, unless the channel is open or the peer is still wanted.
 abbrev pub LetsGo : {W : Type 0} → (W → Heard → W → Type 0) → ℕ → Config → DriverView W → DriverView W → Type 0
 LetsGo hears c config before after = CancelsUnwanted hears c (called_of c before) config before after
 
@@ -170,7 +170,7 @@ abbrev pub Calls : {W : Type 0} → (W → Heard → W → Type 0) → ℕ → C
 Calls hears c config before after =
     (wanted : Option Dial) × Wants c config before wanted × CallsFor hears c wanted (called_of c before) config before after
 
--- A peer that isn't wanted any more is let go, and one that is wanted is called.
+-- A peer that isn't wanted any more is dropped, and one that is wanted is called.
 abbrev pub Dials : {W : Type 0} → (W → Heard → W → Type 0) → ℕ → Config → DriverView W → DriverView W → Type 0
 Dials hears c = LetsGo hears c then Calls hears c
 
@@ -196,13 +196,13 @@ abbrev pub WritesTo : {W : Type 0} → (W → Heard → W → Type 0) → Port �
 WritesTo hears port config before after =
     (bytes : List ℕ) × Waits port config before bytes × WritesAll hears port bytes config before after
 
--- If the flag is true, the connection is at fault, and is closed once nothing waits on it.
+-- If the flag is true, the connection is at fault, and is closed once no bytes wait on it.
 abbrev pub EndsIf : {W : Type 0} → (W → Heard → W → Type 0) → ℕ → Bool → Config → DriverView W → DriverView W → Type 0
 EndsIf hears c false config before after = after ≡ before
 EndsIf hears c true config before after =
     (bytes : List ℕ) × Waits (Conn c) config before bytes × ClosesIf hears c (length bytes == 0) config before after
 
--- If the server says that a connection is at fault, the connection is closed once nothing waits on it.
+-- If the server says that a connection is at fault, the connection is closed once no bytes wait on it.
 abbrev pub Ends : {W : Type 0} → (W → Heard → W → Type 0) → ℕ → Config → DriverView W → DriverView W → Type 0
 Ends hears c config before after =
     (faulted : Bool) × IsFaulted c config before faulted × EndsIf hears c faulted config before after

@@ -36,7 +36,7 @@ PlaysIf false config before after = (after ≡ before) × IsNoneDue after.ticks 
 abbrev pub Plays : {W : Type 0} → Config → DriverView W → DriverView W → Type 0
 Plays config before after = (n : ℕ) × ForEach n (λ i. PlaysOne) config before after × IsNoneDue after.ticks after.ahead
 
--- the highest count of ticks that a driver keeps
+-- the highest count of ticks that a driver can have
 abbrev pub most_ticks : ℕ
 most_ticks = 18446744073709551615
 
@@ -54,8 +54,8 @@ TicksOnce config before after = (result : Result Did Refused) × (Given Tick res
 abbrev pub Passes : {W : Type 0} → ℕ → Config → DriverView W → DriverView W → Type 0
 Passes ticks = ForEach ticks (λ i. Plays then TicksOnce) then Plays
 
--- A sweep: a connection is accepted on each of the three ports; then each connection is read; then each takes a call; then peers are
--- called; then time passes; then what waits is written, on connections first; then connections at fault are closed.
+-- A sweep: a connection is accepted on each of the three ports; then each connection is read; then a call of each is taken; then peers are
+-- called; then time passes; then the bytes that wait are written, first those of connections; then connections at fault are closed.
 abbrev pub Sweeps : {W : Type 0} → (W → Heard → W → Type 0) → ℕ → Config → DriverView W → DriverView W → Type 0
 Sweeps hears ticks = Accepts hears Core then Accepts hears Abort then Accepts hears Portmap then ForEach 16 (ReadsFrom hears)
     then ForEach 16 Turns then ForEach 16 (Dials hears) then Passes ticks then ForEach 16 (λ c. WritesTo hears (Conn c))

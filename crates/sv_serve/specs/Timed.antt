@@ -1,4 +1,4 @@
--- What time brings: ticks, and the entries of a scenario.
+-- The events that come as time passes: ticks, and the entries of a scenario.
 use Rattle.std.specs.Prelude.{ℕ, zero, suc, ◌==◌, Bool, true, false, List, [], ◌∷◌, ◌++◌, ◌+◌, if◌then◌else◌}
 use Rattle.sv_history.specs.Event.{PlainEvent, Input, External, Tick}
 use Rattle.sv_replay.specs.Entry.{stimulus_event}
@@ -18,7 +18,7 @@ abbrev pub time_events : ℕ → List Entry → List PlainEvent
 time_events zero entries = entry_events 0 entries
 time_events (suc n) entries = entry_events (suc n) entries ++ Tick ∷ time_events n entries
 
--- how many milliseconds sweeps were given in total
+-- how many milliseconds pass in all these sweeps
 abbrev pub handed_ticks : List ℕ → ℕ
 handed_ticks [] = 0
 handed_ticks (ticks ∷ passed) = handed_ticks passed + ticks

@@ -13,7 +13,7 @@ use crate::wire::{Answer, Wire};
 use std::alloc::Allocator;
 use sv_server::{Dial, Event, Port};
 
-/// Whether this peer is still wanted.
+/// Whether the peer that was called is the one that is still wanted.
 fn is_wanted(called: Dial, wanted: Option<Dial>) -> bool
     ensures { result ≡ is_wanted called wanted }
 {
@@ -36,7 +36,7 @@ impl<W: Wire + Drop, A: Allocator> Driver<W, A> {
         }
     }
 
-    /// Connects to the peer of a connection, or drops it.
+    /// Connects to the peer of a connection's interrupt channel, or drops it.
     fn dial(&mut self, conn: u8)
         requires { conn < 16 }
         ensures { Steps (Dials W.hears conn) self.old self.new }
@@ -45,7 +45,7 @@ impl<W: Wire + Drop, A: Allocator> Driver<W, A> {
         self.call(conn);
     }
 
-    /// Drops the peer of a connection, unless its channel is open or it is still wanted.
+    /// Drops the peer of a connection, unless its channel is open or the peer is still wanted.
     fn cancel_unwanted(&mut self, conn: u8)
         requires { conn < 16 }
         ensures { Steps (LetsGo W.hears conn) self.old self.new }
@@ -54,7 +54,7 @@ impl<W: Wire + Drop, A: Allocator> Driver<W, A> {
         self.cancel_if_unwanted(conn, called);
     }
 
-    /// Drops a peer that was called, if it isn't wanted any more.
+    /// Drops the peer that was called for a connection, if it isn't wanted any more.
     fn cancel_if_unwanted(&mut self, conn: u8, called: Option<Dial>)
         requires { conn < 16 }
         ensures { Steps (CancelsUnwanted W.hears conn called) self.old self.new }
@@ -69,7 +69,7 @@ impl<W: Wire + Drop, A: Allocator> Driver<W, A> {
         }
     }
 
-    /// Drops the peer, unless this is so.
+    /// Drops the peer of a connection, unless `keeps` is true.
     fn keep_call(&mut self, conn: u8, keeps: bool)
         requires { conn < 16 }
         ensures { Steps (KeepsCall W.hears conn keeps) self.old self.new }
@@ -90,7 +90,7 @@ impl<W: Wire + Drop, A: Allocator> Driver<W, A> {
         self.call_for(conn, wanted, called);
     }
 
-    /// Calls a peer that wasn't called, or asks whether it answered.
+    /// Calls the wanted peer, if it wasn't called; else asks whether it answered.
     fn call_for(&mut self, conn: u8, wanted: Option<Dial>, called: Option<Dial>)
         requires { conn < 16 }
         ensures { From (λ (config : Config) (at : DriverView W). Wants conn config at wanted)
@@ -109,14 +109,14 @@ impl<W: Wire + Drop, A: Allocator> Driver<W, A> {
         }
     }
 
-    /// Calls a peer.
+    /// Asks the wire to call a peer.
     fn start_connect(&mut self, conn: u8, dial: Dial) -> Answer<()>
         ensures { Steps (Hears W.hears (WasDialed conn dial result)) self.old self.new }
     {
         self.wire.dial(conn, dial)
     }
 
-    /// Asks whether a peer answered.
+    /// Asks the wire whether a peer answered.
     fn poll_connect(&mut self, conn: u8) -> Answer<()>
         ensures { Steps (Hears W.hears (PeerAnswered conn result)) self.old self.new }
     {
@@ -141,7 +141,7 @@ impl<W: Wire + Drop, A: Allocator> Driver<W, A> {
         }
     }
 
-    /// Remembers which peer it called for a connection.
+    /// Remembers which peer was called for a connection.
     fn remember(&mut self, conn: u8, dial: Dial)
         requires { conn < 16 }
         ensures { Steps (Remembers conn (Some dial)) self.old self.new }

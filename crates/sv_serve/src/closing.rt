@@ -29,14 +29,14 @@ impl<W: Wire + Drop, A: Allocator> Driver<W, A> {
         }
     }
 
-    /// Closes a socket.
+    /// Asks the wire to close a socket.
     fn shut(&mut self, port: Port)
         ensures { Steps (Hears W.hears (WasClosed port)) self.old self.new }
     {
         self.wire.close(port);
     }
 
-    /// Forgets which peer it called for a connection.
+    /// Forgets which peer was called for a connection.
     fn forget(&mut self, conn: u8)
         requires { conn < 16 }
         ensures { Steps (Remembers conn None) self.old self.new }
@@ -56,7 +56,7 @@ impl<W: Wire + Drop, A: Allocator> Driver<W, A> {
         self.apply(Event::Close { port });
     }
 
-    /// Closes each connection at fault on which nothing waits.
+    /// Closes each connection at fault that has no bytes left to send.
     pub(crate) fn end_each(&mut self)
         ensures { Steps (ForEach 16 (Ends W.hears)) self.old self.new }
     {
@@ -68,7 +68,7 @@ impl<W: Wire + Drop, A: Allocator> Driver<W, A> {
         }
     }
 
-    /// Closes a connection at fault, if nothing waits on it.
+    /// Closes a connection at fault, if it has no bytes left to send.
     fn end(&mut self, conn: u8)
         requires { conn < 16 }
         ensures { Steps (Ends W.hears conn) self.old self.new }
@@ -77,7 +77,7 @@ impl<W: Wire + Drop, A: Allocator> Driver<W, A> {
         self.end_if(conn, faulted);
     }
 
-    /// Closes a connection on which nothing waits, if this is so.
+    /// Closes a connection that has no bytes left to send, if `so` is true.
     fn end_if(&mut self, conn: u8, so: bool)
         requires { conn < 16 }
         ensures { From (λ (config : Config) (at : DriverView W). IsFaulted conn config at so)
@@ -89,7 +89,7 @@ impl<W: Wire + Drop, A: Allocator> Driver<W, A> {
         }
     }
 
-    /// Closes a connection, if this is so.
+    /// Closes a connection, if `so` is true.
     fn close_if(&mut self, conn: u8, so: bool)
         requires { conn < 16 }
         ensures { From (λ (config : Config) (at : DriverView W). IsOpen (Conn conn) config at true)

@@ -17,24 +17,24 @@ use sv_server::{Dial, Did, Event, Refused, Server};
 
 /// How many connections there may be.
 pub(crate) const CONNECTIONS: u8 = 16;
-/// How many bytes are read at once, at most.
+/// How many bytes one read asks for, at most.
 const PIECE: usize = 16_384;
 
-/// A server after a wire, at which a scenario is played.
+/// A server and the wire to its peers, with a scenario that is played to the server.
 #[derive(Drop)]
 pub struct Driver<W: Wire + Drop, A: Allocator = Global> {
     pub(crate) server: Server<A>,
     pub(crate) wire: W,
-    /// The peer that it called for the interrupt channel of each connection.
+    /// The peer that was called for the interrupt channel of each connection.
     pub(crate) called: [Option<Dial>; 16],
-    /// It never called a peer for a connection of this number or above.
+    /// No peer was ever called for a connection of this number or above.
     pub(crate) dial_limit: u8,
     pub(crate) scenario: Vec<Entry, A>,
     /// How many entries of the scenario were played.
     pub(crate) next: usize,
-    /// How many milliseconds passed.
+    /// How many milliseconds have passed.
     pub(crate) ticks: u64,
-    /// Where bytes are read into.
+    /// The buffer into which bytes are read.
     pub(crate) buffer: Vec<u8, A>,
 }
 
@@ -58,8 +58,8 @@ impl<W: Wire + Drop, A: Allocator> Model for Driver<W, A> {
 }
 
 impl<W: Wire + Drop, A: Allocator> Driver<W, A> {
-    /// A driver at the beginning of its scenario, which called nobody yet. It allocates its read
-    /// buffer.
+    /// A driver at the beginning of its scenario, which has called no peer yet. It allocates its
+    /// read buffer.
     ///
     /// # Errors
     /// If memory is refused.
@@ -122,7 +122,7 @@ impl<W: Wire + Drop, A: Allocator> Driver<W, A> {
         self.is_unused(conn) && conn >= self.dial_limit
     }
 
-    /// Applies an event that fits the server's answers: it succeeds.
+    /// Applies an event that fits the server's current answers, so that it isn't refused.
     pub(crate) fn apply(&mut self, event: Event<'_>)
         ensures { From (IsSuited (plain event.entry)) (IsApplied (plain event.entry))
             self.old self.new }

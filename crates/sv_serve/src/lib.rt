@@ -1,5 +1,5 @@
-//! A driver: what stands between a server and its sockets. In a sweep each socket is asked once,
-//! and its answers are applied to the server.
+//! A driver connects a server with its sockets. In a sweep it asks each socket once, and applies
+//! the answers to the server.
 #![tactic(auto)]
 
 mod accepting;

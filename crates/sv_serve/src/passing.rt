@@ -10,7 +10,8 @@ use std::alloc::Allocator;
 use sv_server::{Did, Event, Refused};
 
 impl<W: Wire + Drop, A: Allocator> Driver<W, A> {
-    /// Lets so many milliseconds pass, with what is due before each of them and after the last one.
+    /// Lets this number of milliseconds pass. The entries of the scenario that are due are applied
+    /// before each of them and after the last one.
     pub(crate) fn pass(&mut self, ticks: u32)
         ensures { Steps (Passes ticks) self.old self.new }
     {
@@ -28,7 +29,7 @@ impl<W: Wire + Drop, A: Allocator> Driver<W, A> {
         while self.play_one() {}
     }
 
-    /// Plays the next entry, if it is due; false if it isn't.
+    /// Plays the next entry of the scenario, if it is due, and returns whether it was.
     fn play_one(&mut self) -> bool
         ensures goes { Steps (PlaysIf result) self.old self.new }
         ensures measure { result ≡ true → length self.new.ahead < length self.old.ahead }
@@ -53,7 +54,7 @@ impl<W: Wire + Drop, A: Allocator> Driver<W, A> {
         self.count(answer);
     }
 
-    /// Counts a millisecond, if it wasn't refused.
+    /// Counts a millisecond, unless the server refused it.
     fn count(&mut self, answer: Result<Did, Refused>)
         ensures { Steps (Counts answer) self.old self.new }
     {

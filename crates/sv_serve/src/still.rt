@@ -13,9 +13,9 @@ use crate::wire::Wire;
 use std::alloc::Allocator;
 
 impl<W: Wire + Drop, A: Allocator> Driver<W, A> {
-    /// Whether nothing waits for time to pass within so many milliseconds: no scan is under way, no
-    /// suspended call has a deadline in them, and no entry of the scenario is due. Then the caller
-    /// may sleep that long, and let them pass in a later sweep.
+    /// Whether nothing becomes due within this number of milliseconds: no scan is under way, no
+    /// suspended call reaches its deadline, and no entry of the scenario is due. Then the caller
+    /// may sleep that long, and let these milliseconds pass in a later sweep.
     pub fn is_still(&self, ticks: u32) -> bool
         ensures { (config : Config) (history : List PlainEvent)
             → StandsFor self.now.server config history
@@ -31,7 +31,7 @@ impl<W: Wire + Drop, A: Allocator> Driver<W, A> {
         self.scenario.get(self.next).is_none()
     }
 
-    /// Whether an entry of the scenario is due within so many milliseconds.
+    /// Whether an entry of the scenario is due within this number of milliseconds.
     fn is_due_within(&self, ticks: u32) -> bool
         ensures { (result ≡ false) ↔ IsNoneDue (self.now.ticks + ticks) self.now.ahead }
     {

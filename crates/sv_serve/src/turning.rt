@@ -11,7 +11,7 @@ use crate::wire::Wire;
 use std::alloc::Allocator;
 use sv_server::{Did, Event, Refused};
 
-/// Whether this is out of memory.
+/// Whether an event was refused for lack of memory.
 fn is_no_memory(refused: Refused) -> bool
     ensures { result ≡ is_no_memory refused }
 {
@@ -40,7 +40,7 @@ impl<W: Wire + Drop, A: Allocator> Driver<W, A> {
         self.take(conn, ready);
     }
 
-    /// Takes a call of a connection, if this is so.
+    /// Takes a call of a connection, if `ready` is true.
     fn take(&mut self, conn: u8, ready: bool)
         requires { conn < 16 }
         ensures { Steps (TurnsIf conn ready) self.old self.new }
@@ -51,7 +51,7 @@ impl<W: Wire + Drop, A: Allocator> Driver<W, A> {
         }
     }
 
-    /// Refuses a call that found no memory: its connection stays.
+    /// Refuses a call for which there was no memory; its connection stays open.
     fn end_turn(&mut self, conn: u8, answer: Result<Did, Refused>)
         requires { conn < 16 }
         ensures { From (MayFindNone conn answer) (EndsTurn conn answer) self.old self.new }
@@ -62,7 +62,7 @@ impl<W: Wire + Drop, A: Allocator> Driver<W, A> {
         }
     }
 
-    /// Refuses the next call of a connection, if this is so.
+    /// Refuses the next call of a connection, if `so` is true.
     fn refuse_if(&mut self, conn: u8, so: bool)
         requires { conn < 16 }
         ensures { From (FindsNoneIf conn so) (RefusesIf conn so) self.old self.new }

@@ -7,23 +7,23 @@ use sv_server::{Dial, Port, Role};
 /// The answer of a wire, which comes at once.
 #[derive(Clone, Copy, Debug, PartialEq, Eq)]
 pub enum Answer<T> {
-    /// The call succeeded, with this.
+    /// The call succeeded, with this result.
     Got(T),
-    /// Nothing yet: ask again.
+    /// There is no result yet: ask again.
     Pending,
-    /// It failed, or the stream came to its end.
+    /// The call failed, or the stream came to its end.
     Failed,
 }
 
-/// What carries the bytes of connections and interrupt channels. No call of it blocks.
+/// What carries the bytes of connections and interrupt channels. No call of a wire blocks.
 pub trait Wire {
     ghost use Rattle.sv_serve.specs.Heard.{Heard, WasAccepted, WasRead, WasProbed, WasWritten, WasDialed, PeerAnswered, WasClosed, bytes_of, IsWithin};
     ghost use Rattle.std.specs.Prelude.{⊤};
 
-    /// What a call and its answer lead to; of the system's sockets nothing is known.
+    /// How a call and its answer change the wire; nothing is known of the system's sockets.
     ghost hears: { Self → Heard → Self → Type 0 } = { λ before heard after. ⊤ };
 
-    /// Accepts a connection of this role, under this number; with `None` it is dropped.
+    /// Accepts a connection of this role under this number; without a number, drops the connection.
     fn accept(&mut self, role: Role, conn: Option<u8>) -> Answer<()>
         ensures { hears self.old (WasAccepted role conn result) self.new };
 
@@ -33,9 +33,9 @@ pub trait Wire {
         ensures heard { let answer = bytes_of result buffer.new in
             hears self.old (WasRead conn (length buffer.old) answer) self.new };
 
-    /// Whether a connection without room, which isn't read, is gone: `Failed` if it was reset, or
-    /// closed in both directions. With `drops` what comes on it is read and discarded, and the end
-    /// of its stream is `Failed` too.
+    /// Whether a connection is gone that isn't read because it has no room: `Failed` if it was
+    /// reset, or closed in both directions. With `drops` its bytes are read and discarded, and the
+    /// end of its stream is `Failed` too.
     fn probe(&mut self, conn: u8, drops: bool) -> Answer<()>
         ensures { hears self.old (WasProbed conn drops result) self.new };
 

@@ -1,4 +1,4 @@
-//! Writing what waits.
+//! Writing the bytes that wait to be sent.
 
 ghost use Rattle.std.specs.Prelude.{◌≡◌, ◌<◌, ◌≤◌, ℕ};
 ghost use Rattle.sv_history.specs.declared.event.Port.TheVariants.{Conn, Intr};
@@ -13,7 +13,7 @@ use std::alloc::Allocator;
 use sv_server::{Event, Port};
 
 impl<W: Wire + Drop, A: Allocator> Driver<W, A> {
-    /// Writes what waits on each connection.
+    /// Writes the bytes that wait on each connection.
     pub(crate) fn write_connections(&mut self)
         ensures { Steps (ForEach 16 (λ (c : ℕ). WritesTo W.hears (Conn c))) self.old self.new }
     {
@@ -25,7 +25,7 @@ impl<W: Wire + Drop, A: Allocator> Driver<W, A> {
         }
     }
 
-    /// Writes what waits on each interrupt channel.
+    /// Writes the bytes that wait on each interrupt channel.
     pub(crate) fn write_channels(&mut self)
         ensures { Steps (ForEach 16 (λ (c : ℕ). WritesTo W.hears (Intr c))) self.old self.new }
     {
@@ -34,7 +34,7 @@ impl<W: Wire + Drop, A: Allocator> Driver<W, A> {
         }
     }
 
-    /// Writes what waits on a port, once.
+    /// Writes the bytes that wait on a port, once.
     #[inline(always)]
     fn write(&mut self, port: Port)
         requires { port_number port < 16 }
@@ -48,7 +48,7 @@ impl<W: Wire + Drop, A: Allocator> Driver<W, A> {
         self.leave(port, answer);
     }
 
-    /// Drops the bytes that were taken, or closes a port whose write failed.
+    /// Drops the bytes that the wire took, or closes the port if the write failed.
     fn leave(&mut self, port: Port, answer: Answer<usize>)
         requires number { port_number port < 16 }
         requires counted { (n : ℕ) → answer ≡ Answer.Got n → n < 4294967296 }

@@ -6,7 +6,7 @@ ghost use Rattle.std.specs.Prelude.{◌≡◌, ◌≤◌, ◌<◌, MatchOption};
 /// How many connections there may be.
 pub const CONNECTIONS: usize = 16;
 
-/// The number of a connection that there may be.
+/// The number of a connection, which was checked to be below 16.
 #[derive(Clone, Copy)]
 pub struct Conn {
     /// The number, below 16.
@@ -26,7 +26,7 @@ impl Conn {
         }
     }
 
-    /// Its place among all connections.
+    /// The index of the connection among all connections.
     pub fn index(self) -> usize
         ensures { result ≡ self.number }
     {

@@ -1,5 +1,5 @@
-//! A connection: its bytes in and out, what its next record asks for, and replies as they are sent.
-//! It knows nothing of the device, nor of other connections.
+//! A connection: its bytes in and out, the meaning of its next record, and the replies as they are
+//! sent. It knows nothing of the device, nor of other connections.
 
 ghost use Rattle.std.specs.Prelude.{◌≡◌, ◌≢◌, ◌+◌, ◌≤◌, ◌||◌, not, ◌&&◌, ℕ, List, [], ◌∷◌, length, IfOk, IsSome, Some, None, true, false, is_some, nat_lt, option_map, if◌then◌else◌};
 ghost use Rattle.sv_rpc.specs.RecordBuf.{StandsFor, room_of, no_records};
@@ -26,16 +26,17 @@ use sv_rpc::{RecordBuf, RpcFault};
 /// How many outgoing bytes may wait that the peer hasn't taken.
 const MAX_OUTPUT: usize = 16384;
 
-/// A connection, open or not: its role, what came, what waits to be sent. A call that was
-/// taken stays in its input until it is answered, and room for the longest reply is kept for it.
+/// A connection, open or not: its role, the bytes that came, and the bytes that wait to be sent. A
+/// call that was taken stays in the input until it is answered; room for the longest reply is kept
+/// free for it.
 #[derive(Drop)]
 pub struct Connection<A: Allocator> {
     role: Option<Role>,
     input: RecordBuf<A>,
     output: Vec<u8, A>,
-    /// Whether a record was taken that is no call.
+    /// Whether a record was taken that isn't a call.
     faulted: bool,
-    /// Whether the first record of the input is a call that was taken.
+    /// Whether the first record of the input is a call that was taken already.
     busy: bool,
 }
 
@@ -84,7 +85,7 @@ impl<A: Allocator> Connection<A> {
         self.role
     }
 
-    /// Whether it is open.
+    /// Whether the connection is open.
     pub fn is_open(&self) -> bool
         ensures value { result ≡ is_some self.now.role }
         ensures shut { result ≡ false → self.now.busy ≡ false }
@@ -92,7 +93,7 @@ impl<A: Allocator> Connection<A> {
         self.role.is_some()
     }
 
-    /// The bytes that wait to be sent; none if it isn't open.
+    /// The bytes that wait to be sent; none if the connection isn't open.
     pub fn waiting(&self) -> &[u8]
         ensures within { length result.now ≤ length self.now.output }
         ensures bounded { length result.now ≤ max_output }
@@ -105,7 +106,7 @@ impl<A: Allocator> Connection<A> {
         }
     }
 
-    /// Opens it, empty.
+    /// Opens the connection, without bytes in or out.
     pub fn open(&mut self, role: Role)
         ensures { (acts : List ConnAct) → IsConnection self.old acts
             → IsConnection self.new (Opened role ∷ acts) }
@@ -114,7 +115,7 @@ impl<A: Allocator> Connection<A> {
         self.role = Some(role);
     }
 
-    /// Closes it, and drops what waits.
+    /// Closes the connection, and drops its bytes in and out.
     pub fn close(&mut self)
         ensures { (acts : List ConnAct) → IsConnection self.old acts
             → IsConnection self.new (PortClosed ∷ acts) }
@@ -123,7 +124,7 @@ impl<A: Allocator> Connection<A> {
         self.role = None;
     }
 
-    /// Drops all that came and waits.
+    /// Drops the bytes that came, and those that wait to be sent.
     fn empty(&mut self)
         ensures value { self.new ≡ record self.old {
           input = no_records;
@@ -139,7 +140,7 @@ impl<A: Allocator> Connection<A> {
         self.busy = false;
     }
 
-    /// How many bytes it has room for; 0 if it isn't open.
+    /// How many bytes the connection has room for; 0 if it isn't open.
     pub fn room(&self) -> usize
         ensures bounded { result ≤ room_of self.now.input }
         ensures answer { (acts : List ConnAct) → IsConnection self.now acts → result ≡ room acts }
@@ -159,7 +160,7 @@ impl<A: Allocator> Connection<A> {
         self.input.push(piece);
     }
 
-    /// Drops the bytes that the peer took.
+    /// Drops the first `count` bytes that wait: the peer took them.
     pub fn took(&mut self, count: usize)
         requires { count ≤ length self.old.output }
         ensures { (acts : List ConnAct) → IsConnection self.old acts
@@ -168,8 +169,8 @@ impl<A: Allocator> Connection<A> {
         drop_front(&mut self.output, count);
     }
 
-    /// Whether a record was taken that is no call, or all records before one that is too long
-    /// are done.
+    /// Whether a record was taken that isn't a call, or a record is too long and all records before
+    /// it are done.
     pub fn is_faulted(&self) -> bool
         ensures { (acts : List ConnAct) → IsConnection self.now acts → result ≡ is_faulted acts }
     {
@@ -179,7 +180,7 @@ impl<A: Allocator> Connection<A> {
         }
     }
 
-    /// Whether a record came that is too long, so that nothing after it is taken in.
+    /// Whether a record came that is too long. No bytes after it are taken in.
     pub fn is_overlong(&self) -> bool
         ensures { (acts : List ConnAct) → IsConnection self.now acts → result ≡ is_overlong acts }
     {
@@ -195,14 +196,14 @@ impl<A: Allocator> Connection<A> {
         self.first_call()
     }
 
-    /// Whether no call is there to be taken.
+    /// Whether there is no call to take.
     pub fn is_idle(&self) -> bool
         ensures { (acts : List ConnAct) → IsConnection self.now acts → result ≡ is_idle acts }
     {
         self.next_call().is_none()
     }
 
-    /// The first record, unless it was taken already, or a record was no call.
+    /// The first record, unless it was taken already, or a record wasn't a call.
     fn first_call(&self) -> Option<&[u8]>
         ensures { option_map (λ call. call.now) result ≡ kept_next self.now }
     {
@@ -229,7 +230,8 @@ impl<A: Allocator> Connection<A> {
         }
     }
 
-    /// The same, if it is one of the core channel, read once more as when it was taken.
+    /// The call that was taken and isn't answered, if it is one of the core channel. Its record is
+    /// read again, with the same result as when it was taken.
     pub fn taken_call(&self) -> Option<CoreCall<'_>>
         ensures { (acts : List ConnAct) → IsConnection self.now acts
             → option_map plain_core_call result ≡ core_call_in (pending_call acts) }
@@ -271,7 +273,8 @@ impl<A: Allocator> Connection<A> {
         self.busy = false;
     }
 
-    /// The record that was taken, if there is one, is no call.
+    /// Drops the record that was taken, if there is one. It isn't a call: the connection is at
+    /// fault.
     pub fn fault(&mut self)
         ensures { (acts : List ConnAct) → IsConnection self.old acts → is_busy acts ≡ true
             → IsConnection self.new (Faulted ∷ acts) }

@@ -1,6 +1,6 @@
-//! The device: what all connections share, which is links, the lock, suspended calls, interrupt
-//! channels, the instrument and the clock, and what each call does to them. It knows no connection
-//! but by its number, and no bytes of a call but its arguments.
+//! The device is what all connections share: links, the lock, suspended calls, interrupt channels,
+//! the instrument and the clock. Here is what each call does to them. Of a connection the device
+//! knows only the number, and of a call only the arguments.
 
 ghost use Rattle.std.specs.Prelude.{◌≡◌, ◌↔◌, ◌+◌, ◌<◌, ◌≤◌, ℕ, List, [], ◌∷◌, ◌++◌, length, map, option_map, Some, None, is_some, IfOk, IfSome, IsTrue, ◌==◌, true, false};
 ghost use Rattle.sv_links.specs.Links.{closing};
@@ -108,7 +108,7 @@ impl<A: Allocator> Device<A> {
         self.clock == LAST_CLOCK
     }
 
-    /// Whether nothing waits for time to pass within so many milliseconds.
+    /// Whether nothing becomes due within this number of milliseconds.
     pub fn is_still(&self, ticks: u32) -> bool
         ensures { (config : Config) (acts : List DeviceAct) → IsDevice self.now config acts
             → (result ≡ true) ↔ IsStill ticks config acts }
@@ -117,7 +117,7 @@ impl<A: Allocator> Device<A> {
         !self.instrument.is_scanning() && self.waiting.expired(last).is_none()
     }
 
-    /// A millisecond passes, and in a scan the next channel is read.
+    /// Lets a millisecond pass: if a scan is under way, its next channel is read.
     pub fn tick(&mut self)
         requires { (self.old.clock == 9223372036854775807) ≡ false }
         ensures stands { (config : Config) (acts : List DeviceAct) → IsDevice self.old config acts
@@ -140,7 +140,7 @@ impl<A: Allocator> Device<A> {
         self.raise(raised);
     }
 
-    /// A trigger at the trigger input.
+    /// Applies a trigger at the trigger input.
     pub fn external(&mut self)
         ensures stands { (config : Config) (acts : List DeviceAct) → IsDevice self.old config acts
             → IsDevice self.new config
@@ -206,7 +206,7 @@ impl<A: Allocator> Device<A> {
         self.waiting.expired(self.clock)
     }
 
-    /// The call of a connection isn't suspended any more.
+    /// Ends the suspension of a connection's call.
     pub fn end_wait(&mut self, conn: Conn)
         ensures stands { (config : Config) (acts : List DeviceAct) → IsDevice self.old config acts
             → IsDevice self.new config (Waited (Left conn.number) ∷ acts) }
@@ -215,7 +215,8 @@ impl<A: Allocator> Device<A> {
         self.waiting.leave(conn.number);
     }
 
-    /// So many requests for service were raised by what the instrument did.
+    /// Sends on interrupt channels the requests for service that the instrument raised; `raised` is
+    /// their number.
     fn raise(&mut self, raised: u8)
         ensures stands { (config : Config) (acts : List DeviceAct) (adds : List InstrumentAct)
             → HasDone adds self.old config acts → Raise adds (instrument_acts acts) raised
@@ -228,7 +229,8 @@ impl<A: Allocator> Device<A> {
         }
     }
 
-    /// The same, if the instrument did something. Returns whether it did.
+    /// If the instrument did something (`Some`), sends the requests for service that it raised.
+    /// Returns whether it did.
     fn raise_if(&mut self, raised: Option<u8>) -> bool
         ensures some { (count : ℕ) → raised ≡ Some count → (config : Config)
             (acts : List DeviceAct) (adds : List InstrumentAct)
@@ -248,7 +250,7 @@ impl<A: Allocator> Device<A> {
         }
     }
 
-    /// An immediate trigger, if one is due. Returns whether one was.
+    /// Applies an immediate trigger, if one is due. Returns whether one was.
     pub fn fire(&mut self) -> bool
         ensures steps { (config : Config) (acts : List DeviceAct) → IsDevice self.old config acts
             → InstrumentSteps IsFired result config acts self.old self.new }
@@ -261,7 +263,7 @@ impl<A: Allocator> Device<A> {
         self.raise_if(fired)
     }
 
-    /// A step of message exchange, if one is due. Returns whether one was.
+    /// Takes a step of message exchange, if one is due. Returns whether one was.
     pub fn exchange(&mut self) -> bool
         ensures steps { (config : Config) (acts : List DeviceAct) → IsDevice self.old config acts
             → InstrumentSteps IsStep result config acts self.old self.new }

@@ -1,9 +1,9 @@
 //! The server: events go in, and the bytes of every reply come out.
 //!
-//! There are four rooms; the first file of each says what it is for. [`device`] is what all
+//! It has four parts, and the first file of each says what it is for. [`device`] is what all
 //! connections share, [`connection`] is one connection, [`server`] joins them, [`replay`] prints.
-//! The first two know nothing of each other; below them is [`conn`], the number of a connection.
-//! What the server is to do is specified in `sv_history`.
+//! The first two don't use each other; both use [`conn`], the number of a connection. What the
+//! server has to do is specified in `sv_history`.
 #![tactic(auto)]
 
 mod conn;

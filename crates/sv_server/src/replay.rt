@@ -1,5 +1,5 @@
-//! The replay of an event: it is applied, and what then waits is printed and taken. It uses only
-//! what any caller of the server may.
+//! The replay of an event: the event is applied, and the bytes that then wait are printed, and
+//! count as taken by the peers. It uses only what every caller of the server may use.
 
 ghost use Rattle.std.specs.Prelude.{◌≡◌, ℕ, List};
 ghost use Rattle.std.specs.Io.KnownBytes.{Appends};
@@ -46,11 +46,12 @@ impl From<WriteFault> for ReplayFault {
 
 impl<A: Allocator> Server<A> {
     /// Applies an event and writes what follows from it: `refused` and the number of the refusal,
-    /// if it was refused; then a line for each port on which bytes wait, which the peer takes.
+    /// if it was refused; then, for each port on which bytes wait, a line with these bytes, which
+    /// count as taken by the peer.
     ///
     /// # Errors
-    /// `NoMemory` if memory was refused to the event; then `refused 1` is all that is written.
-    /// `Write` if the writer failed; then nothing is taken that wasn't written.
+    /// `NoMemory` if there was no memory for the event; then only `refused 1` is written. `Write`
+    /// if the writer failed; then no bytes count as taken that weren't written.
     pub fn replay<W: Write>(&mut self, event: Event<'_>, writer: &mut W) -> Result<(), ReplayFault>
         ensures { (config : Config) (history : List PlainEvent) → StandsFor self.old config history
             → (text : List ℕ) × (after : List PlainEvent)
@@ -74,7 +75,7 @@ impl<A: Allocator> Server<A> {
         }
     }
 
-    /// Writes the lines of all ports, and takes what they show.
+    /// Writes the lines of all ports, and drops the bytes that they show.
     fn show_all<W: Write>(&mut self, writer: &mut W) -> Result<(), WriteFault>
         ensures { (config : Config) (history : List PlainEvent) (channel_log : List ChannelAct)
             (log : List Act) → StandsBy self.old config history channel_log log
@@ -87,7 +88,7 @@ impl<A: Allocator> Server<A> {
         Ok(())
     }
 
-    /// Writes the line of a port, and takes what it shows.
+    /// Writes the line of a port, and drops the bytes that it shows.
     fn show<W: Write>(&mut self, port: Port, writer: &mut W) -> Result<(), WriteFault>
         ensures { (config : Config) (history : List PlainEvent) (channel_log : List ChannelAct)
             (log : List Act) → StandsBy self.old config history channel_log log
@@ -104,7 +105,7 @@ impl<A: Allocator> Server<A> {
     }
 }
 
-/// Whether this is out of memory.
+/// Whether an event was refused for lack of memory.
 fn is_no_memory(refused: Refused) -> bool
     ensures { result ≡ is_no_memory refused }
 {

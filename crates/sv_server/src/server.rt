@@ -76,7 +76,7 @@ fn connections<A: Allocator + Copy>(alloc: A) -> Result<Vec<Connection<A>, A>, A
 }
 
 impl<A: Allocator> Server<A> {
-    /// A server with an empty history. It allocates all the memory that it ever uses, but for that
+    /// A server with an empty history. It allocates all the memory that it ever uses, except that
     /// of links and interrupt channels.
     ///
     /// # Errors
@@ -94,7 +94,7 @@ impl<A: Allocator> Server<A> {
         })
     }
 
-    /// The bytes that wait to be sent on a port, in order; none if it isn't open.
+    /// The bytes that wait to be sent on a port, in order; none if the port isn't open.
     pub fn waiting(&self, port: Port) -> &[u8]
         ensures waiting { (config : Config) (history : List PlainEvent)
             → StandsFor self.now config history → WaitOn port config history result.now }
@@ -130,7 +130,8 @@ impl<A: Allocator> Server<A> {
         }
     }
 
-    /// Whether a connection or an interrupt channel is open. None above 15 ever is.
+    /// Whether a connection or an interrupt channel is open. None with a number above 15 is ever
+    /// open.
     pub fn is_open(&self, port: Port) -> bool
         ensures { (config : Config) (history : List PlainEvent) → StandsFor self.now config history
             → Answered (λ log. not (is_port_shut port log)) config history result }
@@ -152,8 +153,8 @@ impl<A: Allocator> Server<A> {
         }
     }
 
-    /// Whether there is a call for a Turn to take. The Turn is still refused if its reply may not
-    /// fit.
+    /// Whether there is a call for a Turn to take. The Turn is still refused if there may be no
+    /// room for its reply.
     pub fn ready(&self, conn: u8) -> bool
         ensures { (config : Config) (history : List PlainEvent) → StandsFor self.now config history
             → Answered (λ log. not (is_idle (of conn log))) config history result }
@@ -164,7 +165,7 @@ impl<A: Allocator> Server<A> {
         }
     }
 
-    /// Whether the connection can only be closed: a record that is no call was taken, or a record
+    /// Whether the connection can only be closed: a record was taken that isn't a call, or a record
     /// that is too long came and all records before it are done.
     pub fn faulted(&self, conn: u8) -> bool
         ensures { (config : Config) (history : List PlainEvent) → StandsFor self.now config history
@@ -188,8 +189,8 @@ impl<A: Allocator> Server<A> {
         }
     }
 
-    /// One more than the highest number of a connection that was ever opened; 0 if none was. On the
-    /// others there is nothing to do.
+    /// One more than the highest number of a connection that was ever opened; 0 if none was.
+    /// Connections from this number on have nothing to do.
     pub fn connections_used(&self) -> u8
         ensures { (config : Config) (history : List PlainEvent) → StandsFor self.now config history
             → (log : List Act) × IsLogOf config history log × IsUsed result log }
@@ -197,8 +198,8 @@ impl<A: Allocator> Server<A> {
         self.connections_used
     }
 
-    /// Whether nothing waits for time to pass within so many milliseconds: no scan is under way,
-    /// and no suspended call has a deadline in them. Until something else happens, these ticks
+    /// Whether nothing becomes due within this number of milliseconds: no scan is under way, and no
+    /// suspended call reaches its deadline. Unless something else happens, these milliseconds
     /// change nothing but the clock.
     pub fn is_still(&self, ticks: u32) -> bool
         ensures { (config : Config) (history : List PlainEvent) → StandsFor self.now config history
@@ -207,7 +208,7 @@ impl<A: Allocator> Server<A> {
         self.device.is_still(ticks)
     }
 
-    /// The connection of this number; `None` above 15, where nothing is ever recorded.
+    /// The connection of this number; `None` above 15, for which nothing is ever recorded.
     pub(crate) fn connection(&self, conn: u8) -> Option<&Connection<A>>
         ensures { (config : Config) (log : List Act) → Represents self.now config log
             → MatchOption result (of conn log ≡ [])
@@ -298,7 +299,7 @@ impl<A: Allocator> Server<A> {
         Ok(Did::Done)
     }
 
-    /// A millisecond passes.
+    /// Lets a millisecond pass.
     fn tick(&mut self) -> Result<Did, Refused>
         ensures acts { (config : Config) (log : List Act) → Represents self.old config log
             → Acts config Tick log result self.new }
@@ -326,7 +327,7 @@ impl<A: Allocator> Server<A> {
         }
     }
 
-    /// A trigger at the trigger input.
+    /// Applies a trigger at the trigger input.
     fn external(&mut self) -> Result<Did, Refused>
         ensures acts { (config : Config) (log : List Act) → Represents self.old config log
             → Acts config External log result self.new }
@@ -368,7 +369,7 @@ impl<A: Allocator> Server<A> {
         }
     }
 
-    /// Ends the suspended call of a connection by device_abort; of no connection if it is `None`.
+    /// Ends the suspended call of this connection by device_abort; no call if there is no number.
     fn abort(&mut self, aborts: Option<u8>)
         ensures { (config : Config) (log : List Act) → Represents self.old config log
             → ((conn : ℕ) → aborts ≡ Some conn → waits conn (wait_acts (device_acts log)) ≡ None
@@ -434,14 +435,14 @@ impl<A: Allocator> Server<A> {
     /// Applies an event, or refuses it; a refused event changes nothing.
     ///
     /// # Errors
-    /// The first check that fails. `NoConn` comes first: an Open has a number above 15, another
-    /// event names a connection or an interrupt channel that isn't open. Then an Open may fail with
-    /// `ConnInUse`, Bytes with `NoRoom`, a Took with `NotSent`, a Dialed with `NoDial`. A Turn that
-    /// finds a call fails with `NoRoom` if fewer than 8,232 outgoing bytes are free; a Refuse with
-    /// `NotRefusable`, then with that `NoRoom`. An Input fails with `BadChannel`, then `BadInput`,
-    /// a Tick with `TimeOver`.
+    /// The first check that fails gives the error. `NoConn` comes first: an Open has a number above
+    /// 15, or another event names a connection or an interrupt channel that isn't open. Then an
+    /// Open may fail with `ConnInUse`, Bytes with `NoRoom`, a Took with `NotSent`, a Dialed with
+    /// `NoDial`. A Turn that finds a call fails with `NoRoom` if there is room for fewer than 8,232
+    /// bytes of replies; a Refuse fails with `NotRefusable`, then with `NoRoom` like a Turn. An
+    /// Input fails with `BadChannel`, then `BadInput`, a Tick with `TimeOver`.
     ///
-    /// If no check fails, a Turn may be refused with `NoMemory`: only one whose call makes a link,
+    /// If no check fails, a Turn may be refused with `NoMemory`, but only if its call makes a link,
     /// waits for the lock to make one, or asks for an interrupt channel. It may be tried again.
     pub fn apply(&mut self, event: Event<'_>) -> Result<Did, Refused>
         ensures answers { (config : Config) (history : List PlainEvent)

@@ -1,4 +1,4 @@
-//! A peer: a stream, and what came on it.
+//! A peer: a stream, and the bytes that came on it.
 
 use mio::net::{TcpListener, TcpStream};
 use std::alloc::Global;
@@ -24,7 +24,7 @@ fn would_wait(kind: ErrorKind) -> bool {
 /// A peer of the server.
 #[derive(Drop)]
 pub(crate) struct Peer {
-    /// Its letter.
+    /// The peer's letter.
     pub(crate) name: char,
     listener: Option<TcpListener>,
     stream: Option<TcpStream>,
@@ -32,7 +32,7 @@ pub(crate) struct Peer {
     pub(crate) unsent: Vec<u8>,
     /// The bytes that came and weren't printed yet.
     pub(crate) came: Vec<u8>,
-    /// Its stream ended.
+    /// Whether the peer's stream has ended.
     pub(crate) ended: bool,
     buffer: Vec<u8>,
 }
@@ -65,7 +65,8 @@ impl Peer {
         Ok(peer)
     }
 
-    /// Accepts a connection, if one comes to its port; whether it has a stream.
+    /// Accepts a connection, if one comes to the peer's port. Returns whether the peer has a
+    /// stream.
     pub(crate) fn accept(&mut self) -> io::Result<bool> {
         let Some(listener) = &self.listener else {
             return Ok(false);
@@ -85,7 +86,7 @@ impl Peer {
         }
     }
 
-    /// Sends as much as its socket takes, and tells how much that was.
+    /// Sends as many bytes as the socket takes, and returns how many they were.
     pub(crate) fn send(&mut self) -> io::Result<usize> {
         let Some(stream) = &mut self.stream else {
             return Ok(0);
@@ -114,7 +115,7 @@ impl Peer {
         }
     }
 
-    /// Reads what is there.
+    /// Reads the bytes that are waiting.
     pub(crate) fn hear(&mut self) -> io::Result<()> {
         let Some(stream) = &mut self.stream else {
             return Ok(());
@@ -132,7 +133,7 @@ impl Peer {
         Ok(())
     }
 
-    /// Closes its stream.
+    /// Closes the peer's stream.
     pub(crate) fn close(&mut self) {
         self.stream = None;
         self.unsent.clear();

@@ -4,13 +4,13 @@ use crate::stage::{Stage, bad};
 use std::alloc::Global;
 use std::io;
 
-/// After so many tries without a byte moved the sockets count as full.
+/// After this many tries in which no byte moved, the sockets count as full.
 const STILL: u32 = 20;
 /// The most tries.
 const TRIES: u32 = 100_000;
 
-/// Numbers the calls or replies of some records, each of one fragment, from 1 on: the number stands
-/// after the record mark (RFC 5531, sections 9 and 11).
+/// Numbers calls or replies from 1 on. Each is a record of one fragment, and its number is put
+/// right after the record mark (RFC 5531, sections 9 and 11).
 fn number_records(records: &mut Vec<u8>) -> io::Result<()> {
     let (mut place, mut number) = (0usize, 0u32);
     for _ in 0..records.len() {
@@ -30,7 +30,7 @@ fn number_records(records: &mut Vec<u8>) -> io::Result<()> {
     Ok(())
 }
 
-/// Some records, repeated and numbered.
+/// Some records, repeated `count` times and numbered.
 fn repeated(alloc: Global, records: &[u8], count: u32) -> io::Result<Vec<u8>> {
     let mut all = Vec::new(alloc);
     for _ in 0..count {
@@ -40,8 +40,8 @@ fn repeated(alloc: Global, records: &[u8], count: u32) -> io::Result<Vec<u8>> {
     Ok(all)
 }
 
-/// Gives a peer these calls to send so often, and has it send as much as is taken, without reading.
-/// Whether bytes wait in the server then.
+/// Lets a peer send these calls `count` times, as many as the sockets take, without reading.
+/// Returns whether the sockets are full, so that bytes wait in the server.
 pub(crate) fn pour(stage: &mut Stage, name: char, calls: &[u8], count: u32) -> io::Result<bool> {
     let calls = repeated(stage.rt.alloc(), calls, count)?;
     stage.peer(name)?.unsent.extend_from_slice(&calls)?;
@@ -61,7 +61,8 @@ pub(crate) fn pour(stage: &mut Stage, name: char, calls: &[u8], count: u32) -> i
     Ok(false)
 }
 
-/// Whether what came to a peer is so often the same replies, but for their numbers, which rise.
+/// Whether the bytes that came to a peer are `count` times the same reply, but for their numbers,
+/// which rise.
 pub(crate) fn is_in_order(stage: &mut Stage, name: char, count: u32) -> io::Result<bool> {
     let alloc = stage.rt.alloc();
     let peer = stage.peer(name)?;

@@ -52,7 +52,7 @@ fn show<W: Write + Drop>(bytes: &[u8], writer: &mut BufWriter<W>) -> io::Result<
     writeln!(writer)
 }
 
-/// Plays a row, and prints its title and what comes of its steps.
+/// Plays a row, and prints its title and the results of its steps.
 pub(crate) fn play<W: Write + Drop>(
     rt: HostRuntime,
     row: &str,
@@ -107,20 +107,20 @@ fn do_as<W: Write + Drop>(
     }
 }
 
-/// A peer connects to a port.
+/// Makes a peer that connects to a port.
 fn connect(stage: &mut Stage, name: char, port: u16) -> io::Result<()> {
     let peer = Peer::connect(stage.rt, name, port)?;
     Ok(stage.peers.push(peer)?)
 }
 
-/// A peer listens on a port.
+/// Makes a peer that listens on a port.
 fn listen(stage: &mut Stage, name: char, text: &str) -> io::Result<()> {
     let port = number(text)?.min(65_535) as u16;
     let peer = Peer::listen(stage.rt, name, port)?;
     Ok(stage.peers.push(peer)?)
 }
 
-/// A peer is to send bytes.
+/// Gives a peer bytes to send.
 fn send(stage: &mut Stage, name: char, text: &str) -> io::Result<()> {
     let bytes = bytes(stage.rt.alloc(), text)?;
     let peer = stage.peer(name)?;
@@ -158,7 +158,7 @@ fn compare<W: Write + Drop>(
     writeln!(writer, "{first} before {second}: {}", word(so))
 }
 
-/// Prints so many bytes that come to a peer.
+/// Prints this number of bytes that come to a peer.
 fn show_came<W: Write + Drop>(
     stage: &mut Stage,
     name: char,
@@ -190,15 +190,15 @@ fn is_silent(stage: &mut Stage, name: char) -> io::Result<bool> {
     Ok(!peer.ended && peer.came.is_empty())
 }
 
-/// A peer sends calls so often, until the sockets are full; whether they are.
+/// Lets a peer send calls many times, until the sockets are full. Returns whether they are full.
 fn pours(stage: &mut Stage, name: char, text: &str) -> io::Result<bool> {
     let (count, calls) = text.split_once(' ').unwrap_or((text, ""));
     let calls = bytes(stage.rt.alloc(), calls)?;
     pour(stage, name, &calls, number(count)?)
 }
 
-/// A peer reads so many replies of so many bytes: prints how the first one begins, and whether all
-/// came in their order.
+/// Lets a peer read a number of replies of equal length. Prints how the first one begins, and
+/// whether all came in their order.
 fn drain<W: Write + Drop>(
     stage: &mut Stage,
     name: char,

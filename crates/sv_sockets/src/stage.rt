@@ -13,11 +13,11 @@ use sv_server::{Config, Port, Server};
 pub(crate) const PORTS: [u16; 3] = [24196, 24197, 24198];
 /// How many seconds a peer waits at most.
 const PATIENCE: u64 = 10;
-/// How often it tries to listen at most, each fiftieth of a second.
+/// How many times it tries to listen at most, one try every fiftieth of a second.
 const TRIES: u32 = 2_000;
-/// How often it looks at most.
+/// How many times it looks for bytes at most.
 const LOOKS: u32 = 10_000_000;
-/// How many sweeps are made between two looks. After the last one no time is counted.
+/// How many sweeps are made between two looks for bytes. Time after the last one isn\'t counted.
 const SWEEPS: u32 = 2;
 /// How many sweeps are made when times are compared, so that most of the time is counted.
 const MORE_SWEEPS: u32 = 4;
@@ -53,7 +53,7 @@ pub(crate) struct Stage {
     watch: Watch<Global>,
     driver: Driver<Net<HostRuntime, Global>, Global>,
     pub(crate) peers: Vec<Peer>,
-    /// A time to compare with.
+    /// The start of a time measurement.
     start: Instant,
 }
 
@@ -87,7 +87,7 @@ impl Stage {
         }
     }
 
-    /// Makes so many sweeps.
+    /// Makes this number of sweeps.
     pub(crate) fn serve(&mut self, sweeps: u32) -> io::Result<()> {
         serve(&self.rt, &mut self.watch, &mut self.driver, sweeps)
     }
@@ -104,12 +104,13 @@ impl Stage {
         Ok(())
     }
 
-    /// How many whole milliseconds passed since then.
+    /// How many whole milliseconds have passed since the start of the time measurement.
     pub(crate) fn passed(&self) -> io::Result<u128> {
         Ok(self.start.elapsed(&self.rt)?.as_millis())
     }
 
-    /// Lets a peer send and read what it can; whether it has so many bytes, or its stream ended.
+    /// Lets a peer send and read what it can. Returns whether this many bytes came to it, or its
+    /// stream has ended.
     fn has(&mut self, name: char, count: usize) -> io::Result<bool> {
         let peer = self.peer(name)?;
         peer.send()?;
@@ -117,7 +118,8 @@ impl Stage {
         Ok(peer.ended || peer.came.len() >= count)
     }
 
-    /// Makes so many sweeps, if a peer that began to wait then isn't too late.
+    /// Makes this number of sweeps, unless a peer that began to wait at `begun` has waited too
+    /// long.
     fn serve_on(&mut self, begun: Instant, sweeps: u32) -> io::Result<()> {
         if begun.elapsed(&self.rt)?.as_secs() >= PATIENCE {
             return Err(late());
@@ -125,7 +127,7 @@ impl Stage {
         self.serve(sweeps)
     }
 
-    /// Serves until so many bytes came to a peer, or its stream ended.
+    /// Serves until this many bytes have come to a peer, or its stream has ended.
     ///
     /// # Errors
     /// If nothing comes for too long.
@@ -144,7 +146,7 @@ impl Stage {
         Err(late())
     }
 
-    /// Serves until a connection came to a peer's port.
+    /// Serves until a connection has come to a peer's port.
     ///
     /// # Errors
     /// If that takes too long.
@@ -159,8 +161,8 @@ impl Stage {
         Err(late())
     }
 
-    /// Serves until bytes came to the second of two peers; whether some came to the first one too,
-    /// which is looked at after the second one.
+    /// Serves until bytes have come to the second of two peers. Returns whether some have come to
+    /// the first one too, which is checked after the second one.
     ///
     /// # Errors
     /// If that takes too long.

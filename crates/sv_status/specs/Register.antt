@@ -45,7 +45,7 @@ EventStands k acts = Since (Passes k) NotCleared acts
 abbrev pub Summary : ℕ → List RegisterAct → Type 0
 Summary start acts = (k : ℕ) × EventStands k acts × (bit_at (enable start acts) k ≡ 1)
 
--- what a register keeps
+-- the state of a register
 pub record Latches : Type 0 where
   pub condition : ℕ
   pub rise : ℕ
@@ -54,7 +54,7 @@ pub record Latches : Type 0 where
   pub enable : ℕ
   pub start : ℕ
 
--- What the register keeps stands for the acts, if its enable is `start` at first and after a preset.
+-- The state of the register stands for the acts, if its enable is `start` at first and after a preset.
 pub record StandsFor (start : ℕ) (latches : Latches) (acts : List RegisterAct) : Type 0 where
   pub begins : latches.start ≡ start
   pub condition : latches.condition ≡ condition acts
@@ -63,6 +63,6 @@ pub record StandsFor (start : ℕ) (latches : Latches) (acts : List RegisterAct)
   pub enable : latches.enable ≡ enable start acts
   pub event : (k : ℕ) → (bit_at latches.event k ≡ 1) ↔ EventStands k acts
 
--- What the register keeps stands for the acts, with the start value of the enable that it keeps.
+-- The state of the register stands for the acts, with the start value of the enable that it stores.
 abbrev pub Stands : Latches → List RegisterAct → Type 0
 Stands latches acts = StandsFor latches.start latches acts

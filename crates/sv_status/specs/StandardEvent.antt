@@ -27,12 +27,12 @@ enable = last_given (elim [ SetEnable word ↦ Some word | _ ↦ None ]) 0
 abbrev pub Summary : List StandardAct → Type 0
 Summary acts = (k : ℕ) × Stands k acts × (bit_at (enable acts) k ≡ 1)
 
--- what the register keeps
+-- the state of the register
 pub record Latches : Type 0 where
   pub event : ℕ
   pub enable : ℕ
 
--- What the standard event status register keeps stands for the acts.
+-- The state of the standard event status register stands for the acts.
 pub record StandsFor (latches : Latches) (acts : List StandardAct) : Type 0 where
   pub enable : latches.enable ≡ enable acts
   pub event : (k : ℕ) → (bit_at latches.event k ≡ 1) ↔ Stands k acts

@@ -35,11 +35,11 @@ abbrev pub Lasts : List StatusAct → Type 0
 Lasts (Poll ∷ acts) = ⊥
 Lasts acts = Master acts
 
--- A request for service stands: a reason arose, and at each moment since then the master summary was set and no poll came.
+-- A request for service is pending: a reason arose, and at each moment since then the master summary was set and no poll came.
 abbrev pub Request : List StatusAct → Type 0
 Request acts = Since Reason Lasts acts
 
--- A request is raised at the newest act: it stands after that act, and didn't stand before.
+-- A request is raised at the newest act: it is pending after that act, and wasn't before.
 abbrev pub IsRaised : List StatusAct → Type 0
 IsRaised [] = ⊥
 IsRaised (act ∷ before) = Request (act ∷ before) × (Request before → ⊥)
@@ -52,13 +52,13 @@ StatusBit k acts = ((k ≢ 6) × (bit_at (bits acts) k ≡ 1)) ⊎ ((k ≡ 6) ×
 abbrev pub MasterBit : ℕ → List StatusAct → Type 0
 MasterBit k acts = ((k ≢ 6) × (bit_at (bits acts) k ≡ 1)) ⊎ ((k ≡ 6) × Master acts)
 
--- what the status byte keeps
+-- the state of the status byte
 pub record Latches : Type 0 where
   pub bits : ℕ
   pub enable : ℕ
   pub request : Bool
 
--- What the status byte keeps stands for the acts.
+-- The state of the status byte stands for the acts.
 pub record StandsFor (latches : Latches) (acts : List StatusAct) : Type 0 where
   pub bits : latches.bits ≡ bits acts
   pub enable : latches.enable ≡ enable acts

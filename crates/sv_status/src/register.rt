@@ -8,15 +8,15 @@ use std::marker::Model;
 use std::mem::replace;
 use sv_errors::Layer;
 
-/// Bit 15, which a mask that is written loses.
+/// Bit 15, which is dropped from a mask that is set.
 const MASK_END: u16 = 1 << 15;
-/// The filter that lets each bit pass.
+/// The filter that passes every bit.
 const ALL: u16 = 32767;
 
 /// An act of a register.
 #[derive(Clone, Copy, Debug, PartialEq, Eq)]
 pub enum RegisterAct {
-    /// The condition becomes this.
+    /// The condition is set.
     Condition(u16),
     /// The transition filters are set.
     SetFilter {
@@ -80,8 +80,8 @@ impl Register {
         Register::starting(0)
     }
 
-    /// The same of a register whose summary is a bit of another one's condition: its enable is
-    /// 32767, also after a preset.
+    /// A register as at power on whose summary is a bit of another register's condition. Its enable
+    /// is 32767, also after a preset; all else is as in [`Register::new`].
     pub fn nested() -> Register
         ensures { StandsFor 32767 result [] }
     {
@@ -141,8 +141,8 @@ impl Register {
         replace(&mut self.event, 0)
     }
 
-    /// Presets the enable to its start, the positive filter to 32767 and the negative one to 0.
-    /// Event bits stay.
+    /// Presets the filters and the enable: the positive filter to 32767, the negative one to 0, and
+    /// the enable to its value at power on. Event bits stay.
     pub fn preset(&mut self)
         ensures { (start : ℕ) (acts : List RegisterAct) → StandsFor start self.old acts
             → StandsFor start self.new (RegisterAct.Preset ∷ acts) }
@@ -184,7 +184,7 @@ impl Register {
         self.fall
     }
 
-    /// The event register, which isn't cleared by this.
+    /// The event register. This doesn't clear it.
     pub fn event(&self) -> u16
         ensures { (start : ℕ) (acts : List RegisterAct) → StandsFor start self.now acts
             → (k : ℕ) → (bit_at result k ≡ 1) ↔ EventStands k acts }
@@ -200,7 +200,7 @@ impl Register {
         self.enable
     }
 
-    /// Whether some bit is set and enabled.
+    /// Whether some event bit is set and enabled.
     pub fn summary(&self) -> bool
         ensures { (start : ℕ) (acts : List RegisterAct) → StandsFor start self.now acts
             → (result ≡ true) ↔ Summary start acts }

@@ -3,10 +3,10 @@
 /// A status register.
 #[derive(Clone, Copy, Debug, PartialEq, Eq)]
 pub enum RegisterName {
-    /// What the instrument is doing, as measuring or waiting for a trigger: `STATus:OPERation`.
-    /// Its summary is bit 7 of the status byte.
+    /// What the instrument is doing, such as measuring or waiting for a trigger:
+    /// `STATus:OPERation`. Its summary is bit 7 of the status byte.
     Operation,
-    /// What makes readings doubtful, as an overload or a limit that is passed:
+    /// What makes readings doubtful, such as an overload or a limit that is passed:
     /// `STATus:QUEStionable`. Its summary is bit 3 of the status byte.
     Questionable,
     /// Which limit is passed: `STATus:QUEStionable:LIMit`. Its summary is bit 9 of the condition of

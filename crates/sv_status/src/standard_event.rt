@@ -93,7 +93,7 @@ impl StandardEvent {
         self.event = 0;
     }
 
-    /// The register, which isn't cleared by this.
+    /// The standard event register. This doesn't clear it.
     pub fn event(&self) -> u8
         ensures { (acts : List StandardAct) → StandsFor self.now acts → (k : ℕ)
             → (bit_at result k ≡ 1) ↔ Stands k acts }

@@ -7,13 +7,13 @@ ghost use Rattle.sv_status.specs.StatusByte.{StandsFor, ServiceRequested, Status
 use std::marker::Model;
 use sv_errors::Layer;
 
-/// Bit 6, which is no summary bit: it shows the request for service, or the master summary.
+/// Bit 6, which isn't a summary bit: it shows the request for service, or the master summary.
 const REQUEST: u8 = 1 << 6;
 
 /// An act of the status byte.
 #[derive(Clone, Copy, Debug, PartialEq, Eq)]
 pub enum StatusAct {
-    /// Summary bits and service request enable become these.
+    /// Summary bits and service request enable are set.
     Update {
         /// The summary bits. Bit 6 is ignored; the caller keeps bits 1 and 0 at 0.
         bits: u8,
@@ -33,7 +33,7 @@ pub enum StatusAnswer {
     Status(u8),
 }
 
-/// The summary bits, the service request enable, and whether a request for service stands.
+/// The summary bits, the service request enable, and whether a request for service is pending.
 #[derive(Debug, Drop)]
 pub struct StatusByte {
     bits: u8,
@@ -50,7 +50,7 @@ impl Model for StatusByte {
 }
 
 impl StatusByte {
-    /// The status byte as at power on: no bit is set, none is enabled, and no request stands.
+    /// The status byte as at power on: no bit is set, none is enabled, and no request is pending.
     pub fn new() -> StatusByte
         ensures { StandsFor result [] }
     {
@@ -62,7 +62,7 @@ impl StatusByte {
     }
 
     /// Sets summary bits and service request enable, and returns whether this raises a request for
-    /// service: some bit is set and enabled that wasn't both before, and no request stood.
+    /// service: some bit is set and enabled that wasn't both before, and no request was pending.
     pub fn update(&mut self, bits: u8, enable: u8) -> bool
         ensures stands { (acts : List StatusAct) → StandsFor self.old acts
             → StandsFor self.new (StatusAct.Update bits enable ∷ acts) }
@@ -79,8 +79,8 @@ impl StatusByte {
         raised
     }
 
-    /// The status byte with the request for service in bit 6, which then ends (IEEE 488.2,
-    /// 11.2.2.1).
+    /// The status byte with the request for service in bit 6. The poll ends the request (IEEE
+    /// 488.2, 11.2.2.1).
     pub fn poll(&mut self) -> u8
         ensures stands { (acts : List StatusAct) → StandsFor self.old acts
             → StandsFor self.new (StatusAct.Poll ∷ acts) }
@@ -101,7 +101,7 @@ impl StatusByte {
         with_bit_6(self.bits, self.mss())
     }
 
-    /// The service request enable. Bit 6 is as it was given.
+    /// The service request enable, with bit 6 as it was set.
     pub fn enable(&self) -> u8
         ensures { (acts : List StatusAct) → StandsFor self.now acts → result ≡ enable_of acts }
     {
@@ -116,7 +116,7 @@ impl StatusByte {
         asking(self.bits, self.enable) != 0
     }
 
-    /// Whether a request for service stands.
+    /// Whether a request for service is pending.
     pub fn rqs(&self) -> bool
         ensures { (acts : List StatusAct) → StandsFor self.now acts
             → (result ≡ true) ↔ Request acts }
@@ -132,7 +132,7 @@ fn asking(bits: u8, enable: u8) -> u8
     bits & enable & !REQUEST
 }
 
-/// These bits, with bit 6 set as given.
+/// These bits, with bit 6 set if `stands` is true, else cleared.
 fn with_bit_6(bits: u8, stands: bool) -> u8
     ensures { (k : ℕ) → (bit_at result k ≡ 1)
         ↔ (((k ≢ 6) × (bit_at bits k ≡ 1)) ⊎ ((k ≡ 6) × (stands ≡ true))) }

@@ -1,4 +1,4 @@
--- What is at the front of a text.
+-- The front of a text.
 use Rattle.std.specs.Prelude.{ℕ, ◌==◌, Bool, true, false, List, [], ◌∷◌, slice_get}
 use Rattle.std.specs.Option.{option_map_or}
 

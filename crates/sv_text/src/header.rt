@@ -3,7 +3,7 @@
 ghost use Rattle.std.specs.Prelude.{◌≡◌};
 ghost use Rattle.sv_text.specs.Header.{body, is_query, lead as lead_of, unsigned};
 
-/// What leads a header.
+/// What a header begins with.
 #[derive(Clone, Copy, Debug, PartialEq, Eq)]
 pub enum Lead {
     /// An asterisk: a common command (IEEE 488.2, 7.6.1).
@@ -14,10 +14,10 @@ pub enum Lead {
     Onward,
 }
 
-/// A header in its parts. Any bytes have them, even if they are no header.
+/// A header in its parts. All bytes have these parts, even if they aren't a header.
 #[derive(Clone, Copy, Debug)]
 pub struct Header<'a> {
-    /// What leads it.
+    /// What the header begins with.
     pub lead: Lead,
     /// The mnemonics and the colons between them.
     pub body: &'a [u8],
@@ -41,7 +41,7 @@ pub fn header_parts(header: &[u8]) -> Header<'_>
     Header { lead, body, query }
 }
 
-/// What leads a header.
+/// What a header begins with.
 fn lead_in(header: &[u8]) -> Lead
     ensures { result ≡ lead_of header.now }
 {

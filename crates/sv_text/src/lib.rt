@@ -1,4 +1,4 @@
-//! Cutting program text: white space, where a byte first stands, the parts between separators, and
+//! Cutting program text: white space, the first place of a byte, the parts between separators, and
 //! the parts of a header (IEEE 488.2, 7.4).
 //!
 //! Nothing allocates: each answer is a place in the bytes or a slice of them.

@@ -1,9 +1,9 @@
-//! Where a byte stands in text.
+//! The first place of a byte in text.
 
 ghost use Rattle.std.specs.Prelude.{◌≡◌, ◌==◌, ◌≤◌, length, position};
 ghost use Rattle.std.specs.List.{position_or_len};
 
-/// Where a byte first stands; the length if it stands nowhere.
+/// The first place of a byte; the length of the text if the byte isn't in it.
 pub fn place_of(bytes: &[u8], byte: u8) -> usize
     ensures value { result ≡ position_or_len (λ b. b == byte) bytes.now }
     ensures within { result ≤ length bytes.now }
@@ -11,7 +11,7 @@ pub fn place_of(bytes: &[u8], byte: u8) -> usize
     position_of(bytes, byte).unwrap_or(bytes.len())
 }
 
-/// Where a byte first stands.
+/// The first place of a byte; `None` if the byte isn't in the text.
 fn position_of(bytes: &[u8], byte: u8) -> Option<usize>
     ensures { result ≡ position (λ b. b == byte) bytes.now }
 {

@@ -17,7 +17,7 @@ abbrev closed : List ℕ → Option (List ℕ)
 closed text =
     if option_map_or (λ b. b == 41) (slice_get text (length text - 1)) false then Some (take (length text - 1) text) else None
 
--- the text between `(@` and `)`; `None` if there is none
+-- the text between `(@` and `)`; `None` if the text isn't of this form
 abbrev pub inner : List ℕ → Option (List ℕ)
 inner (a ∷ b ∷ text) = if a == 40 && b == 64 then closed text else None
 inner _ = None
@@ -26,7 +26,7 @@ inner _ = None
 abbrev pub is_number : List ℕ → Bool
 is_number text = not (is_empty (trim text)) && list_all is_ascii_digit (trim text)
 
--- the number that a text of digits is, with or without white space around them
+-- the value of a text of digits, with or without white space around them
 abbrev pub number : List ℕ → ℕ
 number text = digits_value 10 (trim text)
 

@@ -33,12 +33,12 @@ abbrev pub behind_fraction : List ℕ → List ℕ
 behind_fraction [] = []
 behind_fraction (b ∷ text) = if b == 46 then behind_digits text else b ∷ text
 
--- the text after an E at its front and white space behind the E; empty without an E
+-- the text after its leading E and the white space that follows it; empty if it doesn't begin with an E
 abbrev pub behind_letter : List ℕ → List ℕ
 behind_letter [] = []
 behind_letter (b ∷ text) = if b == 69 || b == 101 then trim_start text else []
 
--- the text after white space, an E and white space at its front; empty without an E
+-- the text after leading white space, an E and more white space; empty if there is no E at this place
 abbrev pub behind_mark : List ℕ → List ℕ
 behind_mark text = behind_letter (trim_start text)
 

@@ -41,6 +41,6 @@ read_with (Some power) suffix_code number =
     else if nat_lt 32000 (digits_value 10 number.exponent) then Err ExponentTooLarge
     else Ok (signed number.negative (magnitude power number))
 
--- the value of the number that a text is, or the first error
+-- the value of a text as a decimal number, or the first error
 abbrev pub read_decimal : (List ℕ → Option ℕ) → Code → List ℕ → Result ℤ Code
 read_decimal power_of suffix_code text = read_with (power_of (number_parts text).suffix) suffix_code (number_parts text)

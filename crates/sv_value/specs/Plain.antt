@@ -25,7 +25,7 @@ abbrev pub StandsFor : Amount → Result ℤ Code → Type 0
 StandsFor amount answer = (magnitude : ℕ) × (answer ≡ Ok (signed amount.negative magnitude))
     × (amount.magnitude ≡ min magnitude 1000000000000000000)
 
--- the number that a text in a channel list is, at most 10 ^ 18; `None` if the text isn't a number
+-- the value of a text in a channel list as a number, at most 10 ^ 18; `None` if the text isn't a number
 abbrev pub number_up_to : List ℕ → Option ℕ
 number_up_to text = if is_number text then Some (min (number text) 1000000000000000000) else None
 

@@ -1,4 +1,4 @@
--- How decimal numbers are spelled (IEEE 488.2, 7.7.2 and 7.7.3), as a relation between a text and its pieces.
+-- The syntax of decimal numbers (IEEE 488.2, 7.7.2 and 7.7.3), as a relation between a text and its pieces.
 use Rattle.std.specs.Prelude.{◌≡◌, ◌≢◌, ◌↔◌, ◌⊎◌, ℕ, Bool, true, false, List, [], ◌∷◌, ◌++◌}
 use Rattle.std.specs.List.{list_all}
 use Rattle.std.specs.Char.{is_ascii_digit}
@@ -47,7 +47,7 @@ Spells text number = (sign fraction tail : List ℕ) × (text ≡ sign ++ (numbe
     × AreDigits number.whole
     × IsFraction fraction number.fraction × ((number.whole ≢ []) ⊎ (number.fraction ≢ [])) × IsTail tail number
 
--- A text spells a number with these parts exactly if `number_parts` returns them for it and `is_spelled` holds of them.
+-- A text is a number with these parts exactly if `number_parts` returns them for it and `is_spelled` holds of them.
 abbrev pub ReadAsSpelled : Type 0
 ReadAsSpelled = (text : List ℕ) (number : Parts) → Spells text number ↔ ((is_spelled (number_parts text) ≡ true)
     × (number_parts text ≡ number))

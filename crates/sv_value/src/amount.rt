@@ -19,17 +19,18 @@ const MOST_DIGITS: usize = 255;
 /// The largest magnitude of an exponent.
 const MOST_EXPONENT: u64 = 32_000;
 
-/// A whole number, up to a bound beyond every range.
+/// A whole number, whose magnitude is capped at a bound beyond the range of every parameter.
 #[derive(Clone, Copy, Debug)]
 pub(crate) struct Amount {
-    /// Whether it begins with a minus.
+    /// Whether the number begins with a minus.
     pub(crate) negative: bool,
     /// Its magnitude, at most [`crate::digits::MOST`].
     pub(crate) magnitude: u64,
 }
 
 impl Amount {
-    /// The amount of a decimal number in the unit of its suffix, or what is wrong with it.
+    /// A decimal number times 10 to the power `power`, rounded to a whole number; or its error.
+    /// Without a power the suffix is wrong: the error is `suffix_code`.
     pub(crate) fn of(
         number: &Decimal<'_>,
         power: Option<u64>,
@@ -73,7 +74,7 @@ impl Amount {
         Ok(if self.negative { -value } else { value })
     }
 
-    /// The number, if it is in this range.
+    /// The number, if it is from `low` to `high`.
     pub(crate) fn in_range(self, low: u16, high: u16) -> Result<u16, Code>
         ensures value { (answer : Result ℤ ErrorCode) → StandsFor self answer
             → result ≡ within low high answer }
@@ -86,7 +87,7 @@ impl Amount {
         Ok(self.magnitude as u16)
     }
 
-    /// Whether it isn't 0.
+    /// Whether the number isn\'t 0.
     pub(crate) fn is_some(self) -> bool
         ensures { (answer : Result ℤ ErrorCode) → StandsFor self answer → is_on answer ≡ Ok result }
     {
@@ -106,7 +107,7 @@ fn significant(whole: &[u8], fraction: &[u8]) -> usize
     }
 }
 
-/// How many leading zeros it has.
+/// How many zeros the digits begin with.
 fn zeros_in(digits: &[u8]) -> usize
     ensures value { result ≡ position_or_len (λ b. not (b == 48)) digits.now }
     ensures within { result ≤ length digits.now }

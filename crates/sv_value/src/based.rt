@@ -10,7 +10,7 @@ use crate::amount::Amount;
 use crate::digits::{value_after, value_of};
 use sv_errors::Code;
 
-/// The number that a number sign, a letter for the base and digits are, or what is wrong with them.
+/// Reads a number sign, a letter for the base and digits, such as `#H1F`; or gives the error.
 pub(crate) fn based(text: &[u8]) -> Result<Amount, Code>
     ensures { MatchResult result (λ amount. StandsFor amount (read_based text.now))
         (λ code. read_based text.now ≡ Err code) }
@@ -37,7 +37,7 @@ fn base_of(letter: u8) -> Option<u8>
     }
 }
 
-/// The number that digits are in a base, or what is wrong with them.
+/// The number that digits of a base give, or the error.
 fn in_base(base: u8, digits: &[u8]) -> Result<Amount, Code>
     requires low { 2 ≤ base }
     requires high { base ≤ 16 }
@@ -56,7 +56,7 @@ fn in_base(base: u8, digits: &[u8]) -> Result<Amount, Code>
     })
 }
 
-/// Whether it begins with a digit of the base.
+/// Whether the text begins with a digit of the base.
 fn begins_well(base: u8, digits: &[u8]) -> bool
     ensures { result ≡ begins_with_digit base digits.now }
 {

@@ -14,14 +14,14 @@ use arrayvec::ArrayVec;
 use sv_errors::{Code, LONGEST_LIST, is_channel};
 use sv_text::{first_part, trim};
 
-/// The two ends of an item, up to a bound beyond every channel.
+/// The first and the last channel number of an item, each capped at a bound beyond every channel.
 #[derive(Clone, Copy, Debug)]
 struct Span {
     first: u64,
     last: u64,
 }
 
-/// The channels of a list, or what is wrong with it.
+/// Reads a channel list, or gives its error.
 pub(crate) fn channels_of(text: &[u8]) -> Result<ArrayVec<u8, LONGEST_LIST>, Code>
     ensures { MatchResult result (λ list. read_list text.now ≡ Ok list.items)
         (λ code. read_list text.now ≡ Err code) }
@@ -57,7 +57,7 @@ fn are_spans(items: &[u8]) -> bool
     ends_of(rest).is_some()
 }
 
-/// The channels of all items, or what is wrong with the first that is at fault.
+/// The channels of all items, or the error of the first faulty item.
 fn listed(items: &[u8]) -> Result<ArrayVec<u8, LONGEST_LIST>, Code>
     ensures { MatchResult result (λ list. listed_behind [] (cut_at 44 items.now) ≡ Ok list.items)
         (λ code. listed_behind [] (cut_at 44 items.now) ≡ Err code) }
@@ -111,7 +111,7 @@ fn push_run(list: &mut ArrayVec<u8, LONGEST_LIST>, first: u8, last: u8)
     list.push(channel);
 }
 
-/// The two ends of an item.
+/// The two ends of an item; `None` if it doesn't have the form of one.
 fn ends_of(item: &[u8]) -> Option<Span>
     ensures { result ≡ ends_up_to (ends item.now) }
 {
@@ -138,7 +138,7 @@ fn two_ends(front: &[u8], back: &[u8]) -> Option<Span>
     }
 }
 
-/// The number of these digits, perhaps with white space around them.
+/// The number that digits, perhaps with white space around them, give; `None` for other text.
 fn number(text: &[u8]) -> Option<u64>
     ensures { result ≡ number_up_to text.now }
 {

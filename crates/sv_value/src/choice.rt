@@ -8,7 +8,7 @@ ghost use Rattle.sv_value.specs.Choice.{read_keyword, read_switch};
 
 use sv_errors::{Code, Source};
 
-/// The source of triggers that character data name.
+/// The source of triggers that a word names, or the error.
 pub(crate) fn keyword_of(text: &[u8]) -> Result<Source, Code>
     ensures { result ≡ read_keyword text.now }
 {
@@ -27,7 +27,7 @@ pub(crate) fn keyword_of(text: &[u8]) -> Result<Source, Code>
     Err(Code::IllegalParameterValue)
 }
 
-/// Whether character data are ON or OFF.
+/// Whether a word is ON or OFF, or the error.
 pub(crate) fn switch_of(text: &[u8]) -> Result<bool, Code>
     ensures { result ≡ read_switch text.now }
 {
@@ -43,7 +43,7 @@ pub(crate) fn switch_of(text: &[u8]) -> Result<bool, Code>
     Err(Code::IllegalParameterValue)
 }
 
-/// Whether two texts are the same in any case.
+/// Whether two texts are equal, apart from upper and lower case.
 pub(crate) fn is_same(text: &[u8], other: &[u8]) -> bool
     ensures { result ≡ str_eq_ignore_ascii_case text.now other.now }
 {

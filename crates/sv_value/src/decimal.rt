@@ -13,7 +13,7 @@ use sv_text::without_start;
 /// A decimal number in its parts.
 #[derive(Clone, Copy, Debug)]
 pub(crate) struct Decimal<'a> {
-    /// Whether it begins with a minus.
+    /// Whether the number begins with a minus.
     pub(crate) negative: bool,
     /// The digits before the point.
     pub(crate) whole: &'a [u8],
@@ -23,12 +23,12 @@ pub(crate) struct Decimal<'a> {
     pub(crate) down: bool,
     /// The digits of the exponent; none if there is no exponent.
     pub(crate) exponent: &'a [u8],
-    /// What follows the number.
+    /// The text after the number.
     pub(crate) suffix: &'a [u8],
 }
 
 impl<'a> Decimal<'a> {
-    /// The parts of a text.
+    /// Splits a text into the parts of a decimal number.
     pub(crate) fn of(text: &'a [u8]) -> Decimal<'a>
         ensures parts { plain result ≡ parts_of text.now }
         ensures whole { list_all is_ascii_digit result.whole.now ≡ true }
@@ -49,7 +49,7 @@ impl<'a> Decimal<'a> {
         }
     }
 
-    /// Whether it is spelled as a number: it has a digit, and what follows begins with a
+    /// Whether it is a number: it has a digit, and the text after the number, if any, begins with a
     /// letter.
     pub(crate) fn is_spelled(&self) -> bool
         ensures { result ≡ is_spelled_number (plain self.now) }
@@ -69,7 +69,7 @@ fn begins_well(suffix: &[u8]) -> bool
     }
 }
 
-/// Whether it begins with a minus, and what follows the sign.
+/// Whether a text begins with a minus, and the text after its sign, if it has one.
 fn signed(text: &[u8]) -> (bool, &[u8])
     ensures minus { result.0 ≡ has_minus text.now }
     ensures behind { result.1.now ≡ behind_sign text.now }
@@ -81,7 +81,7 @@ fn signed(text: &[u8]) -> (bool, &[u8])
     }
 }
 
-/// The digits after a point in front, and what follows them.
+/// The digits after a leading point, and the text after them.
 fn fraction(text: &[u8]) -> (&[u8], &[u8])
     ensures digits { result.0.now ≡ fraction_in text.now }
     ensures all { list_all is_ascii_digit result.0.now ≡ true }
@@ -93,8 +93,8 @@ fn fraction(text: &[u8]) -> (&[u8], &[u8])
     }
 }
 
-/// Of a text that begins with an exponent: whether this is negative, its digits, and what follows.
-/// There are no digits if there is no exponent.
+/// Reads an exponent at the front of a text: returns whether it is negative, its digits, and the
+/// text after it. Without an exponent there are no digits.
 fn exponent(text: &[u8]) -> (bool, &[u8], &[u8])
     ensures minus { result.0 ≡ is_down text.now }
     ensures digits { result.1.now ≡ exponent_in text.now }
@@ -109,7 +109,7 @@ fn exponent(text: &[u8]) -> (bool, &[u8], &[u8])
     }
 }
 
-/// What follows an `E` and the white space around it; nothing if there is no `E`.
+/// The text after a leading `E` and the white space around it; empty if there is no `E`.
 fn behind_mark(text: &[u8]) -> &[u8]
     ensures { result.now ≡ mark_behind text.now }
 {

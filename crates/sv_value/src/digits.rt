@@ -6,11 +6,11 @@ ghost use Rattle.std.specs.List.{list_all};
 ghost use Rattle.std.specs.Str.Parse.{digits_value_after};
 ghost use Rattle.sv_value.specs.Decimal.{behind_digits, digits_in, digits_size};
 
-/// The bound of values: beyond every range.
+/// The bound at which values are capped. It is beyond every range.
 pub(crate) const MOST: u64 = 1_000_000_000_000_000_000;
 
-/// The value that digits of a base write when they follow those of a value, or [`MOST`] if it is
-/// more.
+/// The value of a number that continues with these digits after its front part, whose value is
+/// `front`; or [`MOST`] if it is more.
 pub(crate) fn value_after(base: u8, front: u64, digits: &[u8]) -> u64
     requires base { base ≤ 16 }
     requires some { 1 ≤ base }
@@ -40,7 +40,7 @@ pub(crate) fn value_of(byte: u8) -> u8
     }
 }
 
-/// The leading digits, and what follows them.
+/// The leading digits of a text, and the text after them.
 pub(crate) fn digits(text: &[u8]) -> (&[u8], &[u8])
     ensures digits { result.0.now ≡ digits_in text.now }
     ensures all { list_all is_ascii_digit result.0.now ≡ true }
@@ -49,7 +49,7 @@ pub(crate) fn digits(text: &[u8]) -> (&[u8], &[u8])
     text.split_at(size_of(text))
 }
 
-/// How many digits it begins with.
+/// How many digits the text begins with.
 fn size_of(text: &[u8]) -> usize
     ensures value { result ≡ digits_size text.now }
     ensures within { result ≤ length text.now }

@@ -9,13 +9,13 @@ pub fn printed_is_read()
     ensures { PrintedIsRead }
 {}
 
-/// What reads as a channel list is one: 1 to 128 channels.
+/// Text that reads as a channel list gives 1 to 128 channels.
 pub fn read_is_channel_list()
     ensures { ReadIsChannelList }
 {}
 
-/// A text reads as a decimal number exactly if it is spelled as one, and its parts are the pieces
-/// of the spelling (IEEE 488.2, 7.7.2 and 7.7.3).
+/// A text reads as a decimal number exactly if the standard's syntax allows it, and the parts that
+/// are read are the pieces of the syntax (IEEE 488.2, 7.7.2 and 7.7.3).
 pub fn read_as_spelled()
     ensures { ReadAsSpelled }
 {}

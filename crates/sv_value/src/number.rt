@@ -1,4 +1,4 @@
-//! The value of a decimal number, with 64 bits: beyond every range it is [`MOST`].
+//! The value of a decimal number in 64 bits, at most [`MOST`], which is beyond every range.
 
 ghost use Rattle.std.specs.Prelude.{◌≡◌, ◌≤◌, ◌<◌, ◌*◌, ◌^◌, ◌+◌, ◌++◌, true, min, length, take, slice_index_or, nat_le, if◌then◌else◌};
 ghost use Rattle.std.specs.Char.{digit_value, is_ascii_digit};
@@ -10,7 +10,7 @@ ghost use Rattle.sv_value.specs.Plain.{plain};
 use crate::decimal::Decimal;
 use crate::digits::{MOST, value_after, value_of};
 
-/// A number without its sign, rounded to the nearest unit of which the power of ten make its own,
+/// The magnitude of a number times 10 to the power `power`, rounded to the nearest whole number,
 /// half up; or [`MOST`] if it is more.
 pub(crate) fn magnitude(number: &Decimal<'_>, power: u64) -> u64
     requires power { power ≤ 9 }
@@ -59,8 +59,8 @@ fn shifted(value: u64, tens: u64) -> u64
     MOST.min(value.saturating_mul(10_u64.pow(tens as u32)))
 }
 
-/// The digits before the last so many, plus one where what is left out is half or more; or
-/// [`MOST`] if it is more.
+/// The value of all digits but the last `left_out`, rounded by these, half up; or [`MOST`] if it is
+/// more.
 fn rounded(whole: &[u8], fraction: &[u8], left_out: u64) -> u64
     requires some { 1 ≤ left_out }
     requires whole { list_all is_ascii_digit whole.now ≡ true }
@@ -76,14 +76,14 @@ fn rounded(whole: &[u8], fraction: &[u8], left_out: u64) -> u64
     MOST.min(front + carry(next))
 }
 
-/// What the first digit that is left out adds to those before it: 1 from 5 on.
+/// What rounding adds if this is the first digit left out: 1 from 5 on.
 fn carry(digit: u8) -> u64
     ensures { result ≡ (if nat_le 5 digit then 1 else 0) }
 {
     if digit >= 5 { 1 } else { 0 }
 }
 
-/// The value of the first so many digits, or [`MOST`] if it is more; and the digit after them.
+/// The value of the first `kept` digits, or [`MOST`] if it is more; and the digit after them.
 fn front_of(whole: &[u8], fraction: &[u8], kept: usize) -> (u64, u8)
     requires { kept < length whole.now + length fraction.now }
     ensures front { result.0 ≡ min (digits_value 10 (take kept (whole.now ++ fraction.now)))

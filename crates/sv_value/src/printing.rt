@@ -1,4 +1,4 @@
-//! Printing response data after the bytes of a vector that has room for them (IEEE 488.2, 8.7).
+//! Printing response data (IEEE 488.2, 8.7). Each function appends to a vector that has room.
 
 ghost use Rattle.std.specs.Prelude.{◌≡◌, ◌≤◌, ◌+◌, ◌*◌, ◌++◌, codes, decimal, length, unsigned_abs, vec_capacity, vec_len};
 ghost use Rattle.std.specs.Fmt.{signed_decimal};
@@ -13,7 +13,7 @@ use std::alloc::Allocator;
 use sv_bytes::append;
 use sv_errors::{Code, Source};
 
-/// Prints a voltage in microvolts, up to 1,000 V in magnitude, after bytes that have room for 12
+/// Appends a voltage in microvolts, up to 1,000 V in magnitude, to bytes that have room for 12
 /// more: a sign (`+` for 0), whole volts, a point and six digits.
 pub fn put_voltage<A: Allocator>(out: &mut Vec<u8, A>, microvolts: i64)
     requires room { vec_len out.old + 12 ≤ vec_capacity out.old }
@@ -27,7 +27,7 @@ pub fn put_voltage<A: Allocator>(out: &mut Vec<u8, A>, microvolts: i64)
     append(out, &buffer[..size]);
 }
 
-/// Prints an overload after bytes that have room for 8 more: `-9.9E+37` for a voltage below the
+/// Appends an overload to bytes that have room for 8 more: `-9.9E+37` for a voltage below the
 /// range, else `+9.9E+37` (SCPI-1999, volume 1, 7.2.1.5).
 pub fn put_overload<A: Allocator>(out: &mut Vec<u8, A>, below: bool)
     requires room { vec_len out.old + 8 ≤ vec_capacity out.old }
@@ -38,7 +38,7 @@ pub fn put_overload<A: Allocator>(out: &mut Vec<u8, A>, below: bool)
     append(out, if below { b"-9.9E+37" } else { b"+9.9E+37" });
 }
 
-/// Prints a whole number after bytes that have room for 10 more: its digits, without a sign or
+/// Appends a whole number to bytes that have room for 10 more: its digits, without a sign or
 /// leading zeros.
 pub fn put_whole<A: Allocator>(out: &mut Vec<u8, A>, number: u32)
     requires room { vec_len out.old + 10 ≤ vec_capacity out.old }
@@ -49,8 +49,8 @@ pub fn put_whole<A: Allocator>(out: &mut Vec<u8, A>, number: u32)
     append(out, Buffer::new().format(number).as_bytes());
 }
 
-/// Prints a channel list, such as `(@5,4,3,3)`, after bytes that have room for 3 more, and 4 for
-/// each channel.
+/// Appends a channel list, such as `(@5,4,3,3)`, to bytes that have room for 3 more, and 4 for each
+/// channel.
 pub fn put_channels<A: Allocator>(out: &mut Vec<u8, A>, channels: &[u8])
     requires room { vec_len out.old + (3 + 4 * length channels.now) ≤ vec_capacity out.old }
     ensures text { out.new.items ≡ out.old.items ++ channels_text channels.now }
@@ -62,9 +62,9 @@ pub fn put_channels<A: Allocator>(out: &mut Vec<u8, A>, channels: &[u8])
     append(out, b")");
 }
 
-/// Prints an entry of the error queue, such as `-113,"Undefined header"`, after bytes that have
-/// room for 40 more: its number, a comma, and its text in double quotes (SCPI-1999, volume 2,
-/// section 21.8).
+/// Appends an entry of the error queue, such as `-113,"Undefined header"`, to bytes that have room
+/// for 40 more: its number, a comma, and its text in double quotes (SCPI-1999, volume 2, section
+/// 21.8).
 pub fn put_error<A: Allocator>(out: &mut Vec<u8, A>, code: Code)
     requires room { vec_len out.old + 40 ≤ vec_capacity out.old }
     ensures text { out.new.items ≡ out.old.items ++ error_text code }
@@ -77,7 +77,7 @@ pub fn put_error<A: Allocator>(out: &mut Vec<u8, A>, code: Code)
     append(out, b"\"");
 }
 
-/// Prints a boolean after bytes that have room for 1 more: `1` for on, `0` for off.
+/// Appends a boolean to bytes that have room for 1 more: `1` for on, `0` for off.
 pub fn put_switch<A: Allocator>(out: &mut Vec<u8, A>, on: bool)
     requires room { vec_len out.old + 1 ≤ vec_capacity out.old }
     ensures text { out.new.items ≡ out.old.items ++ switch_text on }
@@ -87,8 +87,8 @@ pub fn put_switch<A: Allocator>(out: &mut Vec<u8, A>, on: bool)
     append(out, if on { b"1" } else { b"0" });
 }
 
-/// Prints the short form of a source of triggers, `IMM`, `BUS` or `EXT`, after bytes that have
-/// room for 3 more.
+/// Appends the short form of a source of triggers, `IMM`, `BUS` or `EXT`, to bytes that have room
+/// for 3 more.
 pub fn put_source<A: Allocator>(out: &mut Vec<u8, A>, source: Source)
     requires room { vec_len out.old + 3 ≤ vec_capacity out.old }
     ensures text { out.new.items ≡ out.old.items ++ source_text source }
@@ -103,7 +103,7 @@ pub fn put_source<A: Allocator>(out: &mut Vec<u8, A>, source: Source)
     append(out, keyword);
 }
 
-/// Puts a number in decimal, with a minus in front if it is below 0.
+/// Appends a number in decimal, with a minus in front if it is below 0.
 fn put_number<A: Allocator>(out: &mut Vec<u8, A>, value: i16)
     requires room { vec_len out.old + 6 ≤ vec_capacity out.old }
     ensures text { out.new.items ≡ out.old.items ++ signed_decimal value }
@@ -113,7 +113,7 @@ fn put_number<A: Allocator>(out: &mut Vec<u8, A>, value: i16)
     append(out, Buffer::new().format(value).as_bytes());
 }
 
-/// The text of an error, which is never long.
+/// The text of an error, at most 31 bytes.
 fn short_text(code: Code) -> &'static str
     ensures value { result.now ≡ text_of code }
     ensures short { length result.now ≤ 31 }
@@ -121,7 +121,7 @@ fn short_text(code: Code) -> &'static str
     code.text()
 }
 
-/// Puts channels in decimal, with commas between them.
+/// Appends channels in decimal, with commas between them.
 fn put_joined<A: Allocator>(out: &mut Vec<u8, A>, channels: &[u8])
     requires room { vec_len out.old + 4 * length channels.now ≤ vec_capacity out.old }
     ensures text { out.new.items ≡ out.old.items ++ join_by decimal (codes ",") channels.now }
@@ -138,7 +138,7 @@ fn put_joined<A: Allocator>(out: &mut Vec<u8, A>, channels: &[u8])
     }
 }
 
-/// Puts a channel in decimal.
+/// Appends a channel in decimal.
 fn put_channel<A: Allocator>(out: &mut Vec<u8, A>, channel: u8)
     requires room { vec_len out.old + 3 ≤ vec_capacity out.old }
     ensures text { out.new.items ≡ out.old.items ++ decimal channel }

@@ -5,8 +5,8 @@ ghost use Rattle.sv_value.specs.Value.{power_of_none, power_of_volts};
 
 use crate::choice::is_same;
 
-/// How many powers of ten a unit of voltage is above the microvolt; none where the suffix names no
-/// such unit. No suffix is volts.
+/// The unit of voltage that a suffix names, as a power of ten of the microvolt; `None` if the
+/// suffix names no unit of voltage. Without a suffix it is the volt.
 pub(crate) fn volts(suffix: &[u8]) -> Option<u64>
     ensures { result ≡ power_of_volts suffix.now }
 {
@@ -26,7 +26,7 @@ pub(crate) fn volts(suffix: &[u8]) -> Option<u64>
     }
 }
 
-/// The power of ten of a number without a unit; `None` if there is a suffix.
+/// The power of ten of a number without a unit, 0; `None` if there is a suffix.
 pub(crate) fn none(suffix: &[u8]) -> Option<u64>
     ensures { result ≡ power_of_none suffix.now }
 {

@@ -23,9 +23,9 @@ use sv_lexer::{Kind, Token};
 /// nearest microvolt, half away from zero.
 ///
 /// # Errors
-/// For other data [`Code::SyntaxError`] or [`Code::DataTypeError`]. For a number the first of
-/// [`Code::InvalidCharacterInNumber`], [`Code::InvalidSuffix`], [`Code::TooManyDigits`],
-/// [`Code::ExponentTooLarge`], [`Code::DataOutOfRange`].
+/// For data that aren't a number [`Code::SyntaxError`] or [`Code::DataTypeError`]. For a number the
+/// first that applies of [`Code::InvalidCharacterInNumber`], [`Code::InvalidSuffix`],
+/// [`Code::TooManyDigits`], [`Code::ExponentTooLarge`], [`Code::DataOutOfRange`].
 pub fn microvolts(token: &Token<'_>) -> Result<i64, Code>
     ensures value { result ≡ read_voltage token.now.kind token.now.text.now }
     ensures range { IfOk result (λ voltage. unsigned_abs voltage ≤ 1000000000) }
@@ -36,15 +36,15 @@ pub fn microvolts(token: &Token<'_>) -> Result<i64, Code>
     }
 }
 
-/// A whole number in this range: a decimal number, rounded to the nearest, half away from zero; or
-/// digits in another base.
+/// A whole number from `low` to `high`: a decimal number, rounded to the nearest, half away from
+/// zero; or digits in another base.
 ///
 /// # Errors
-/// For other data [`Code::SyntaxError`] or [`Code::DataTypeError`]. For a decimal number the first
-/// of [`Code::InvalidCharacterInNumber`], [`Code::SuffixNotAllowed`], [`Code::TooManyDigits`],
-/// [`Code::ExponentTooLarge`], [`Code::DataOutOfRange`]. In another base [`Code::SyntaxError`] if
-/// the letter of a base or a digit after it is missing, then [`Code::InvalidCharacterInNumber`],
-/// [`Code::DataOutOfRange`].
+/// For data that aren't a number [`Code::SyntaxError`] or [`Code::DataTypeError`]. For a decimal
+/// number the first that applies of [`Code::InvalidCharacterInNumber`], [`Code::SuffixNotAllowed`],
+/// [`Code::TooManyDigits`], [`Code::ExponentTooLarge`], [`Code::DataOutOfRange`]. In another base
+/// [`Code::SyntaxError`] if the letter of a base or a digit after it is missing, then
+/// [`Code::InvalidCharacterInNumber`], [`Code::DataOutOfRange`].
 pub fn whole(token: &Token<'_>, low: u16, high: u16) -> Result<u16, Code>
     ensures value { result ≡ read_whole low high token.now.kind token.now.text.now }
     ensures range { IfOk result (λ number. (low ≤ number) × (number ≤ high)) }
@@ -64,7 +64,7 @@ pub fn whole(token: &Token<'_>, low: u16, high: u16) -> Result<u16, Code>
 /// on.
 ///
 /// # Errors
-/// For a number those of [`whole`] but the range. For character data
+/// For a number the errors of [`whole`], except [`Code::DataOutOfRange`]. For character data
 /// [`Code::InvalidCharacterData`], then [`Code::IllegalParameterValue`]. For other data
 /// [`Code::SyntaxError`] or [`Code::DataTypeError`].
 pub fn boolean(token: &Token<'_>) -> Result<bool, Code>
@@ -85,7 +85,7 @@ pub fn boolean(token: &Token<'_>) -> Result<bool, Code>
 /// A source of triggers: `IMMediate`, `BUS` or `EXTernal`, in short or long form and in any case.
 ///
 /// # Errors
-/// For character data [`Code::InvalidCharacterData`] if a byte is no letter, digit or underscore,
+/// For character data [`Code::InvalidCharacterData`] if a byte isn't a letter, digit or underscore,
 /// then [`Code::IllegalParameterValue`] for another word. For other data [`Code::SyntaxError`] or
 /// [`Code::DataTypeError`].
 pub fn keyword(token: &Token<'_>) -> Result<Source, Code>
@@ -101,9 +101,10 @@ pub fn keyword(token: &Token<'_>) -> Result<Source, Code>
 /// [`LONGEST_LIST`](sv_errors::LONGEST_LIST).
 ///
 /// # Errors
-/// [`Code::InvalidExpression`] if it isn't spelled so. Then, from the left,
-/// [`Code::DataOutOfRange`] if an end of an item is no channel, or [`Code::TooMuchData`] if there
-/// are too many channels so far. For other data [`Code::SyntaxError`] or [`Code::DataTypeError`].
+/// [`Code::InvalidExpression`] if the expression doesn't have the form of a channel list. Then,
+/// from the left, [`Code::DataOutOfRange`] if an end of an item isn't a channel, or
+/// [`Code::TooMuchData`] if there are too many channels so far. For other data
+/// [`Code::SyntaxError`] or [`Code::DataTypeError`].
 pub fn channel_list(token: &Token<'_>) -> Result<ArrayVec<u8, LONGEST_LIST>, Code>
     ensures value { MatchResult result (λ list. read_channels token.now.kind token.now.text.now
         ≡ Ok list.items) (λ code. read_channels token.now.kind token.now.text.now ≡ Err code) }
@@ -115,7 +116,7 @@ pub fn channel_list(token: &Token<'_>) -> Result<ArrayVec<u8, LONGEST_LIST>, Cod
     }
 }
 
-/// The voltage that a decimal number is.
+/// Reads a decimal number as a voltage in microvolts.
 fn voltage(text: &[u8]) -> Result<i64, Code>
     ensures value { result ≡ read_voltage Number text.now }
     ensures range { IfOk result (λ voltage. unsigned_abs voltage ≤ 1000000000) }
@@ -127,7 +128,7 @@ fn voltage(text: &[u8]) -> Result<i64, Code>
     }
 }
 
-/// The number that a decimal number without a unit is.
+/// Reads a decimal number without a unit.
 fn unitless(text: &[u8]) -> Result<Amount, Code>
     ensures { MatchResult result (λ amount. StandsFor amount
         (read_decimal power_of_none SuffixNotAllowed text.now))
@@ -137,7 +138,7 @@ fn unitless(text: &[u8]) -> Result<Amount, Code>
     Amount::of(&number, suffix::none(number.suffix), Code::SuffixNotAllowed)
 }
 
-/// The error of data of a kind that isn't wanted.
+/// The error for data of a kind that the parameter doesn't take.
 fn wrong(kind: Kind) -> Code
     ensures { result ≡ wrong_kind kind }
 {

@@ -9,8 +9,8 @@ use itoa::Buffer;
 const VOLT: u64 = 1_000_000;
 
 /// Prints a voltage in microvolts, up to 1,000 V in magnitude: a sign (`+` for 0), whole volts, a
-/// point and six digits. It is written at the front of at least 16 bytes; the result is its length,
-/// at most 12.
+/// point and six digits. It is written to the front of `out`, which has at least 16 bytes. Returns
+/// the length of the text, at most 12.
 #[tactic(auto, using(crate::proofs::Printed::volts_short))]
 pub fn write_microvolts(value: i64, out: &mut [u8]) -> usize
     requires room { 16 ≤ length out.old }

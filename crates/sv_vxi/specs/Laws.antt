@@ -10,14 +10,14 @@ abbrev pub ArgumentsAsSpelled : Type 0
 ArgumentsAsSpelled = (proc : ℕ) (bytes : List ℕ) → All (λ byte. byte < 256) bytes → is_one_of (core_calls ++ abort_calls) proc ≡ true
     → ArgumentsAre proc bytes (arguments_at proc bytes)
 
--- If two lists of arguments of one call begin the same bytes, the arguments are equal, and so are the bytes after them. So no encoded
--- arguments are a proper prefix of others.
+-- If bytes begin with two lists of arguments of one call, the arguments are equal, and so are the bytes after them. So no encoded arguments
+-- are a proper prefix of others.
 abbrev pub ArgumentsPrefixFree : Type 0
 ArgumentsPrefixFree = (x y : Arguments) (bytes after behind : List ℕ) → procedure_of x ≡ procedure_of y → BeginsWith bytes x after
     → BeginsWith bytes y behind
     → (x ≡ y) × (after ≡ behind)
 
--- If the fields of two results of the same shape begin the same bytes, the fields are equal, and so are the bytes after them.
+-- If bytes begin with the fields of two results of the same form, the fields are equal, and so are the bytes after them.
 abbrev pub ResultsPrefixFree : Type 0
 ResultsPrefixFree = (x y : Outcome) (bytes after behind : List ℕ) → SameShape x y → BeginsAll bytes (result_fields x) after
     → BeginsAll bytes (result_fields y) behind

@@ -8,7 +8,7 @@ use Rattle.sv_vxi.specs.declared.results.VxiResult.TheVariants as results
 use Rattle.sv_vxi.specs.ErrorCode.{error_number, unless_error}
 use Rattle.sv_vxi.specs.Reason.{reason_number}
 
--- a result as plain data, a variant for each shape
+-- a result as plain data, a variant for each form
 pub data Outcome : Type 0 where
   Link : (error : ErrorCode) (lid : ℤ) (abort_port max_recv_size : ℕ) → Outcome
   Size : (error : ErrorCode) (size : ℕ) → Outcome
@@ -21,7 +21,7 @@ pub data Outcome : Type 0 where
 abbrev pub error_field : ErrorCode → Field
 error_field error = Signed (pos (error_number error))
 
--- The fields of a result, in order. After an error each other field is 0 or empty.
+-- The fields of a result, in order. If there is an error, all other fields are 0 or empty.
 abbrev pub result_fields : Outcome → List Field
 result_fields (Link error lid abort_port max_recv_size) =
     error_field error ∷ Signed (unless_error error lid (pos 0)) ∷ Unsigned (unless_error error abort_port 0)
@@ -48,7 +48,7 @@ data_of (Read error reason bytes) = unless_error error bytes []
 data_of (Data error bytes) = unless_error error bytes []
 data_of _ = []
 
--- Two results have the same shape: a call that can be answered with one can be answered with the other.
+-- Two results have the same form: a call that can be answered with one can be answered with the other.
 abbrev pub SameShape : Outcome → Outcome → Type 0
 SameShape (Link error lid abort_port max_recv_size) (Link error' lid' abort_port' max_recv_size') = Unit {0}
 SameShape (Size error size) (Size error' size') = Unit {0}

@@ -1,5 +1,5 @@
-//! The arguments of calls (VXI-11 revision 1.0, sections B.5 and B.6), and what the server asks of
-//! them.
+//! The arguments of calls (VXI-11 revision 1.0, sections B.5 and B.6), and questions that the
+//! server has about them.
 
 ghost use Rattle.std.specs.Prelude.{◌≡◌};
 ghost use Rattle.sv_vxi.specs.Arguments.{link as link_by, lock_wait as lock_wait_by, lock_wait_of as flagged_by, is_create_link as makes_link};
@@ -10,9 +10,9 @@ use crate::flags::Flags;
 /// What a call does while another link holds the lock (section B.4.4).
 #[derive(Clone, Copy)]
 pub struct LockWait {
-    /// Whether it waits for the lock; otherwise it fails.
+    /// Whether the call waits for the lock; otherwise it fails.
     pub waits: bool,
-    /// How long it waits, in milliseconds.
+    /// How long the call waits, in milliseconds.
     pub timeout: u32,
 }
 
@@ -34,20 +34,20 @@ pub enum GenericCall {
 /// The arguments of a call on a link, after the link. Timeouts are in milliseconds.
 #[derive(Clone, Copy)]
 pub enum LinkCall<'a> {
-    /// Of device_abort, which has none: the link's call is aborted.
+    /// The arguments of device_abort: none. The call of the link is aborted.
     DeviceAbort,
-    /// Of device_write.
+    /// The arguments of device_write.
     DeviceWrite {
         /// How long to wait for the device.
         io_timeout: u32,
         /// How long to wait for the lock.
         lock_timeout: u32,
-        /// Whether it waits for the lock, and END after the last byte.
+        /// Whether the call waits for the lock, and whether END comes with the last byte.
         flags: Flags,
         /// The bytes for the device.
         bytes: &'a [u8],
     },
-    /// Of device_read.
+    /// The arguments of device_read.
     DeviceRead {
         /// The most bytes to return.
         request_size: u32,
@@ -55,41 +55,42 @@ pub enum LinkCall<'a> {
         io_timeout: u32,
         /// How long to wait for the lock.
         lock_timeout: u32,
-        /// Whether it waits for the lock, and whether the termination character counts.
+        /// Whether the call waits for the lock, and whether the termination character ends the
+        /// read.
         flags: Flags,
         /// The termination character, in the low eight bits.
         term_char: u32,
     },
-    /// Of five calls: Device_GenericParms.
+    /// The arguments of five calls: Device_GenericParms.
     Generic {
-        /// Which of the five it is.
+        /// Which of the five calls it is.
         call: GenericCall,
-        /// Whether it waits for the lock.
+        /// Whether the call waits for the lock.
         flags: Flags,
         /// How long to wait for the lock.
         lock_timeout: u32,
         /// How long to wait for the device.
         io_timeout: u32,
     },
-    /// Of device_lock.
+    /// The arguments of device_lock.
     DeviceLock {
-        /// Whether it waits for the lock.
+        /// Whether the call waits for the lock.
         flags: Flags,
         /// How long to wait for the lock.
         lock_timeout: u32,
     },
-    /// Of device_unlock, which has none.
+    /// The arguments of device_unlock: none.
     DeviceUnlock,
-    /// Of device_enable_srq.
+    /// The arguments of device_enable_srq.
     DeviceEnableSrq {
         /// Whether service requests are enabled.
         enable: bool,
         /// The handle that requests carry, at most 40 bytes.
         handle: &'a [u8],
     },
-    /// Of device_docmd.
+    /// The arguments of device_docmd.
     DeviceDocmd {
-        /// Whether it waits for the lock.
+        /// Whether the call waits for the lock.
         flags: Flags,
         /// How long to wait for the device.
         io_timeout: u32,
@@ -104,50 +105,50 @@ pub enum LinkCall<'a> {
         /// The data of the command.
         bytes: &'a [u8],
     },
-    /// Of destroy_link, which has none.
+    /// The arguments of destroy_link: none.
     DestroyLink,
 }
 
 /// The arguments of a call. Timeouts are in milliseconds.
 #[derive(Clone, Copy)]
 pub enum Args<'a> {
-    /// Of create_link.
+    /// The arguments of create_link.
     CreateLink {
         /// What the client calls itself.
         client_id: i32,
-        /// Whether the link is made holding the lock.
+        /// Whether the link is to hold the lock when it is made.
         lock_device: bool,
         /// How long to wait for the lock.
         lock_timeout: u32,
         /// The name of the device.
         device: &'a [u8],
     },
-    /// Of a call on a link.
+    /// The arguments of a call on a link.
     OnLink {
         /// The link.
         lid: i32,
         /// The call, and its other arguments.
         call: LinkCall<'a>,
     },
-    /// Of create_intr_chan.
+    /// The arguments of create_intr_chan.
     CreateIntrChan {
-        /// The address to call back, a word.
+        /// The address to call back, as a 32-bit number.
         host_addr: u32,
-        /// The port to call back; one above 65,535 is read all the same.
+        /// The port to call back. Reading accepts numbers above 65,535 too.
         host_port: u32,
         /// The program to call.
         prog_num: u32,
-        /// Its version.
+        /// The version of the program.
         prog_vers: u32,
-        /// 0 for TCP, 1 for UDP; any word is read.
+        /// 0 for TCP, 1 for UDP. Reading accepts all numbers.
         prog_family: u32,
     },
-    /// Of destroy_intr_chan, which has none.
+    /// The arguments of destroy_intr_chan: none.
     DestroyIntrChan,
 }
 
 impl LinkCall<'_> {
-    /// What the call does while another link holds the lock; `None` if it is executed all the same.
+    /// What the call does while another link holds the lock; `None` if it is executed nevertheless.
     pub fn lock_wait(&self) -> Option<LockWait>
         ensures { result ≡ lock_wait_by (plain_call self.now) }
     {
@@ -200,7 +201,7 @@ impl Args<'_> {
     }
 }
 
-/// How long a call waits for the lock, by its flags and timeout.
+/// Whether a call waits for the lock, and how long, by its flags and timeout.
 fn flagged(flags: Flags, timeout: u32) -> Option<LockWait>
     ensures { result ≡ flagged_by flags.0 timeout }
 {

@@ -3,7 +3,7 @@
 ghost use Rattle.std.specs.Prelude.{◌≡◌, ◌==◌};
 ghost use Rattle.std.specs.Int.{bit_at};
 
-/// The flags of a call, any word. Bits that no function here asks for are ignored.
+/// The flags of a call, any 32-bit number. Bits that no function here asks for are ignored.
 #[derive(Clone, Copy, Debug, PartialEq, Eq)]
 pub struct Flags(pub u32);
 
@@ -15,7 +15,8 @@ impl Flags {
         self.0 % 2 == 1
     }
 
-    /// Whether a write has END: its last byte, or an empty write itself, ends the message (bit 3).
+    /// Whether END comes with a write: the last byte, or an empty write itself, ends the message
+    /// (bit 3).
     pub fn has_end(self) -> bool
         ensures { result ≡ (bit_at self.0 3 == 1) }
     {

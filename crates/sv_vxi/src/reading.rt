@@ -18,17 +18,17 @@ use sv_xdr::{Garbage, Reader};
 /// device_enable_srq).
 const MAX_HANDLE: u32 = 40;
 
-/// Reads the arguments of a call; bytes after the last field are ignored. `proc` has to be a call
-/// of the core channel or device_abort.
+/// Reads the arguments of a call; bytes after the last field are ignored. `proc` must be a call of
+/// the core channel or device_abort.
 ///
 /// # Errors
-/// [`Garbage`] if the bytes don't begin with a spelling of the arguments: a field is missing, a
+/// [`Garbage`] if the bytes don't begin with an encoding of the arguments: a field is missing, a
 /// boolean is neither 0 nor 1, a byte of padding isn't 0, or a handle is above 40 bytes.
 pub fn read_args(proc: u32, bytes: &[u8]) -> Result<Args<'_>, Garbage>
     requires { is_one_of (core_calls ++ abort_calls) proc ≡ true }
-    // What is read is spelled there, and is garbage only if nothing is.
+    // The result is what the bytes encode; garbage only if they encode no arguments.
     ensures found { ArgumentsAre proc bytes.now (plain_reading result) }
-    // There is no other reading.
+    // The bytes can't be read in another way.
     ensures only { (outcome : Result Arguments Garbage) → ArgumentsAre proc bytes.now outcome
         → plain_reading result ≡ outcome }
     ensures exact { plain_reading result ≡ arguments_at proc bytes.now }
@@ -176,7 +176,7 @@ fn create_intr_chan(bytes: &[u8]) -> Result<Args<'_>, Garbage>
     })
 }
 
-/// Reads the link of a call that names nothing else.
+/// Reads the link of a call that has no other arguments.
 fn alone<'a>(bytes: &[u8], call: LinkCall<'a>) -> Result<Args<'a>, Garbage>
     ensures { plain_reading result ≡ read_on_link [] (plain_call call.entry) bytes.now }
 {

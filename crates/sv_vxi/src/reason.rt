@@ -15,7 +15,7 @@ pub struct Reason {
 }
 
 impl Reason {
-    /// The number of the reasons: REQCNT 1, CHR 2 and END 4, added.
+    /// The reasons as a number: the sum of REQCNT (1), CHR (2) and END (4), for those that hold.
     pub fn number(self) -> i32
         ensures { result ≡ pos (reason_number self) }
     {

@@ -10,13 +10,13 @@ use crate::error_code::ErrorCode;
 use crate::reason::Reason;
 use sv_xdr::{Writer, XdrFault};
 
-/// The result of a call, a variant for each shape. After an error each other field is written as 0
-/// or empty, whatever it is.
+/// The result of a call, with a variant for each form. If there is an error, all other fields are
+/// written as 0 or empty, whatever their values.
 #[derive(Clone, Copy)]
 pub enum VxiResult<'a> {
-    /// Of create_link.
+    /// The result of create_link.
     Link {
-        /// Why it failed, if it did.
+        /// Why the call failed, if it did.
         error: ErrorCode,
         /// The number of the link.
         lid: i32,
@@ -25,37 +25,37 @@ pub enum VxiResult<'a> {
         /// The most bytes of a write.
         max_recv_size: u32,
     },
-    /// Of device_write.
+    /// The result of device_write.
     Size {
-        /// Why it failed, if it did.
+        /// Why the call failed, if it did.
         error: ErrorCode,
         /// How many bytes were taken.
         size: u32,
     },
-    /// Of device_read.
+    /// The result of device_read.
     Read {
-        /// Why it failed, if it did.
+        /// Why the call failed, if it did.
         error: ErrorCode,
-        /// Why it ended.
+        /// Why the read ended.
         reason: Reason,
         /// The bytes that were read.
         bytes: &'a [u8],
     },
-    /// Of device_readstb.
+    /// The result of device_readstb.
     Status {
-        /// Why it failed, if it did.
+        /// Why the call failed, if it did.
         error: ErrorCode,
         /// The status byte (IEEE 488.2, 11.2).
         stb: u8,
     },
-    /// Of the calls whose result is an error alone.
+    /// The result of the calls that return an error alone.
     Plain {
-        /// Why it failed, if it did.
+        /// Why the call failed, if it did.
         error: ErrorCode,
     },
-    /// Of device_docmd.
+    /// The result of device_docmd.
     Data {
-        /// Why it failed, if it did.
+        /// Why the call failed, if it did.
         error: ErrorCode,
         /// The data that the command returns.
         bytes: &'a [u8],
@@ -79,7 +79,7 @@ impl<'a> VxiResult<'a> {
     }
 }
 
-/// The data of a result, and none after an error.
+/// The data of a result; none if there is an error.
 fn data_unless_error(error: ErrorCode, bytes: &[u8]) -> &[u8]
     ensures { result.now ≡ unless_failed error bytes.now [] }
 {
@@ -93,8 +93,8 @@ fn data_unless_error(error: ErrorCode, bytes: &[u8]) -> &[u8]
 /// Writes a result.
 ///
 /// # Errors
-/// `TooLong` for data longer than a length field can express, 4,294,967,295 bytes; nothing is
-/// written. Else `NoRoom` at the first field that doesn't fit; those before it stay written.
+/// `TooLong` for data longer than a length field can express, 4,294,967,295 bytes; then nothing is
+/// written. Else `NoRoom` at the first field that doesn't fit; the fields before it stay written.
 pub fn write_result(writer: &mut Writer<'_>, outcome: &VxiResult<'_>) -> Result<(), XdrFault>
     ensures same_buffer { writer.new.out.ghost_name ≡ writer.old.out.ghost_name }
     ensures writes { length (data_of (plain_result outcome.now)) < 2 ^ 32
@@ -125,7 +125,7 @@ pub fn write_result(writer: &mut Writer<'_>, outcome: &VxiResult<'_>) -> Result<
     }
 }
 
-/// A field of a result: this value, or 0 or empty after an error.
+/// The value of a result's field: this one, or 0 or empty if there is an error.
 fn unless_error<T: Copy>(error: ErrorCode, value: T, nothing: T) -> T
     ensures { result ≡ unless_failed error value nothing }
 {

@@ -32,7 +32,7 @@ abbrev pub IfGiven : Option Text → (Text → Type 0) → Type 0
 IfGiven (Some text) P = P text
 IfGiven None P = ⊥
 
--- The values of the five options, by name, say what is to be served.
+-- The values of the five options, by name, say what to serve.
 abbrev pub ServesBy : (Text → Option Text) → Serve → Type 0
 ServesBy value serve = IfGiven (value (codes "core")) (λ text. IsCount 65535 text serve.core)
     × IfGiven (value (codes "abort")) (λ text. IsCount 65535 text serve.abort)
@@ -40,7 +40,7 @@ ServesBy value serve = IfGiven (value (codes "core")) (λ text. IsCount 65535 te
     × IfGiven (value (codes "scenario")) (λ text. serve.scenario.now ≡ text)
     × IfGiven (value (codes "sweeps")) (λ text. IsCount 4294967295 text serve.sweeps)
 
--- No word is `--`, clap's command finds no fault in the words, and the values that it matches say what is to be served.
+-- No word is `--`, clap's command finds no fault in the words, and the values that it matches say what to serve.
 abbrev pub Serves : List Text → Serve → Type 0
 Serves words serve = (Contains words (codes "--") → ⊥) × (fault_of serve_command words ≡ [])
     × ServesBy (λ name. first_of name (matches_of serve_command words)) serve

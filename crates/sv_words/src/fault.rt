@@ -9,13 +9,13 @@ use thiserror::Error;
 /// Why the program stopped.
 #[derive(Clone, Copy, Debug, PartialEq, Eq, Error)]
 pub enum ProgramFault {
-    /// The words of the command line aren't those that it knows.
+    /// The words of the command line aren't ones that the program knows.
     #[error("bad words")]
     BadWords,
     /// A script or a scenario can't be run, or the input, the output or memory failed.
     #[error("{0}")]
     Run(#[from] RunFault),
-    /// A port can't be listened on, or the system fails to wait.
+    /// A port can't be listened on, or the system's wait or clock fails.
     #[error("socket")]
     Socket,
 }

@@ -1,4 +1,4 @@
-//! The options of `serve`, and what their values say.
+//! The options of `serve`, and the meaning of their values.
 
 ghost use Rattle.std.specs.Prelude.{◌≡◌, ◌≤◌, ◌==◌, false, IfOk, slice_index};
 ghost use Rattle.clap.specs.Words.{app_of};
@@ -10,7 +10,7 @@ use crate::words::Serve;
 use clap::{Arg, ArgAction, ArgMatches, Command};
 use std::alloc::{AllocError, Global};
 
-/// An option with a value, which has to be there.
+/// A required option with a value.
 fn option<'a>(alloc: Global, name: &'a str) -> Arg<'a>
     ensures rule { rule_of result ≡ option name.now }
     ensures local { result.global ≡ false }
@@ -33,14 +33,14 @@ pub(crate) fn command<'a>(alloc: Global) -> Result<Command<'a>, AllocError>
         .arg(option(alloc, "sweeps"))
 }
 
-/// Whether a word begins with a plus, which stands before no number here.
+/// Whether a word begins with a plus, which no number here may have.
 fn has_plus(word: &str) -> bool
     ensures { result ≡ (slice_index word.now 0 == 43) }
 {
     matches!(word.as_bytes(), [b'+', ..])
 }
 
-/// The number from 1 to `most` that 1 to 10 digits spell.
+/// The value of 1 to 10 digits, if it is from 1 to `most`.
 fn count(word: &str, most: u32) -> Option<u32>
     ensures { Finds (IsCount most word.now) result }
 {
@@ -67,7 +67,7 @@ fn within(number: u32, most: u32) -> Option<u32>
     }
 }
 
-/// The number that an option's value spells.
+/// The number in an option's value, from 1 to `most`.
 fn count_of(matches: &ArgMatches<'_>, name: &str, most: u32) -> Option<u32>
     ensures { Finds (λ n. IfGiven (first_value (found_of matches.now) name.now)
         (λ text. IsCount most text n)) result }
@@ -78,7 +78,7 @@ fn count_of(matches: &ArgMatches<'_>, name: &str, most: u32) -> Option<u32>
     }
 }
 
-/// What is to be served, by the values of the options.
+/// What to serve, by the values of the options.
 pub(crate) fn told<'a>(matches: &ArgMatches<'a>) -> Option<Serve<'a>>
     ensures { Finds (ServesBy (λ name. first_value (found_of matches.now) name)) result }
 {

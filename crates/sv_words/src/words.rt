@@ -22,7 +22,7 @@ pub enum Words<'a> {
     Server(Serve<'a>),
 }
 
-/// What is to be served.
+/// What to serve.
 #[derive(Clone, Copy, Debug, PartialEq, Eq)]
 pub struct Serve<'a> {
     /// The port of the core channel, from 1.
@@ -33,7 +33,7 @@ pub struct Serve<'a> {
     pub portmap: u16,
     /// The path of the scenario.
     pub scenario: &'a str,
-    /// After so many sweeps it ends: from 1.
+    /// The number of sweeps after which the server ends, at least 1.
     pub sweeps: u32,
 }
 
@@ -83,7 +83,7 @@ fn read_serve<'a, S: AsStr>(alloc: Global, words: &'a [S]) -> Result<Serve<'a>, 
     }
 }
 
-/// Whether a word is `--`. To clap it ends the options, and may follow them.
+/// Whether there is a word `--`. For clap it ends the options, and may follow them.
 fn has_end_of_options<S: AsStr>(words: &[S]) -> bool
     ensures { Decides result (Contains (map S.text words.now) (codes "--")) }
 {

@@ -12,7 +12,7 @@ abbrev pub ◌>>=◌ : {A B : Type 0} → Result A XdrFault → (A → Result B 
 (Ok x) >>= f = f x
 (Err fault) >>= f = Err fault
 
--- What a read of the code returned, and the bytes left after it, are what the function gives. A fault leaves all bytes.
+-- What a read of the code returned, and the bytes left after it, are what the function gives. After a fault all bytes are left.
 abbrev pub IsRead : {X Y : Type 0} → (X → Y) → Result X XdrFault → List ℕ → List ℕ → Result (Y × List ℕ) XdrFault → Type 0
 IsRead view (Ok x) old new read = read ≡ Ok (view x, new)
 IsRead view (Err fault) old new read = (read ≡ Err fault) × (new ≡ old)

@@ -2,7 +2,7 @@
 
 use thiserror::Error;
 
-/// Why a field can't be read or written. The place then stays.
+/// Why a field can't be read or written. The reader or writer then doesn't move.
 #[derive(Clone, Copy, Debug, PartialEq, Eq, Error)]
 pub enum XdrFault {
     /// The bytes end before the field does.

@@ -1,10 +1,10 @@
-//! Bytes that don't spell what is asked for.
+//! Bytes that don't encode the required fields.
 
 use crate::fault::XdrFault;
 use thiserror::Error;
 
-/// The bytes don't begin with a spelling of the fields that are wanted: a call's arguments that
-/// can't be read (RFC 5531, section 9, GARBAGE_ARGS). It doesn't say which field.
+/// The bytes don't begin with an encoding of the required fields: a call's arguments can't be read
+/// (RFC 5531, section 9, GARBAGE_ARGS). The fault doesn't say which field is wrong.
 #[derive(Clone, Copy, Debug, PartialEq, Eq, Error)]
 #[error("the arguments can't be read")]
 pub struct Garbage;

@@ -1,8 +1,8 @@
 //! The fields of XDR, the external data representation (RFC 4506), read from a slice and written
 //! into one: unsigned and signed integers, booleans and variable-length opaque data.
 //!
-//! Nothing allocates. A field is read exactly if its spelling stands there, and what is written is
-//! the spelling; a fault changes nothing.
+//! Nothing allocates. A read succeeds exactly if the field's encoding comes next, and a write
+//! appends that encoding. A fault changes nothing.
 #![tactic(auto)]
 
 mod fault;

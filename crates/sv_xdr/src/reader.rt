@@ -41,14 +41,14 @@ impl<'a> Reader<'a> {
     /// Reads an unsigned integer (RFC 4506, section 4.2).
     ///
     /// # Errors
-    /// `Short` if fewer than 4 bytes are left. The place stays.
+    /// `Short` if fewer than 4 bytes are left. The reader then doesn't move.
     pub fn u32(&mut self) -> Result<u32, XdrFault>
-        // What is read is spelled there.
+        // The field that is read is encoded in the bytes.
         ensures found { IfOk result (λ n. Begins self.old (Unsigned n) self.new) }
-        // What is spelled there is read.
+        // A field whose encoding comes next is read.
         ensures only { (n : ℕ) (after : List ℕ) → Begins self.old (Unsigned n) after
             → (result ≡ Ok n) × (self.new ≡ after) }
-        // Which fault it is, and that it leaves the place.
+        // The result as a function of the bytes. At a fault the reader doesn't move.
         ensures exact { IsRead (λ n. n) result self.old self.new (unsigned_at self.old) }
     {
         if self.rest.len() < 4 {
@@ -62,7 +62,7 @@ impl<'a> Reader<'a> {
     /// Reads a signed integer (RFC 4506, section 4.1).
     ///
     /// # Errors
-    /// `Short` if fewer than 4 bytes are left. The place stays.
+    /// `Short` if fewer than 4 bytes are left. The reader then doesn't move.
     #[tactic(auto, unfolding(crate::specs::Reader::signed_at))]
     pub fn i32(&mut self) -> Result<i32, XdrFault>
         ensures found { IfOk result (λ z. Begins self.old (Signed z) self.new) }
@@ -78,7 +78,7 @@ impl<'a> Reader<'a> {
     ///
     /// # Errors
     /// `Short` if fewer than 4 bytes are left, then `BadBool` if the number is neither 0 nor 1. The
-    /// place stays.
+    /// reader then doesn't move.
     #[tactic(auto, unfolding(crate::specs::Reader::boolean_at))]
     pub fn boolean(&mut self) -> Result<bool, XdrFault>
         ensures found { IfOk result (λ b. Begins self.old (Boolean b) self.new) }
@@ -97,12 +97,12 @@ impl<'a> Reader<'a> {
     }
 
     /// Reads variable-length opaque data of at most `max` bytes (RFC 4506, section 4.10), or a
-    /// string, which is spelled alike (section 4.11). The result is a slice of the bytes.
+    /// string, which is encoded in the same way (section 4.11). The result is a slice of the bytes.
     ///
     /// # Errors
-    /// The first of these: `Short` if fewer than 4 bytes are left; `TooLong` if the length is above
-    /// `max`; `Short` if data and padding aren't all there; `BadPad` if a byte of the padding isn't
-    /// 0. The place stays.
+    /// The first that applies: `Short` if fewer than 4 bytes are left; `TooLong` if the length is
+    /// above `max`; `Short` if data and padding aren't complete; `BadPad` if a byte of the padding
+    /// isn't 0. The reader then doesn't move.
     #[tactic(auto, unfolding(crate::specs::Reader::opaque_at))]
     pub fn opaque(&mut self, max: u32) -> Result<&'a [u8], XdrFault>
         ensures found { IfOk result (λ text. Begins self.old (Opaque text.now) self.new
@@ -123,7 +123,7 @@ impl<'a> Reader<'a> {
         Ok(text)
     }
 
-    /// Reads data of a known length and their pad.
+    /// Reads data of a known length and their padding.
     #[tactic(auto, unfolding(crate::specs::Reader::padded_at))]
     fn padded(&mut self, size: usize) -> Result<&'a [u8], XdrFault>
         requires { size < 2 ^ 32 }

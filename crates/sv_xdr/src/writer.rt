@@ -51,7 +51,7 @@ impl<'b> Writer<'b> {
     pub fn u32(&mut self, number: u32) -> Result<(), XdrFault>
         ensures same_buffer { self.new.out.ghost_name ≡ self.old.out.ghost_name }
         ensures spelled { OnOk result (AppendsField (Unsigned number) self.old self.new) }
-        // The spelling is this one, and there was room for it, or there was none and nothing
+        // Either there was room, and this encoding was appended; or there was none, and nothing
         // changed.
         ensures exact { Writes (spelling (Unsigned number)) result self.old self.new }
     {

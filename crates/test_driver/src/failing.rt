@@ -1,4 +1,4 @@
-//! Rows of peers: what each gets, and what each gets where a call of the wire fails.
+//! Rows of peers: what each gets, and what each gets if a call of the wire fails.
 
 use crate::peers::{Call, Peer, Peers};
 use crate::row::{bad, number};
@@ -10,7 +10,7 @@ use sv_server::{Config, Server};
 /// The most calls of a row.
 const MOST: u64 = 1_000;
 
-/// How many sweeps there are, and the peers, a line of hexadecimal each.
+/// The number of sweeps, and the peers, a line of hexadecimal each.
 #[derive(Clone, Copy)]
 struct Row<'a> {
     sweeps: u64,
@@ -41,7 +41,7 @@ fn peers(alloc: Global, lines: &str) -> io::Result<Vec<Peer>> {
     Ok(peers)
 }
 
-/// The driver after so many sweeps of a millisecond each.
+/// The driver after this number of sweeps, each of a millisecond.
 fn played(alloc: Global, sweeps: u64, wire: Peers) -> io::Result<Played> {
     let config = Config {
         core: 4096,
@@ -103,7 +103,7 @@ fn compare<W: Write + Drop>(
     Ok(true)
 }
 
-/// Plays a row with one call failing; whether there was that call.
+/// Plays a row with one call failing. Returns whether the row has that call.
 fn fail_once<W: Write + Drop>(
     alloc: Global,
     row: Row<'_>,
@@ -155,8 +155,8 @@ fn show_each<W: Write + Drop>(peers: &Peers, writer: &mut BufWriter<W>) -> io::R
     Ok(())
 }
 
-/// Plays a row, whose first line is how many sweeps there are: prints what each peer gets, and then
-/// what comes of each failure of the wire.
+/// Plays a row, whose first line is the number of sweeps. Prints what each peer gets, and then the
+/// result of each failure of the wire.
 pub(crate) fn play<W: Write + Drop>(
     alloc: Global,
     text: &str,
@@ -172,7 +172,7 @@ pub(crate) fn play<W: Write + Drop>(
     report(alloc, row, whole.wire(), writer)
 }
 
-/// Prints what each peer gets, and then what comes of each failure of the wire.
+/// Prints what each peer gets, and then the result of each failure of the wire.
 fn report<W: Write + Drop>(
     alloc: Global,
     row: Row<'_>,

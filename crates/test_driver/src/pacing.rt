@@ -1,4 +1,4 @@
-//! Rows of what a loop of sweeps decides by times and counts.
+//! Rows of the decisions of a loop of sweeps, by times and counts.
 
 use crate::row::{bad, number};
 use std::io::{self, BufWriter, Write};
@@ -7,12 +7,12 @@ use sv_pace::Pace;
 /// The most sleeps of a row.
 const MOST: u32 = 10_000;
 
-/// A number of looks or of milliseconds.
+/// A number of polls or of milliseconds.
 fn count_of(number: u64) -> u32 {
     number.min(u64::from(u32::MAX)) as u32
 }
 
-/// Sleeps at once until it may look again, and tells how often.
+/// Sleeps at once until polling is due again, and returns how many times it slept.
 fn sleeps(pace: &mut Pace, now: u64) -> io::Result<u32> {
     for count in 0..MOST {
         if pace.is_spinning(now) {
@@ -23,8 +23,8 @@ fn sleeps(pace: &mut Pace, now: u64) -> io::Result<u32> {
     Err(bad())
 }
 
-/// Looks in vain so often, each time as soon as it may: prints how often it sleeps before
-/// each.
+/// Polls in vain `count` times, each time as soon as polling is due. Prints how many times it
+/// sleeps before each.
 fn miss<W: Write + Drop>(pace: &mut Pace, count: u64, writer: &mut BufWriter<W>) -> io::Result<()> {
     for _ in 0..count {
         pace.work(0);
@@ -34,7 +34,7 @@ fn miss<W: Write + Drop>(pace: &mut Pace, count: u64, writer: &mut BufWriter<W>)
     writeln!(writer)
 }
 
-/// Does what a line says.
+/// Executes a line.
 fn step<W: Write + Drop>(pace: &mut Pace, line: &str, writer: &mut BufWriter<W>) -> io::Result<()> {
     let (word, text) = line.split_once(' ').unwrap_or((line, ""));
     let (first, second) = text.split_once(' ').unwrap_or((text, "0"));
@@ -55,7 +55,7 @@ fn step<W: Write + Drop>(pace: &mut Pace, line: &str, writer: &mut BufWriter<W>)
     }
 }
 
-/// Does what a line says that prints nothing.
+/// Executes a line that prints nothing.
 fn keep(pace: &mut Pace, word: &str, number: u64) -> io::Result<()> {
     match word {
         "work" => pace.work(number),

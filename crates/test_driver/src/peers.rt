@@ -7,7 +7,7 @@ use std::alloc::Global;
 use sv_serve::{Answer, Wire};
 use sv_server::{Dial, Port, Role};
 
-/// What a wire is asked for.
+/// A kind of call of a wire.
 #[derive(Clone, Copy, Debug, PartialEq, Eq)]
 pub(crate) enum Call {
     Accept,
@@ -20,16 +20,16 @@ pub(crate) enum Call {
 /// A peer of the core channel.
 #[derive(Drop)]
 pub(crate) struct Peer {
-    /// What it sends, and how much of that was read.
+    /// The bytes that it sends, and how many of them were read.
     sends: Vec<u8>,
     read: usize,
-    /// Under which number it came, as long as it is there.
+    /// The number of its connection, as long as this is open.
     conn: Option<u8>,
-    /// Whether it came.
+    /// Whether it has come.
     came: bool,
     /// Whether a call for it failed.
     pub(crate) struck: bool,
-    /// What it got on its connection, and on its interrupt channel.
+    /// The bytes that it got on its connection, and on its interrupt channel.
     pub(crate) got: Vec<u8>,
     pub(crate) called: Vec<u8>,
 }
@@ -48,7 +48,7 @@ impl Peer {
         }
     }
 
-    /// Puts what it sends into a buffer, as much as that has room for.
+    /// Puts the bytes that the peer sends into a buffer, as many as there is room for.
     fn give(&mut self, buffer: &mut [u8]) -> Answer<usize>
         ensures { IsWithin result (length buffer.old) }
     {
@@ -62,7 +62,7 @@ impl Peer {
         Answer::Got(count)
     }
 
-    /// Takes what it is sent.
+    /// Takes the bytes that are sent to the peer.
     fn take(&mut self, port: Port, bytes: &[u8]) -> Answer<usize>
         ensures { IsWithin result (length bytes.now) }
     {
@@ -82,7 +82,7 @@ impl Peer {
 pub(crate) struct Peers {
     pub(crate) peers: Vec<Peer>,
     fails: Call,
-    /// How many calls of that kind are left up to the one that fails, which is among them.
+    /// How many calls of that kind are left, up to the one that fails and with it.
     left: u64,
 }
 
@@ -95,7 +95,7 @@ fn number(port: Port) -> u8 {
 }
 
 impl Peers {
-    /// A wire of which a call fails: the one with this number among those of this kind.
+    /// A wire of which one call fails: the one with this number among the calls of this kind.
     pub(crate) fn new(peers: Vec<Peer>, fails: Call, left: u64) -> Peers {
         Peers { peers, fails, left }
     }
@@ -114,7 +114,7 @@ impl Peers {
         self.left == 0
     }
 
-    /// The peer under a number.
+    /// The peer whose connection has this number.
     fn peer(&mut self, conn: u8) -> Option<&mut Peer> {
         self.peers.iter_mut().find(|peer| peer.conn == Some(conn))
     }
@@ -130,7 +130,7 @@ impl Peers {
         fails
     }
 
-    /// Lets the next peer come, under this number; whether one did.
+    /// Lets the next peer come under this number. Returns whether one came.
     fn come(&mut self, conn: u8) -> bool {
         match self.peers.iter_mut().find(|peer| !peer.came) {
             Some(peer) => {

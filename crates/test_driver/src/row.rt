@@ -1,4 +1,4 @@
-//! A row: what stands before its sweeps, and the sweeps.
+//! A row: the lines before its sweeps, and the sweeps.
 
 use crate::scripted::Scripted;
 use crate::shown::show;
@@ -11,7 +11,7 @@ use sv_replay::{Entry, read_scenario};
 use sv_serve::Driver;
 use sv_server::{Config, Server};
 
-/// What follows a sweep's number, where memory is refused in it.
+/// The text after a sweep's number, if memory is refused in it.
 const MEMORY: &str = " memory ";
 
 /// The driver of a row.
@@ -30,8 +30,8 @@ pub(crate) fn number(text: &str) -> io::Result<u64> {
     }
 }
 
-/// The number of the first line, where that begins with a word, and what follows; else 0,
-/// and the whole.
+/// The number in the first line, if that begins with `word`, and the lines after it; else 0, and
+/// all lines.
 fn setting<'a>(word: &str, text: &'a str) -> io::Result<(u64, &'a str)> {
     match text.strip_prefix(word) {
         Some(rest) => {
@@ -83,7 +83,7 @@ fn made<'a>(
     Ok(Driver::new(heap, server, wire, scenario)?)
 }
 
-/// Makes a sweep, and prints what was asked in it.
+/// Makes a sweep, and prints the calls of the wire in it.
 fn sweep<W: Write + Drop>(
     heap: &FailingAllocator<Global>,
     driver: &mut Played<'_>,
@@ -110,7 +110,8 @@ fn sweep<W: Write + Drop>(
     Ok(())
 }
 
-/// Prints, for each line `still N` after a sweep, whether nothing waits for so many milliseconds.
+/// Prints, for each line `still N` after a sweep, whether nothing becomes due within N
+/// milliseconds.
 fn show_still<W: Write + Drop>(
     driver: &Played<'_>,
     lines: &str,
@@ -155,7 +156,7 @@ fn sweep_each<W: Write + Drop>(
     Ok(())
 }
 
-/// Plays the sweeps of a row, or prints `memory` where there was none for its driver.
+/// Plays the sweeps of a row, or prints `memory` if there was none for its driver.
 fn play_sweeps<W: Write + Drop>(
     alloc: Global,
     row: &str,
@@ -168,7 +169,7 @@ fn play_sweeps<W: Write + Drop>(
     }
 }
 
-/// Plays a row, and prints its title and what comes of it.
+/// Plays a row, and prints its title and its results.
 pub(crate) fn play<W: Write + Drop>(
     alloc: Global,
     row: &str,

@@ -18,11 +18,11 @@ pub(crate) struct Scripted {
     row: String,
     /// Which sweep is under way, from 1.
     pub(crate) sweep: Cell<usize>,
-    /// What it is asked, as it stands before an answer.
+    /// The call that the wire is asked for, as it is written before an answer.
     asked: String,
 }
 
-/// Whether something came.
+/// Whether something comes, by an answer.
 fn comes(answer: Option<&str>) -> Answer<()> {
     match answer {
         Some("yes") => Answer::Got(()),
@@ -31,7 +31,7 @@ fn comes(answer: Option<&str>) -> Answer<()> {
     }
 }
 
-/// How many of so many bytes are taken.
+/// How many of `most` bytes are taken, by an answer.
 fn takes(answer: Option<&str>, most: usize) -> Answer<usize>
     ensures { IsWithin result most }
 {
@@ -55,7 +55,7 @@ fn put(bytes: &[u8], buffer: &mut [u8]) -> Answer<usize>
 }
 
 impl Scripted {
-    /// A wire that answers by a row.
+    /// A wire that answers by the lines of a row.
     pub(crate) fn new(alloc: Global, row: String) -> Scripted {
         Scripted {
             alloc,
@@ -65,7 +65,7 @@ impl Scripted {
         }
     }
 
-    /// What is answered to this call.
+    /// The row's answer to this call.
     fn says(&self, asked: &str) -> Option<&str> {
         let lines = self.row.split("\nsweep ").nth(self.sweep.get())?;
         for line in lines.lines() {

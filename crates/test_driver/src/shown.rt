@@ -21,7 +21,7 @@ pub(crate) fn name(port: Port) -> (char, u8) {
     }
 }
 
-/// Prints a port and the bytes that the wire was handed for it.
+/// Prints a port and the bytes that the wire was given for it.
 fn show_written<W: Write + Drop>(
     port: Port,
     bytes: &[u8],
@@ -35,7 +35,7 @@ fn show_written<W: Write + Drop>(
     writeln!(writer)
 }
 
-/// Prints what a wire was asked.
+/// Prints a call of a wire.
 pub(crate) fn show<W: Write + Drop>(call: &Call, writer: &mut BufWriter<W>) -> io::Result<()> {
     match call {
         Call::Accept { role, conn, .. } => match conn {

@@ -35,14 +35,14 @@ const CODES: [Code; 28] = [
     Code::QueryDeadlocked,
 ];
 
-/// Tells the name and the text of the error of a number.
+/// Prints the name and the text of the error with a number.
 pub(crate) fn put_code(out: &mut String, text: &str) -> Result<(), Fault> {
     let code = code_of(text)?;
     put(out, code)?;
     put(out, code.text())
 }
 
-/// The error of a number.
+/// The error with a number.
 pub(crate) fn code_of(text: &str) -> Result<Code, Fault> {
     let number = value_of(text)?;
     for code in CODES {

@@ -5,8 +5,8 @@ use std::alloc::Global;
 use sv_rpc::read_call;
 use sv_xdr::{Reader, Writer};
 
-/// Tells a field that is read, and how many bytes are left. A kind that is a number is opaque data
-/// of at most so many bytes.
+/// Reads a field, and prints it and how many bytes are left. A kind that is a number means opaque
+/// data of at most that many bytes.
 pub(crate) fn put_read(alloc: Global, out: &mut String, text: &str) -> Result<(), Fault> {
     let (kind, digits) = cut(text);
     let bytes = bytes_of(alloc, digits)?;
@@ -23,7 +23,7 @@ pub(crate) fn put_read(alloc: Global, out: &mut String, text: &str) -> Result<()
     put(out, reader.rest().len())
 }
 
-/// Tells a field that is written, into 12 bytes.
+/// Writes a field into 12 bytes, and prints them.
 pub(crate) fn put_written(alloc: Global, out: &mut String, text: &str) -> Result<(), Fault> {
     let (kind, value) = cut(text);
     let mut buffer = [0xEE; 12];
@@ -41,7 +41,7 @@ pub(crate) fn put_written(alloc: Global, out: &mut String, text: &str) -> Result
     }
 }
 
-/// Tells the header of a call.
+/// Prints the header of a call.
 pub(crate) fn put_call(alloc: Global, out: &mut String, text: &str) -> Result<(), Fault> {
     let bytes = bytes_of(alloc, text)?;
     put(out, read_call(bytes.as_slice()))

@@ -3,7 +3,7 @@
 use crate::line::{Fault, put};
 use sv_header::{Path, Table};
 
-/// Tells the command that each header of a message names, after those before it.
+/// Prints the command that each header of a message names, after the headers before it.
 pub(crate) fn put_commands(out: &mut String, table: &Table, text: &str) -> Result<(), Fault> {
     let mut path = Path::root();
     for header in text.split(';') {
@@ -18,7 +18,7 @@ pub(crate) fn put_commands(out: &mut String, table: &Table, text: &str) -> Resul
     Ok(())
 }
 
-/// Tells how many parameters the command takes at most that a header names.
+/// Prints how many parameters the command that a header names takes at most.
 pub(crate) fn put_arity(out: &mut String, table: &Table, text: &str) -> Result<(), Fault> {
     match table.resolve(&Path::root(), text.as_bytes()) {
         Ok(command) => put(out, command.most_parameters()),

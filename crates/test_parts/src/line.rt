@@ -7,7 +7,7 @@ use std::str::FromStr;
 /// Why a line can't be answered.
 #[derive(Debug, Drop)]
 pub(crate) enum Fault {
-    /// It is no line of a test.
+    /// It isn't a line of a test.
     Unknown,
     /// Memory was refused.
     Memory,
@@ -19,12 +19,12 @@ impl From<AllocError> for Fault {
     }
 }
 
-/// The first word of a text, and what follows the space that ends it.
+/// The first word of a text, and the text after the space that ends it.
 pub(crate) fn cut(text: &str) -> (&str, &str) {
     text.split_once(' ').unwrap_or((text, ""))
 }
 
-/// The value that a text spells.
+/// Reads a value from a text.
 pub(crate) fn value_of<T: FromStr>(text: &str) -> Result<T, Fault>
 where
     T::Err: Drop,
@@ -43,13 +43,13 @@ pub(crate) fn put<T: Debug + Drop>(out: &mut String, value: T) -> Result<(), Fau
     Ok(())
 }
 
-/// Puts a text between quotes, what isn't printable by escapes.
+/// Appends a text between quotes, with escapes for bytes that aren't printable.
 pub(crate) fn put_text(out: &mut String, text: &[u8]) -> Result<(), Fault> {
     write!(out, " \"{}\"", text.escape_ascii())?;
     Ok(())
 }
 
-/// Puts bytes, as hexadecimal digits.
+/// Appends bytes as hexadecimal digits.
 pub(crate) fn put_bytes(alloc: Global, out: &mut String, bytes: &[u8]) -> Result<(), Fault> {
     out.push_str(" ")?;
     out.push_str(hex::encode(alloc, bytes)?.as_str())?;

@@ -3,34 +3,34 @@
 //!
 //! | Line | Answer |
 //! |---|---|
-//! | `new` | nothing: from here on the parts to which acts happen are new ones |
-//! | `times N LINE` | the answers of the line, which comes so many times |
+//! | `new` | nothing: new parts replace those on which acts are performed |
+//! | `times N LINE` | the answers of the line, which is executed N times |
 //! | `white TEXT` | of each byte, whether it is white space |
-//! | `trim TEXT` | the text without white space at both ends, in front, and after |
-//! | `cut BYTE TEXT` | where the byte first stands, and what stands before it and after |
+//! | `trim TEXT` | the text without white space at both ends, in front, and at the end |
+//! | `cut BYTE TEXT` | the first place of the byte, and the text before it and after |
 //! | `parts TEXT` | the parts of a header |
 //! | `unit TEXT` | the header and the parameters of a unit, each with its place and its kind |
 //! | `headers TEXT` | the commands that the headers of a message name, with `;` between two |
 //! | `orders MESSAGE` | what each unit of a message asks for, after those before it |
-//! | `arity HEADER` | how many parameters the command takes at most that a header names |
+//! | `arity HEADER` | how many parameters the header's command takes at most |
 //! | `voltage UNIT`, `boolean UNIT`, `keyword UNIT`, `channels UNIT` | a unit's first parameter |
-//! | `whole LOW HIGH UNIT` | the same, as a whole number |
+//! | `whole LOW HIGH UNIT` | a unit's first parameter, as a whole number |
 //! | `print MICROVOLTS` | a voltage as it is printed |
-//! | `response voltage UNIT` | the value of a unit's first parameter, as response data print it |
-//! | `response channels UNIT`, `response source UNIT` | the same, of a channel list and a source |
-//! | `response overload BELOW`, `response switch ON` | the same, of what is `true` or `false` |
-//! | `response whole NUMBER`, `response error NUMBER` | the same, of a number and an error |
+//! | `response voltage UNIT` | the value of a unit's first parameter, printed as response data |
+//! | `response channels UNIT`, `response source UNIT` | a channel list or a source, likewise |
+//! | `response overload BELOW`, `response switch ON` | what is `true` or `false`, likewise |
+//! | `response whole NUMBER`, `response error NUMBER` | a number or an error, likewise |
 //! | `code NUMBER` | the name and the text of an error |
-//! | `queue ACT`, `register ACT`, `standard ACT`, `status ACT` | what an act is answered with |
-//! | `scan ACT` | the same, of the scanner |
-//! | `session ACT` | the same, of the whole instrument, and how many requests it raised, as `+1` |
-//! | `records ACT` | what a buffer of records answers |
-//! | `read KIND HEX` | a field read, and how many bytes are left |
-//! | `write KIND VALUE` | a field written |
+//! | `queue ACT`, `register ACT`, `standard ACT`, `status ACT` | the answer to an act |
+//! | `scan ACT` | the scanner's answer to an act |
+//! | `session ACT` | the whole instrument's answer, and how many requests it raised, as `+1` |
+//! | `records ACT` | the answer of a buffer of records |
+//! | `read KIND HEX` | a field that is read, and how many bytes are left |
+//! | `write KIND VALUE` | a field as it is written |
 //! | `call HEX` | the header of a call |
 //!
 //! The text of `white`, `trim`, `unit`, `orders`, `session tell` and `session say` may have
-//! escapes, as `\n`, `\x7F` and `\\`.
+//! escapes, such as `\n`, `\x7F` and `\\`.
 #![tactic(auto)]
 
 mod codes;
@@ -53,7 +53,7 @@ use parts::Parts;
 use std::io;
 use std::process::ExitCode;
 
-/// Answers all lines, up to the first that is a bad one: that is told, with exit status 2.
+/// Answers all lines, up to the first bad one, which is reported with exit status 2.
 fn main(rt: HostRuntime) -> ExitCode {
     match answer_each(&rt) {
         Ok(()) => ExitCode::SUCCESS,

@@ -1,4 +1,4 @@
-//! The lines, and the parts to which acts happen.
+//! The lines, and the parts on which acts are performed.
 
 use crate::codes::put_code;
 use crate::fields::{put_call, put_read, put_written};
@@ -21,7 +21,7 @@ use sv_rpc::RecordBuf;
 use sv_scan::Scanner;
 use sv_status::{Register, StandardEvent, StatusByte};
 
-/// The parts that lines act on, and the table of commands.
+/// The parts on which acts are performed, and the table of commands.
 #[derive(Drop)]
 pub(crate) struct Parts {
     commands: Table,

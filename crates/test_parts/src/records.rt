@@ -4,8 +4,8 @@ use crate::line::{Fault, bytes_of, cut, put, put_bytes, value_of};
 use std::alloc::Global;
 use sv_rpc::RecordBuf;
 
-/// Tells what a buffer of records answers. An act that changes it is answered with the room that it
-/// leaves.
+/// Prints the answer of a buffer of records. An act that changes the buffer is answered with the
+/// room that is left.
 pub(crate) fn put_records(
     alloc: Global,
     out: &mut String,
@@ -26,7 +26,7 @@ pub(crate) fn put_records(
     put(out, records.room())
 }
 
-/// Pushes bytes, for which there has to be room.
+/// Pushes bytes, for which there must be room.
 fn push(records: &mut RecordBuf, bytes: &[u8]) -> Result<(), Fault> {
     if bytes.len() > records.room() {
         return Err(Fault::Unknown);
@@ -35,7 +35,7 @@ fn push(records: &mut RecordBuf, bytes: &[u8]) -> Result<(), Fault> {
     Ok(())
 }
 
-/// Drops the first record, which has to be there.
+/// Drops the first record; there must be one.
 fn drop_first(records: &mut RecordBuf) -> Result<(), Fault> {
     match records.next() {
         Ok(Some(_)) => {}
@@ -45,7 +45,7 @@ fn drop_first(records: &mut RecordBuf) -> Result<(), Fault> {
     Ok(())
 }
 
-/// Tells the bytes of the next record, or that there is none, or its fault.
+/// Prints the bytes of the next record, or that there is none, or the fault.
 fn put_next(alloc: Global, out: &mut String, records: &RecordBuf) -> Result<(), Fault> {
     match records.next() {
         Ok(Some(record)) => put_bytes(alloc, out, record),

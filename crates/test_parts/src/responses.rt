@@ -10,10 +10,10 @@ use sv_value::printing::{
 };
 use sv_value::{channel_list, keyword, microvolts};
 
-/// Room for any of them: the longest list of channels, each of three digits.
+/// Room for any response: the longest list of channels, each of three digits.
 const MOST: usize = 3 + 4 * LONGEST_LIST;
 
-/// Tells how response data are printed.
+/// Prints a value as response data.
 pub(crate) fn put_response(alloc: Global, out: &mut String, text: &str) -> Result<(), Fault> {
     let mut bytes = Vec::with_capacity(alloc, MOST)?;
     let (kind, text) = cut(text);

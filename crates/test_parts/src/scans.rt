@@ -5,7 +5,7 @@ use arrayvec::ArrayVec;
 use sv_errors::Layer;
 use sv_scan::{ScanAct, ScanList, Scanner, Setting, Source};
 
-/// Tells what the scanner answers to a question or an act.
+/// Prints the scanner's answer to a question or an act.
 pub(crate) fn put_scan(out: &mut String, scanner: &mut Scanner, text: &str) -> Result<(), Fault> {
     match text {
         "state" => put(out, scanner.state()),
@@ -24,7 +24,7 @@ pub(crate) fn put_scan(out: &mut String, scanner: &mut Scanner, text: &str) -> R
     }
 }
 
-/// The act of a word and its value.
+/// The act that a word and its value describe.
 fn act_of(text: &str) -> Result<ScanAct, Fault> {
     match cut(text) {
         ("init", "") => Ok(ScanAct::Init),
@@ -40,7 +40,7 @@ fn act_of(text: &str) -> Result<ScanAct, Fault> {
     }
 }
 
-/// The setting of a name and its value.
+/// The setting that a name and its value describe.
 fn setting_of(name: &str, value: &str) -> Result<Setting, Fault> {
     match name {
         "list" => Ok(Setting::List(list_of(value)?)),
@@ -55,7 +55,7 @@ fn setting_of(name: &str, value: &str) -> Result<Setting, Fault> {
     }
 }
 
-/// The source of triggers of a name.
+/// The source of triggers with this name.
 fn source_of(name: &str) -> Result<Source, Fault> {
     match name {
         "immediate" => Ok(Source::Immediate),

@@ -1,12 +1,12 @@
-//! Acts of the whole instrument. After each it does all that is due.
+//! Acts of the whole instrument. After each act, the instrument takes all steps that are due.
 //!
 //! | Act | Answer |
 //! |---|---|
 //! | `tell TEXT`, `say TEXT` | nothing: a write, with END after it or without; or `waits` |
 //! | `read` | up to 256 bytes of the response; or `waits`, or `unterminated` if there is none |
-//! | `read N` | the same, of up to N bytes, with the reasons why they end there |
+//! | `read N` | likewise up to N bytes, with the reasons why they end there |
 //! | `poll` | the status byte |
-//! | `ticks N` | nothing: so many milliseconds go by |
+//! | `ticks N` | nothing: N milliseconds pass |
 //! | `input CHANNEL MICROVOLTS`, `external`, `trigger`, `clear` | nothing |
 
 ghost use Rattle.std.specs.Prelude.{◌<◌, OnSome};
@@ -20,11 +20,11 @@ use sv_instrument::Instrument;
 
 /// How many bytes are written at once, at most.
 const MOST_WRITTEN: usize = 4096;
-/// How many bytes a read asks for that doesn't say it.
+/// How many bytes a read asks for, if the line doesn't say.
 const MOST_READ: u32 = 256;
 
-/// Tells what the instrument answers to an act, and how many requests for service were raised, if
-/// any were, by the act and by all that is due after it.
+/// Prints the instrument's answer to an act; and how many requests for service were raised, if any,
+/// by the act and by all steps that are due after it.
 pub(crate) fn put_session(
     alloc: Global,
     out: &mut String,
@@ -50,8 +50,8 @@ pub(crate) fn put_session(
     Ok(())
 }
 
-/// Takes the steps that are due, until none is. It tells how many requests were raised, as all
-/// functions below do.
+/// Takes the steps that are due, until none is. Like all functions below, returns how many requests
+/// for service were raised.
 fn settle(instrument: &mut Instrument) -> u64 {
     let mut sum = 0u64;
     while let Some(raised) = step(instrument) {
@@ -60,7 +60,7 @@ fn settle(instrument: &mut Instrument) -> u64 {
     sum
 }
 
-/// Takes the step that is due: a trigger comes before what is left of messages.
+/// Takes the step that is due; a trigger comes before a step of message exchange.
 fn step(instrument: &mut Instrument) -> Option<u8>
     ensures { OnSome result (instrument_measure instrument.new
         < instrument_measure instrument.old) }
@@ -71,7 +71,7 @@ fn step(instrument: &mut Instrument) -> Option<u8>
     }
 }
 
-/// Writes a text, and END with its last byte or not; or tells that it has to wait.
+/// Writes a text, with END after its last byte or without; or prints that the write has to wait.
 fn tell(
     alloc: Global,
     out: &mut String,
@@ -91,8 +91,8 @@ fn tell(
     }
 }
 
-/// Reads at most so many bytes, and tells the reasons why they end there; or 256 and no reasons; or
-/// tells that it has to wait.
+/// Reads at most `most` bytes, and prints the reasons why they end there; or, without `most`, 256
+/// bytes and no reasons; or prints that the read has to wait.
 fn read(out: &mut String, instrument: &mut Instrument, most: Option<u32>) -> Result<u64, Fault> {
     if !instrument.can_read() {
         out.push_str(" waits")?;
@@ -114,7 +114,7 @@ fn read(out: &mut String, instrument: &mut Instrument, most: Option<u32>) -> Res
     }
 }
 
-/// Tells why the bytes of a read end where they do.
+/// Prints why the bytes of a read end where they do.
 fn put_reasons(out: &mut String, read: &Read<'_>) -> Result<(), Fault> {
     let reasons = [
         (read.request_count, " count"),
@@ -129,7 +129,7 @@ fn put_reasons(out: &mut String, read: &Read<'_>) -> Result<(), Fault> {
     Ok(())
 }
 
-/// So many milliseconds go by, and after each all is done that is due.
+/// Lets `count` milliseconds pass, and after each takes all steps that are due.
 fn tick(instrument: &mut Instrument, count: u16) -> u64 {
     let mut sum = 0u64;
     for _ in 0..count {
@@ -139,7 +139,7 @@ fn tick(instrument: &mut Instrument, count: u16) -> u64 {
     sum
 }
 
-/// Lets something else happen to the instrument.
+/// Performs another act on the instrument.
 fn apply(instrument: &mut Instrument, name: &str, words: &str) -> Result<u64, Fault> {
     let raised = match (name, words) {
         ("external", "") => instrument.external(),

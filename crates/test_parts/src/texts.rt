@@ -5,7 +5,7 @@ use bstr::ByteVec;
 use std::alloc::Global;
 use sv_text::{first_part, header_parts, is_space, place_of, trim, without_end, without_start};
 
-/// Tells of each byte whether it is white space.
+/// Prints of each byte whether it is white space.
 pub(crate) fn put_white(alloc: Global, out: &mut String, text: &str) -> Result<(), Fault> {
     for byte in Vec::unescape_bytes(alloc, text)?.as_slice() {
         put(out, is_space(*byte))?;
@@ -13,7 +13,7 @@ pub(crate) fn put_white(alloc: Global, out: &mut String, text: &str) -> Result<(
     Ok(())
 }
 
-/// Tells a text without white space at both ends, in front, and after.
+/// Prints a text without white space at both ends, in front, and at the end.
 pub(crate) fn put_trimmed(alloc: Global, out: &mut String, text: &str) -> Result<(), Fault> {
     let bytes = Vec::unescape_bytes(alloc, text)?;
     put_text(out, trim(bytes.as_slice()))?;
@@ -21,7 +21,7 @@ pub(crate) fn put_trimmed(alloc: Global, out: &mut String, text: &str) -> Result
     put_text(out, without_end(bytes.as_slice()))
 }
 
-/// Tells where a byte first stands in a text, and what stands before it and after.
+/// Prints the first place of a byte in a text, and the text before it and after.
 pub(crate) fn put_cut(out: &mut String, text: &str) -> Result<(), Fault> {
     let (separator, text) = cut(text);
     let [separator] = separator.as_bytes() else {
@@ -36,7 +36,7 @@ pub(crate) fn put_cut(out: &mut String, text: &str) -> Result<(), Fault> {
     }
 }
 
-/// Tells the parts of a header: what leads it, its mnemonics, and whether it is a query.
+/// Prints the parts of a header: what it begins with, its mnemonics, and whether it is a query.
 pub(crate) fn put_parts(out: &mut String, text: &str) -> Result<(), Fault> {
     let parts = header_parts(text.as_bytes());
     put(out, parts.lead)?;

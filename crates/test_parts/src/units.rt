@@ -5,7 +5,7 @@ use bstr::ByteVec;
 use std::alloc::Global;
 use sv_lexer::{Params, Token, unit};
 
-/// Tells the header and the parameters of a unit, up to the first fault.
+/// Prints the header and the parameters of a unit, up to the first fault.
 pub(crate) fn put_unit(alloc: Global, out: &mut String, text: &str) -> Result<(), Fault> {
     let bytes = Vec::unescape_bytes(alloc, text)?;
     match unit(bytes.as_slice()) {
@@ -20,7 +20,7 @@ pub(crate) fn put_unit(alloc: Global, out: &mut String, text: &str) -> Result<()
     }
 }
 
-/// Tells each parameter, and nothing if there is none at the place after the last.
+/// Prints each parameter. The index after the last is tried too, and should give nothing.
 fn put_parameters(out: &mut String, parameters: &Params<'_>) -> Result<(), Fault> {
     for index in 0..=parameters.count() {
         if let Some(token) = parameters.get(index) {
@@ -30,7 +30,7 @@ fn put_parameters(out: &mut String, parameters: &Params<'_>) -> Result<(), Fault
     Ok(())
 }
 
-/// Tells the place, the kind and the text of a token.
+/// Prints the place, the kind and the text of a token.
 fn put_token(out: &mut String, token: Token<'_>) -> Result<(), Fault> {
     put(out, token.start)?;
     put(out, token.kind)?;

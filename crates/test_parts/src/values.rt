@@ -7,7 +7,7 @@ use sv_value::{boolean, channel_list, keyword, microvolts, whole, write_microvol
 /// The most microvolts that are printed.
 const MOST: u64 = 1_000_000_000;
 
-/// Tells the value of a parameter, or how a voltage is printed.
+/// Prints the value of a parameter, or a voltage as it is printed.
 pub(crate) fn put_value(out: &mut String, word: &str, text: &str) -> Result<(), Fault> {
     match word {
         "voltage" => put(out, microvolts(&parameter(text)?)),
@@ -20,7 +20,7 @@ pub(crate) fn put_value(out: &mut String, word: &str, text: &str) -> Result<(), 
     }
 }
 
-/// The first parameter of a unit, which has to have one.
+/// The first parameter of a unit, which must have one.
 pub(crate) fn parameter(text: &str) -> Result<Token<'_>, Fault> {
     let Ok(unit) = unit(text.as_bytes()) else {
         return Err(Fault::Unknown);
@@ -31,7 +31,7 @@ pub(crate) fn parameter(text: &str) -> Result<Token<'_>, Fault> {
     parameters.get(0).ok_or(Fault::Unknown)
 }
 
-/// Tells a whole number, after the lowest and the highest that it may be.
+/// Prints a whole number; the text begins with the lowest and the highest that it may be.
 fn put_whole(out: &mut String, text: &str) -> Result<(), Fault> {
     let (low, text) = cut(text);
     let (high, text) = cut(text);
@@ -39,7 +39,7 @@ fn put_whole(out: &mut String, text: &str) -> Result<(), Fault> {
     put(out, whole(&token, value_of(low)?, value_of(high)?))
 }
 
-/// Tells how a voltage is printed, up to 1,000 V in magnitude.
+/// Prints a voltage, up to 1,000 V in magnitude, as response data.
 fn put_printed(out: &mut String, value: i64) -> Result<(), Fault> {
     if value.unsigned_abs() > MOST {
         return Err(Fault::Unknown);

@@ -1,19 +1,18 @@
-//! Events at a server, and what it tells without printing it. A text has these lines:
+//! Events at a server, and questions whose answers a replay doesn't print. A text has these lines:
 //!
 //! | Line | What it says |
 //! |---|---|
-//! | `clock MILLISECONDS` | before all others: the clock at the start; else 0 |
-//! | a line of a replay, other than `tick N` | this happens |
-//! | `took c0 44` | the peer takes so many bytes of a port |
+//! | `clock MILLISECONDS` | before all others: the clock at the start; 0 without this line |
+//! | a line of a replay, other than `tick N` | this event happens |
+//! | `took c0 44` | the peer takes 44 bytes of a port |
 //! | `memory N` | from here on the Nth allocation is refused |
-//! | `memory ?` | whether memory was asked for since, up to that allocation |
-//! | `times N` | what follows it, up to the next such line, comes so many times |
-//! | `ask 0` | what is told of a connection |
+//! | `memory ?` | whether that allocation was asked for |
+//! | `times N` | the lines up to the next such line are executed N times |
+//! | `ask 0` | the server's answers about a connection |
 //! | `show c0` | the bytes that wait on a port |
 //! | `used` | how many numbers of connections were used |
 //!
-//! Of an event it is printed that it was idle, or by which number it was refused; of one that was
-//! done nothing.
+//! After an event, `idle` or the number of its refusal is printed; nothing if the event was done.
 
 use crate::words::{bad, number};
 use failing_alloc::FailingAllocator;
@@ -75,7 +74,7 @@ fn replayed<W: Write + Drop>(
     }
 }
 
-/// Prints what is told of a connection.
+/// Prints the server's answers about a connection.
 fn ask<W: Write + Drop>(
     server: &Played<'_>,
     conn: u8,
@@ -111,7 +110,7 @@ fn show<W: Write + Drop>(
     writeln!(writer)
 }
 
-/// Refuses an allocation, or prints whether it was asked for.
+/// Refuses an allocation, or prints whether the refused one was asked for.
 fn ration<W: Write + Drop>(
     heap: &FailingAllocator<Global>,
     text: &str,
@@ -163,7 +162,7 @@ fn steps<W: Write + Drop>(
     Ok(())
 }
 
-/// Executes lines repeatedly. The first line has the number.
+/// Executes lines repeatedly. The first line says how many times.
 fn repeat<W: Write + Drop>(
     heap: &FailingAllocator<Global>,
     server: &mut Played<'_>,

@@ -1,5 +1,5 @@
-//! Scripts at a server, of which each allocation is refused in turn: one that finds no memory is
-//! asked for again, or is refused by the caller and then sent again.
+//! Scripts on a server, each of whose allocations is refused in turn. An event that finds no memory
+//! is tried again, or is refused by the caller and then sent again.
 
 use crate::turns::each;
 use crate::words::bad;
@@ -35,7 +35,7 @@ struct Growing<'a> {
     told: String,
 }
 
-/// Puts bytes after a text, if there are any, as a line of a replay.
+/// Appends bytes, if there are any, to a text as a line of a replay.
 fn tell(told: &mut String, letter: char, conn: u8, bytes: &[u8]) -> io::Result<()> {
     if bytes.is_empty() {
         return Ok(());
@@ -48,7 +48,7 @@ fn tell(told: &mut String, letter: char, conn: u8, bytes: &[u8]) -> io::Result<(
 }
 
 impl Growing<'_> {
-    /// What the server tells of all connections.
+    /// The server's answers about all connections.
     fn asked(&self) -> io::Result<String> {
         let mut asked = String::new(self.alloc);
         for conn in 0..CONNECTIONS {
@@ -61,7 +61,7 @@ impl Growing<'_> {
         Ok(asked)
     }
 
-    /// Appends what waits on a port, and takes it.
+    /// Appends the bytes that wait on a port, and takes them.
     fn take(&mut self, letter: char, conn: u8, port: Port) -> io::Result<()> {
         let bytes = self.server.waiting(port);
         tell(&mut self.told, letter, conn, bytes)?;
@@ -70,7 +70,7 @@ impl Growing<'_> {
         Ok(())
     }
 
-    /// Tells what waits on each connection, and takes it.
+    /// Appends the bytes that wait on each connection, and takes them.
     fn take_connections(&mut self) -> io::Result<()> {
         for conn in 0..CONNECTIONS {
             self.take('c', conn, Port::Conn(conn))?;
@@ -78,7 +78,7 @@ impl Growing<'_> {
         Ok(())
     }
 
-    /// Tells what waits on each interrupt channel, and takes it.
+    /// Appends the bytes that wait on each interrupt channel, and takes them.
     fn take_channels(&mut self) -> io::Result<()> {
         for conn in 0..CONNECTIONS {
             self.take('i', conn, Port::Intr(conn))?;
@@ -105,8 +105,8 @@ impl Growing<'_> {
         Ok(found_none)
     }
 
-    /// Goes on after an event that found no memory. These are the line that brought its bytes, and
-    /// its own.
+    /// Goes on after an event that found no memory. `line` is the event's line, and `brought` the
+    /// line that brought the bytes of its call.
     fn go_on(&mut self, brought: &str, line: &str) -> io::Result<()> {
         if self.refuses {
             let conn = line.strip_prefix("turn ").unwrap_or("");
@@ -120,7 +120,7 @@ impl Growing<'_> {
         Ok(())
     }
 
-    /// Executes a line. If that finds no memory, nothing may be different.
+    /// Executes a line. If it finds no memory, it must not have changed anything.
     fn step(&mut self, brought: &str, line: &str) -> io::Result<()> {
         let before = self.asked()?;
         if !self.apply(line)? {

@@ -1,4 +1,5 @@
-//! A replay for somebody who gives a line, and the next one once the answers to it are there.
+//! A replay whose input gives a line at each read, so that the replies to a line come before the
+//! next.
 
 use crate::words::bad;
 use failing_alloc::FailingAllocator;
@@ -7,7 +8,7 @@ use std::cell::RefCell;
 use std::io::{self, BufWriter, Read, Write};
 use sv_replay::run_replay;
 
-/// Notes bytes after those that were noted.
+/// Appends bytes to those that were noted.
 fn note(noted: &RefCell<Vec<u8>>, bytes: &[u8]) -> io::Result<()> {
     match noted.try_borrow_mut() {
         Ok(mut all) => {
@@ -42,7 +43,7 @@ impl Read for Lines<'_> {
     }
 }
 
-/// A writer that notes what it takes.
+/// A writer that notes the bytes that it takes.
 #[derive(Drop)]
 struct Answers<'a> {
     noted: &'a RefCell<Vec<u8>>,
@@ -59,7 +60,8 @@ impl Write for Answers<'_> {
     }
 }
 
-/// Prints the lines that were given, each after `> `, and what the output took, in their order.
+/// Prints the lines that were given, each after `> `, and the bytes that the output took, in their
+/// order.
 pub(crate) fn play<W: Write + Drop>(
     alloc: Global,
     script: &str,

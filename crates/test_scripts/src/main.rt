@@ -1,35 +1,38 @@
-//! Plays the rows of the standard input, each with parts of its own, and prints after the title of
-//! each what comes of it.
+//! Plays the rows of the standard input, each with parts of its own. Prints the title of each row,
+//! and then its results.
 //!
 //! A title is a line `= WORDS`. The text after it reaches to the next title, without the new line
-//! before that: so a text that ends in a new line has an empty line after it, and one without
-//! shows how a replay ends in the midst of a line. A text is a script of a replay, unless its first
-//! line begins with `! `:
+//! before that. So a text that ends in a new line has an empty line after it, and one without shows
+//! how a replay ends in the midst of a line. A text is a script of a replay, unless its first line
+//! begins with `! `:
 //!
-//! - none: a script; printed is what its replay prints, and its fault where it has one;
-//! - `! line by line`: a script, of which each read gives a line; printed are the lines, each
-//!   after `> `, and what the output took, in the order in which they were given and taken;
-//! - `! singly`: the same as a script, where bytes come and go singly, each behind an interruption;
-//! - `! reads`: as singly, where the first, second, .. read fails; printed is for each how often
-//!   the input was read, what the output took, and the fault; after that the same without one;
-//! - `! input fails`: a script, behind which the input fails; printed is what the output took, and
-//!   the fault, on a line of its own;
-//! - `! output takes N`, `! output stops at N`: a script, whose output takes so many bytes and then
-//!   fails, or takes none without a word; printed is how many it took, and the same;
-//! - `! without TEXT`: a script; printed are the lines of its replay that don't end in this text;
-//! - `! closed`: a script of three connections; printed is what its replay prints with a close of
-//!   each of them after each number of its lines;
-//! - `! memory`, `! memory, output takes N`: a script, of whose replay each allocation is refused
-//!   in turn; printed is each outcome that differs from the one before it, `again` after one
-//!   that came more than once in a row, and after `all` that with all memory;
-//! - `! growth`: a script at a server, of whose memory each allocation is refused in turn; what
-//!   finds none is asked for again; printed is each outcome as with `! memory`, where `no server`
-//!   says that a server had to be made again, `changed` that a refusal changed what the server
-//!   tells, and `twice` that the second try found no memory either;
-//! - `! growth, refused`: the same, but the caller refuses what finds no memory and sends it again;
-//! - `! events`: events and questions, a line each (`events.rt`); printed is what each tells;
-//! - `! scenario`: a scenario; printed are its entries, or its fault;
-//! - `! scenario, memory`: a scenario, of whose reading each allocation is refused in turn.
+//! - none: a script; prints what its replay prints, and the fault of the replay if it has one;
+//! - `! line by line`: a script whose lines come one at each read; prints the lines, each after `>
+//!   `, and the bytes that the output took, in the order in which they were given and taken;
+//! - `! singly`: a script whose bytes come and go singly, each after an interruption; prints as
+//!   without this line;
+//! - `! reads`: a script as with `! singly`, whose first, second, .. read fails in turn; prints for
+//!   each how many times the input was read, what the output took, and the fault; then the same
+//!   with no failing read;
+//! - `! input fails`: a script at whose end the input fails; prints what the output took, and the
+//!   fault, on a line of its own;
+//! - `! output takes N`, `! output stops at N`: a script whose output takes N bytes and then fails,
+//!   or takes no more without a fault; prints how many bytes it took, and as for `! input fails`;
+//! - `! without TEXT`: a script; prints the lines of its replay that don't end in this text;
+//! - `! closed`: a script of three connections; prints what its replay prints with a close of each
+//!   of them after each number of its lines;
+//! - `! memory`, `! memory, output takes N`: a script, with each allocation of its replay refused
+//!   in turn; prints each outcome that differs from the one before it, `again` after one that came
+//!   more than once in a row, and after `all` the outcome with all memory;
+//! - `! growth`: a script on a server, with each of the server's allocations refused in turn; an
+//!   event that finds no memory is tried again; prints each outcome as for `! memory`, with `no
+//!   server` if a server had to be made again, `changed` if a refusal changed the server's answers,
+//!   and `twice` if the second try found no memory either;
+//! - `! growth, refused`: as `! growth`, but the caller refuses a call that finds no memory, and
+//!   sends it again;
+//! - `! events`: events and questions, a line each (`events.rt`); prints the result of each;
+//! - `! scenario`: a scenario; prints its entries, or its fault;
+//! - `! scenario, memory`: a scenario, with each allocation of its reading refused in turn.
 #![tactic(auto)]
 
 mod events;
@@ -58,7 +61,7 @@ fn main(rt: HostRuntime) -> io::Result<()> {
     writer.flush()
 }
 
-/// Prints the title of a row and what comes of it.
+/// Prints the title of a row and its results.
 fn show<W: Write + Drop>(alloc: Global, row: &str, writer: &mut BufWriter<W>) -> io::Result<()> {
     let (title, text) = row.split_once('\n').unwrap_or((row, ""));
     writeln!(writer, "= {title}")?;

@@ -11,7 +11,7 @@ use sv_replay::{RunFault, run_replay};
 /// The most reads of a row.
 const MOST_READS: u64 = 1_000;
 
-/// The manner that these words tell.
+/// The manner that these words describe.
 fn manner_of(words: &str) -> io::Result<Manner> {
     let ample = Manner::ample();
     if let Some(count) = words.strip_prefix("output takes ") {
@@ -41,7 +41,7 @@ fn manner_of(words: &str) -> io::Result<Manner> {
     }
 }
 
-/// What the writer took of the print, and the fault, if there is one, on a line of its own.
+/// The bytes that the writer took, and the fault, if there is one, on a line of its own.
 fn told(
     alloc: Global,
     taken: &[u8],
@@ -67,7 +67,7 @@ fn told(
     Ok(outcome)
 }
 
-/// The print of a replay, and its fault.
+/// The print of a replay, and its fault, if it has one.
 fn outcome(
     alloc: Global,
     heap: &FailingAllocator<Global>,
@@ -77,7 +77,7 @@ fn outcome(
     Ok(read_out(alloc, heap, manner, script)?.0)
 }
 
-/// The same, and how often the reader was read.
+/// The print of a replay, and its fault, if it has one; and how many times the reader was read.
 fn read_out(
     alloc: Global,
     heap: &FailingAllocator<Global>,
@@ -122,7 +122,7 @@ pub(crate) fn play<W: Write + Drop>(
     }
 }
 
-/// Prints the lines that a script prints, but for those that end in this text.
+/// Prints the lines that a script prints, except those that end in this text.
 pub(crate) fn play_without<W: Write + Drop>(
     alloc: Global,
     ending: &str,
@@ -139,7 +139,7 @@ pub(crate) fn play_without<W: Write + Drop>(
     Ok(())
 }
 
-/// A script with a close of this connection after so many lines.
+/// A script with a close of this connection after `place` lines.
 fn closed(alloc: Global, script: &str, conn: u8, place: usize) -> io::Result<String> {
     let mut made = String::new(alloc);
     for (number, line) in script.lines().enumerate() {
@@ -182,8 +182,8 @@ pub(crate) fn play_closed<W: Write + Drop>(
     Ok(())
 }
 
-/// Prints what a script prints where the first, second, .. read fails, after how often its reader
-/// was read; at the end the same where none fails.
+/// Prints what a script prints if its first, second, .. read fails, each time after the number of
+/// its reads; at the end what it prints if no read fails.
 pub(crate) fn play_reads<W: Write + Drop>(
     alloc: Global,
     script: &str,

@@ -1,4 +1,4 @@
-//! Scenarios: what they are read as.
+//! Scenarios, and the entries that are read from them.
 
 use crate::turns::each;
 use failing_alloc::FailingAllocator;
@@ -6,7 +6,7 @@ use std::alloc::Global;
 use std::io::{self, BufWriter, Write};
 use sv_replay::{Entry, Stimulus, read_scenario};
 
-/// An entry, as a scenario has it.
+/// An entry, written as in a scenario.
 fn told(alloc: Global, entry: Entry) -> io::Result<String> {
     let tick = entry.tick;
     let line = match entry.stimulus {
@@ -44,7 +44,7 @@ pub(crate) fn show<W: Write + Drop>(
     write!(writer, "{outcome}")
 }
 
-/// Prints the same with each allocation refused in turn.
+/// Prints the entries of a scenario, or its fault, with each allocation refused in turn.
 pub(crate) fn show_each<W: Write + Drop>(
     alloc: Global,
     text: &str,

@@ -9,16 +9,16 @@ pub(crate) struct Manner {
     pub(crate) singly: bool,
     /// Whether the reader fails at its end.
     pub(crate) input_fails: bool,
-    /// The number of the read that fails; 0 where none does.
+    /// The number of the read that fails; 0 if none fails.
     pub(crate) fails_at: u64,
     /// How many bytes the writer takes.
     pub(crate) room: usize,
-    /// Whether the writer then takes none, and doesn't say why.
+    /// Whether the writer then takes no more bytes, but reports no fault.
     pub(crate) is_silent: bool,
 }
 
 impl Manner {
-    /// All at once, and without a fault.
+    /// The manner in which all comes and goes at once, and without a fault.
     pub(crate) fn ample() -> Manner {
         Manner {
             singly: false,
@@ -41,7 +41,7 @@ pub(crate) struct Source<'a> {
     pub(crate) rest: &'a [u8],
     pub(crate) manner: Manner,
     pub(crate) was_interrupted: bool,
-    /// How often it was read.
+    /// How many times it was read.
     pub(crate) reads: u64,
 }
 
@@ -65,7 +65,7 @@ impl Read for Source<'_> {
     }
 }
 
-/// A writer that keeps what it takes.
+/// A writer that stores the bytes that it takes.
 #[derive(Drop)]
 pub(crate) struct Sink {
     pub(crate) taken: Vec<u8>,

@@ -8,9 +8,9 @@ use std::io::{self, BufWriter, Write};
 /// The most allocations of a row.
 const MOST: u64 = 1000;
 
-/// Makes something once for each of its allocations, of which that one is refused. Prints each
-/// outcome that differs from the one before it, `again` after one that came more than once in a
-/// row, and after `all` the one with all memory.
+/// Makes something once for each of its allocations, which is then refused. Prints each outcome
+/// that differs from the one before it, `again` after one that came more than once in a row, and
+/// after `all` the one with all memory.
 pub(crate) fn each<W: Write + Drop, F: Fn(&FailingAllocator<Global>) -> io::Result<String>>(
     alloc: Global,
     make: F,

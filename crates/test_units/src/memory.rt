@@ -1,4 +1,4 @@
-//! Each part is refused each of its allocations when it is made.
+//! Each part is made with each of its allocations refused in turn.
 
 use crate::same::same;
 use failing_alloc::FailingAllocator;
@@ -20,8 +20,8 @@ const CONFIG: Config = Config {
     clock: 0,
 };
 
-/// Each allocation of a making is refused in turn, which has to refuse the making, and after that
-/// it has to succeed: how many there are.
+/// Makes something with each of its allocations refused in turn, which must fail, and then with all
+/// memory, which must succeed. Returns how many allocations there are.
 fn refusals<'a, T: Drop, F: Fn(&'a FailingAllocator<Global>) -> Result<T, AllocError>>(
     heap: &'a FailingAllocator<Global>,
     make: F,
@@ -42,9 +42,9 @@ fn refusals<'a, T: Drop, F: Fn(&'a FailingAllocator<Global>) -> Result<T, AllocE
     Err(Fail::new("each making was refused an allocation"))
 }
 
-/// The layers are a message exchange, an error queue and a scanner; the instrument has the table of
-/// commands and the answer of a unit beside them. The buffers of 16 connections, each with one for
-/// what comes and one for what is sent, are the server's.
+/// The layers are a message exchange, an error queue and a scanner. The instrument also has the
+/// table of commands and the answer of a unit. The server has 16 connections, each with a buffer
+/// for the bytes that come and one for those that are sent.
 #[test]
 fn each_part_is_made_once_memory_is_there(rt: HostRuntime) -> Result<(), Fail> {
     let heap = FailingAllocator::new(rt.alloc());

@@ -37,7 +37,7 @@ fn acts_happen_in_their_order(rt: HostRuntime) -> Result<(), Fail> {
     Ok(())
 }
 
-/// A word that has no room is left out.
+/// A word for which there is no room is left out.
 #[test]
 fn writes_the_header_of_a_call(rt: HostRuntime) -> Result<(), Fail> {
     let wanted: [u8; 40] =

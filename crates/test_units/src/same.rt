@@ -1,9 +1,10 @@
-//! Comparisons whose failure is an answer, for the helpers of tests.
+//! Comparisons for the helpers of tests: a difference is returned as a failure.
 
 use std::fmt::{Debug, Display};
 use std::test::Fail;
 
-/// What was found has to be what is wanted; the failure says both, and of what they are.
+/// Fails unless the value found is the wanted one. The failure has both, and says what they are
+/// values of.
 pub(crate) fn same<T: Copy + Debug + PartialEq, W: Display + Drop>(
     found: T,
     wanted: T,

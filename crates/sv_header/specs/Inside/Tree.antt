@@ -1,4 +1,4 @@
--- The tree of nodes, which the code keeps as a list: each node stands before the nodes below it, and these before its next sibling.
+-- The tree of nodes, which the code stores as a list: each node comes before the nodes below it, and these before its next sibling.
 use Rattle.std.specs.Prelude.{◌≡◌, ℕ, zero, suc, ◌≤◌, Bool, true, false, length, List, [], ◌∷◌, ◌++◌, map, take, drop, Option, Some, None}
 use Rattle.sv_header.specs.declared.command.CommandId.{CommandId}
 use Rattle.sv_header.specs.declared.branch.Branch.{Branch}
@@ -45,7 +45,7 @@ abbrev pub rows_with : Bool → List Row
 rows_with true = common_commands
 rows_with false = other_commands
 
--- how many nodes are of common commands; they stand in front of the others
+-- how many nodes belong to common commands; they come before the others
 abbrev pub common_nodes : ℕ
 common_nodes = 11
 

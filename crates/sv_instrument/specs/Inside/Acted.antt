@@ -25,7 +25,7 @@ pub record Counts (start : List Act) (layers : LayerState) (log : List Act) : Ty
 abbrev pub IsCountable : List Act → List Act → Type 0
 IsCountable start log = length log ≤ length start + max_count
 
--- What is kept stands for the log, and the requests that were raised since the log `start` are counted.
+-- The state stands for the log, and the requests that were raised since the log `start` are counted.
 pub record Runs (start : List Act) (kept : Kept) (log : List Act) : Type 0 where
   pub layers : Counts start kept.layers log
   pub held : kept.held ≡ held_unit log
@@ -59,7 +59,7 @@ pub record Advances (before after : LayerState) (held_unit : Option Awaited) : T
   pub less : 2 * exchange_measure after.exchange + one_if_unheld held_unit < 2 * exchange_measure before.exchange + 1
   pub right : IsHeldRight held_unit after
 
--- The next unit of a log started, and what is kept stands for the log after that.
+-- The next unit of a log started, and the state stands for the log after that.
 pub record StartsUnit (start log : List Act) (kept : Kept) : Type 0 where
   pub unit : List ℕ
   pub new : List Act

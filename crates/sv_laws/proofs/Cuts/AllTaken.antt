@@ -1,47 +1,29 @@
 -- Behind a call that was answered no whole record is left, and so as many records came to their end as there are: whatever comes next is
 -- read on from the tail alone.
-use Rattle.std.proofs.Common.{◌≡◌, ℕ, suc, ◌<◌, Bool, true, false, cond, List, [], ◌∷◌, ◌++◌, length, drop, Some, None, slice_get, refl, sym, ap, ◌∙◌, append_assoc, append-nil, arith}
+use Rattle.std.proofs.Common.{◌≡◌, ℕ, suc, ◌<◌, Bool, true, false, cond, List, [], ◌∷◌, ◌++◌, length, drop, Some, None, slice_get, sym, ap, ◌∙◌, append_assoc, append-nil, arith}
 use Rattle.std.specs.Prelude.{◌||◌, is_some}
 use Rattle.std.proofs.lemmas.List.{length-append, length-drop, append_cancel_right}
 use Rattle.std.proofs.lemmas.Option.{slice_get_within}
 use Rattle.sv_rpc.specs.Stream.{records_of, tail_of}
 use Rattle.sv_history.specs.declared.event.Config.{Config}
 use Rattle.sv_history.specs.Event.{PlainEvent}
-use Rattle.sv_history.specs.Act.{Act, ConnAct, Opened, Piece, CallTaken, Faulted, Replied, BytesTaken, PortClosed, of}
-use Rattle.sv_history.specs.Connection.{open_role, stream, records_ended, took_no_call, pending_call}
+use Rattle.sv_history.specs.Act.{Act, ConnAct, Piece, CallTaken, Replied, of}
+use Rattle.sv_history.specs.Connection.{stream, records_ended, took_no_call, pending_call}
 use Rattle.sv_laws.specs.Cuts.{without_pieces}
+use Rattle.sv_laws.proofs.Cuts.SameView.{SameShown}
 use Rattle.sv_laws.proofs.Cuts.ReadsOn.{resumed_at, records_more}
 use Rattle.sv_laws.proofs.Cuts.BytesBehind.{GoesOn, behind_bare, behind_stream}
 use Rattle.sv_laws.proofs.Cuts.Fed.{Fed, shows, shown_bare}
 
 -- ---- without pieces
 
-pub role_bare : (acts : List ConnAct) → open_role acts ≡ open_role (without_pieces acts)
-role_bare [] = refl
-role_bare (Opened role ∷ acts) = refl
-role_bare (PortClosed ∷ acts) = refl
-role_bare (_ ∷ acts) = role_bare acts
-
-pub call_bare : (acts : List ConnAct) → pending_call acts ≡ pending_call (without_pieces acts)
-call_bare [] = refl
-call_bare (Piece bytes ∷ acts) = call_bare acts
-call_bare (BytesTaken count ∷ acts) = call_bare acts
-call_bare (_ ∷ acts) = refl
-
-pub no_call_bare : (acts : List ConnAct) → took_no_call acts ≡ took_no_call (without_pieces acts)
-no_call_bare [] = refl
-no_call_bare (Opened role ∷ acts) = refl
-no_call_bare (PortClosed ∷ acts) = refl
-no_call_bare (Faulted ∷ acts) = refl
-no_call_bare (_ ∷ acts) = no_call_bare acts
-
-completed_bare : (acts : List ConnAct) → records_ended acts ≡ records_ended (without_pieces acts)
-completed_bare [] = refl
-completed_bare (Opened role ∷ acts) = refl
-completed_bare (PortClosed ∷ acts) = refl
-completed_bare (Faulted ∷ acts) = ap suc (completed_bare acts)
-completed_bare (Replied bytes ∷ acts) = ap suc (completed_bare acts)
-completed_bare (_ ∷ acts) = completed_bare acts
+-- they show the same
+pub same_bare : (acts : List ConnAct) → SameShown acts (without_pieces acts)
+same_bare [] = assumption
+same_bare (Piece bytes ∷ acts) = let so = same_bare acts in assumption
+same_bare (Replied bytes ∷ acts) =
+    let so = same_bare acts in assumption (ap suc so.count, ap (λ (l : List ℕ). l ++ bytes) so.replies)
+same_bare (_ ∷ acts) = let so = same_bare acts in assumption (ap suc so.count)
 
 -- ---- the stream goes on
 
@@ -82,7 +64,7 @@ module _ (c : ℕ) (config : Config) (past : List PlainEvent) (log : List Act) (
   fed_bare = behind_bare c fed.last log fed.came ∙ fed.acts
 
   fed_count : records_ended (of c log) ≡ suc (records_ended (of c fed.base))
-  fed_count = completed_bare (of c log) ∙ ap records_ended fed_bare ∙ ap suc (sym (completed_bare (of c fed.base)))
+  fed_count = (same_bare (of c log)).count ∙ ap records_ended fed_bare ∙ ap suc (sym (same_bare (of c fed.base)).count)
 
   fed_within : records_ended (of c fed.base) < length (records_of (stream (of c fed.base)))
   fed_within = slice_get_within (records_of (stream (of c fed.base))) (records_ended (of c fed.base)) call

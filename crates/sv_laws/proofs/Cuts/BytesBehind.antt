@@ -44,7 +44,7 @@ pub behind_bare : (c : ℕ) (base log : List Act) → CameBehind c base log → 
 behind_bare c base log (pieces, is) = ap without_pieces (behind_own c base log pieces is) ∙ pieces_bare pieces (of c base)
 
 pub behind_call : (c : ℕ) (base log : List Act) → CameBehind c base log → pending_call (of c log) ≡ pending_call (of c base)
-behind_call c base log (pieces, is) = ap pending_call (behind_own c base log pieces is) ∙ (came pieces (of c base)).call
+behind_call c base log (pieces, is) = ap pending_call (behind_own c base log pieces is) ∙ (came pieces (of c base)).0.call
 
 -- The stream goes on.
 abbrev pub GoesOn : ℕ → List Act → List Act → Type 0
@@ -52,4 +52,4 @@ GoesOn c base log = (more : List ℕ) × (stream (of c log) ≡ stream (of c bas
 
 pub behind_stream : (c : ℕ) (base log : List Act) → CameBehind c base log → GoesOn c base log
 behind_stream c base log (pieces, is) =
-    (join_pieces pieces, ap stream (behind_own c base log pieces is) ∙ (came pieces (of c base)).streams)
+    (join_pieces pieces, ap stream (behind_own c base log pieces is) ∙ (came pieces (of c base)).1)

@@ -1,5 +1,5 @@
 -- Events that feed a connection: bytes come, or its next call is taken, and each call that is taken shows in its acts.
-use Rattle.std.proofs.Common.{◌≡◌, ℕ, ◌+◌, ◌≤◌, List, [], ◌∷◌, ◌++◌, length, Option, Some, None, refl, sym, ap, subst, ◌∙◌, inl, inr, ◌⊎◌, arith}
+use Rattle.std.proofs.Common.{◌≡◌, ℕ, ◌+◌, ◌≤◌, List, [], ◌∷◌, ◌++◌, length, Option, Some, refl, sym, ap, subst, ◌∙◌, inl, inr, ◌⊎◌, arith}
 use Rattle.std.specs.List.{AllByRecursion}
 use Rattle.std.proofs.lemmas.List.{length-append}
 use Rattle.sv_history.specs.declared.event.Config.{Config}
@@ -41,9 +41,7 @@ turned c config polled steps (Some call) (Some request) base log settled said ne
   call,
   record { request = request; polled = polled; steps = steps; next = next; asks = asks; said = said; settles = settles },
 )
-turned c config polled steps (Some call) None base log settled said next asks settles =
-    inl (behind_none c base log (stays steps config base log settled settles))
-turned c config polled steps None request base log settled said next asks settles =
+turned c config polled steps _ _ base log settled said next asks settles =
     inl (behind_none c base log (stays steps config base log settled settles))
 
 fed_event : (c : ℕ) (config : Config) (event : PlainEvent) (past : List PlainEvent) (log : List Act) → IsFeeding c event

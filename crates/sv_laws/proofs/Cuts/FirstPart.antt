@@ -9,7 +9,7 @@ use Rattle.sv_errors.specs.declared.code.Code.TheVariants.{InputBufferOverrun, Q
 use Rattle.sv_errors.specs.declared.source.Source.TheVariants.{Immediate}
 use Rattle.sv_links.specs.declared.waiting.Wait.{Wait}
 use Rattle.sv_links.specs.declared.waiting.Wait.TheVariants.{Input as ForInput, Response as ForResponse}
-use Rattle.sv_links.specs.Links.{LinkAct, holder}
+use Rattle.sv_links.specs.Links.{holder}
 use Rattle.sv_links.specs.Waiting.{WaitAct, waits, link, arrival, is_there, IsExpired, IsOldest}
 use Rattle.sv_scan.specs.declared.acts.ScanAct.{ScanAct}
 use Rattle.sv_scan.specs.declared.acts.ScanAct.TheVariants.{Trigger}
@@ -61,12 +61,9 @@ may_resume acts c = is_there (holder (link_acts acts)) (not (has_ended (exchange
 
 able_same : (acts base : List DeviceAct) (c : ℕ) → NoneWaits (wait_acts base) → Calm acts base → may_resume acts c ≡ may_resume base c
 able_same acts base c rest v =
-    let writes = not (has_ended (exchange_acts acts)) in
-    let reads = is_answerable (instrument_acts acts) in
-    ap (λ (l : List LinkAct). is_there (holder l) writes reads (link c (wait_acts acts)) (waits c (wait_acts acts))) v.links
-    ∙ ap (λ (l : List WaitAct). is_there (holder (link_acts base)) writes reads (link c l) (waits c l)) v.calls
-    ∙ there_same (holder (link_acts base)) (link c (wait_acts base)) (waits c (wait_acts base)) writes reads
-    (not (has_ended (exchange_acts base))) (is_answerable (instrument_acts base)) (rest c).0 (rest c).1
+    rw (v.links, v.calls) (there_same (holder (link_acts base)) (link c (wait_acts base)) (waits c (wait_acts base))
+    (not (has_ended (exchange_acts acts))) (is_answerable (instrument_acts acts)) (not (has_ended (exchange_acts base)))
+    (is_answerable (instrument_acts base)) (rest c).0 (rest c).1)
 
 no_fire : (config : Config) (log base new : List Act) → Rested config base → Calm (device_acts log) (device_acts base)
     → InstrumentDoes IsFired log new → ⊥

@@ -42,8 +42,8 @@ none_own c [] h = tt
 none_own c (act ∷ own) h = (h.0, none_own c own h.1)
 
 none_effect : (c : ℕ) (effect : Effect) → AllByRecursion IsOther effect.own → AllByRecursion IsNoCall (acts_of c effect)
-none_effect c effect h = all_join IsNoCall (map (On c) effect.own) (map OnDevice effect.adds) (none_own c effect.own h)
-    (none_shared effect.adds)
+none_effect c effect h =
+    all_join IsNoCall (map (On c) effect.own) (map OnDevice effect.adds) (none_own c effect.own h) (none_shared effect.adds)
 
 none_replies : (xid : ℕ) (result : Option Outcome) → AllByRecursion IsOther (replies xid result)
 none_replies xid (Some result) = (tt, tt)

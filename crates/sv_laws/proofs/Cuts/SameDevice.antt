@@ -23,6 +23,7 @@ pub record SameDevice (acts other : List DeviceAct) : Type 0 where
   pub instrument : SameInstrument (instrument_acts acts) (instrument_acts other)
   pub clock : ticks acts ≡ ticks other
 
+-- one log
 pub device_same : (acts : List DeviceAct) → SameDevice acts acts
 device_same acts = assumption (instrument_same (instrument_acts acts))
 

@@ -1,5 +1,5 @@
 -- A step of the instrument adds the same acts to two logs that are the same but for where program text was accepted.
-use Rattle.std.proofs.Common.{◌≡◌, ℕ, ◌+◌, Bool, true, false, List, [], ◌∷◌, ◌++◌, take, reverse, Option, Some, None, Result, Ok, Err, refl, sym, ap, subst, ◌∙◌, append_assoc}
+use Rattle.std.proofs.Common.{◌≡◌, ℕ, Bool, true, false, List, [], ◌∷◌, ◌++◌, Option, Some, None, Result, Ok, Err, refl, sym, ap, subst, ◌∙◌, append_assoc}
 use Rattle.std.specs.Prelude.{◌↔◌, codes, pos, length, decimal, if◌then◌else◌}
 use Rattle.sv_errors.specs.declared.code.Code.{Code}
 use Rattle.sv_errors.specs.declared.code.Code.TheVariants.{InputBufferOverrun, QueryInterrupted, QueryDeadlocked}
@@ -11,7 +11,7 @@ use Rattle.sv_scan.specs.declared.acts.ScanAct.TheVariants as scan
 use Rattle.sv_scan.specs.declared.setting.Setting.TheVariants as setting
 use Rattle.sv_scan.specs.Counted.{effective, setting_fault, init_fault, trigger_fault, read_fault}
 use Rattle.sv_scan.specs.Scan.{readings}
-use Rattle.sv_exchange.specs.Exchange.{Overran, UnitDone, TextDropped, Answered, AnswersDropped, Finished, Interrupted, text, units, message, units_done, current, answers, fits_response, due, Due, NothingDue, OverrunDue, InterruptDue, UnitDue, FinishDue}
+use Rattle.sv_exchange.specs.Exchange.{Overran, UnitDone, TextDropped, Answered, AnswersDropped, Finished, Interrupted, text, answers, fits_response, due, Due, NothingDue, OverrunDue, InterruptDue, UnitDue, FinishDue}
 use Rattle.sv_command.specs.declared.order.Order.{Order}
 use Rattle.sv_command.specs.declared.order.Order.TheVariants as order
 use Rattle.sv_header.specs.declared.command.Action.{Action}
@@ -25,7 +25,7 @@ use Rattle.sv_layers.specs.declared.change.Awaited.TheVariants as awaited
 use Rattle.sv_layers.specs.Act.{Act, Exchanged, Purged, Scanned, Held, Reported, EntryTaken, Cleared, Preset, OpcAsked, StandardRead, StandardEnabled, EventRead, Enabled, RiseSet, FallSet, ServiceEnabled, exchange_acts}
 use Rattle.sv_layers.specs.Condition.{effective_acts}
 use Rattle.sv_instrument.specs.HeldUnit.{held_unit}
-use Rattle.sv_instrument.specs.Path.{Leaves, one_if_held, units_begun, IsPath}
+use Rattle.sv_instrument.specs.Path.{IsPath}
 use Rattle.sv_instrument.specs.QueryResponse.{IsWord, readings_text, oldest_text, value_text, Says}
 use Rattle.sv_instrument.specs.CommandEffect.{after_answering, unless, after_configure, after_query, question_fault, Replies, after_action, Performs}
 use Rattle.sv_instrument.specs.Step.{after_release, Does, Starts, StepOf, IsStep}
@@ -52,6 +52,7 @@ holds_act (Exchanged TextDropped) log other same = refl
 holds_act Purged log other same = refl
 holds_act _ log other same = same
 
+-- one log
 pub instrument_same : (log : List Act) → SameInstrument log log
 instrument_same log = record { status = status_same log; texts = refl; holds = refl }
 
@@ -226,12 +227,11 @@ performs_alike (order.Measure list) log other new v is =
 -- ---- a unit
 
 path_same : (log other : List Act) (path : List (List ℕ)) → SameInstrument log other → IsPath log path → IsPath other path
-path_same log other path v h =
-    let begun = ap (λ (n : ℕ). n + one_if_held (held_unit log)) v.status.exchange.done
-    ∙ ap (λ (o : Option Awaited). units_done (current (exchange_acts other)) + one_if_held o) v.holds in
-    let found = message_same (exchange_acts log) (exchange_acts other) v.status.exchange v.texts in
-    subst (λ (n : ℕ). Leaves (reverse (take n (units (message (exchange_acts other))))) path) begun
-    (subst (λ (l : List ℕ). Leaves (reverse (take (units_begun log) (units l))) path) found h)
+path_same log other path v h = rw (
+  message_same (exchange_acts log) (exchange_acts other) v.status.exchange v.texts,
+  v.status.exchange.done,
+  v.holds,
+) at h
 
 does_alike : (outcome : Result Order Code) (log other new : List Act) → SameInstrument log other → Does outcome log new
     → AddsAlike log other new (Does outcome other)

@@ -14,19 +14,25 @@ use Rattle.sv_history.proofs.Projections.{of_effect, others_effect, device_effec
 
 -- ---- the acts of a connection
 
-pub record SameConnection (acts others : List ConnAct) : Type 0 where
+-- They show the same, but for the stream.
+pub record SameShown (acts others : List ConnAct) : Type 0 where
   pub role : open_role acts ≡ open_role others
   pub call : pending_call acts ≡ pending_call others
   pub count : records_ended acts ≡ records_ended others
   pub no_call : took_no_call acts ≡ took_no_call others
   pub replies : all_replies acts ≡ all_replies others
+
+-- So do they, and the same is read of both.
+pub record SameConnection (acts others : List ConnAct) : Type 0 where
+  pub shown : SameShown acts others
+  pub open shown use *
   pub streams : reading (stream acts) ≡ reading (stream others)
 
 pub connection_none : SameConnection [] []
 connection_none = assumption
 
 pub connection_back : (acts others : List ConnAct) → SameConnection acts others → SameConnection others acts
-connection_back acts others v = search sym
+connection_back acts others v = record { shown = search sym; streams = sym v.streams }
 
 -- the same act
 same_act : (act : ConnAct) (acts others : List ConnAct) → SameConnection acts others → SameConnection (act ∷ acts) (act ∷ others)
@@ -36,33 +42,30 @@ same_act (Replied bytes) acts others v = assumption (ap suc v.count, ap (λ (l :
 same_act _ acts others v = assumption
 
 -- pieces change nothing but the stream
-pub record Came (acts base : List ConnAct) (bytes : List ℕ) : Type 0 where
-  pub role : open_role acts ≡ open_role base
-  pub call : pending_call acts ≡ pending_call base
-  pub count : records_ended acts ≡ records_ended base
-  pub no_call : took_no_call acts ≡ took_no_call base
-  pub replies : all_replies acts ≡ all_replies base
-  pub streams : stream acts ≡ stream base ++ bytes
+abbrev pub Came : List ConnAct → List ConnAct → List ℕ → Type 0
+Came acts base bytes = SameShown acts base × (stream acts ≡ stream base ++ bytes)
 
 pub came : (pieces : List (List ℕ)) (base : List ConnAct) → Came (map Piece pieces ++ base) base (join_pieces pieces)
 came [] base = assumption (sym (append-nil (stream base)))
 came (piece ∷ pieces) base =
     let so = came pieces base in
-    assumption (ap (λ (l : List ℕ). l ++ piece) so.streams ∙ append_assoc (stream base) (join_pieces pieces) piece)
+    assumption (ap (λ (l : List ℕ). l ++ piece) so.1 ∙ append_assoc (stream base) (join_pieces pieces) piece)
 
 same_pieces : (pieces others : List (List ℕ)) (acts also : List ConnAct)
     → reading (stream acts ++ join_pieces pieces) ≡ reading (stream also ++ join_pieces others)
     → SameConnection acts also → SameConnection (map Piece pieces ++ acts) (map Piece others ++ also)
 same_pieces pieces others acts also streams v =
-    let one = came pieces acts in
-    let two = came others also in
+    let (one, stream_one) = came pieces acts in
+    let (two, stream_two) = came others also in
     record {
-      role = one.role ∙ v.role ∙ sym two.role;
-      call = one.call ∙ v.call ∙ sym two.call;
-      count = one.count ∙ v.count ∙ sym two.count;
-      no_call = one.no_call ∙ v.no_call ∙ sym two.no_call;
-      replies = one.replies ∙ v.replies ∙ sym two.replies;
-      streams = rw (one.streams, two.streams) streams;
+      shown = record {
+        role = one.role ∙ v.role ∙ sym two.role;
+        call = one.call ∙ v.call ∙ sym two.call;
+        count = one.count ∙ v.count ∙ sym two.count;
+        no_call = one.no_call ∙ v.no_call ∙ sym two.no_call;
+        replies = one.replies ∙ v.replies ∙ sym two.replies;
+      };
+      streams = rw (stream_one, stream_two) streams;
     }
 
 -- ---- the next call

@@ -16,11 +16,10 @@ use Rattle.sv_history.specs.Event.{PlainEvent, Turn, Refuse, Took, Close, Dialed
 use Rattle.sv_history.specs.Act.{Act, ConnAct, Piece, CallTaken, BytesTaken, PortClosed, Linked, Waited, Channel, Applied, Ticked, On, OnDevice, of, device_acts}
 use Rattle.sv_history.specs.Connection.{next_call, pending_call}
 use Rattle.sv_history.specs.Request.{Request, core_call_in, next_request}
-use Rattle.sv_history.specs.Refusing.{refusable_call}
-use Rattle.sv_history.specs.Effect.{Effect, acts_of}
+use Rattle.sv_history.specs.Effect.{acts_of}
 use Rattle.sv_history.specs.Execution.{request_effect, aborts}
 use Rattle.sv_history.specs.Resuming.{failure_effect, connect_effect}
-use Rattle.sv_history.specs.History.{abort_acts, taken_acts, turn_acts, refuse_acts, own_acts}
+use Rattle.sv_history.specs.History.{abort_acts, turn_acts, own_acts}
 use Rattle.sv_laws.proofs.Cuts.SharedSteps.{SameCalls, request_alike, aborts_alike}
 
 -- Each connection's next call is the same too, and what it asks for.
@@ -53,16 +52,14 @@ calls_behind (On c act ∷ adds) log other same d =
 turn_shared : (config : Config) (polled c : ℕ) (call : Option (List ℕ)) (request : Option Request) (log other : List Act)
     → SameNext log other → turn_acts config polled c call request log ≡ turn_acts config polled c call request other
 turn_shared config polled c (Some bytes) (Some request) log other v =
-    let effect = request_effect config polled c request (device_acts log) in
-    let found = aborts request (device_acts log) in
+    let effect = request_effect config polled c request (device_acts other) in
+    let found = aborts request (device_acts other) in
     let acts = acts_of c effect ++ On c (CallTaken bytes) ∷ [] in
-    ap (λ (l : List Act). l ++ acts) (ended_shared found (acts ++ log) (acts ++ other) (calls_behind acts log other v.now.calls))
-    ∙ ap (λ (e : Effect). taken_acts c bytes e found other)
-    (request_alike config polled c request (device_acts log) (device_acts other) v.now.device)
-    ∙ ap (λ (o : Option ℕ). taken_acts c bytes (request_effect config polled c request (device_acts other)) o other)
-    (aborts_alike request (device_acts log) (device_acts other) v.now.device)
-turn_shared config polled c (Some bytes) None log other v = refl
-turn_shared config polled c None request log other v = refl
+    rw (
+      request_alike config polled c request (device_acts log) (device_acts other) v.now.device,
+      aborts_alike request (device_acts log) (device_acts other) v.now.device,
+    ) (ap (λ (l : List Act). l ++ acts) (ended_shared found (acts ++ log) (acts ++ other) (calls_behind acts log other v.now.calls)))
+turn_shared config polled c _ _ log other v = refl
 
 abbrev shuts_by : ℕ → List LinkAct → List Act
 shuts_by c links = map OnDevice (Channel (ChannelClosed c) ∷ map Linked (closing c links) ++ Waited (Left c) ∷ []) ++ On c PortClosed ∷ []
@@ -70,12 +67,8 @@ shuts_by c links = map OnDevice (Channel (ChannelClosed c) ∷ map Linked (closi
 pub own_shared : (config : Config) (polled : ℕ) (event : PlainEvent) (log other : List Act) → SameNext log other
     → own_acts config polled event log ≡ own_acts config polled event other
 own_shared config polled (Turn c) log other v =
-    turn_shared config polled c (next_call (of c log)) (next_request (of c log)) log other v
-    ∙ ap (λ (o : Option (List ℕ)). turn_acts config polled c o (next_request (of c log)) other) (v.calls c)
-    ∙ ap (λ (q : Option Request). turn_acts config polled c (next_call (of c other)) q other) (v.requests c)
-own_shared config polled (Refuse c) log other v =
-    ap (λ (o : Option (List ℕ)). refuse_acts c o (refusable_call (next_request (of c log)))) (v.calls c)
-    ∙ ap (λ (q : Option Request). refuse_acts c (next_call (of c other)) (refusable_call q)) (v.requests c)
+    turn_shared config polled c (next_call (of c log)) (next_request (of c log)) log other v ∙ rw (v.requests c, v.calls c) refl
+own_shared config polled (Refuse c) log other v = rw (v.requests c, v.calls c) refl
 own_shared config polled (Close (Conn c)) log other v = ap (λ (l : List LinkAct). shuts_by c l) v.now.device.links
 own_shared config polled (Dialed c ok) log other v =
     ap (λ (o : Option (List ℕ)). acts_of c (connect_effect c ok (core_call_in o))) (v.now.calls c)

@@ -28,6 +28,7 @@ pub record SameShared (acts other : List DeviceAct) : Type 0 where
   pub tells : Tells acts other
   pub back : Tells other acts
 
+-- the same acts
 pub shared_more : (adds log other : List Act) → SameShared (device_acts log) (device_acts other)
     → SameShared (device_acts (adds ++ log)) (device_acts (adds ++ other))
 shared_more [] log other v = v

@@ -1,20 +1,19 @@
 -- A step that is due adds the same acts to two logs that are the same but for where program text was accepted.
-use Rattle.std.proofs.Common.{◌≡◌, ℕ, ◌+◌, Bool, not, List, [], ◌∷◌, ◌++◌, Option, Some, None, refl, sym, ap, subst, ◌∙◌, inl, inr}
+use Rattle.std.proofs.Common.{◌≡◌, ℕ, ◌+◌, List, [], ◌∷◌, ◌++◌, Option, Some, None, refl, sym, ap, subst, ◌∙◌, inl, inr}
 use Rattle.std.specs.Prelude.{map, pos, negsuc}
 use Rattle.std.proofs.lemmas.List.{append_cancel_right}
 use Rattle.sv_errors.specs.declared.source.Source.TheVariants.{Immediate}
 use Rattle.sv_links.specs.declared.waiting.Wait.{Wait}
-use Rattle.sv_links.specs.Links.{LinkAct, owner, holder}
-use Rattle.sv_links.specs.Waiting.{WaitAct, waits, IsAble, IsExpired, IsOldest}
+use Rattle.sv_links.specs.Links.{LinkAct, owner}
+use Rattle.sv_links.specs.Waiting.{WaitAct, waits, IsExpired, IsOldest}
 use Rattle.sv_scan.specs.declared.acts.ScanAct.{ScanAct}
 use Rattle.sv_scan.specs.declared.acts.ScanAct.TheVariants.{Trigger}
 use Rattle.sv_scan.specs.Counted.{effective, trigger_fault}
-use Rattle.sv_exchange.specs.Exchange.{has_ended}
 use Rattle.sv_layers.specs.Act.{Act as InstrumentAct, Scanned}
 use Rattle.sv_instrument.specs.Stimulus.{IsFired}
-use Rattle.sv_instrument.specs.Step.{IsStep, is_answerable}
+use Rattle.sv_instrument.specs.Step.{IsStep}
 use Rattle.sv_history.specs.declared.event.Config.{Config}
-use Rattle.sv_history.specs.Act.{Act, DeviceAct, Applied, OnDevice, of, device_acts, link_acts, wait_acts, instrument_acts, exchange_acts, ticks}
+use Rattle.sv_history.specs.Act.{Act, DeviceAct, Applied, OnDevice, of, device_acts, wait_acts, instrument_acts, ticks}
 use Rattle.sv_history.specs.Connection.{pending_call}
 use Rattle.sv_history.specs.CoreCall.{CoreCall}
 use Rattle.sv_history.specs.Request.{Request, CoreRequest, AbortRequest, core_call_in}
@@ -99,15 +98,7 @@ fires_shared log other v new (none, is) = (
 
 able_alike : (acts other : List DeviceAct) (found : Option ℕ) → SameDevice acts other → IsOldest (wait_acts acts) (CanResume acts) found
     → IsOldest (wait_acts other) (CanResume other) found
-able_alike acts other found v h =
-    subst (λ (l : List LinkAct). IsOldest (wait_acts other) (IsAble (holder l) (not (has_ended (exchange_acts other)))
-    (is_answerable (instrument_acts other)) (wait_acts other)) found) v.links
-    (subst (λ (b : Bool). IsOldest (wait_acts other) (IsAble (holder (link_acts acts)) (not b) (is_answerable (instrument_acts other))
-    (wait_acts other)) found) (ended_alike acts other v)
-    (subst (λ (b : Bool). IsOldest (wait_acts other) (IsAble (holder (link_acts acts)) (not (has_ended (exchange_acts acts))) b
-    (wait_acts other)) found) (answerable_alike acts other v)
-    (subst (λ (l : List WaitAct). IsOldest l (IsAble (holder (link_acts acts)) (not (has_ended (exchange_acts acts)))
-    (is_answerable (instrument_acts acts)) l) found) v.waits h)))
+able_alike acts other found v h = rw (answerable_alike acts other v, ended_alike acts other v, v.links, v.waits) at h
 
 resumes_shared : (config : Config) (log other : List Act) → SameCalls log other
     → Shared log other (Resumes config log) (Resumes config other)

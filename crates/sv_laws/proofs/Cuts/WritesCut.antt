@@ -17,12 +17,11 @@ use Rattle.sv_history.specs.Connection.{open_role, pending_call, records_ended, 
 use Rattle.sv_history.specs.Request.{core_call}
 use Rattle.sv_history.specs.Effect.{result_reply}
 use Rattle.sv_history.specs.PolledStatus.{IsPolled}
-use Rattle.sv_history.specs.Requests.{HearsOf}
 use Rattle.sv_history.specs.Settling.{IsNext, SettlesIn}
 use Rattle.sv_history.specs.History.{IsLogOf}
 use Rattle.sv_laws.specs.Adding.{all_replies, all_sent, Adds}
 use Rattle.sv_laws.specs.Cuts.{without_pieces, NoneWaits, AreCut, WritesCut}
-use Rattle.sv_laws.proofs.OneLog.{one_log, sends_moved}
+use Rattle.sv_laws.proofs.OneLog.{sends_moved}
 use Rattle.sv_history.proofs.OneStep.{next_once}
 use Rattle.sv_laws.proofs.EveryLog.EachEvent.{fit_log, idle_free}
 use Rattle.sv_laws.proofs.EveryLog.Steps.{log_settled, rested}
@@ -36,7 +35,7 @@ use Rattle.sv_laws.proofs.Cuts.Fed.{Fed, fed, only_bytes}
 use Rattle.sv_laws.proofs.Cuts.Written.{wrote, Wrote, written}
 use Rattle.sv_laws.proofs.Cuts.FirstPart.{Resting, reported, BecomesLong, first_part, whole_long}
 use Rattle.sv_laws.proofs.Cuts.Beside.{Beside, reports, parts_shared, long_shared, beside_kept, beside_came, of_wrote, beside_wrote}
-use Rattle.sv_laws.proofs.Cuts.AllTaken.{role_bare, call_bare, no_call_bare, fed_all}
+use Rattle.sv_laws.proofs.Cuts.AllTaken.{same_bare, fed_all}
 
 -- ---- the logs where the last write is accepted
 
@@ -228,9 +227,9 @@ module _ (c lid : ℕ) (x y : List ℕ) (ended : Bool) (config : Config) (past o
       ∙ ap (λ (l : List ConnAct).
       Replied (result_reply h.writes_second.0 (Size NoError (length y))) ∷ CallTaken h.writes_second.4 ∷ l) h.writes_first.7 in
       record {
-        role = role_bare acts ∙ ap open_role one_bare ∙ sym (role_bare others ∙ ap open_role two_bare);
-        call = call_bare acts ∙ ap pending_call one_bare ∙ sym (call_bare others ∙ ap pending_call two_bare);
-        no_call = no_call_bare acts ∙ ap took_no_call one_bare ∙ sym (no_call_bare others ∙ ap took_no_call two_bare);
+        role = (same_bare acts).role ∙ ap open_role one_bare ∙ sym ((same_bare others).role ∙ ap open_role two_bare);
+        call = (same_bare acts).call ∙ ap pending_call one_bare ∙ sym ((same_bare others).call ∙ ap pending_call two_bare);
+        no_call = (same_bare acts).no_call ∙ ap took_no_call one_bare ∙ sym ((same_bare others).no_call ∙ ap took_no_call two_bare);
         ahead = same_behind (stream acts) (stream others) (records_ended acts) (records_ended others)
             (fed_all c config past h.whole _ _ rest fed_both h.one_feeds.none_left)
             (fed_all c config past h.cut _ _ h.middle fed_other h.two_feeds.none_left) h.same_tail;

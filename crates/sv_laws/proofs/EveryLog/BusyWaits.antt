@@ -23,7 +23,7 @@ use Rattle.sv_history.specs.CallOutcome.{CallOutcome, only}
 use Rattle.sv_history.specs.CoreCall.{CoreCall, lid_of, failure}
 use Rattle.sv_history.specs.CoreChannel.{own_call}
 use Rattle.sv_history.specs.Effect.{Effect, acts_of, replies, call_effect}
-use Rattle.sv_history.specs.Request.{Request, NoCall, Decided, CoreRequest, AbortRequest, PortRequest, core_call_in, next_request}
+use Rattle.sv_history.specs.Request.{Request, CoreRequest, core_call_in, next_request}
 use Rattle.sv_history.specs.Interrupts.{connect_outcome}
 use Rattle.sv_history.proofs.Dialing.{peer_by, dialed_to, dialed_is}
 use Rattle.sv_history.specs.Admission.{Stop, Fails, Awaits, stop_of, admission, deadline}
@@ -31,10 +31,10 @@ use Rattle.sv_history.specs.Execution.{request_effect}
 use Rattle.sv_history.specs.Refusing.{refusable, refused_reply}
 use Rattle.sv_history.specs.Resuming.{effect_of, leaving, next_wait, resume_outcome, failure_effect}
 use Rattle.sv_history.specs.History.{turn_acts, own_acts, refusal, IsLogOf}
-use Rattle.sv_history.proofs.Projections.{of_mine, of_other, of_shared, of_effect, others_effect, device_shared, device_effect, wait_acts-links, wait_acts-happened}
+use Rattle.sv_history.proofs.Projections.{of_mine, of_other, of_shared, device_shared, device_effect, wait_acts-links, wait_acts-happened}
 use Rattle.sv_laws.proofs.EveryLog.Done.{each_done, own_told}
 use Rattle.sv_laws.proofs.EveryLog.Taken.{within}
-use Rattle.sv_laws.proofs.EveryLog.Fit.{Fit}
+use Rattle.sv_laws.proofs.EveryLog.Fit.{Fit, of_each}
 use Rattle.sv_laws.proofs.EveryLog.EachEvent.{entered_waits, each_log, StepsKeep, step_keeps, turn_keeps, refuse_keeps, done_waits, fit_request, fit_keeps, close_adds, device_closed, of_closed, fit_event, fit_none}
 use Rattle.sv_laws.proofs.Facts.{some_none}
 
@@ -66,12 +66,8 @@ all_effect : (c : ℕ) (effect : Effect) (log : List Act) → ((d : ℕ) → d �
 all_effect c effect log all others mine d none =
     let here : waits d (wait_acts (effect.adds ++ device_acts log)) ≡ None =
     ap (λ (l : List DeviceAct). waits d (wait_acts l)) (sym (device_effect c effect log)) ∙ none in
-    elim (cases_eq d c) [
-      | inl e ↦ subst (λ (n : ℕ). pending_call (of n (acts_of c effect ++ log)) ≡ None) (sym e)
-          (ap pending_call (of_effect c effect log)
-          ∙ mine (ap (λ (n : ℕ). waits n (wait_acts (effect.adds ++ device_acts log))) (sym e) ∙ here))
-      | inr ne ↦ ap pending_call (others_effect c d effect log ne) ∙ all d ne (sym (others d ne) ∙ here)
-    ]
+    of_each (λ d own. waits d (wait_acts (effect.adds ++ device_acts log)) ≡ None → pending_call own ≡ None) c effect log mine
+    (λ d ne none. all d ne (sym (others d ne) ∙ none)) d here
 
 all_shared : (adds : List DeviceAct) (log : List Act) → AllWait log → wait_acts (adds ++ device_acts log) ≡ wait_acts (device_acts log)
     → AllWait (map OnDevice adds ++ log)

@@ -84,10 +84,12 @@ all_done config polled c DestroyIntrChan acts =
     elim (cases_Bool (has_channel c acts)) [ inl e ↦ rw e ((tt, tt), refl) | inr e ↦ rw e (tt, refl) ]
 all_done config polled c _ acts = (tt, refl)
 
+-- its acts
 pub each_done : (config : Config) (polled c : ℕ) (arguments : Arguments) (acts : List DeviceAct)
     → Each (IsDone c arguments) (own_call config polled c arguments acts).adds acts
 each_done config polled c arguments acts = (all_done config polled c arguments acts).0
 
+-- its result
 pub own_told : (config : Config) (polled c : ℕ) (arguments : Arguments) (acts : List DeviceAct)
     → is_some (own_call config polled c arguments acts).result ≡ true
 own_told config polled c arguments acts = (all_done config polled c arguments acts).1

@@ -1,7 +1,7 @@
 -- Of the calls that wait on sixteen connections, one whose deadline has come came first, or there is none; and a call that leaves makes
 -- those
 -- that wait fewer.
-use Rattle.std.proofs.Common.{◌≡◌, ℕ, zero, suc, ◌+◌, ◌<◌, ◌≤◌, Bool, true, false, cond, eqb, ltb, List, ◌∷◌, Option, Some, None, refl, sym, ap, subst, ◌∙◌, inl, inr, ◌⊎◌, eq-eqb, arith}
+use Rattle.std.proofs.Common.{◌≡◌, ℕ, zero, suc, ◌+◌, ◌<◌, ◌≤◌, Bool, true, false, cond, eqb, ltb, List, ◌∷◌, Option, Some, None, refl, sym, ap, subst, ◌∙◌, inl, inr, eq-eqb, arith}
 use Rattle.std.specs.Prelude.{is_some, ◌&&◌}
 use Rattle.std.proofs.lemmas.Bool.{cases_Bool, cases_eq, ne_eqb, leb-true, le-leb, ltb-true, ltb-false}
 use Rattle.sv_links.specs.declared.waiting.Wait.{Wait}
@@ -29,67 +29,35 @@ due_expired clock d acts e = due_by clock d acts (waits d acts) (deadline d acts
 expired_due : (clock d : ℕ) (acts : List WaitAct) → IsExpired clock acts d → is_due clock acts d ≡ true
 expired_due clock d acts (wait, last, for, until, le) = rw (for, until) (le-leb last clock le)
 
--- of the numbers below n
+-- If a number passes the test, the call of this one came no later.
+abbrev pub IsNoLater : List WaitAct → (ℕ → Bool) → ℕ → ℕ → Type 0
+IsNoLater acts test c d = test d ≡ true → arrival c acts ≤ arrival d acts
+
+-- the first, of the numbers below n
 abbrev pub Least : List WaitAct → (ℕ → Bool) → ℕ → Option ℕ → Type 0
 Least acts test n None = (d : ℕ) → d < n → test d ≡ false
-Least acts test n (Some c) = (test c ≡ true) × ((d : ℕ) → d < n → test d ≡ true → arrival c acts ≤ arrival d acts)
+Least acts test n (Some c) = (test c ≡ true) × ((d : ℕ) → d < n → IsNoLater acts test c d)
 
-below_suc : (d n : ℕ) → d < suc n → (d ≡ n) ⊎ (d < n)
-below_suc d n lt = elim (cases_eq d n) [ inl e ↦ inl e | inr ne ↦ inr (omega (arith, lt, ne)) ]
-
-same_arrival : (acts : List WaitAct) (c d : ℕ) → d ≡ c → arrival c acts ≤ arrival d acts
-same_arrival acts c d e = subst (λ (n : ℕ). arrival c acts ≤ arrival n acts) (sym e) (omega arith)
+-- one number more
+up_to : (IsSo : ℕ → Type 0) (n : ℕ) → IsSo n → ((d : ℕ) → d < n → IsSo d) → (d : ℕ) → d < suc n → IsSo d
+up_to IsSo n now before d lt =
+    elim (cases_eq d n) [ inl e ↦ subst IsSo (sym e) now | inr ne ↦ before d (omega (arith, lt, ne)) ]
 
 least_more : (acts : List WaitAct) (test : ℕ → Bool) (n : ℕ) (found : Option ℕ) → Least acts test n found
     → (next : Option ℕ) × Least acts test (suc n) next
 least_more acts test n None h = elim (cases_Bool (test n)) [
-  | inl e ↦ (
-    Some n,
-    (
-      e,
-      (λ d lt is. elim (below_suc d n lt) [
-        | inl same ↦ same_arrival acts n d same
-        | inr less ↦ not_both (test d) is (h d less)
-      ]),
-    ),
-  )
-  | inr e ↦ (None, (λ d lt. elim (below_suc d n lt) [ inl same ↦ ap test same ∙ e | inr less ↦ h d less ]))
+  | inl e ↦ (Some n, (e, up_to (IsNoLater acts test n) n (λ is. omega arith) (λ d less is. not_both (test d) is (h d less))))
+  | inr e ↦ (None, up_to (λ d. test d ≡ false) n e h)
 ]
 least_more acts test n (Some c) h = elim (cases_Bool (test n)) [
   | inl e ↦ elim (cases_Bool (ltb (arrival n acts) (arrival c acts))) [
     | inl k ↦
-        let first = ltb-true (arrival n acts) (arrival c acts) k in (
-          Some n,
-          (
-            e,
-            (λ d lt is. elim (below_suc d n lt) [
-              | inl same ↦ same_arrival acts n d same
-              | inr less ↦ let le = h.1 d less is in omega (arith, le, first)
-            ]),
-          ),
-        )
-    | inr k ↦
-        let first : arrival c acts ≤ arrival n acts = ltb-false (arrival n acts) (arrival c acts) k in (
-          Some c,
-          (
-            h.0,
-            (λ d lt is. elim (below_suc d n lt) [
-              | inl same ↦ subst (λ (m : ℕ). arrival c acts ≤ arrival m acts) (sym same) first
-              | inr less ↦ h.1 d less is
-            ]),
-          ),
-        )
+        let first = ltb-true (arrival n acts) (arrival c acts) k in
+        let behind : (d : ℕ) → d < n → IsNoLater acts test n d = λ d less is. let le = h.1 d less is in omega (arith, le, first) in
+        (Some n, (e, up_to (IsNoLater acts test n) n (λ is. omega arith) behind))
+    | inr k ↦ (Some c, (h.0, up_to (IsNoLater acts test c) n (λ is. ltb-false (arrival n acts) (arrival c acts) k) h.1))
   ]
-  | inr e ↦ (
-    Some c,
-    (
-      h.0,
-      (λ d lt is. elim (below_suc d n lt) [
-        | inl same ↦ not_both (test d) is (ap test same ∙ e)
-        | inr less ↦ h.1 d less is
-      ]),
-    ),
-  )
+  | inr e ↦ (Some c, (h.0, up_to (IsNoLater acts test c) n (λ is. not_both (test n) is e) h.1))
 ]
 
 pub least : (acts : List WaitAct) (test : ℕ → Bool) (n : ℕ) → (found : Option ℕ) × Least acts test n found

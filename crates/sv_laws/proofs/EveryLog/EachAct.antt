@@ -1,7 +1,6 @@
 -- In every log each act of a connection came when it could: while the connection is open, each reply for the call that had no answer.
-use Rattle.std.proofs.Common.{◌≡◌, ℕ, Bool, true, false, cond, List, [], ◌∷◌, ◌++◌, nat_lt, Option, Some, None, refl, sym, ap, subst, ◌∙◌, inl, inr, append_assoc}
+use Rattle.std.proofs.Common.{◌≡◌, ℕ, Bool, true, false, cond, List, [], ◌∷◌, ◌++◌, nat_lt, Option, Some, None, refl, sym, ap, subst, ◌∙◌, append_assoc}
 use Rattle.std.specs.Prelude.{map, not, ◌||◌, ⊤, Result, Ok, Err}
-use Rattle.std.proofs.lemmas.Bool.{cases_eq}
 use Rattle.sv_xdr.specs.declared.garbage.Garbage.{Garbage}
 use Rattle.sv_xdr.specs.Spelling.{Field, Unsigned}
 use Rattle.sv_xdr.proofs.Fields.{IsBytes, bytes_are}
@@ -12,8 +11,7 @@ use Rattle.sv_rpc.specs.declared.call.CallFault.TheVariants.{BadHeader, Version}
 use Rattle.sv_rpc.specs.Ports.{port_at}
 use Rattle.sv_rpc.specs.Call.{PlainCall, call_at}
 use Rattle.sv_vxi.specs.declared.error_code.ErrorCode.TheVariants.{OutOfResources}
-use Rattle.sv_vxi.specs.Arguments.{Arguments, OnLink}
-use Rattle.sv_vxi.specs.Reading.{arguments_at}
+use Rattle.sv_vxi.specs.Arguments.{Arguments}
 use Rattle.sv_vxi.specs.Results.{Outcome, result_fields}
 use Rattle.sv_links.specs.Links.{closing}
 use Rattle.sv_links.specs.Waiting.{Left}
@@ -25,7 +23,7 @@ use Rattle.sv_history.specs.declared.event.Config.{Config}
 use Rattle.sv_history.specs.declared.event.Refused.{Refused}
 use Rattle.sv_history.specs.declared.event.Refused.TheVariants.{NoConn}
 use Rattle.sv_history.specs.declared.event.Role.{Role}
-use Rattle.sv_history.specs.declared.event.Role.TheVariants.{Core, Abort, Portmap}
+use Rattle.sv_history.specs.declared.event.Role.TheVariants.{Core}
 use Rattle.sv_history.specs.declared.event.Port.TheVariants.{Conn, Intr}
 use Rattle.sv_history.specs.Event.{PlainEvent, Open, Bytes, Turn, Refuse, Took, Close, Dialed, Input, External, Tick, IsEvent}
 use Rattle.sv_history.specs.Act.{Act, ConnAct, DeviceAct, Opened, Piece, CallTaken, Faulted, Replied, BytesTaken, PortClosed, Linked, Waited, Channel, Applied, Ticked, On, OnDevice, of, device_acts, link_acts, instrument_acts}
@@ -34,18 +32,18 @@ use Rattle.sv_history.specs.CallOutcome.{CallOutcome}
 use Rattle.sv_history.specs.CoreCall.{CoreCall, lid_of, failure}
 use Rattle.sv_history.specs.Reply.{reply_record}
 use Rattle.sv_history.specs.Effect.{Effect, acts_of, replies, result_reply}
-use Rattle.sv_history.specs.Request.{Request, NoCall, Decided, CoreRequest, AbortRequest, PortRequest, core_request, abort_request, procedure_request, request_of, core_call_of, core_call_in, request_for, next_request}
-use Rattle.sv_history.proofs.Deciding.{unless_decided, header_reply, request_is}
+use Rattle.sv_history.specs.Request.{Request, NoCall, Decided, CoreRequest, AbortRequest, PortRequest, request_of, core_call_in, request_for, next_request}
 use Rattle.sv_history.specs.AbortChannel.{abort_result}
 use Rattle.sv_history.specs.Execution.{port_reply, request_effect}
 use Rattle.sv_history.specs.Interrupts.{connect_outcome}
 use Rattle.sv_history.specs.Resuming.{effect_of, leaving}
 use Rattle.sv_history.specs.Refusing.{takes_memory, refusable_call, refusable, refused_reply}
 use Rattle.sv_history.specs.History.{turn_acts, refuse_acts, own_acts, unless_shut, refusal, IsLogOf}
-use Rattle.sv_history.proofs.Projections.{of_mine, of_shared, of_effect, others_effect}
+use Rattle.sv_history.proofs.Projections.{of_mine, of_shared}
 use Rattle.sv_laws.proofs.EveryLog.EachEvent.{each_log, StepsKeep, ends_keep, step_keeps, turn_keeps, refuse_keeps}
 use Rattle.sv_laws.proofs.Facts.{some_same}
 use Rattle.sv_laws.proofs.EveryLog.Taken.{xid_of, xid_in, xid_is, asks_as, is_core}
+use Rattle.sv_laws.proofs.EveryLog.Fit.{of_each}
 
 -- ---- when an act can come
 
@@ -80,8 +78,7 @@ none_bad (Err BadHeader) e = refl
 -- that of a connection's next call
 xid_asked : (role : Option Role) (bytes : List ℕ) (request : Request) → request_for role (Some bytes) ≡ Some request
     → xid_of (call_at bytes) ≡ xid_in request
-xid_asked (Some role) bytes request e =
-    xid_is role (xid_of (call_at bytes)) request
+xid_asked (Some role) bytes request e = xid_is role (xid_of (call_at bytes)) request
     (asks_as role (call_at bytes) request (some_same (request_of role (call_at bytes)) request e))
 xid_asked None bytes request e = absurd cc
 
@@ -103,10 +100,7 @@ Everywhere log = (c : ℕ) → AllCame (of c log)
 
 all_effect : (c : ℕ) (effect : Effect) (log : List Act) → Everywhere log → AllCame (effect.own ++ of c log)
     → Everywhere (acts_of c effect ++ log)
-all_effect c effect log all h d = elim (cases_eq d c) [
-  | inl e ↦ subst (λ (n : ℕ). AllCame (of n (acts_of c effect ++ log))) (sym e) (subst AllCame (sym (of_effect c effect log)) h)
-  | inr ne ↦ subst AllCame (sym (others_effect c d effect log ne)) (all d)
-]
+all_effect c effect log all h = of_each (λ d acts. AllCame acts) c effect log h (λ d ne. all d)
 
 all_on : (c : ℕ) (act : ConnAct) (log : List Act) → Everywhere log → CanCome act (of c log) → Everywhere (On c act ∷ log)
 all_on c act log all h = all_effect c (record { own = act ∷ []; adds = [] }) log all (h, all c)

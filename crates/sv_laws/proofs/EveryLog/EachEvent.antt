@@ -30,7 +30,7 @@ use Rattle.sv_history.specs.Connection.{next_call, open_role, pending_call}
 use Rattle.sv_history.specs.CoreCall.{CoreCall, lid_of, failure}
 use Rattle.sv_history.specs.CoreChannel.{own_call}
 use Rattle.sv_history.specs.Effect.{Effect, acts_of, replies, call_effect}
-use Rattle.sv_history.specs.Request.{Request, NoCall, Decided, CoreRequest, AbortRequest, PortRequest, core_call_in, next_request}
+use Rattle.sv_history.specs.Request.{Request, CoreRequest, core_call_in, next_request}
 use Rattle.sv_history.proofs.Dialing.{peer_by, dialed_to, dialed_is}
 use Rattle.sv_history.specs.Admission.{Stop, Fails, Awaits, stop_of, admission}
 use Rattle.sv_history.specs.Execution.{request_effect, aborts}
@@ -85,6 +85,7 @@ ends_keep config IsSo happened ended = record {
   failed = λ error c log so. ended c (λ arguments. leaving c (only (failure arguments error))) log so;
 }
 
+-- each step
 pub step_keeps : (config : Config) (IsSo : List Act → Type 0) → StepsKeep config IsSo → (log new : List Act) → IsSo log
     → IsNext config log new → IsSo new
 step_keeps config IsSo keep log new so (inl (adds, such, is)) = subst IsSo (sym is) (keep.happened adds log so)
@@ -94,6 +95,7 @@ step_keeps config IsSo keep log new so (inr (none, inr (still, inl (adds, such, 
 step_keeps config IsSo keep log new so (inr (none, inr (still, inr (idle, (c, wait, oldest, for, is))))) =
     subst IsSo (sym is) (keep.failed (late wait) c log so)
 
+-- the end of a call that is aborted
 pub abort_keeps : (config : Config) (IsSo : List Act → Type 0) → StepsKeep config IsSo → (found : Option ℕ) (log : List Act) → IsSo log
     → IsSo (abort_acts found log ++ log)
 abort_keeps config IsSo keep (Some d) log so = keep.failed Abort d log so
@@ -119,16 +121,14 @@ turn_keeps config IsSo keep polled c (Some bytes) (Some request) log so does =
     let effect = request_effect config polled c request (device_acts log) in
     subst IsSo (sym (turn_parts c bytes effect (aborts request (device_acts log)) log))
     (abort_keeps config IsSo keep (aborts request (device_acts log)) _ (does bytes request refl refl))
-turn_keeps config IsSo keep polled c (Some bytes) None log so does = so
-turn_keeps config IsSo keep polled c None request log so does = so
+turn_keeps config IsSo keep polled c _ _ log so does = so
 
 -- a Refuse, where the reply does
 pub refuse_keeps : (IsSo : List Act → Type 0) (c : ℕ) (found : Option (List ℕ)) (call : Option CoreCall) (log : List Act) → IsSo log
     → ((bytes : List ℕ) (asked : CoreCall) → found ≡ Some bytes → call ≡ Some asked
     → IsSo (On c (Replied (refused_reply asked)) ∷ On c (CallTaken bytes) ∷ log)) → IsSo (refuse_acts c found call ++ log)
 refuse_keeps IsSo c (Some bytes) (Some call) log so does = does bytes call refl refl
-refuse_keeps IsSo c (Some bytes) None log so does = so
-refuse_keeps IsSo c None call log so does = so
+refuse_keeps IsSo c _ _ log so does = so
 
 -- ---- a call that is done, or waits no more
 
@@ -237,6 +237,7 @@ fit_happened adds log fit = fit_shared (map Applied adds) log fit (suits_happene
 
 -- ---- a step
 
+-- steps keep it
 pub fit_keeps : (config : Config) → StepsKeep config Fit
 fit_keeps config = record {
   happened = fit_happened;
@@ -265,6 +266,7 @@ fit_taken : (c : ℕ) (bytes : List ℕ) (log : List Act) → Fit log → waits 
     → Fit (On c (CallTaken bytes) ∷ log)
 fit_taken c bytes log fit none = fit_on_free c (CallTaken bytes) log fit refl none
 
+-- a call that begins to wait
 pub entered_waits : (c : ℕ) (named : Option ℕ) (wait : Wait) (last : Option ℕ) (acts : List WaitAct)
     → (waits c (Entered c named wait last ∷ acts) ≡ Some wait) × (named_link c (Entered c named wait last ∷ acts) ≡ named)
 entered_waits c named wait last acts = rw (eq-eqb c c refl) (refl, refl)

@@ -17,7 +17,7 @@ use Rattle.sv_history.specs.Connection.{open_role, pending_call}
 use Rattle.sv_history.specs.CoreCall.{CoreCall}
 use Rattle.sv_history.specs.Request.{core_call_in}
 use Rattle.sv_history.specs.Effect.{Effect, acts_of}
-use Rattle.sv_history.proofs.Projections.{of_mine, of_other, of_shared, device_shared, of_effect, others_effect, device_effect}
+use Rattle.sv_history.proofs.Projections.{of_shared, device_shared, of_effect, others_effect, device_effect}
 
 -- An act suits those before it: a link that is made has the next number; a call that begins to wait is of one of sixteen connections, and
 -- the link that it names is that connection's; so is a link that begins to ask for service requests.
@@ -120,6 +120,14 @@ held_same c own now acts after same call held = λ wait is.
 abbrev pub IsCore : ℕ → List Act → Type 0
 IsCore c log = open_role (of c log) ≡ Some Core
 
+-- what holds of each connection's acts behind an effect of one
+pub of_each : (IsSo : ℕ → List ConnAct → Type 0) (c : ℕ) (effect : Effect) (log : List Act) → IsSo c (effect.own ++ of c log)
+    → ((d : ℕ) → d ≢ c → IsSo d (of d log)) → (d : ℕ) → IsSo d (of d (acts_of c effect ++ log))
+of_each IsSo c effect log mine others d = elim (cases_eq d c) [
+  | inl e ↦ subst (λ (n : ℕ). IsSo n (of n (acts_of c effect ++ log))) (sym e) (subst (IsSo c) (sym (of_effect c effect log)) mine)
+  | inr ne ↦ subst (IsSo d) (sym (others_effect c d effect log ne)) (others d ne)
+]
+
 pub fit_effect : (c : ℕ) (effect : Effect) (log : List Act) → Fit log → Each (IsBy c (IsCore c log)) effect.adds (device_acts log)
     → open_role (effect.own ++ of c log) ≡ open_role (of c log)
     → IsHeld c (effect.own ++ of c log) (wait_acts (effect.adds ++ device_acts log)) → Fit (acts_of c effect ++ log)
@@ -134,38 +142,20 @@ fit_effect c effect log fit by role held =
             | inl was ↦ roles d (fit.core n d was)
             | inr may ↦ roles d (ap (λ (e : ℕ). open_role (of e log)) may.0 ∙ may.1)
           ];
-      held = λ d. subst (λ (l : List DeviceAct). IsHeld d (of d (acts_of c effect ++ log)) (wait_acts l)) (sym acts) (elim (cases_eq d c) [
-        | inl e ↦ subst (λ (n : ℕ). IsHeld n (of n (acts_of c effect ++ log)) (wait_acts (effect.adds ++ device_acts log))) (sym e)
-            (subst (λ (l : List ConnAct). IsHeld c l (wait_acts (effect.adds ++ device_acts log))) (sym (of_effect c effect log)) held)
-        | inr ne ↦ held_same d (of d log) (of d (acts_of c effect ++ log)) (wait_acts (device_acts log))
-            (wait_acts (effect.adds ++ device_acts log)) (others_effect c d effect log ne)
-            (by_others c d (IsCore c log) effect.adds (device_acts log) ne by) (fit.held d)
-      ]);
+      held = λ d. subst (λ (l : List DeviceAct). IsHeld d (of d new) (wait_acts l)) (sym acts)
+          (of_each (λ d own. IsHeld d own (wait_acts (effect.adds ++ device_acts log))) c effect log held (λ d ne.
+          held_same d (of d log) (of d log) (wait_acts (device_acts log)) (wait_acts (effect.adds ++ device_acts log)) refl
+          (by_others c d (IsCore c log) effect.adds (device_acts log) ne by) (fit.held d)) d);
     }
   where
     roles : (d : ℕ) → open_role (of d log) ≡ Some Core → open_role (of d (acts_of c effect ++ log)) ≡ Some Core
-    roles d is = elim (cases_eq d c) [
-      | inl e ↦ subst (λ (n : ℕ). open_role (of n (acts_of c effect ++ log)) ≡ Some Core) (sym e)
-          (ap open_role (of_effect c effect log) ∙ role ∙ ap (λ (n : ℕ). open_role (of n log)) (sym e) ∙ is)
-      | inr ne ↦ ap open_role (others_effect c d effect log ne) ∙ is
-    ]
+    roles = of_each (λ d own. open_role (of d log) ≡ Some Core → open_role own ≡ Some Core) c effect log (λ is. role ∙ is)
+        (λ d ne is. is)
 
 -- an act of one connection that leaves what it is open for, and its call
 pub fit_on : (c : ℕ) (act : ConnAct) (log : List Act) → Fit log → open_role (act ∷ of c log) ≡ open_role (of c log)
     → IsHeld c (act ∷ of c log) (wait_acts (device_acts log)) → Fit (On c act ∷ log)
-fit_on c act log fit role held = record {
-  suits = fit.suits;
-  core = λ n d is. elim (cases_eq d c) [
-    | inl e ↦ subst (λ (m : ℕ). open_role (of m (On c act ∷ log)) ≡ Some Core) (sym e)
-        (ap open_role (of_mine c act log) ∙ role ∙ ap (λ (m : ℕ). open_role (of m log)) (sym e) ∙ fit.core n d is)
-    | inr ne ↦ ap open_role (of_other c d act log ne) ∙ fit.core n d is
-  ];
-  held = λ d. elim (cases_eq d c) [
-    | inl e ↦ subst (λ (m : ℕ). IsHeld m (of m (On c act ∷ log)) (wait_acts (device_acts log))) (sym e)
-        (subst (λ (l : List ConnAct). IsHeld c l (wait_acts (device_acts log))) (sym (of_mine c act log)) held)
-    | inr ne ↦ subst (λ (l : List ConnAct). IsHeld d l (wait_acts (device_acts log))) (sym (of_other c d act log ne)) (fit.held d)
-  ];
-}
+fit_on c act log fit role held = fit_effect c (record { own = act ∷ []; adds = [] }) log fit tt role held
 
 -- where its call doesn't wait behind them
 pub fit_free : (c : ℕ) (effect : Effect) (log : List Act) → Fit log → Each (IsBy c (IsCore c log)) effect.adds (device_acts log)

@@ -48,12 +48,14 @@ xid_in (CoreRequest call) = Some call.xid
 xid_in (AbortRequest xid lid) = Some xid
 xid_in (PortRequest xid args) = Some xid
 
+-- A request is of the program of this role, and has this xid.
 abbrev pub AsksAs : Role → Option ℕ → Request → Type 0
 AsksAs role xid (CoreRequest call) = (role ≡ Core) × (xid ≡ Some call.xid)
 AsksAs role xid (AbortRequest own lid) = (role ≡ Abort) × (xid ≡ Some own)
 AsksAs role xid (PortRequest own args) = (role ≡ Portmap) × (xid ≡ Some own)
 AsksAs role xid request = xid ≡ xid_in request
 
+-- so has what is asked
 pub xid_is : (role : Role) (xid : Option ℕ) (request : Request) → AsksAs role xid request → xid ≡ xid_in request
 xid_is role xid (CoreRequest call) h = h.1
 xid_is role xid (AbortRequest own lid) h = h.1
@@ -74,6 +76,7 @@ decided_asks Core call None = core_asks call.xid (arguments_at call.proc call.ar
 decided_asks Abort call None = abort_asks call.xid (arguments_at call.proc call.args)
 decided_asks Portmap call None = (refl, refl)
 
+-- So is what a record asks for on a connection of this role.
 pub asks_as : (role : Role) (found : Result PlainCall CallFault) (request : Request) → request_of role found ≡ request
     → AsksAs role (xid_of found) request
 asks_as role found request same = subst (AsksAs role (xid_of found)) same (by found)
@@ -83,6 +86,7 @@ asks_as role found request same = subst (AsksAs role (xid_of found)) same (by fo
     by (Err (Version xid)) = refl
     by (Err BadHeader) = refl
 
+-- a call of the core channel
 pub is_core : (request : Request) (call : CoreCall) → core_call_of request ≡ Some call → request ≡ CoreRequest call
 is_core (CoreRequest found) call e = ap CoreRequest (some_same found call e)
 is_core _ call e = absurd cc

@@ -156,15 +156,11 @@ pub tells_foreign : (c : ℕ) (act : DeviceAct) (acts other : List DeviceAct) �
     → TellsAs c (act ∷ acts) other
 tells_foreign c (Linked act) acts other all h tells = λ channel_log (before, hears, is).
     let so = tells before hears in
-    (so.0, so.1, subst (λ (l : List ChannelAct). SameChannel c l so.0) (sym is) (foreign_link c acts before so.0 act all hears h so.2))
+    (so.0, so.1, rw is (foreign_link c acts before so.0 act all hears h so.2))
 tells_foreign c (Waited act) acts other all h tells = tells
 tells_foreign c (Channel act) acts other all h tells = λ channel_log (before, hears, is).
-    let so = tells before hears in (
-      so.0,
-      so.1,
-      subst (λ (l : List ChannelAct). SameChannel c l so.0) (sym is)
-          (channel_foreign c act before so.0 (foreign_told c acts before act all hears h) so.2),
-    )
+    let so = tells before hears in
+    (so.0, so.1, rw is (channel_foreign c act before so.0 (foreign_told c acts before act all hears h) so.2))
 tells_foreign c (Applied act) acts other all h tells = absurd h
 tells_foreign c Ticked acts other all h tells = absurd h
 
@@ -203,23 +199,15 @@ pub tells_same : (c : ℕ) (act : DeviceAct) (acts other : List DeviceAct) → i
     → TellsAs c acts other
     → TellsAs c (act ∷ acts) (act ∷ other)
 tells_same c (Linked act) acts other instrument tells = λ channel_log (before, hears, is).
-    let so = tells before hears in (
-      link_told act so.0,
-      (so.0, so.1, refl),
-      subst (λ (l : List ChannelAct). SameChannel c l (link_told act so.0)) (sym is) (same_link c before so.0 act so.2),
-    )
+    let so = tells before hears in (link_told act so.0, (so.0, so.1, refl), rw is (same_link c before so.0 act so.2))
 tells_same c (Waited act) acts other instrument tells = tells
 tells_same c (Channel act) acts other instrument tells = λ channel_log (before, hears, is).
-    let so = tells before hears in (
-      act ∷ so.0,
-      (so.0, so.1, refl),
-      subst (λ (l : List ChannelAct). SameChannel c l (act ∷ so.0)) (sym is) (channel_same c act before so.0 so.2),
-    )
+    let so = tells before hears in (act ∷ so.0, (so.0, so.1, refl), rw is (channel_same c act before so.0 so.2))
 tells_same c (Applied act) acts other instrument tells = λ channel_log (before, raised, hears, raises, is).
     let so = tells before hears in (
       request_told raised so.0,
       (so.0, raised, so.1, subst (λ (l : List InstrumentAct). (raised ≡ true) ↔ IsRaised (act ∷ l)) instrument raises, refl),
-      subst (λ (l : List ChannelAct). SameChannel c l (request_told raised so.0)) (sym is) (same_request c before so.0 raised so.2),
+      rw is (same_request c before so.0 raised so.2),
     )
 tells_same c Ticked acts other instrument tells = tells
 

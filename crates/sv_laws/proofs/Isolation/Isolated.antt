@@ -15,12 +15,12 @@ use Rattle.sv_history.specs.Requests.{HearsOf}
 use Rattle.sv_history.specs.PolledStatus.{IsPolled}
 use Rattle.sv_history.specs.Settling.{SettlesIn}
 use Rattle.sv_history.specs.History.{IsLogOf, own_acts, refusal}
-use Rattle.sv_laws.specs.Adding.{all_replies, all_sent, Adds}
+use Rattle.sv_laws.specs.Adding.{all_replies, all_sent}
 use Rattle.sv_laws.specs.Isolation.{is_foreign, own_events, LeavesLinksAlone, EachIs, HoldsFrom, IsLocked, Isolation}
 use Rattle.sv_laws.proofs.OneLog.{one_log, sends_moved}
 use Rattle.sv_laws.proofs.EveryLog.Fit.{Fit}
 use Rattle.sv_laws.proofs.EveryLog.EachEvent.{fit_log, fit_event}
-use Rattle.sv_laws.proofs.Isolation.Alike.{Pair, pair_foreign, pair_same}
+use Rattle.sv_laws.proofs.Isolation.Alike.{TellsAs, Pair, pair_foreign, pair_same}
 use Rattle.sv_laws.proofs.Isolation.OthersEvents.{foreign_event}
 use Rattle.sv_laws.proofs.Isolation.OwnEvents.{refusal_same, own_event}
 use Rattle.sv_laws.proofs.Isolation.Draining.{polled_to}
@@ -45,23 +45,9 @@ starts : (c lid : ℕ) (config : Config) (past events : List PlainEvent) (locked
     → locked.log ≡ later ++ locked.before → Pair c lid locked.before locked.before
 starts c lid config past events locked later is =
     let held : holder (link_acts (device_acts locked.before)) ≡ Some lid = locked.holds later [] is in
-    record {
-      own = refl;
-      view = record {
-        instrument = refl;
-        clock = refl;
-        owns = λ n. refl;
-        call = record { wait = refl; until = refl; named = refl };
-        opened = refl;
-        held = held;
-        also = held;
-        mine = locked.owns;
-        rests = locked.rest;
-        rest = locked.rest;
-      };
-      tells = λ channel_log hears. (channel_log, hears, same_channel c channel_log);
-      back = λ channel_log hears. (channel_log, hears, same_channel c channel_log);
-    }
+    let tells : TellsAs c (device_acts locked.before) (device_acts locked.before) = λ channel_log hears.
+    (channel_log, hears, same_channel c channel_log) in
+    assumption
 
 -- ---- event by event
 

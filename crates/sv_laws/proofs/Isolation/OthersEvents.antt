@@ -72,9 +72,7 @@ foreign_turn config polled c d lid (Some bytes) (Some request) log held mine ne 
     (each_join (IsForeignAct c) (acts_of d effect) (On d (CallTaken bytes) ∷ []) log
     (each_effect d (foreign_is c d ne) effect (On d (CallTaken bytes) ∷ log)
     (foreign_request config polled c d lid request (device_acts log) held mine ne)) (ne, tt))
-foreign_turn config polled c d lid (Some bytes) None log held mine ne left_alone = tt
-foreign_turn config polled c d lid None (Some request) log held mine ne left_alone = tt
-foreign_turn config polled c d lid None None log held mine ne left_alone = tt
+foreign_turn config polled c d lid _ _ log held mine ne left_alone = tt
 
 -- ---- a connection closes
 

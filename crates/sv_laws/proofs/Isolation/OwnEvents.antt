@@ -23,7 +23,7 @@ use Rattle.sv_history.specs.Connection.{next_call, open_role, pending_call}
 use Rattle.sv_history.specs.CallOutcome.{CallOutcome}
 use Rattle.sv_history.specs.CoreCall.{CoreCall}
 use Rattle.sv_history.specs.Effect.{Effect, acts_of, call_effect}
-use Rattle.sv_history.specs.Request.{Request, NoCall, Decided, CoreRequest, AbortRequest, PortRequest, core_call_in, next_request}
+use Rattle.sv_history.specs.Request.{Request, CoreRequest, AbortRequest, core_call_in, next_request}
 use Rattle.sv_history.proofs.Dialing.{peer_by, dialed_to, dialed_is}
 use Rattle.sv_history.specs.Admission.{Stop, Fails, Awaits, stop_of, admission}
 use Rattle.sv_history.specs.Refusing.{refusable, refused_reply}
@@ -82,20 +82,24 @@ module _ (d : ℕ) {IsSuch : List Act → Act → Type 0} {IsShared : List Devic
   each_own [] log = tt
   each_own (act ∷ own) log = (is.own (map (On d) own ++ log) act, each_own own log)
 
+  -- acts of what all share
   pub each_shared : (adds : List DeviceAct) (log : List Act) → Each IsShared adds (device_acts log) → Each IsSuch (map OnDevice adds) log
   each_shared [] log h = tt
   each_shared (act ∷ adds) log h =
       (is.shared (map OnDevice adds ++ log) act (rw (device_shared adds log) h.0), each_shared adds log h.1)
 
+  -- an effect of a call
   pub each_effect : (effect : Effect) (log : List Act) → Each IsShared effect.adds (device_acts log) → Each IsSuch (acts_of d effect) log
   each_effect effect log h = each_join IsSuch (map (On d) effect.own) (map OnDevice effect.adds) log
       (each_own effect.own (map OnDevice effect.adds ++ log)) (each_shared effect.adds log h)
 
+  -- a call that ends with an error
   pub each_failed : (error : ErrorCode) (call : Option CoreCall) (log : List Act)
       → Each IsSuch (acts_of d (failure_effect error d call)) log
   each_failed error (Some call) log = each_effect (failure_effect error d (Some call)) log (is.left (device_acts log), tt)
   each_failed error None log = each_effect (failure_effect error d None) log (is.left (device_acts log), tt)
 
+  -- a call whose peer was connected, or couldn't be
   pub each_connected : (ok : Bool) (call : Option CoreCall) (log : List Act) → Each IsSuch (acts_of d (connect_effect d ok call)) log
   each_connected ok None log = each_effect (connect_effect d ok None) log (is.left (device_acts log), tt)
   each_connected ok (Some call) log = rw (dialed_is d ok call.arguments) (each_effect
@@ -107,11 +111,11 @@ module _ (d : ℕ) {IsSuch : List Act → Act → Type 0} {IsShared : List Devic
       by true None = (is.left (device_acts log), tt)
       by false None = (is.left (device_acts log), tt)
 
+  -- a call that is refused
   pub each_refused : (found : Option (List ℕ)) (call : Option CoreCall) (log : List Act) → Each IsSuch (refuse_acts d found call) log
   each_refused (Some bytes) (Some call) log =
       (is.own (On d (CallTaken bytes) ∷ log) (Replied (refused_reply call)), (is.own log (CallTaken bytes), tt))
-  each_refused (Some bytes) None log = tt
-  each_refused None call log = tt
+  each_refused _ _ log = tt
 
 -- such are the connection's own
 pub own_is : (c : ℕ) → IsOf c (IsOwnAct c) (λ before act. IsOwn c act)
@@ -178,13 +182,9 @@ own_turn_by config polled c lid (Some bytes) (Some (CoreRequest call)) log other
           (each_effect c (own_is c) (call_effect call.xid what) (On c (CallTaken bytes) ∷ log)
           (own_admitted config polled c call.arguments stop (device_acts log) makes)) (tt, tt),
     )
-own_turn_by config polled c lid (Some bytes) (Some NoCall) log other pair makes aborts = (refl, (tt, (tt, tt)))
-own_turn_by config polled c lid (Some bytes) (Some (Decided xid reply)) log other pair makes aborts = (refl, (tt, (tt, tt)))
-own_turn_by config polled c lid (Some bytes) (Some (PortRequest xid args)) log other pair makes aborts = (refl, (tt, (tt, tt)))
 own_turn_by config polled c lid (Some bytes) (Some (AbortRequest xid named)) log other pair makes aborts = absurd (aborts xid named refl)
-own_turn_by config polled c lid (Some bytes) None log other pair makes aborts = (refl, tt)
-own_turn_by config polled c lid None (Some request) log other pair makes aborts = (refl, tt)
-own_turn_by config polled c lid None None log other pair makes aborts = (refl, tt)
+own_turn_by config polled c lid (Some bytes) (Some _) log other pair makes aborts = (refl, (tt, (tt, tt)))
+own_turn_by config polled c lid _ _ log other pair makes aborts = (refl, tt)
 
 own_turn : (config : Config) (polled c lid : ℕ) (log other : List Act) → Fit log → Pair c lid log other
     → makes_link (next_request (of c log)) ≡ false → OwnActs config polled c log other (Turn c)

@@ -1,6 +1,6 @@
 -- The log of each layer, from the instrument's acts. An act begins in its own layer. Then it ends, in one register after the other: first
 -- the register gets its condition, whose changes pass the filters as they are; then the act changes the register itself. So the summary of
--- a nested register is there before the register above it gets its condition.
+-- a nested register is known before the register above it gets its condition.
 use Rattle.std.specs.Prelude.{◌≡◌, ℕ, Bool, true, false, not, ◌&&◌, List, [], ◌∷◌, if◌then◌else◌}
 use Rattle.sv_errors.specs.Code.{standard_event_of}
 use Rattle.sv_errors.specs.ErrorQueue.{is_full}

@@ -1,4 +1,4 @@
--- What the layers keep, and when it stands for a log.
+-- The state of the layers, and when it stands for a log.
 use Rattle.std.specs.Prelude.{◌≡◌, ◌↔◌, ℕ, ◌+◌, min, Bool, true, List, [], ◌∷◌, length}
 use Rattle.sv_errors.specs.declared.code.Code.{Code}
 use Rattle.sv_errors.specs.ErrorQueue.{entries, StandsFor as Queues}
@@ -68,7 +68,7 @@ IsStatus (act ∷ log) acts = (word : ℕ) × (before : List StatusAct) × IsSum
 abbrev pub RaisedAt : List Act → Type 0
 RaisedAt log = (acts : List StatusAct) × IsStatus log acts × IsRaisedAsTold acts
 
--- What the layers keep stands for the logs of the layers and for the acts of the status byte.
+-- The state of the layers stands for the logs of the layers and for the acts of the status byte.
 pub record Represents (layered : LayerState) (at : LayerLogs) (status_log : List StatusAct) : Type 0 where
   pub exchange : Exchanges layered.exchange at.exchange
   pub errors : Queues layered.errors at.errors
@@ -79,7 +79,7 @@ pub record Represents (layered : LayerState) (at : LayerLogs) (status_log : List
   pub service : layered.service ≡ at.service
   pub waits : layered.waits ≡ at.waits
 
--- What the layers keep stands for the log.
+-- The state of the layers stands for the log.
 pub record StandsFor (layered : LayerState) (log : List Act) : Type 0 where
   pub status_log : List StatusAct
   pub are : IsStatus log status_log
@@ -91,7 +91,7 @@ pub record Begun (layered : LayerState) (act : Act) (log : List Act) : Type 0 wh
   pub are : IsStatus log status_log
   pub joined : Represents layered (after_begin act (layer_logs log)) (own_status act status_log)
 
--- What the layers keep stands for the log, and no counted request is left to be read.
+-- The state of the layers stands for the log, and no counted request is left to be read.
 pub record AllRead (layered : LayerState) (log : List Act) : Type 0 where
   pub stands : StandsFor layered log
   pub none : layered.requests ≡ 0
@@ -100,14 +100,14 @@ pub record AllRead (layered : LayerState) (log : List Act) : Type 0 where
 abbrev pub max_count : ℕ
 max_count = 255
 
--- What the layers keep stands for the log. If a request was raised at its newest act, it is counted besides the `before` earlier ones, up
--- to the highest count.
+-- The state of the layers stands for the log. If a request was raised at its newest act, it is counted besides the `before` earlier ones,
+-- up to the highest count.
 pub record IsApplied (before : ℕ) (layered : LayerState) (log : List Act) : Type 0 where
   pub stands : StandsFor layered log
   pub raised : Bool
   pub requests : (raised ≡ true) ↔ IsRaised log
   pub count : layered.requests ≡ min (before + bit 0 raised) max_count
 
--- the state of the trigger system, by what is kept
+-- the state of the trigger system, by the state of the layers
 abbrev pub state_by : LayerState → State
 state_by layered = run_state layered.scanner.run (length layered.scanner.readings)

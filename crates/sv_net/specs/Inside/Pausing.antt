@@ -4,7 +4,7 @@ use Rattle.sv_serve.specs.Heard.{Heard}
 use Rattle.sv_serve.specs.DriverView.{DriverState}
 use Rattle.sv_net.specs.Serving.{Doing, Waited, time_of, swept_at, ticks_between, handed_in, is_fresh, is_told, Serves, Waits}
 
--- whether the last thing was a wait in which nothing was reported, and all earlier reports were passed on
+-- whether the last thing done was a wait in which nothing was reported, and all earlier reports were passed on
 abbrev pub is_quiet : {W : Type 0} → List (Doing W) → Bool
 is_quiet (Waited limit false ended ∷ doings) = is_told doings
 is_quiet _ = false
@@ -21,7 +21,7 @@ pub record Running {W M : Type 0} (hears : W → Heard → W → Type 0) (answer
   pub serves : Serves hears doings old new
   pub waits : Waits answers doings first now
 
--- One more sweep is made, with `ticks` milliseconds.
+-- One more sweep is made, in which `ticks` milliseconds pass.
 pub record Rounds {W M : Type 0} (hears : W → Heard → W → Type 0) (answers : M → Doing W → M → Type 0) (ticks : ℕ) (old new : DriverState W)
     (first now : M) : Type 0 where
   pub goes : (many swept time : ℕ) (start : DriverState W) (machine : M) → ticks ≡ ticks_between swept time
@@ -29,7 +29,7 @@ pub record Rounds {W M : Type 0} (hears : W → Heard → W → Type 0) (answers
       → Running hears answers is_told (many + 1) time time start new machine now
 
 -- After a sweep only waits follow. Before them the time was `began`, and `was` held of what was done. After them the time is `time`, and
--- `is_so` holds of it.
+-- `is_so` holds of what was done.
 pub record Pauses {W M : Type 0} (hears : W → Heard → W → Type 0) (answers : M → Doing W → M → Type 0) (driver : DriverState W)
     (was is_so : List (Doing W) → Bool) (swept began time : ℕ) (old now : M) : Type 0 where
   pub goes : (many : ℕ) (start : DriverState W) (first : M) → Running hears answers was many swept began start driver first old

@@ -1,11 +1,11 @@
--- What the server keeps of a connection, and when it stands for the acts of the connection.
+-- The state of a connection, and when it stands for the acts of the connection.
 use Rattle.std.specs.Prelude.{◌≡◌, ℕ, ◌≤◌, Bool, true, List, length, Option, slice_get, is_some}
 use Rattle.sv_rpc.specs.RecordBuf.{Records, StandsFor}
 use Rattle.sv_history.specs.declared.event.Role.{Role}
 use Rattle.sv_history.specs.Act.{ConnAct}
 use Rattle.sv_history.specs.Connection.{bytes_left, records_ended, bytes_taken, open_role, bytes_sent, stream, took_no_call, is_busy, pending_call}
 
--- what is kept of a connection: its role; the records that came and aren't done; the bytes that wait to be sent; whether a record was taken
+-- the state of a connection: its role; the records that came and aren't done; the bytes that wait to be sent; whether a record was taken
 -- that isn't a call; whether the first record is a call that was taken
 pub record Connection : Type 0 where
   pub role : Option Role
@@ -14,7 +14,7 @@ pub record Connection : Type 0 where
   pub faulted : Bool
   pub busy : Bool
 
--- What is kept of the connection is what its acts determine.
+-- The state of the connection is the one that its acts determine.
 pub record IsConnection (kept : Connection) (acts : List ConnAct) : Type 0 where
   pub role : kept.role ≡ open_role acts
   pub input : StandsFor kept.input (stream acts) (records_ended acts)

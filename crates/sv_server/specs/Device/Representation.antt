@@ -1,4 +1,4 @@
--- What the server keeps of the device, and when it stands for the acts of the device.
+-- The state of the device, and when it stands for the acts of the device.
 use Rattle.std.specs.Prelude.{◌≡◌, ℕ, ◌+◌, ◌<◌, ◌≤◌, true, List, [], ◌++◌, length, Some}
 use Rattle.std.specs.List.{AllByRecursion}
 use Rattle.sv_links.specs.declared.waiting.Entry.{Entry}
@@ -17,7 +17,7 @@ use Rattle.sv_history.specs.Act.{DeviceAct, link_acts, wait_acts, instrument_act
 use Rattle.sv_history.specs.Requests.{HearsOf}
 use Rattle.sv_history.specs.Interrupts.{is_dialing}
 
--- what is kept: the table of links, the queue of suspended calls, the interrupt channels, the instrument, the configuration, the clock
+-- the state: the table of links, the queue of suspended calls, the interrupt channels, the instrument, the configuration, the clock
 pub record Device : Type 0 where
   pub links : Table
   pub waiting : List Entry
@@ -34,11 +34,11 @@ IsReserved kept acts = (length (live (link_acts acts)) + creations kept.waiting 
 abbrev pub HasPlace : Device → List DeviceAct → Type 0
 HasPlace kept acts = (length (live (link_acts acts)) + creations kept.waiting < max_links) × (creations kept.waiting < kept.links.spare)
 
--- Each link with service requests enabled exists, and its connection is the one that is kept with it.
+-- Each link with service requests enabled exists, and its connection is the one that is stored with it.
 abbrev pub AreOwned : List Enabled → List LinkAct → Type 0
 AreOwned links acts = AllByRecursion (λ link. owner link.lid acts ≡ Some link.conn) links
 
--- The interrupt channels keep what their log says, and each link with service requests enabled belongs to its connection.
+-- The interrupt channels have the state that their log determines, and each link with service requests enabled belongs to its connection.
 abbrev pub AreTold : Channels → List DeviceAct → Type 0
 AreTold kept acts = (channel_log : List ChannelAct) × HearsOf acts channel_log × AreChannels kept channel_log
     × AreOwned kept.enabled (link_acts acts)
@@ -47,13 +47,13 @@ AreTold kept acts = (channel_log : List ChannelAct) × HearsOf acts channel_log 
 abbrev pub AreReady : Channels → List WaitAct → Type 0
 AreReady kept acts = (c : ℕ) → is_dialing c acts ≡ true → IsReady kept c
 
--- The device keeps what its acts determine, under a configuration. Besides, the instrument has done the acts `adds`, which may have raised
--- service requests that weren't passed to the interrupt channels yet.
+-- The device has the state that its acts determine, under a configuration. Besides, the instrument has done the acts `adds`, which may have
+-- raised service requests that weren't passed to the interrupt channels yet.
 abbrev pub HasDone : List InstrumentAct → Device → Config → List DeviceAct → Type 0
 HasDone adds kept config acts = IsTable kept.links (link_acts acts) × StandsFor kept.instrument (adds ++ instrument_acts acts)
     × (kept.config ≡ config) × (kept.clock ≡ config.clock + ticks acts) × IsQueue kept.waiting (wait_acts acts) × IsReserved kept acts
     × AreTold kept.intr acts × AreReady kept.intr (wait_acts acts)
 
--- The device keeps what its acts determine.
+-- The device has the state that its acts determine.
 abbrev pub IsDevice : Device → Config → List DeviceAct → Type 0
 IsDevice kept config acts = HasDone [] kept config acts

@@ -1,4 +1,4 @@
--- What the server keeps, and when it stands for a log or a history.
+-- The state of the server, and when it stands for a log or a history.
 use Rattle.std.specs.Prelude.{◌≡◌, ℕ, ◌<◌, ◌≤◌, true, List, [], Some, slice_index_or}
 use Rattle.sv_history.specs.declared.event.Config.{Config}
 use Rattle.sv_history.specs.Event.{PlainEvent}
@@ -15,7 +15,7 @@ use Rattle.sv_history.specs.Settling.{IsSettled}
 use Rattle.sv_history.specs.Queries.{IsUsed}
 use Rattle.sv_history.specs.History.{IsLogOf}
 
--- what is kept: sixteen connections, the device, and one more than the highest number of a connection that was ever used (0 if none was)
+-- the state: sixteen connections, the device, and one more than the highest number of a connection that was ever used (0 if none was)
 pub record State : Type 0 where
   pub connections : List Connection
   pub device : Device
@@ -26,7 +26,7 @@ abbrev pub IsTaken : List Act → Entry → Type 0
 IsTaken log entry = (call : List ℕ) × (pending_call (of entry.conn log) ≡ Some call)
     × (creates_link (core_call call) ≡ true → creates entry ≡ true)
 
--- The state keeps what the log determines, under a configuration.
+-- The state is the one that the log determines, under a configuration.
 pub record Represents (state : State) (config : Config) (log : List Act) : Type 0 where
   pub each : (c : ℕ) (other : Connection) → c < 16 → IsConnection (slice_index_or state.connections c other) (of c log)
   pub beyond : (c : ℕ) → 16 ≤ c → of c log ≡ []
@@ -34,7 +34,7 @@ pub record Represents (state : State) (config : Config) (log : List Act) : Type 
   pub device : IsDevice state.device config (device_acts log)
   pub taken : AllByRecursion (IsTaken log) state.device.waiting
 
--- The server stands for a history: it keeps what the log of the history determines, and no step is due.
+-- The server stands for a history: it has the state that the log of the history determines, and no step is due.
 pub record StandsFor (state : State) (config : Config) (history : List PlainEvent) : Type 0 where
   pub log : List Act
   pub is_log : IsLogOf config history log

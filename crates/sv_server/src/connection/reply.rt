@@ -11,12 +11,12 @@ use sv_rpc::{Reply, put_record, write_reply};
 use sv_vxi::{VxiResult, write_result};
 use sv_xdr::Writer;
 
-/// The longest reply with the header of its fragment, in bytes: ten words, and what a read gives.
+/// The longest reply with the header of its fragment, in bytes: ten words, and the bytes of a read.
 pub const LONGEST_REPLY: usize = 40 + MAX_READ;
-/// The same without the header of its fragment: the reply's header (24 bytes), error, reason and
-/// length (4 each), and the bytes of a read.
+/// The longest reply without the header of its fragment, in bytes: the reply's header (24), error,
+/// reason and length (4 each), and the bytes of a read.
 const LONGEST_TEXT: usize = LONGEST_REPLY - 4;
-/// The most data of a brief answer, in bytes: that of all but long responses.
+/// The most data of a brief answer, in bytes. Every answer but a long response is brief.
 const BRIEF_DATA: usize = 256;
 /// The longest reply with a brief answer, without the header of its fragment.
 const BRIEF_TEXT: usize = LONGEST_TEXT - MAX_READ + BRIEF_DATA;
@@ -24,7 +24,7 @@ const BRIEF_TEXT: usize = LONGEST_TEXT - MAX_READ + BRIEF_DATA;
 /// The answer to a call.
 #[derive(Clone, Copy)]
 pub enum Answer<'a> {
-    /// A reply that its header or its arguments alone decide.
+    /// A reply that follows from the header or the arguments of the call alone.
     Header(Reply),
     /// The port that GETPORT asks for.
     Port(u32),
@@ -32,7 +32,7 @@ pub enum Answer<'a> {
     Result(VxiResult<'a>),
 }
 
-/// Puts a reply after the outgoing bytes.
+/// Appends a reply to the outgoing bytes.
 pub fn put_reply<A: Allocator>(out: &mut Vec<u8, A>, xid: u32, answer: &Answer<'_>)
     requires room { vec_len out.old + longest_reply ≤ vec_capacity out.old }
     requires short { IsShort answer.now }
@@ -47,8 +47,8 @@ pub fn put_reply<A: Allocator>(out: &mut Vec<u8, A>, xid: u32, answer: &Answer<'
     }
 }
 
-/// Whether an answer is known to be brief: a smaller text, with less to clear, then has room for
-/// its reply.
+/// Whether an answer is known to be brief: then a smaller buffer, which takes less time to clear,
+/// has room for its reply.
 fn is_brief(answer: &Answer<'_>) -> bool
     ensures { result ≡ true → HasAtMost 256 answer.now }
 {
@@ -66,7 +66,7 @@ fn is_brief(answer: &Answer<'_>) -> bool
     }
 }
 
-/// Writes a reply into a text that has room for it, and puts it after the outgoing bytes.
+/// Writes a reply into a buffer that has room for it, and appends it to the outgoing bytes.
 fn put_through<A: Allocator>(out: &mut Vec<u8, A>, text: &mut [u8], xid: u32, answer: &Answer<'_>)
     requires fits { length (answer_text xid answer.now) ≤ length text.old }
     requires room { vec_len out.old + longest_reply ≤ vec_capacity out.old }

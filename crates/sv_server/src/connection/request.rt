@@ -1,5 +1,5 @@
-//! What a record asks for: its header is checked, and then it is a call of the program that its
-//! connection serves.
+//! What a record asks for. Its header is checked; if it passes, the record is a call of the program
+//! that its connection serves.
 
 ghost use Rattle.std.specs.Prelude.{◌≡◌, Option, Ok, None, option_map, true};
 ghost use Rattle.sv_rpc.specs.Call.{plain_call, call_at};
@@ -34,9 +34,9 @@ pub struct CoreCall<'a> {
 /// What a record asks for.
 #[derive(Clone, Copy)]
 pub enum Request<'a> {
-    /// Nothing: it is no call.
+    /// Nothing: the record isn't a call.
     NoCall,
-    /// A reply that its header or its arguments alone decide.
+    /// A reply that follows from the header or the arguments of the call alone.
     Decided {
         /// Its transaction.
         xid: u32,
@@ -62,7 +62,7 @@ pub enum Request<'a> {
 }
 
 impl Request<'_> {
-    /// Its transaction; 0 if it is no call.
+    /// The transaction; 0 if the record isn't a call.
     pub fn xid(&self) -> u32
         ensures { result ≡ xid_of (plain_request self.now) }
     {
@@ -87,7 +87,7 @@ fn program_of(role: Role) -> u32
     }
 }
 
-/// Its version.
+/// The version of the program that a connection serves.
 fn version_of(role: Role) -> u32
     ensures { result ≡ (program_for role).1 }
 {
@@ -97,7 +97,7 @@ fn version_of(role: Role) -> u32
     }
 }
 
-/// Whether it is a procedure of the program, besides the null procedure.
+/// Whether a connection's program has this procedure, other than the null procedure.
 fn has_procedure(role: Role, proc: u32) -> bool
     ensures { result ≡ is_one_of (program_for role).2 proc }
 {
@@ -108,7 +108,7 @@ fn has_procedure(role: Role, proc: u32) -> bool
     }
 }
 
-/// Whether it is a call of the core channel.
+/// Whether the core channel has this procedure, other than the null procedure.
 fn is_core_call(proc: u32) -> bool
     ensures { result ≡ is_one_of core_calls proc }
 {
@@ -165,7 +165,7 @@ fn abort_request<'a>(call: &Call<'a>) -> Request<'a>
     }
 }
 
-/// What a call of one of its program's procedures asks for.
+/// What a call asks for, if the connection's program has its procedure.
 fn procedure_request<'a>(role: Role, call: &Call<'a>) -> Request<'a>
     requires { is_one_of (program_for role).2 call.now.proc ≡ true }
     ensures { plain_request result ≡ procedure_request_for role (plain_call call.now) }
@@ -180,7 +180,7 @@ fn procedure_request<'a>(role: Role, call: &Call<'a>) -> Request<'a>
     }
 }
 
-/// A call whose reply its header decides.
+/// A request whose reply follows from the header of the call.
 fn decided<'a>(call: &Call<'a>, reply: Reply) -> Request<'a>
     ensures { plain_request result ≡ Decided call.now.xid reply }
 {
@@ -190,8 +190,8 @@ fn decided<'a>(call: &Call<'a>, reply: Reply) -> Request<'a>
     }
 }
 
-/// What a call asks for. The first of these decides the reply: another program, another version,
-/// the null procedure, an unknown procedure.
+/// What a call asks for. The first of these that applies decides the reply: another program,
+/// another version, the null procedure, an unknown procedure.
 fn call_request<'a>(role: Role, call: &Call<'a>) -> Request<'a>
     ensures { plain_request result ≡ call_request_for role (plain_call call.now) }
 {
@@ -231,7 +231,7 @@ pub fn request_of(role: Role, bytes: &[u8]) -> Request<'_>
     }
 }
 
-/// The call of the core channel that a record is; `None` if it is none.
+/// Reads a record as a call of the core channel; `None` if it isn't one.
 pub fn core_call(bytes: &[u8]) -> Option<CoreCall<'_>>
     ensures { option_map plain_core_call result ≡ core_call_in_record bytes.now }
 {

@@ -21,11 +21,11 @@ use sv_vxi::{ErrorCode, VxiResult};
 pub struct Aborted {
     /// Its result.
     pub result: VxiResult<'static>,
-    /// The connection whose suspended call it ends, which names the link.
+    /// The connection whose suspended call device_abort ends. That call names the link.
     pub conn: Option<u8>,
 }
 
-/// Whether a link is this one.
+/// Whether the link that a call names is this one.
 fn is_this(lid: u32, named: Option<u32>) -> bool
     ensures { result ≡ is_this_link lid named }
 {
@@ -36,7 +36,7 @@ fn is_this(lid: u32, named: Option<u32>) -> bool
 }
 
 impl<A: Allocator> Device<A> {
-    /// device_abort of a link.
+    /// The outcome of device_abort of a link.
     pub fn abort(&self, lid: i32) -> Aborted
         ensures answer { (config : Config) (acts : List DeviceAct) → IsDevice self.now config acts
             → plain_result result.result ≡ result_of (lid_for (Some lid)) acts }
@@ -52,7 +52,7 @@ impl<A: Allocator> Device<A> {
         }
     }
 
-    /// The connection that made a link; `None` if the link doesn't live.
+    /// The connection that made a link; `None` if there is no such link.
     fn owner_of(&self, lid: Option<u32>) -> Option<u8>
         ensures { (config : Config) (acts : List DeviceAct) → IsDevice self.now config acts
             → result ≡ owner_for lid acts }
@@ -90,7 +90,7 @@ impl<A: Allocator> Device<A> {
         }
     }
 
-    /// The connection whose suspended call device_abort ends, which names the link.
+    /// The connection whose suspended call device_abort ends. That call names the link.
     fn aborted(&self, lid: Option<u32>) -> Option<u8>
         ensures { (config : Config) (acts : List DeviceAct) → IsDevice self.now config acts
             → result ≡ where_waiting_with (owner_for lid acts) lid acts }

@@ -1,5 +1,5 @@
-//! What stands before a call of the core channel (VXI-11 revision 1.0, B.4.4 and B.6):
-//! its link, the lock, and what it waits for.
+//! What a call of the core channel has to pass before it is executed (VXI-11 revision 1.0, B.4.4
+//! and B.6): its link, the lock, and what it waits for.
 
 ghost use Rattle.std.specs.Prelude.{◌≡◌, ◌<◌, ◌&&◌, ℕ, List, ◌∷◌, Some, None, option_map, is_none, is_some, IfSome, OnOk, OnErr, Option, true, false, Bool, if◌then◌else◌};
 ghost use Rattle.sv_vxi.specs.Arguments.{is_create_link as makes_link, lock_wait};
@@ -27,24 +27,24 @@ use std::alloc::{AllocError, Allocator};
 use sv_links::{Entry, MAX_LINKS, Wait, is_locked_out};
 use sv_vxi::{Args, ErrorCode, LinkCall};
 
-/// How many links may live, or have a suspended create_link.
+/// How many links there may be at once, with those that suspended create_links will make.
 const MOST_LINKS: u8 = MAX_LINKS as u8;
 
 /// What stops a call.
 #[derive(Clone, Copy)]
 pub enum Stop {
-    /// It fails.
+    /// The call fails with this error.
     Fails(ErrorCode),
-    /// It is suspended.
+    /// The call is suspended.
     Awaits {
-        /// What for.
+        /// What the call waits for.
         wait: Wait,
-        /// How long at most, in milliseconds.
+        /// How long the call waits at most, in milliseconds.
         timeout: Option<u32>,
     },
 }
 
-/// What stops a call while another link holds the lock; `None` if it is executed all the same.
+/// What stops a call while another link holds the lock; `None` if it is executed nevertheless.
 fn lock_stop(call: &LinkCall<'_>) -> Option<Stop>
     ensures { option_map plain_stop result
         ≡ option_map lock_stop_for (lock_wait (plain_call call.now)) }
@@ -62,8 +62,8 @@ fn lock_stop(call: &LinkCall<'_>) -> Option<Stop>
     }
 }
 
-/// What stops create_intr_chan: a channel is open, the protocol isn't TCP (0), the address is no
-/// peer; else it is suspended until its peer is connected.
+/// What stops create_intr_chan. It fails if a channel is open, the protocol isn't TCP (0), or no
+/// peer can have the address; else it is suspended until its peer is connected.
 fn channel_stop(there: bool, host_addr: u32, host_port: u32, prog_family: u32) -> Stop
     ensures { plain_stop result ≡ channel_stop_for there host_addr host_port prog_family }
 {
@@ -95,8 +95,8 @@ impl<A: Allocator> Device<A> {
         }
     }
 
-    /// What a call waits for besides the lock, and its timeout in milliseconds: a write until no
-    /// ended message waits to be finished, a read until it can be answered.
+    /// What a call waits for besides the lock, and its timeout in milliseconds. A write waits while
+    /// a message that has ended isn't finished, a read until it can be answered.
     pub(super) fn device_wait(&self, call: &LinkCall<'_>) -> Option<(Wait, u32)>
         ensures answer { (config : Configured) (acts : List DeviceAct)
             → IsDevice self.now config acts
@@ -141,7 +141,7 @@ impl<A: Allocator> Device<A> {
         Some((Wait::Response, timeout))
     }
 
-    /// Whether one more link may be made, besides those of suspended create_links.
+    /// Whether one more link may be made, besides those that suspended create_links will make.
     fn may_make_more(&self) -> bool
         ensures { (config : Configured) (acts : List DeviceAct) → IsDevice self.now config acts
             → result ≡ may_make acts }
@@ -149,8 +149,8 @@ impl<A: Allocator> Device<A> {
         self.links.count() + self.waiting.creating() < MOST_LINKS && self.links.lids_left()
     }
 
-    /// What stops create_link: its name, the number of links, or, if it asks for the lock, the link
-    /// that holds it.
+    /// What stops create_link: an unknown name, too many links, or, if it asks for the lock,
+    /// another link that holds it.
     fn link_stop(&self, lock_device: bool, timeout: u32, device: &[u8]) -> Option<Stop>
         ensures { (config : Configured) (acts : List DeviceAct) → IsDevice self.now config acts
             → option_map plain_stop result ≡ link_stop_for lock_device timeout device.now acts }
@@ -186,8 +186,8 @@ impl<A: Allocator> Device<A> {
         }
     }
 
-    /// What stops a call on a link: its link, the size of a write, the lock, or what it waits for,
-    /// in this order.
+    /// What stops a call on a link. These are checked in this order: the link, the size of a write,
+    /// the lock, and what the call waits for.
     fn call_stop(&self, conn: Conn, lid: i32, call: &LinkCall<'_>) -> Option<Stop>
         ensures { (config : Configured) (acts : List DeviceAct) → IsDevice self.now config acts
             → option_map plain_stop result
@@ -229,7 +229,7 @@ impl<A: Allocator> Device<A> {
         }
     }
 
-    /// The clock, so many milliseconds from now.
+    /// The clock at which a call times out that is suspended now; `None` without a timeout.
     pub(super) fn deadline(&self, timeout: Option<u32>) -> Option<u64>
         ensures { (config : Configured) (acts : List DeviceAct) → IsDevice self.now config acts
             → result ≡ deadline_for config timeout acts }
@@ -256,7 +256,7 @@ impl<A: Allocator> Device<A> {
         self.links.reserve(self.waiting.creating() + 1)
     }
 
-    /// A call is suspended, for something else than its peer.
+    /// Suspends a call that waits for something other than its peer.
     fn enter(&mut self, conn: Conn, lid: Option<u32>, wait: Wait, timeout: Option<u32>)
         requires { is_dial (Some wait) ≡ false }
         ensures stands { (config : Configured) (acts : List DeviceAct)
@@ -277,7 +277,7 @@ impl<A: Allocator> Device<A> {
         });
     }
 
-    /// A create_intr_chan is suspended until its peer is connected; no channel is open.
+    /// Suspends a create_intr_chan until its peer is connected. No channel is open then.
     fn await_peer(
         &mut self,
         conn: Conn,
@@ -298,7 +298,7 @@ impl<A: Allocator> Device<A> {
         Ok(CallOutcome::Suspended)
     }
 
-    /// A call is suspended for the lock or the device.
+    /// Suspends a call that waits for the lock or the device.
     fn await_device(
         &mut self,
         conn: Conn,
@@ -315,7 +315,7 @@ impl<A: Allocator> Device<A> {
         Ok(CallOutcome::Suspended)
     }
 
-    /// A call is suspended.
+    /// Suspends a call.
     fn suspend(
         &mut self,
         conn: Conn,
@@ -334,7 +334,7 @@ impl<A: Allocator> Device<A> {
         }
     }
 
-    /// A call that this stops fails, or is suspended.
+    /// Lets a call that is stopped fail, or suspends it.
     fn halt(&mut self, conn: Conn, args: &Args<'_>, stop: Stop) -> Result<CallOutcome, AllocError>
         ensures { AdmitsAt (Some (plain_stop stop)) result conn.number (plain_arguments args.now)
             self.old self.new }
@@ -345,7 +345,7 @@ impl<A: Allocator> Device<A> {
         }
     }
 
-    /// A call that nothing stops is executed.
+    /// Executes a call that nothing stops.
     fn start(&mut self, conn: Conn, args: &Args<'_>) -> Result<CallOutcome, AllocError>
         ensures { AdmitsAt None result conn.number (plain_arguments args.now) self.old self.new }
     {

@@ -8,7 +8,7 @@ ghost use Rattle.sv_history.specs.CoreChannel.{term_of as term_for};
 use sv_exchange::MAX_MESSAGE;
 use sv_vxi::{Flags, LinkCall};
 
-/// The number of the link that is named; `None` for a negative one, which no link has.
+/// The number of the link that a call names; `None` for a negative number, which no link has.
 pub fn lid_of(named: Option<i32>) -> Option<u32>
     ensures { result ≡ lid_for named }
 {
@@ -18,7 +18,7 @@ pub fn lid_of(named: Option<i32>) -> Option<u32>
     }
 }
 
-/// Whether a write brings more than may be.
+/// Whether the call is a write of more bytes than a write may have.
 pub fn is_too_long(call: &LinkCall<'_>) -> bool
     ensures { result ≡ too_long (plain_call call.now) }
 {
@@ -28,7 +28,7 @@ pub fn is_too_long(call: &LinkCall<'_>) -> bool
     false
 }
 
-/// The termination character, the low eight bits, if its flag is set.
+/// The termination character, the low eight bits of `term_char`, if its flag is set.
 pub fn term_of(flags: Flags, term_char: u32) -> Option<u8>
     ensures { result ≡ term_for flags.0 term_char }
 {

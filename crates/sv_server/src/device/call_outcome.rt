@@ -5,15 +5,15 @@ use sv_vxi::VxiResult;
 /// The outcome of a call of the core channel, as it begins or after it was suspended.
 #[derive(Clone, Copy)]
 pub enum CallOutcome {
-    /// It has this result.
+    /// The call has this result.
     Result(VxiResult<'static>),
-    /// It is answered with what is to be read of the response.
+    /// The call is a read, and is answered with bytes of the response.
     Reads {
         /// The most bytes to give.
         most: u32,
         /// The termination character, if its flag is set.
         term: Option<u8>,
     },
-    /// It is suspended.
+    /// The call is suspended.
     Suspended,
 }

@@ -29,7 +29,7 @@ use sv_exchange::{MAX_MESSAGE, Read};
 use sv_vxi::{Args, ErrorCode, Flags, GenericCall, LinkCall, VxiResult};
 
 impl<A: Allocator> Device<A> {
-    /// Whether a link is one of this connection.
+    /// Whether a link was made by this connection.
     pub(super) fn owns(&self, conn: Conn, lid: Option<u32>) -> bool
         ensures { (config : Configured) (acts : List DeviceAct) → IsDevice self.now config acts
             → result ≡ owns conn.number lid acts }
@@ -40,7 +40,7 @@ impl<A: Allocator> Device<A> {
         }
     }
 
-    /// The result of create_link with this link.
+    /// The result of a create_link that made this link.
     fn told_link(&self, lid: u32) -> VxiResult<'static>
         requires { lid < 2 ^ 31 }
         ensures told { plain_result result
@@ -69,7 +69,8 @@ impl<A: Allocator> Device<A> {
         CallOutcome::Result(self.told_link(lid))
     }
 
-    /// Makes a link that has the lock, which no link has. A place and memory for it are reserved.
+    /// Makes a link and gives it the lock, which no link holds. A place and memory for it are
+    /// reserved.
     fn make_locked(&mut self, conn: Conn) -> CallOutcome
         ensures ends { (config : Configured) (acts : List DeviceAct) → IsDevice self.old config acts
             → HasPlace self.old acts → is_locked_out (holder (link_acts acts)) None ≡ false
@@ -84,7 +85,7 @@ impl<A: Allocator> Device<A> {
         CallOutcome::Result(self.told_link(lid))
     }
 
-    /// Makes a link, with the lock if it asks for it.
+    /// Makes a link, with the lock if the call asks for the lock.
     fn make_link(&mut self, conn: Conn, lock_device: bool) -> CallOutcome
         ensures ends { (config : Configured) (acts : List DeviceAct) → IsDevice self.old config acts
             → HasPlace self.old acts
@@ -157,8 +158,8 @@ impl<A: Allocator> Device<A> {
         CallOutcome::Result(written(ErrorCode::NoError, bytes.len() as u32))
     }
 
-    /// device_read: bytes of the response; without one the unfinished text is dropped, and the call
-    /// times out.
+    /// device_read: gives bytes of the response. Without a response the unfinished text is dropped,
+    /// and the result is a timeout.
     fn device_read(&mut self, most: u32, term: Option<u8>) -> CallOutcome
         ensures ends { (config : Configured) (acts : List DeviceAct) → IsDevice self.old config acts
             → OutcomeIs result self.new config acts (device_read most term acts) }
@@ -176,7 +177,7 @@ impl<A: Allocator> Device<A> {
         CallOutcome::Result(nothing_read(ErrorCode::IoTimeout))
     }
 
-    /// What a read gives of the response.
+    /// The bytes of the response that a read gives, and why they end there.
     pub fn peek_response(&self, most: u32, term: Option<u8>) -> Read<'_>
         ensures within { length result.bytes.now
             ≤ length (shown_by self.now.instrument.layers.exchange) }
@@ -188,7 +189,7 @@ impl<A: Allocator> Device<A> {
         self.instrument.peek(most, term)
     }
 
-    /// So many bytes of the response were read.
+    /// Drops the first `count` bytes of the response, which were read.
     pub fn take_response(&mut self, count: usize)
         requires { count ≤ length (shown_by self.old.instrument.layers.exchange) }
         ensures stands { (config : Configured) (acts : List DeviceAct)
@@ -200,7 +201,7 @@ impl<A: Allocator> Device<A> {
         self.raise(raised);
     }
 
-    /// device_readstb: the status byte, whose request for service this ends.
+    /// device_readstb: gives the status byte, and ends its request for service.
     fn device_readstb(&mut self) -> CallOutcome
         ensures ends { (config : Configured) (polled : ℕ) (acts : List DeviceAct)
             → IsDeviceAt self.old config polled acts
@@ -241,7 +242,7 @@ impl<A: Allocator> Device<A> {
         CallOutcome::Result(plain(ErrorCode::NoError))
     }
 
-    /// Executes a call on a link that nothing stops.
+    /// Executes a call on a link, if nothing stops the call.
     fn link_call(&mut self, conn: Conn, lid: u32, call: &LinkCall<'_>) -> CallOutcome
         ensures ends { (config : Configured) (polled : ℕ) (acts : List DeviceAct)
             → IsDeviceAt self.old config polled acts
@@ -290,7 +291,8 @@ impl<A: Allocator> Device<A> {
         }
     }
 
-    /// Executes a call on the link of this number that nothing stops; no link has a negative one.
+    /// Executes a call on the link of this number, if nothing stops the call. No link has a
+    /// negative number.
     fn on_link(&mut self, conn: Conn, lid: i32, call: &LinkCall<'_>) -> CallOutcome
         ensures ends { (config : Configured) (polled : ℕ) (acts : List DeviceAct)
             → IsDeviceAt self.old config polled acts

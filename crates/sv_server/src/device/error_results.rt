@@ -1,4 +1,4 @@
-//! Results of calls that fail, or that only say that they succeeded, in the shape of each.
+//! Results of calls that fail, or that only report success, in the form that each call has.
 
 ghost use Rattle.std.specs.Prelude.{◌≡◌, ℤ, pos, []};
 ghost use Rattle.sv_vxi.specs.Arguments.{OnLink};
@@ -8,7 +8,7 @@ ghost use Rattle.sv_history.specs.CoreCall.{failure as failed, no_bytes};
 
 use sv_vxi::{Args, ErrorCode, GenericCall, LinkCall, Reason, VxiResult};
 
-/// The result of a call that fails, in the shape of that call's.
+/// The result of a call that fails, in the form of that call's results.
 pub fn failure(args: &Args<'_>, error: ErrorCode) -> VxiResult<'static>
     ensures result_is { plain_result result ≡ failed (plain_arguments args.now) error }
     ensures short { data_of (plain_result result) ≡ [] }
@@ -20,7 +20,7 @@ pub fn failure(args: &Args<'_>, error: ErrorCode) -> VxiResult<'static>
     }
 }
 
-/// The same of a call on a link.
+/// The result of a call on a link that fails, in the form of that call's results.
 pub fn call_failure(call: &LinkCall<'_>, error: ErrorCode) -> VxiResult<'static>
     ensures result_is { (lid : ℤ) → plain_result result
         ≡ failed (OnLink lid (plain_call call.now)) error }
@@ -38,14 +38,14 @@ pub fn call_failure(call: &LinkCall<'_>, error: ErrorCode) -> VxiResult<'static>
     }
 }
 
-/// The result of a call that has nothing but an error.
+/// A result that consists of an error alone.
 pub fn plain(error: ErrorCode) -> VxiResult<'static>
     ensures { plain_result result ≡ Plain error }
 {
     VxiResult::Plain { error }
 }
 
-/// The result of a create_link that made none.
+/// The result of a create_link that made no link.
 pub fn no_link(error: ErrorCode) -> VxiResult<'static>
     ensures { plain_result result ≡ Link error (pos 0) 0 0 }
 {

@@ -29,8 +29,8 @@ use std::alloc::Allocator;
 use sv_links::{MAX_HANDLE, Peer, Wait};
 use sv_vxi::{Args, ErrorCode};
 
-/// Whether an interrupt channel may go there: to an address in 127.0.0.0/8, on a port of 1 to
-/// 65535.
+/// Whether an interrupt channel may be connected to this peer: an address in 127.0.0.0/8 and a port
+/// of 1 to 65535.
 pub fn is_peer(host_addr: u32, host_port: u32) -> bool
     ensures { result ≡ may_call host_addr host_port }
 {
@@ -67,7 +67,7 @@ impl<A: Allocator> Device<A> {
         self.enable_srq(conn, enable, lid, handle)
     }
 
-    /// A link of the connection enables or disables service requests.
+    /// Enables or disables service requests of a link that the connection owns.
     fn enable_srq(&mut self, conn: Conn, enable: bool, lid: u32, handle: &[u8]) -> CallOutcome
         ensures ends { (config : Configured) (acts : List DeviceAct) → IsDevice self.old config acts
             → owns conn.number (Some lid) acts ≡ true
@@ -112,7 +112,7 @@ impl<A: Allocator> Device<A> {
         matches!(self.waiting.waits(conn), Some(Wait::Dial))
     }
 
-    /// Connecting for a suspended create_intr_chan succeeded or failed: the call ends.
+    /// Ends a suspended create_intr_chan: the attempt to connect succeeded or failed.
     pub(super) fn end_dial(&mut self, conn: Conn, ok: bool, args: &Args<'_>) -> CallOutcome
         ensures ends { (config : Configured) (acts : List DeviceAct)
             → IsDevice self.old config acts → is_dialing conn.number (wait_acts acts) ≡ true
@@ -141,7 +141,8 @@ impl<A: Allocator> Device<A> {
         }
     }
 
-    /// The same for this peer.
+    /// Ends a suspended create_intr_chan with this peer: the attempt to connect succeeded or
+    /// failed.
     fn end_channel(&mut self, conn: Conn, ok: bool, peer: Peer) -> CallOutcome
         ensures ends { (config : Configured) (acts : List DeviceAct)
             → IsDevice self.old config acts → is_dialing conn.number (wait_acts acts) ≡ true
@@ -159,7 +160,7 @@ impl<A: Allocator> Device<A> {
         CallOutcome::Result(plain(ErrorCode::NoError))
     }
 
-    /// The channel of a suspended create_intr_chan opens, and the call ends.
+    /// Opens the channel of a suspended create_intr_chan, and ends the suspension.
     fn open_channel(&mut self, conn: Conn, peer: Peer)
         ensures stands { (config : Configured) (acts : List DeviceAct)
             → IsDevice self.old config acts → is_dialing conn.number (wait_acts acts) ≡ true
@@ -171,7 +172,7 @@ impl<A: Allocator> Device<A> {
         self.intr.open(conn.number, peer);
     }
 
-    /// It can't be opened, and the call ends.
+    /// Ends the suspension of a create_intr_chan whose channel can't be opened.
     fn give_up_channel(&mut self, conn: Conn)
         ensures stands { (config : Configured) (acts : List DeviceAct)
             → IsDevice self.old config acts
@@ -182,7 +183,8 @@ impl<A: Allocator> Device<A> {
         self.intr.cancel(conn.number);
     }
 
-    /// The bytes that wait on the interrupt channel of a connection; none if it isn't open.
+    /// The bytes that wait on the interrupt channel of a connection; none if the channel isn't
+    /// open.
     pub fn channel_waiting(&self, conn: Conn) -> &[u8]
         ensures same { result.now ≡ bytes_of self.now.intr conn.number }
         ensures answer { (config : Configured) (acts : List DeviceAct)
@@ -194,7 +196,8 @@ impl<A: Allocator> Device<A> {
         self.intr.waiting(conn.number)
     }
 
-    /// Drops bytes of the open interrupt channel of a connection that the peer took.
+    /// Drops the first `count` bytes that wait on the open interrupt channel of a connection: the
+    /// peer took them.
     pub fn channel_took(&mut self, conn: Conn, count: usize)
         requires { count ≤ length (bytes_of self.old.intr conn.number) }
         ensures stands { (config : Configured) (acts : List DeviceAct)

@@ -23,19 +23,19 @@ use std::alloc::Allocator;
 use sv_links::Wait;
 use sv_vxi::{Args, ErrorCode};
 
-/// Why a suspended call goes on or ends.
+/// Why a suspended call continues or ends.
 #[derive(Clone, Copy)]
 pub enum Cause {
-    /// What it waits for is there.
+    /// The call can resume: it needn't wait for this any longer.
     Able(Wait),
-    /// Its peer was connected, or couldn't be.
+    /// The attempt to connect its peer succeeded or failed.
     Dialed(bool),
-    /// It fails with this error.
+    /// The call fails with this error.
     Failed(ErrorCode),
 }
 
 impl<A: Allocator> Device<A> {
-    /// A suspended call is executed, or suspended anew.
+    /// Continues a suspended call: it is executed, suspended anew, or ended.
     pub fn take_up(&mut self, conn: Conn, cause: Cause, args: &Args<'_>) -> CallOutcome
         requires { IsNearer cause conn.number self.old.waiting }
         ensures ends { (config : Config) (polled : ℕ) (acts : List DeviceAct)
@@ -60,8 +60,9 @@ impl<A: Allocator> Device<A> {
         }
     }
 
-    /// A call that waited for this is executed. But if it waited for the lock, and has to wait for
-    /// the device, it is suspended anew, in its place of the order, from now on.
+    /// Resumes a call that waited for `wait`: it is executed. But a call that waited for the lock
+    /// and now has to wait for the device is suspended anew: it keeps its place in the order, and
+    /// its new timeout begins now.
     fn resume(&mut self, conn: Conn, wait: Wait, args: &Args<'_>) -> CallOutcome
         requires { queue_measure (without conn.number self.old.waiting) + wait_measure wait
             ≤ queue_measure self.old.waiting }
@@ -83,7 +84,7 @@ impl<A: Allocator> Device<A> {
         }
     }
 
-    /// What a call that got past the lock waits for next, and how long.
+    /// What a call that waited for the lock waits for next, and its timeout in milliseconds.
     fn next_wait(&self, args: &Args<'_>) -> Option<(Wait, u32)>
         ensures answer { (config : Config) (acts : List DeviceAct) → IsDevice self.now config acts
             → result ≡ next_wait Wait.Lock (plain_arguments args.now) acts }
@@ -97,7 +98,7 @@ impl<A: Allocator> Device<A> {
         }
     }
 
-    /// A call that waited for the lock.
+    /// Resumes a call that waited for the lock.
     fn pass_lock(&mut self, conn: Conn, args: &Args<'_>) -> CallOutcome
         requires { queue_measure (without conn.number self.old.waiting) + 2
             ≤ queue_measure self.old.waiting }
@@ -121,7 +122,7 @@ impl<A: Allocator> Device<A> {
         self.leave(conn, args)
     }
 
-    /// A call isn't suspended any more, and is executed.
+    /// Ends the suspension of a call, and executes it.
     fn leave(&mut self, conn: Conn, args: &Args<'_>) -> CallOutcome
         ensures ends { (config : Config) (polled : ℕ) (acts : List DeviceAct)
             → IsDeviceAt self.old config polled acts
@@ -135,7 +136,7 @@ impl<A: Allocator> Device<A> {
         self.own_call(conn, args)
     }
 
-    /// A suspended call ends with this error.
+    /// Ends a suspended call with this error.
     fn give_up(&mut self, conn: Conn, error: ErrorCode, args: &Args<'_>) -> CallOutcome
         ensures ends { (config : Config) (acts : List DeviceAct) → IsDevice self.old config acts
             → OutcomeIs result self.new config (Waited (Left conn.number) ∷ acts)

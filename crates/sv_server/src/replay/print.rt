@@ -9,14 +9,14 @@ ghost use Rattle.sv_server.specs.Replay.TakenByWriter.{IsTakenByWriter};
 use std::io::{ErrorKind, Write};
 use sv_history::{Port, Refused};
 
-/// How many bytes are spelled at once.
+/// How many bytes are written in hexadecimal at once.
 const PIECE: usize = 256;
 
 /// The writer failed, or takes nothing more.
 #[derive(Clone, Copy, Debug, PartialEq, Eq)]
 pub struct WriteFault;
 
-/// Writes some of these bytes, and returns how many; none if a signal came first.
+/// Writes some of these bytes, and returns how many; none if a signal interrupted the write.
 fn put_some<W: Write>(writer: &mut W, bytes: &[u8]) -> Result<usize, WriteFault>
     ensures within { IfOk result (λ n. n ≤ length bytes.now) }
     ensures taken { MatchResult result

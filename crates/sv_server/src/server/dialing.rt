@@ -24,7 +24,7 @@ use std::alloc::Allocator;
 use sv_history::{Dial, Did, Refused};
 use sv_vxi::Args;
 
-/// Where a create_intr_chan asks to connect; `None` for another call or a port above 65535.
+/// Where a create_intr_chan asks to connect; `None` for another call, or for a port above 65535.
 fn dial_by(args: &Args<'_>) -> Option<Dial>
     ensures { result ≡ called_by (plain_arguments args.now) }
 {
@@ -55,8 +55,8 @@ fn dial_to(addr: u32, port: u32) -> Option<Dial>
 }
 
 impl<A: Allocator> Server<A> {
-    /// Where to connect the interrupt channel of a connection; `None` if no create_intr_chan of it
-    /// is suspended. A Dialed reports whether that succeeded.
+    /// Where to connect the interrupt channel of a connection; `None` if no create_intr_chan of the
+    /// connection is suspended. A Dialed event reports whether connecting succeeded.
     pub fn dial(&self, conn: u8) -> Option<Dial>
         ensures { (config : Config) (history : List PlainEvent) → StandsFor self.now config history
             → Answered (λ log. dial_of conn log) config history result }
@@ -93,7 +93,7 @@ impl<A: Allocator> Server<A> {
         Ok(number)
     }
 
-    /// The bytes that wait on an interrupt channel; none if it isn't open.
+    /// The bytes that wait on an interrupt channel; none if the channel isn't open.
     pub(crate) fn sent(&self, conn: u8) -> &[u8]
         ensures exact { (config : Config) (log : List Act) (channel_log : List ChannelAct)
             → Represents self.now config log → HearsOf (device_acts log) channel_log
@@ -106,7 +106,7 @@ impl<A: Allocator> Server<A> {
         }
     }
 
-    /// Connecting an interrupt channel succeeded or failed.
+    /// Applies the result of connecting an interrupt channel.
     pub(crate) fn dialed(&mut self, conn: u8, ok: bool) -> Result<Did, Refused>
         ensures acts { (config : Config) (log : List Act) → Represents self.old config log
             → Acts config (Dialed conn ok) log result self.new }

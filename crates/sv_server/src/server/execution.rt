@@ -19,13 +19,13 @@ use sv_rpc::{Ports, Reply, getport};
 /// The outcome of a record that was taken.
 #[derive(Clone, Copy)]
 pub enum Executed {
-    /// It is no call, and faults its connection.
+    /// The record isn't a call, and its connection is at fault.
     NoCall,
-    /// It is answered, and does nothing.
+    /// The call is answered, and changes nothing.
     Answered(Answer<'static>),
-    /// It is a device_abort.
+    /// The call is a device_abort.
     Aborts(Aborted),
-    /// It is a call of the core channel.
+    /// The call is one of the core channel.
     Call(CallOutcome),
 }
 
@@ -52,7 +52,7 @@ fn port_answer(ports: Ports, args: &[u8]) -> Answer<'static>
     }
 }
 
-/// Executes a record, but for its reply, and for the suspended call that a device_abort ends.
+/// Executes a record, without sending its reply, or ending the call that a device_abort ends.
 pub fn execute<A: Allocator>(
     device: &mut Device<A>,
     conn: Conn,

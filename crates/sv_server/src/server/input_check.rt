@@ -19,7 +19,7 @@ pub fn input_refusal(channel: u8, microvolts: i64) -> Option<Refused>
     }
 }
 
-/// Whether a voltage may be at the input of a channel.
+/// Whether an Input may set this voltage at this channel; else the refusal.
 pub(crate) fn may_input(channel: u8, microvolts: i64) -> Result<Did, Refused>
     ensures { IsInput channel microvolts result }
 {

@@ -1,4 +1,4 @@
-//! Refusing a connection's next call for want of resources: error 9.
+//! Refusing a connection's next call for lack of resources: error 9.
 
 ghost use Rattle.std.specs.Prelude.{◌≡◌, List, Some, OnErr, option_map};
 ghost use Rattle.sv_rpc.specs.Call.{call_at};
@@ -25,7 +25,7 @@ fn takes_memory(args: &Args<'_>) -> bool
     matches!(*args, Args::CreateLink { .. } | Args::CreateIntrChan { .. })
 }
 
-/// The call that may be refused: one that may allocate, and whose header passes its checks.
+/// A call that may be refused: its header passes its checks, and it may allocate memory.
 fn refusable(role: Role, bytes: &[u8]) -> Option<CoreCall<'_>>
     ensures { option_map plain_core_call result
         ≡ refusable_call (Some (request_for role (call_at bytes.now))) }
@@ -37,7 +37,7 @@ fn refusable(role: Role, bytes: &[u8]) -> Option<CoreCall<'_>>
     }
 }
 
-/// A call that may allocate; `None` if it never does.
+/// The call, if it may allocate memory; else `None`.
 fn unless_modest(call: CoreCall<'_>) -> Option<CoreCall<'_>>
     ensures { option_map plain_core_call result
         ≡ refusable_call (Some (CoreRequest (plain_core_call call.entry))) }

@@ -1,4 +1,4 @@
-//! The record of a suspended call is read once more, and the call resumes.
+//! Reading the record of a suspended call again, and continuing the call.
 
 ghost use Rattle.std.specs.Prelude.{◌≡◌, ◌<◌, ℕ, List, true, false, is_some};
 ghost use Rattle.sv_links.specs.Queue.{without, queue_measure};
@@ -17,8 +17,8 @@ use crate::device::resuming::Cause;
 use crate::server::turn::conclude_call;
 use std::alloc::Allocator;
 
-/// A suspended call goes on: it is executed, suspended anew, or ends. Its record reads as when it
-/// was taken.
+/// Continues a suspended call: it is executed, suspended anew, or ended. Its record is read again,
+/// with the same result as when it was taken.
 pub fn take_up<A: Allocator>(
     connection: &mut Connection<A>,
     device: &mut Device<A>,

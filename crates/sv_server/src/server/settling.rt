@@ -31,7 +31,7 @@ use sv_vxi::ErrorCode;
 /// The step that was taken.
 #[derive(Clone, Copy)]
 enum Stepped {
-    /// None was due.
+    /// No step was due.
     Nothing,
     /// The instrument did something.
     Instrument,
@@ -61,7 +61,7 @@ fn late(wait: Wait) -> ErrorCode
 }
 
 impl<A: Allocator> Server<A> {
-    /// A suspended call resumes: it is executed, or suspended anew.
+    /// Resumes a suspended call: it is executed, or suspended anew.
     fn resume(&mut self, entry: Entry)
         requires { IsKept entry self.old.device.waiting }
         ensures stands { (config : Config) (polled : ℕ) (log : List Act)
@@ -80,7 +80,7 @@ impl<A: Allocator> Server<A> {
         take_up(connection, &mut self.device, conn, Cause::Able(entry.wait));
     }
 
-    /// A suspended call fails with this error.
+    /// Ends a suspended call with this error.
     pub(crate) fn give_up(&mut self, conn: Conn, error: ErrorCode)
         ensures stands { (config : Config) (log : List Act) → Represents self.old config log
             → (waits conn.number (wait_acts (device_acts log)) ≡ None → ⊥)
@@ -93,7 +93,7 @@ impl<A: Allocator> Server<A> {
         take_up(connection, &mut self.device, conn, Cause::Failed(error));
     }
 
-    /// An immediate trigger, if one is due.
+    /// Applies an immediate trigger, if one is due. Returns whether one was.
     fn fire(&mut self) -> bool
         ensures steps { (config : Config) (log : List Act) → Represents self.old config log
             → TakesStep (λ config. InstrumentDoes IsFired) result config log self.old self.new }
@@ -106,7 +106,7 @@ impl<A: Allocator> Server<A> {
         self.device.fire()
     }
 
-    /// A step of message exchange, if one is due.
+    /// Takes a step of message exchange, if one is due. Returns whether one was.
     fn exchange(&mut self) -> bool
         ensures steps { (config : Config) (log : List Act) → Represents self.old config log
             → TakesStep (λ config. InstrumentDoes IsStep) result config log self.old self.new }
@@ -119,7 +119,7 @@ impl<A: Allocator> Server<A> {
         self.device.exchange()
     }
 
-    /// The oldest suspended call that can resume does, if there is one.
+    /// Resumes the oldest suspended call that can resume. Returns whether there was one.
     fn resume_oldest(&mut self) -> bool
         ensures steps { (config : Config) (log : List Act) → Represents self.old config log
             → TakesStep Resumes result config log self.old self.new }
@@ -136,7 +136,7 @@ impl<A: Allocator> Server<A> {
         }
     }
 
-    /// The oldest suspended call whose deadline has come times out, if there is one.
+    /// Times out the oldest suspended call whose deadline has come. Returns whether there was one.
     fn give_up_oldest(&mut self) -> bool
         ensures steps { (config : Config) (log : List Act) → Represents self.old config log
             → TakesStep TimesOut result config log self.old self.new }
@@ -153,7 +153,7 @@ impl<A: Allocator> Server<A> {
         }
     }
 
-    /// Takes the step that is due.
+    /// Takes the step that is due, if there is one.
     fn step(&mut self) -> Stepped
         ensures steps { (config : Config) (log : List Act) → Represents self.old config log
             → Steps result config log self.new }
@@ -180,7 +180,8 @@ impl<A: Allocator> Server<A> {
         Stepped::Nothing
     }
 
-    /// Takes the steps that are due until a call resumed or timed out. Returns whether one did.
+    /// Takes the steps that are due, up to the first in which a call resumes or times out. Returns
+    /// whether there was such a step.
     fn settle_to_call(&mut self) -> bool
         ensures goes { (config : Config) (log : List Act) → Represents self.old config log
             → GoesTo config log (λ mid. result ≡ false → IsSettled config mid) self.new }
@@ -196,7 +197,7 @@ impl<A: Allocator> Server<A> {
         }
     }
 
-    /// Takes the steps that are due after an event, unless it makes none due.
+    /// Takes the steps that are due after an event, unless `quiet` is true.
     pub(crate) fn settle_unless(&mut self, quiet: bool)
         ensures settled { (config : Config) (log : List Act) → Represents self.old config log
             → quiet ≡ false → Settled config log self.new }

@@ -1,4 +1,4 @@
-//! A connection's next call is taken and executed.
+//! Taking and executing a connection's next call.
 
 ghost use Rattle.std.specs.Prelude.{◌≡◌, List, Some, OnErr, true, is_some};
 ghost use Rattle.sv_exchange.specs.Exchange.{response};
@@ -29,14 +29,14 @@ use sv_vxi::{ErrorCode, Reason, VxiResult};
 pub enum Turned {
     /// Nothing: there was no call to take.
     Idle,
-    /// A call was taken, and executed or suspended.
+    /// A call was taken, and then executed or suspended.
     Done {
-        /// The connection whose suspended call it ends; `None` if it ends none.
+        /// The connection whose suspended call this call ends; `None` if it ends none.
         aborts: Option<u8>,
     },
 }
 
-/// Takes the next call of an open connection and executes it, if there is one and room for its
+/// Takes the next call of an open connection and executes it, if there is a call, and room for its
 /// reply.
 pub fn turn<A: Allocator>(
     connection: &mut Connection<A>,
@@ -69,7 +69,8 @@ pub fn turn<A: Allocator>(
     })
 }
 
-/// Ends the record that was taken by its reply, or as no call, unless it is suspended.
+/// Ends the record that was taken, unless its call is suspended: sends the reply, or drops a record
+/// that isn't a call.
 fn conclude<A: Allocator>(
     xid: u32,
     executed: Executed,
@@ -92,7 +93,7 @@ fn conclude<A: Allocator>(
     }
 }
 
-/// Ends a call of the core channel by its reply, unless it is suspended.
+/// Sends the reply to a call of the core channel, unless the call is suspended.
 pub fn conclude_call<A: Allocator>(
     xid: u32,
     outcome: CallOutcome,
@@ -114,7 +115,7 @@ pub fn conclude_call<A: Allocator>(
     }
 }
 
-/// Answers the call that was taken with what it is to read of the response.
+/// Answers the call that was taken, which is a read, with bytes of the response.
 fn answer_response<A: Allocator>(
     xid: u32,
     most: u32,

@@ -34,7 +34,7 @@ plain_stop (stops.Awaits wait timeout) = Awaits wait timeout
 
 -- ---- the outcome of a call
 
--- The device keeps what its acts determine, and a poll after these acts would return `polled`.
+-- The device has the state that its acts determine, and a poll after these acts would return `polled`.
 abbrev pub IsDeviceAt : Device → Config → ℕ → List DeviceAct → Type 0
 IsDeviceAt kept config polled acts = IsDevice kept config acts × IsPolled polled acts
 
@@ -65,12 +65,12 @@ IsGranted _ kept acts = ⊤
 
 -- ---- a call that begins
 
--- The call is suspended, in the queue behind all others. If it is create_link, it waits for the lock.
+-- The call is suspended, in the queue after all others. If it is create_link, it waits for the lock.
 abbrev pub IsBehind : ℕ → Bool → List Entry → List Entry → Type 0
 IsBehind c makes old new =
     (entry : Entry) × (entry.conn ≡ c) × (new ≡ without c old ++ entry ∷ []) × (makes ≡ true → creates entry ≡ true)
 
--- The queue is unchanged; or `IsSuspended` holds, and the call is in the queue behind all others.
+-- The queue is unchanged; or `IsSuspended` holds, and the call is in the queue after all others.
 abbrev pub MayWait : Type 0 → ℕ → Bool → List Entry → List Entry → Type 0
 MayWait IsSuspended c makes old new = (new ≡ old) ⊎ (IsSuspended × IsBehind c makes old new)
 
@@ -119,18 +119,18 @@ abbrev pub MayWaitAnew : Type 0 → ℕ → Bool → List Entry → List Entry �
 MayWaitAnew IsSuspended c makes old new = (new ≡ without c old)
     ⊎ (IsSuspended × (wait : Wait) × (deadline : Option ℕ) × (new ≡ map (anew c wait deadline) old) × (makes ≡ false))
 
--- whether a suspended call resumes because what it waits for is there; otherwise its peer was called, or it fails
+-- whether a suspended call resumes because it needn't wait any longer; otherwise its peer was called, or it fails
 abbrev pub is_able : Cause → Bool
 is_able (causes.Able wait) = true
 is_able _ = false
 
--- If a suspended call resumes because what it waits for is there, its measure and that of the other calls are at most the measure of the
+-- If a suspended call resumes because it needn't wait any longer, its measure and that of the other calls are at most the measure of the
 -- queue.
 abbrev pub IsNearer : Cause → ℕ → List Entry → Type 0
 IsNearer (causes.Able wait) c old = queue_measure (without c old) + wait_measure wait ≤ queue_measure old
 IsNearer _ c old = ⊤
 
--- A call may resume for this cause. If what it waits for is there, it is suspended, and `HasPlaceOfLink` holds. If its peer was called, it
+-- A call may resume for this cause. If it needn't wait any longer, it is suspended, and `HasPlaceOfLink` holds. If its peer was called, it
 -- waits for that. If it fails, nothing is needed.
 abbrev pub MayResume : Cause → ℕ → Type 0 → List DeviceAct → Type 0
 MayResume (causes.Able wait) c HasPlaceOfLink acts = (waits c (wait_acts acts) ≡ None → ⊥) × HasPlaceOfLink
