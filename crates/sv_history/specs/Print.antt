@@ -12,21 +12,21 @@ use Rattle.sv_history.specs.Act.{Act}
 use Rattle.sv_history.specs.Connection.{waiting_on}
 
 -- the number of a refusal
-abbrev pub number : Refused → ℕ
-number NoMemory = 1
-number ConnInUse = 2
-number NoConn = 3
-number NoRoom = 4
-number NotSent = 5
-number NoDial = 6
-number NotRefusable = 7
-number BadChannel = 8
-number BadInput = 9
-number TimeOver = 10
+abbrev pub refusal_number : Refused → ℕ
+refusal_number NoMemory = 1
+refusal_number ConnInUse = 2
+refusal_number NoConn = 3
+refusal_number NoRoom = 4
+refusal_number NotSent = 5
+refusal_number NoDial = 6
+refusal_number NotRefusable = 7
+refusal_number BadChannel = 8
+refusal_number BadInput = 9
+refusal_number TimeOver = 10
 
 -- the line of a refusal: `refused` and its number
 abbrev pub refusal_line : Refused → List ℕ
-refusal_line refusal = codes "refused " ++ (decimal (number refusal) ++ 10 ∷ [])
+refusal_line refusal = codes "refused " ++ (decimal (refusal_number refusal) ++ 10 ∷ [])
 
 -- the name of a port: c of a connection, i of an interrupt channel, and the number
 abbrev pub port_name : Port → List ℕ

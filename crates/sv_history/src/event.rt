@@ -1,7 +1,5 @@
 //! Events, and the server's answers to them.
 
-ghost use Rattle.std.specs.Prelude.{◌≡◌};
-
 use thiserror::Error;
 
 /// What a connection is for.
@@ -112,7 +110,8 @@ pub struct Dial {
     pub port: u16,
 }
 
-/// Why an event was refused. A refused event changed nothing, and isn't in the history.
+/// Why an event was refused. A refused event changed nothing, and isn't in the history. The numbers,
+/// as `refused as u8`, are those that a replay prints.
 #[derive(Clone, Copy, Debug, PartialEq, Eq, Error)]
 pub enum Refused {
     /// Out of memory for a link or an interrupt channel.
@@ -146,26 +145,4 @@ pub enum Refused {
     /// The clock is at its last value, 9,223,372,036,854,775,807.
     #[error("the clock is at its end")]
     TimeOver = 10,
-}
-
-impl Refused {
-    ghost use Rattle.sv_history.specs.Print.{number};
-
-    /// The number of a refusal, from 1 to 10, as a replay prints it.
-    pub fn number(self) -> u8
-        ensures { result ≡ number self }
-    {
-        match self {
-            Refused::NoMemory => 1,
-            Refused::ConnInUse => 2,
-            Refused::NoConn => 3,
-            Refused::NoRoom => 4,
-            Refused::NotSent => 5,
-            Refused::NoDial => 6,
-            Refused::NotRefusable => 7,
-            Refused::BadChannel => 8,
-            Refused::BadInput => 9,
-            Refused::TimeOver => 10,
-        }
-    }
 }

@@ -8,14 +8,15 @@ use Rattle.sv_errors.specs.declared.code.Code.{Code}
 use Rattle.sv_scan.specs.declared.setting.Reading.{Reading}
 use Rattle.sv_scan.specs.declared.settings.Settings.{Settings}
 use Rattle.sv_scan.specs.declared.acts.ScanAct.{ScanAct}
-use Rattle.sv_scan.specs.declared.acts.ScanAct.TheVariants.{Input, Sample}
+use Rattle.sv_scan.specs.declared.acts.ScanAct.TheVariants.{Init, Trigger, Abort, Sample, Input, Configure, Reset}
 use Rattle.sv_errors.specs.Limits.{is_channel, channel_count}
 use Rattle.std.specs.Option.{option_map_or}
 use Rattle.sv_scan.specs.Setting.{scan_list, range, input}
 use Rattle.sv_scan.specs.Scan.{before_init, samples, readings, reading, reading_in, channel_at}
 use Rattle.sv_scan.specs.Counted.{effective, counts}
 use Rattle.sv_scan.specs.Answered.{refused_by}
-use Rattle.sv_scan.specs.Stands.{Run, Contents, Holds, StandsFor}
+use Rattle.sv_scan.specs.declared.touched.Touched.{Touched}
+use Rattle.sv_scan.specs.Stands.{Run, Contents, Holds, StandsFor, current_run}
 use Rattle.sv_scan.specs.Representation.{contents_of}
 use Rattle.sv_scan.specs.Touched.{IsTouched, nothing}
 use Rattle.sv_scan.specs.Together.{AreOf}
@@ -97,6 +98,21 @@ Holds-input contents log channel microvolts size legal is = record {
       (sym is.monitor) (IsTouched-input channel microvolts log);
 }
 
+-- whether an act changes neither inputs nor settings
+abbrev pub is_of_run : ScanAct → Bool
+is_of_run = elim [ Input channel microvolts ↦ false | Configure setting ↦ false | Reset ↦ false | _ ↦ true ]
+
+pub Holds-run : (contents : Contents) (log : List ScanAct) (act : ScanAct) (now : Option Run) (made : List Reading) (touched : Touched)
+    → is_of_run act ≡ true → Holds contents log → now ≡ current_run (act ∷ log) → made ≡ readings (act ∷ log) → IsTouched touched (act ∷ log)
+    → Holds (record contents { run = now; readings = made; touched = touched }) (act ∷ log)
+Holds-run contents log Init now made touched e is at has said = assumption
+Holds-run contents log (Trigger from) now made touched e is at has said = assumption
+Holds-run contents log Abort now made touched e is at has said = assumption
+Holds-run contents log Sample now made touched e is at has said = assumption
+Holds-run contents log (Input channel microvolts) now made touched e is at has said = cc
+Holds-run contents log (Configure setting) now made touched e is at has said = cc
+Holds-run contents log Reset now made touched e is at has said = cc
+
 -- a sample
 abbrev pub sampled : Contents → Run → Reading
 sampled contents r =
@@ -118,21 +134,10 @@ pub Holds-sample : (contents : Contents) (log : List ScanAct) (r : Run) → cont
       readings = contents.readings ++ sampled contents r ∷ [];
       touched = record { operation = true; questionable = true; limit = true };
     }) (Sample ∷ log)
-Holds-sample contents log r e known is = record {
-  inputs = is.inputs;
-  list = is.list;
-  monitor = is.monitor;
-  range = is.range;
-  upper = is.upper;
-  lower = is.lower;
-  limits = is.limits;
-  source = is.source;
-  count = is.count;
-  run = is.run;
-  readings = ap (λ (xs : List Reading). xs ++ sampled contents r ∷ []) is.readings
-      ∙ ap (λ (x : Reading). readings log ++ x ∷ []) (sampled_is contents log r e known is);
-  touched = IsTouched-all Sample log;
-}
+Holds-sample contents log r e known is =
+    Holds-run contents log Sample contents.run (contents.readings ++ sampled contents r ∷ []) _ refl is is.run
+    (ap (λ (xs : List Reading). xs ++ sampled contents r ∷ []) is.readings
+      ∙ ap (λ (x : Reading). readings log ++ x ∷ []) (sampled_is contents log r e known is)) (IsTouched-all Sample log)
 
 zeros : (n place : ℕ) → get_or (replicate n (pos 0)) place (pos 0) ≡ pos 0
 zeros n place = elim (cases_lt place n) [

@@ -52,7 +52,7 @@ fn apply<W: Write + Drop>(
     match server.apply(event) {
         Ok(Did::Done) => Ok(()),
         Ok(Did::Idle) => writeln!(writer, "idle"),
-        Err(refused) => writeln!(writer, "refused {}: {refused}", refused.number()),
+        Err(refused) => writeln!(writer, "refused {}: {refused}", refused as u8),
     }
 }
 

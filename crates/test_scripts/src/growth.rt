@@ -97,7 +97,7 @@ impl Growing<'_> {
         };
         let mut found_none = false;
         if let Err(refused) = self.server.apply(event) {
-            writeln!(self.told, "refused {}", refused.number()).map_err(|_| bad())?;
+            writeln!(self.told, "refused {}", refused as u8).map_err(|_| bad())?;
             found_none = matches!(refused, Refused::NoMemory);
         }
         self.take_connections()?;

@@ -1,9 +1,9 @@
 //! The lines that a replay prints, written to a writer.
 
-ghost use Rattle.std.specs.Prelude.{◌≤◌, [], length, take, decimal, MatchResult, IfOk};
+ghost use Rattle.std.specs.Prelude.{◌≡◌, ◌≤◌, [], length, take, decimal, MatchResult, IfOk};
 ghost use Rattle.std.specs.Io.KnownBytes.{Appends};
 ghost use Rattle.hex.specs.Hex.{encode_lower};
-ghost use Rattle.sv_history.specs.Print.{port_name, port_line, refusal_line};
+ghost use Rattle.sv_history.specs.Print.{port_name, port_line, refusal_line, refusal_number};
 ghost use Rattle.sv_server.specs.Replay.TakenByWriter.{IsTakenByWriter};
 
 use std::io::{ErrorKind, Write};
@@ -113,12 +113,19 @@ pub fn put_line<W: Write>(writer: &mut W, port: Port, bytes: &[u8]) -> Result<()
     put(writer, b"\n")
 }
 
+/// The number of a refusal, from 1 to 10.
+fn number_of(refused: Refused) -> u8
+    ensures { result ≡ refusal_number refused }
+{
+    refused as u8
+}
+
 /// Writes the line of a refusal.
 pub fn put_refusal<W: Write>(writer: &mut W, refused: Refused) -> Result<(), WriteFault>
     ensures { IsTakenByWriter (W.contents writer.old) (W.contents writer.new) result
         (refusal_line refused) }
 {
     put(writer, b"refused ")?;
-    put_number(writer, refused.number())?;
+    put_number(writer, number_of(refused))?;
     put(writer, b"\n")
 }

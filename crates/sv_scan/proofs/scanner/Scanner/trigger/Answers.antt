@@ -1,7 +1,7 @@
 use Rattle.std.proofs.Common.{refl, rules}
 use Rattle.sv_scan.specs.declared.acts.ScanAct.TheVariants.{Trigger}
 use Rattle.sv_scan.specs.Counted.{effective, trigger_fault}
-use Rattle.sv_scan.proofs.Stands.{StandsFor-counted, StandsFor-dropped, is_accepted, is_refused}
+use Rattle.sv_scan.proofs.Stands.{StandsFor-counted, StandsFor-dropped, Holds-run, is_accepted, is_refused}
 use Rattle.sv_scan.proofs.scanner.Scanner.trigger.Goals as goal
 
 pub returns-in-Some-clause-stands : goal.returns-in-Some-clause-stands
@@ -9,20 +9,8 @@ returns-in-Some-clause-stands g c acts is =
     StandsFor-counted _ (Trigger c.args.source) acts
     (is_accepted (trigger_fault (effective acts) c.args.source) (c.in-Ok.ensures.answer acts is))
     (let held = rw (← c.self.view_is) at is in
-    record {
-      inputs = held.inputs;
-      list = held.list;
-      monitor = held.monitor;
-      range = held.range;
-      upper = held.upper;
-      lower = held.lower;
-      limits = held.limits;
-      source = held.source;
-      count = held.count;
-      run = search rules;
-      readings = held.readings;
-      touched = ((λ e. absurd cc), (λ e. refl), (λ e. refl));
-    })
+    Holds-run _ (effective acts) (Trigger c.args.source) _ _ _ refl held (search rules) held.readings
+    ((λ e. absurd cc), (λ e. refl), (λ e. refl)))
 
 pub returns-in-Err-clause-stands : goal.returns-in-Err-clause-stands
 returns-in-Err-clause-stands g c acts is =
