@@ -1,4 +1,4 @@
-//! What a command asks for, with the value of its parameter.
+//! The order of a command, with the value of its parameter.
 
 ghost use Rattle.std.specs.Prelude.{◌≡◌};
 ghost use Rattle.sv_command.specs.Order.{parameter_of as given_by, order_of, set_order};

@@ -1,11 +1,11 @@
-//! What a unit asks for.
+//! What a unit tells the instrument to do.
 
 use sv_header::{Action, Question};
 use sv_scan::{ScanList, Setting};
 use sv_status::RegisterName;
 
-/// What a unit asks for, with its values. A register's mask can have bit 15 set: the register drops
-/// this bit.
+/// What a unit tells the instrument to do, with its values. A register's mask can have bit 15 set:
+/// the register drops this bit.
 #[derive(Drop)]
 pub enum Order {
     /// An action without a value: a command, or a query that waits.

@@ -11,7 +11,7 @@ use sv_errors::Code;
 use sv_header::{CommandId, Path, Table};
 use sv_lexer::Unit;
 
-/// Reads what a unit asks for, with the path before it. `lexed` is the unit as `sv_lexer` read it,
+/// Reads the order of a unit, with the path before it. `lexed` is the unit as `sv_lexer` read it,
 /// or the error that `sv_lexer` found. If the header names a command, the path is updated, even if
 /// the parameters are wrong.
 ///

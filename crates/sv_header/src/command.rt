@@ -44,7 +44,7 @@ pub enum Action {
     Read,
 }
 
-/// What a query that is answered at once asks for.
+/// The data that a query returns at once.
 #[derive(Clone, Copy, Debug, PartialEq, Eq)]
 pub enum Question {
     /// `*IDN?`: the identification of the instrument.

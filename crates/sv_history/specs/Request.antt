@@ -40,7 +40,7 @@ abbrev pub abort_request : ℕ → Result Arguments Garbage → Request
 abort_request xid (Ok (OnLink lid call)) = AbortRequest xid lid
 abort_request xid _ = Decided xid GarbageArgs
 
--- what a call of one of the procedures of the connection's program asks for
+-- what a call of the connection's program asks for, if the program has the call's procedure
 abbrev pub procedure_request : Role → PlainCall → Request
 procedure_request Core call = core_request call.xid (arguments_at call.proc call.args)
 procedure_request Abort call = abort_request call.xid (arguments_at call.proc call.args)
@@ -63,7 +63,7 @@ request_of role (Ok call) = call_request role call
 request_of role (Err (Version xid)) = Decided xid Mismatch
 request_of role (Err BadHeader) = NoCall
 
--- what the next call of a connection asks for, by its role and the bytes of the call; `None` if there is no call
+-- what the next call of a connection asks for, given the role of the connection and the bytes of the call; `None` if there is no call
 abbrev pub request_for : Option Role → Option (List ℕ) → Option Request
 request_for (Some role) (Some bytes) = Some (request_of role (call_at bytes))
 request_for _ _ = None

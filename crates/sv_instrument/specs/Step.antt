@@ -22,7 +22,7 @@ after_release Nothing log = done log
 after_release One log = after_answering (codes "1") (done log)
 after_release Readings log = after_answering (readings_text (readings (effective_acts log))) (done log)
 
--- A unit does what it asks for, or its error is reported.
+-- The order of a unit is performed; or, if the unit has an error, the error is reported.
 abbrev pub Does : Result Order Code → List Act → List Act → Type 0
 Does (Err code) log new = new ≡ done (Reported code ∷ log)
 Does (Ok order) log new = Performs order log new

@@ -38,8 +38,8 @@ pub fn none_late()
     ensures { NoneLate }
 {}
 
-/// An event that the queries allow is never refused. So bytes for which there was room aren't lost,
-/// and neither is the news that the peer took bytes that waited.
+/// An event that the queries allow is never refused. So the server loses no bytes that come while
+/// there is room for them, and counts all bytes that the peer takes of those that wait.
 pub fn nothing_lost()
     ensures { NothingLost }
 {}

@@ -72,7 +72,7 @@ SameRequests = (log : List Act) (status_log : List StatusAct) → IsStatus log s
 abbrev pub SameRaising : Type 0
 SameRaising = (log : List Act) → RaisedAt log ↔ IsRaised log
 
--- The bits of the status byte, as a poll and as `*STB?` give them, are the same by its own acts and by the instrument's log.
+-- The bits of the status byte, as a poll and as `*STB?` return them, are the same by its own acts and by the instrument's log.
 abbrev pub SameStatus : Type 0
 SameStatus = (log : List Act) (status_log : List StatusAct) → IsStatus log status_log → (k : ℕ)
     → (status.StatusBit k status_log ↔ PolledBit k log) × (status.MasterBit k status_log ↔ MasterBit k log)
