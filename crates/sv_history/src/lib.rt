@@ -1,8 +1,8 @@
-//! The specification of the server: events, the log of a history of events, and the answers that
-//! are recomputed from it.
+//! The specification of the server: events; the log of a history of events; and the answers of the
+//! server, recomputed from the log.
 //!
-//! Nothing here runs but `Refused::number`. `sv_server` is the code; its contracts cite these
-//! definitions.
+//! Nothing here runs but `Refused::number`. The code of the server is `sv_server`, whose contracts
+//! cite these definitions.
 #![tactic(auto)]
 
 mod event;
