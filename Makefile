@@ -32,7 +32,7 @@ DATA = $(DESTDIR)$(PREFIX)/share/scanvolt
 DOC = $(DESTDIR)$(PREFIX)/share/doc/scanvolt
 DATA_FILES := examples/bench.scenario examples/identity.replay examples/scan.replay
 DOC_FILES := LICENSE CHANGELOG.md docs/INSTRUMENT.md docs/REPLAY.md examples/identity.md examples/scan.md
-PICTURES := $(wildcard docs/pictures/*.svg)
+PICTURES := $(addprefix docs/,$(shell grep -oh 'pictures/[a-z-]*\.svg' $(DOC_FILES)))
 
 .PHONY: test lint rows check scanvolt run serve bench echo clients hostile soak python install uninstall dist packages
 

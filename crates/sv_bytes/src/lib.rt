@@ -1,6 +1,6 @@
-//! Appending bytes, and dropping bytes from the front.
+//! Appending bytes to a vector, and dropping bytes from its front.
 //!
-//! Nothing allocates.
+//! No function here allocates.
 #![tactic(auto)]
 
 mod piece;

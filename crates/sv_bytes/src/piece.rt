@@ -1,10 +1,10 @@
-//! Appending bytes, and dropping bytes from the front.
+//! Appending bytes to a vector, and dropping bytes from its front.
 
 ghost use Rattle.std.specs.Prelude.{◌≡◌, ◌+◌, ◌≤◌, ◌++◌, drop, length, vec_len, vec_capacity};
 
 use std::alloc::Allocator;
 
-/// Appends a piece to bytes that have room for it. It doesn't allocate.
+/// Appends `piece` to `bytes`, which must have the capacity for it. It doesn't allocate.
 pub fn append<A: Allocator>(bytes: &mut Vec<u8, A>, piece: &[u8])
     requires { vec_len bytes.old + length piece.now ≤ vec_capacity bytes.old }
     ensures items { bytes.new.items ≡ bytes.old.items ++ piece.now }

@@ -1,4 +1,4 @@
--- What each command asks for, by itself or with its parameter (IEEE 488.2, chapter 10; SCPI-1999, volume 2).
+-- The order of each command, without a parameter or with one (IEEE 488.2, chapter 10; SCPI-1999, volume 2).
 use Rattle.std.specs.Prelude.{ℕ, List, [], ◌∷◌, Option, Some, None, Result, Ok, Err, bit_and}
 use Rattle.sv_errors.specs.declared.code.Code.{Code}
 use Rattle.sv_errors.specs.Limits.{most_scans}
@@ -19,24 +19,24 @@ pub record Parameter : Type 0 where
   pub kind : Kind
   pub text : List ℕ
 
--- what is made of a value; or the error, if there is no value
+-- what `make` makes of the value of a result; if the result is an error, the error
 abbrev pub then_value : {A B : Type 0} → (A → B) → Result A Code → Result B Code
 then_value make (Ok value) = Ok (make value)
 then_value make (Err code) = Err code
 
--- the channels of a list; `None` if the list is absent
+-- the channels of a channel list, or its error; `None` if there is no parameter
 abbrev pub channels_in : Option Parameter → Result (Option (List ℕ)) Code
 channels_in None = Ok None
 channels_in (Some parameter) = then_value Some (read_channels parameter.kind parameter.text)
 
--- the one channel of a list; -223 if there are more
+-- the only channel of a list; -223 if the list has more channels
 abbrev pub only_channel : Result (List ℕ) Code → Result ℕ Code
 only_channel (Ok []) = Err InvalidExpression
 only_channel (Ok (channel ∷ [])) = Ok channel
 only_channel (Ok (channel ∷ other ∷ others)) = Err TooMuchData
 only_channel (Err code) = Err code
 
--- what a command that sets a value asks for; bit 6 of the service request enable is dropped
+-- the order of a command that sets a value, or the error of the value; bit 6 of the service request enable is dropped
 abbrev pub set_order : SettingName → Kind → List ℕ → Result Order Code
 set_order name.StandardEnable kind text = then_value order.EnableStandard (read_whole 0 255 kind text)
 set_order name.ServiceEnable kind text = then_value (λ mask. order.EnableService (bit_and mask 191)) (read_whole 0 255 kind text)
@@ -52,8 +52,8 @@ set_order name.Limits kind text = then_value (λ on. order.Set (setting.Limits o
 set_order name.Source kind text = then_value (λ source. order.Set (setting.Source source)) (read_source kind text)
 set_order name.Count kind text = then_value (λ scans. order.Set (setting.Count scans)) (read_whole 1 most_scans kind text)
 
--- What a command asks for, with its parameter if it has one. A command that sets a value needs a parameter (-109). A command that
--- configures a measurement may have a channel list.
+-- The order of a command, with its parameter if it has one; or the error. A command that sets a value needs a parameter (else -109). A
+-- command that configures a measurement can have a channel list or no parameter.
 abbrev pub order_of : CommandId → Option Parameter → Result Order Code
 order_of (id.Do action) parameter_of = Ok (order.Do action)
 order_of (id.Ask question) parameter_of = Ok (order.Ask question)

@@ -1,4 +1,4 @@
--- What a program message unit asks for, and its errors in the order of the checks (SCPI-1999, volume 1, chapters 6 and 7; volume 2, 21.8).
+-- The order of a program message unit, and its errors in the order of the checks (SCPI-1999, volume 1, chapters 6 and 7; volume 2, 21.8).
 use Rattle.std.specs.Prelude.{◌≡◌, ◌⊎◌, ℕ, ◌==◌, List, Option, Some, None, Result, Err, nat_lt, if◌then◌else◌}
 use Rattle.sv_errors.specs.declared.code.Code.{Code}
 use Rattle.sv_errors.specs.declared.code.Code.TheVariants.{ParameterNotAllowed, UndefinedHeader}
@@ -11,7 +11,7 @@ use Rattle.sv_header.specs.Resolve.{Resolves, next_path}
 use Rattle.sv_command.specs.declared.order.Order.{Order}
 use Rattle.sv_command.specs.Order.{Parameter, order_of}
 
--- the first parameter; `None` if there is none
+-- the first parameter of a unit; `None` if it has no parameter
 abbrev pub first_parameter : List ℕ → Option Parameter
 first_parameter unit = if count unit == 0 then None else Some (record { kind = kind_of (parameter unit 0); text = parameter unit 0 })
 
@@ -20,22 +20,23 @@ abbrev pub unless : Option Code → Result Order Code → Result Order Code
 unless (Some code) outcome = Err code
 unless None outcome = outcome
 
--- What a command asks for in a unit: the syntax of the parameters is checked, then whether there are too many (-108), then their values.
+-- The order of a command in a unit, or its first error. First the syntax of the parameters is checked; then their number (-108 if there are
+-- too many); then their values.
 abbrev pub order_of_unit : CommandId → List ℕ → Result Order Code
 order_of_unit command unit =
     unless (parameters_fault unit)
     (if nat_lt (most_parameters command) (count unit) then Err ParameterNotAllowed else order_of command (first_parameter unit))
 
--- The header names a command: the unit asks for what that command does, and the path is updated. Or the header names no command (-113), and
--- the path doesn't change.
+-- The header names a command: the outcome is the order of that command, and the path is updated. Or the header names no command: the
+-- outcome is the error -113, and the path doesn't change.
 abbrev pub IsNamed : List (List ℕ) → List ℕ → Result Order Code → List (List ℕ) → Type 0
 IsNamed path unit outcome behind =
     ((command : CommandId) × Resolves path (header unit) command × (outcome ≡ order_of_unit command unit) × (behind ≡ next_path path
     (header unit)))
     ⊎ (((command : CommandId) → Resolves path (header unit) command → ⊥) × (outcome ≡ Err UndefinedHeader) × (behind ≡ path))
 
--- A unit, with the path before it, has this outcome: what it asks for, or its error. It leaves the path `behind`. The path is updated after
--- a header that has the form of one and names a command; otherwise it is unchanged.
+-- A unit, with the path before it, has this outcome: an order or an error. `behind` is the path for the next unit. The path is updated
+-- after a header that is well-formed and names a command; otherwise it is unchanged.
 abbrev pub IsReadAs : List (List ℕ) → List ℕ → Result Order Code → List (List ℕ) → Type 0
 IsReadAs path unit outcome behind = ((code : Code) × (unit_fault unit ≡ Some code) × (outcome ≡ Err code) × (behind ≡ path))
     ⊎ ((unit_fault unit ≡ None) × IsNamed path unit outcome behind)

@@ -1,4 +1,4 @@
-//! What a command asks for, with the value of its parameter.
+//! The order of a command, with the value of its parameter.
 
 ghost use Rattle.std.specs.Prelude.{◌≡◌};
 ghost use Rattle.sv_command.specs.Order.{parameter_of as given_by, order_of, set_order};
@@ -14,7 +14,7 @@ use sv_value::{boolean, keyword, microvolts, whole};
 /// All bits of a mask but bit 6.
 const ALL_BUT_SIX: u8 = 191;
 
-/// The order of a command with this parameter.
+/// Returns the order of a command with this parameter, or the error.
 pub(crate) fn order(command: CommandId, given: Option<Token<'_>>) -> Result<Order, Code>
     ensures { result ≡ order_of command (given_by given.entry) }
 {
@@ -30,7 +30,7 @@ pub(crate) fn order(command: CommandId, given: Option<Token<'_>>) -> Result<Orde
     }
 }
 
-/// The order that sets a setting to the value of a token.
+/// Returns the order that sets a setting to the value of a token, or the error.
 fn set(name: SettingName, token: &Token<'_>) -> Result<Order, Code>
     ensures { result ≡ set_order name token.now.kind token.now.text.now }
 {

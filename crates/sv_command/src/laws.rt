@@ -1,8 +1,9 @@
-//! Laws of what units ask for.
+//! Laws of how units are read.
 
 ghost use Rattle.sv_command.specs.Laws.{OneReading};
 
-/// A unit, with the path before it, has only one meaning, and leaves only one path.
+/// A unit, with the path before it, has only one meaning, and only one path is left for the next
+/// unit.
 pub fn one_reading()
     ensures { OneReading }
 {}

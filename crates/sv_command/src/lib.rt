@@ -1,5 +1,5 @@
-//! What a program message unit asks for, as a value: its command, its parameters' values, or its
-//! first error.
+//! What a program message unit tells the instrument to do, as a value: its command with the values
+//! of its parameters, or its first error.
 //!
 //! Nothing allocates.
 #![tactic(auto)]

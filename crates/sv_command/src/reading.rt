@@ -11,16 +11,16 @@ use sv_errors::Code;
 use sv_header::{CommandId, Path, Table};
 use sv_lexer::Unit;
 
-/// Reads what a unit asks for, with the path before it. `lexed` is the unit as `sv_lexer` read it,
-/// or its error. If the header names a command, the path is updated, even if the parameters are
-/// wrong.
+/// Reads the order of a unit, with the path before it. `lexed` is the unit as `sv_lexer` read it,
+/// or the error that `sv_lexer` found. If the header names a command, the path is updated, even if
+/// the parameters are wrong.
 ///
 /// # Errors
-/// The first of these: the error in `lexed`; [`Code::UndefinedHeader`] if the header names no
-/// command; [`Code::InvalidExpression`], then [`Code::SyntaxError`], for the syntax of the
-/// parameters; [`Code::ParameterNotAllowed`]; [`Code::MissingParameter`]; then those of the
-/// parameter's value. A range may be any voltage here: the scanner checks that there is such a
-/// range.
+/// The first of these that applies: the error in `lexed`; [`Code::UndefinedHeader`] if the header
+/// names no command; [`Code::InvalidExpression`], then [`Code::SyntaxError`], if the syntax of the
+/// parameters is wrong; [`Code::ParameterNotAllowed`] if there are too many;
+/// [`Code::MissingParameter`]; the error of the parameter's value. A range may be any voltage here:
+/// the scanner checks whether it has this range.
 pub fn read_unit<A: Allocator>(
     table: &Table<A>,
     path: &mut Path,
@@ -35,7 +35,7 @@ pub fn read_unit<A: Allocator>(
     }
 }
 
-/// The order of a unit whose header has the form of one.
+/// Returns the order of a unit whose header is well-formed, or the error, and updates the path.
 fn named<A: Allocator>(table: &Table<A>, path: &mut Path, unit: &Unit<'_>) -> Result<Order, Code>
     ensures { IsNamed path.old unit.now result path.new }
 {
@@ -49,7 +49,7 @@ fn named<A: Allocator>(table: &Table<A>, path: &mut Path, unit: &Unit<'_>) -> Re
     }
 }
 
-/// The order of a command with the parameters of its unit.
+/// Returns the order of a command with the parameters of its unit, or the error.
 fn asked(command: CommandId, unit: &Unit<'_>) -> Result<Order, Code>
     ensures { result ≡ asked_by command unit.now }
 {

@@ -63,7 +63,7 @@ pub(crate) fn monitor(token: &Token<'_>) -> Result<u8, Code>
     }
 }
 
-/// The only channel of a list; -223 for more.
+/// Returns the only channel of a list; -223 if the list has more channels.
 fn only(channels: &[u8]) -> Result<u8, Code>
     ensures { result ≡ only_channel (Ok channels.now) }
 {

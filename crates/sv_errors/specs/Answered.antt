@@ -1,4 +1,4 @@
--- What each act of the error queue answers.
+-- What each act of the error queue returns.
 use Rattle.std.specs.Prelude.{◌≡◌, List}
 use Rattle.sv_errors.specs.declared.error_queue.QueueAct.{QueueAct}
 use Rattle.sv_errors.specs.declared.error_queue.QueueAct.TheVariants.{Report, Take, Clear}
@@ -6,12 +6,12 @@ use Rattle.sv_errors.specs.declared.error_queue.QueueAnswer.{QueueAnswer}
 use Rattle.sv_errors.specs.declared.error_queue.QueueAnswer.TheVariants.{Reported, Taken, Cleared}
 use Rattle.sv_errors.specs.ErrorQueue.{is_full, oldest}
 
--- the answer to an act after these acts: whether a report overflows, or the entry that is taken
+-- the answer to `act` after `acts`: for a report, whether the queue is full; for a take, the oldest entry
 abbrev pub answer_to : List QueueAct → QueueAct → QueueAnswer
 answer_to acts (Report code) = Reported (is_full acts)
 answer_to acts Take = Taken (oldest acts)
 answer_to acts Clear = Cleared
 
--- The error queue gives this answer to an act after these acts.
+-- After `acts`, the error queue gives this answer to `act`.
 abbrev pub Gives : List QueueAct → QueueAct → QueueAnswer → Type 0
 Gives acts act answer = answer ≡ answer_to acts act

@@ -42,8 +42,8 @@ number_of code = neg_ℤ (pos (entry code).0)
 abbrev pub text_of : Code → List ℕ
 text_of code = (entry code).1
 
--- The standard event of a class of errors, as a word with its bit (IEEE 488.2, 11.5.1; SCPI-1999, volume 2, 21.8): command error, execution
--- error, device-specific error, query error. The class is the hundreds of the number.
+-- The bit of the standard event status register for a class of errors (IEEE 488.2, 11.5.1; SCPI-1999, volume 2, 21.8): command error,
+-- execution error, device-specific error, query error. The class is the hundreds digit of the error's number.
 abbrev pub class_event : ℕ → ℕ
 class_event class =
     if class == 1 then 2 ^ 5
@@ -52,6 +52,6 @@ class_event class =
     else if class == 4 then 2 ^ 2
     else 0
 
--- the standard event of an error
+-- the bit of the standard event status register for an error
 abbrev pub standard_event_of : Code → ℕ
 standard_event_of code = class_event ((entry code).0 / 100)

@@ -1,29 +1,30 @@
--- The error queue (SCPI-1999, volume 2, section 21.8), as a search of its acts, the newest first. The place of an act is the number of acts
--- up to it, itself included.
+-- The error queue (SCPI-1999, volume 2, section 21.8), as a search of its acts, the newest first. The place of an act is its number,
+-- counted from the oldest act, which has number 1.
 use Rattle.std.specs.Prelude.{◌≡◌, ℕ, ◌+◌, ◌-◌, ◌==◌, ◌&&◌, Bool, List, [], ◌∷◌, ◌++◌, length, map, drop, Option, Some, None, is_some, unwrap_or, nat_lt, slice_get, if◌then◌else◌}
 use Rattle.sv_errors.specs.declared.code.Code.{Code}
 use Rattle.sv_errors.specs.declared.code.Code.TheVariants.{NoError, QueueOverflow}
 use Rattle.sv_errors.specs.declared.error_queue.QueueAct.{QueueAct}
 use Rattle.sv_errors.specs.declared.error_queue.QueueAct.TheVariants.{Report, Take, Clear}
 
--- how many entries there may be
+-- how many entries the queue can have
 abbrev pub most : ℕ
 most = 64
 
--- the places of the reports since the last clearing that found room, in order, and how many of these were taken
+-- the places of the reports since the last clearing for which the queue had room, in order (`admitted`), and how many of these entries were
+-- taken
 pub record Counted : Type 0 where
   pub admitted : List ℕ
   pub taken : ℕ
 
--- the places of the reports that weren't taken
+-- the places of the admitted reports whose entries weren't taken yet
 abbrev pub left : Counted → List ℕ
 left count_acts = drop count_acts.taken count_acts.admitted
 
--- what is counted after a report at this place, which finds room if fewer than 64 entries are left
+-- what is counted after an error is reported at this place: the report is admitted if fewer than 64 entries are in the queue
 abbrev pub admit : Counted → ℕ → Counted
 admit before place = if nat_lt (length (left before)) most then record before { admitted = before.admitted ++ place ∷ [] } else before
 
--- what is counted after an entry is taken, if there is one
+-- what is counted after a take: one more entry is taken, if the queue has one
 abbrev pub take_one : Counted → Counted
 take_one before = if is_some (slice_get (left before) 0) then record before { taken = before.taken + 1 } else before
 
@@ -38,11 +39,11 @@ count_acts (Clear ∷ acts) = record { admitted = []; taken = 0 }
 abbrev pub entries : List QueueAct → List ℕ
 entries acts = left (count_acts acts)
 
--- whether the queue is full, so that a report overflows
+-- whether the queue is full, so that one more report would overflow it
 abbrev pub is_full : List QueueAct → Bool
 is_full acts = length (entries acts) == most
 
--- the acts up to a place
+-- the acts up to and including the one at this place
 abbrev pub up_to : ℕ → List QueueAct → List QueueAct
 up_to place acts = drop (length acts - place) acts
 
@@ -50,12 +51,12 @@ up_to place acts = drop (length acts - place) acts
 abbrev pub report_of : List QueueAct → Option Code
 report_of = elim [ Report code ∷ acts ↦ Some code | _ ↦ None ]
 
--- whether the act after this place is another report
+-- whether the act that follows the one at this place is a report
 abbrev pub is_overtaken : ℕ → List QueueAct → Bool
 is_overtaken place acts = nat_lt place (length acts) && is_some (report_of (up_to (place + 1) acts))
 
--- The error that an entry gives: that of its report. But the entry that made the queue full gives -350 if the act after its report is
--- another report.
+-- The error of an entry: the one that was reported at its place. But if this report made the queue full and the next act is a report too,
+-- the entry has the error -350.
 abbrev pub entry_code : List QueueAct → ℕ → Code
 entry_code acts place =
     if is_full (up_to place acts) && is_overtaken place acts then QueueOverflow else unwrap_or (report_of (up_to place acts)) NoError

@@ -6,7 +6,7 @@ use Rattle.std.specs.List.{list_all}
 abbrev pub channel_count : ℕ
 channel_count = 128
 
--- how many channels a list may have
+-- how many channels a channel list may have
 abbrev pub longest_list : ℕ
 longest_list = 128
 
@@ -22,11 +22,11 @@ most_readings = most_scans * longest_list
 abbrev pub is_channel : ℕ → Bool
 is_channel number = nat_le 1 number && nat_le number channel_count
 
--- whether a list has 1 to 128 numbers, all of channels
+-- whether a list has 1 to 128 numbers, and each is the number of a channel
 abbrev pub is_channel_list : List ℕ → Bool
 is_channel_list channels = nat_le 1 (length channels) && (nat_le (length channels) longest_list && list_all is_channel channels)
 
--- the largest magnitude of a voltage that is given to the instrument, in microvolts: 1,000 V
+-- the largest magnitude of a voltage that can be passed to the instrument, in microvolts: 1,000 V
 abbrev pub most_microvolts : ℕ
 most_microvolts = 1000000000
 

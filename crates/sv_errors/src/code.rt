@@ -12,7 +12,7 @@ const DEVICE_ERROR: u8 = 1 << 3;
 /// A query error's bit.
 const QUERY_ERROR: u8 = 1 << 2;
 
-/// An error of the instrument, or that there is none.
+/// An error of the instrument, or the value for no error.
 #[derive(Clone, Copy, Debug, PartialEq, Eq)]
 pub enum Code {
     /// Nothing is wrong.
@@ -21,7 +21,7 @@ pub enum Code {
     InvalidCharacter,
     /// A header or a parameter with wrong syntax.
     SyntaxError,
-    /// A parameter of another kind than the command takes.
+    /// A parameter of another type than the command accepts.
     DataTypeError,
     /// More parameters than the command accepts.
     ParameterNotAllowed,
@@ -45,29 +45,29 @@ pub enum Code {
     InvalidCharacterData,
     /// An expression with wrong syntax.
     InvalidExpression,
-    /// A trigger that nothing waited for.
+    /// A trigger that came while the instrument didn't wait for a trigger.
     TriggerIgnored,
-    /// An initiation while a measurement is under way.
+    /// An initiation while a measurement is in progress.
     InitIgnored,
-    /// `READ?` with triggers from the bus, which can't come while the query waits.
+    /// `READ?` while the trigger source is the bus: no bus trigger can come while the query waits.
     TriggerDeadlock,
-    /// A setting that can't be changed now.
+    /// A setting that can't be changed in the present state.
     SettingsConflict,
     /// A value outside the parameter's range.
     DataOutOfRange,
     /// A list of more channels than the parameter may have.
     TooMuchData,
-    /// A keyword that isn't a choice of the parameter.
+    /// A keyword that isn't one of the parameter's choices.
     IllegalParameterValue,
-    /// No complete measurement to fetch.
+    /// A query for readings when no complete measurement exists.
     DataCorruptOrStale,
     /// The error queue was full, and errors were lost.
     QueueOverflow,
     /// A message longer than the input buffer.
     InputBufferOverrun,
-    /// A message came before the response to the last one was read.
+    /// A message that came before the response to the message before it was read.
     QueryInterrupted,
-    /// A read when no query was asked.
+    /// A read although no query was sent.
     QueryUnterminated,
     /// A response longer than the output buffer.
     QueryDeadlocked,
@@ -110,10 +110,9 @@ impl Code {
         }
     }
 
-    /// The standard event of the error, as a word with its bit in the standard event status
-    /// register (IEEE 488.2, 11.5.1; SCPI-1999, volume 2, 21.8): 32, a command error, for -1xx; 16,
-    /// an execution error, for -2xx; 8, a device-specific error, for -3xx; 4, a query error, for
-    /// -4xx; 0 for no error.
+    /// The bit of the standard event status register for the error (IEEE 488.2, 11.5.1; SCPI-1999,
+    /// volume 2, 21.8): 32 (command error) for -1xx; 16 (execution error) for -2xx; 8
+    /// (device-specific error) for -3xx; 4 (query error) for -4xx; 0 for no error.
     pub fn standard_event(self) -> u8
         ensures { result ≡ standard_event_of self }
     {

@@ -9,7 +9,7 @@ use circular_buffer::HeapCircularBuffer;
 use std::alloc::{AllocError, Allocator, Global};
 use std::marker::Model;
 
-/// How many entries there may be.
+/// How many entries the queue can have.
 pub const MOST_ERRORS: usize = 64;
 
 /// An act of the error queue.
@@ -26,7 +26,7 @@ pub enum QueueAct {
 /// The answer to an act of the error queue.
 #[derive(Clone, Copy, Debug, PartialEq, Eq)]
 pub enum QueueAnswer {
-    /// Whether the report found a full queue.
+    /// Whether the queue was full when the error was reported.
     Reported(bool),
     /// The entry that was taken; `None` if there was none.
     Taken(Option<Code>),
@@ -35,7 +35,7 @@ pub enum QueueAnswer {
 }
 
 /// The errors that were reported and not taken yet, oldest first, at most [`MOST_ERRORS`]. A report
-/// to a full queue replaces the newest entry by [`Code::QueueOverflow`].
+/// to a full queue replaces the newest entry with [`Code::QueueOverflow`].
 #[derive(Drop)]
 pub struct ErrorQueue<A: Allocator = Global> {
     codes: HeapCircularBuffer<Code, A>,
@@ -56,7 +56,7 @@ impl<A: Allocator> Model for ErrorQueue<A> {
 }
 
 impl<A: Allocator> ErrorQueue<A> {
-    /// An empty queue. It allocates the memory of all its entries.
+    /// An empty queue. The memory of all its entries is allocated here.
     ///
     /// # Errors
     /// If memory is refused.
@@ -67,8 +67,8 @@ impl<A: Allocator> ErrorQueue<A> {
         Ok(ErrorQueue { codes })
     }
 
-    /// Reports an error, and returns whether the queue was full. If it was, its newest entry
-    /// becomes -350, and this error is lost.
+    /// Reports an error, and returns whether the queue was full. If it was full, its newest entry
+    /// becomes -350, and the reported error is lost.
     pub fn report(&mut self, code: Code) -> bool
         ensures stands { (acts : List QueueAct) → StandsFor self.old acts
             → StandsFor self.new (QueueAct.Report code ∷ acts) }
@@ -85,7 +85,7 @@ impl<A: Allocator> ErrorQueue<A> {
         full
     }
 
-    /// Takes the oldest entry; `None` if there is none.
+    /// Removes the oldest entry and returns it; `None` if there is none.
     pub fn take(&mut self) -> Option<Code>
         ensures stands { (acts : List QueueAct) → StandsFor self.old acts
             → StandsFor self.new (QueueAct.Take ∷ acts) }
@@ -95,14 +95,14 @@ impl<A: Allocator> ErrorQueue<A> {
         self.codes.pop_front()
     }
 
-    /// The oldest entry, which stays; `None` if there is none.
+    /// The oldest entry, without removing it; `None` if there is none.
     pub fn oldest(&self) -> Option<Code>
         ensures { (acts : List QueueAct) → StandsFor self.now acts → result ≡ oldest_of acts }
     {
         self.codes.front().copied()
     }
 
-    /// How many entries there are.
+    /// How many entries the queue has.
     pub fn count(&self) -> u8
         ensures answer { (acts : List QueueAct) → StandsFor self.now acts
             → result ≡ length (entries acts) }

@@ -1,12 +1,12 @@
-//! A layer of the instrument: its answers are those that a search through its acts gives.
+//! A layer of the instrument: a search of its acts determines its answers.
 
 ghost use Rattle.std.specs.Prelude.{◌≡◌, List, ◌∷◌, ◌++◌, reverse};
 
 /// A part of the instrument, on which acts are performed one after the other.
 ///
-/// Its law: if a value stands for a list of acts, then after `act` it stands for the list with that
-/// act in front, and the answer is the one that a search of the list gives. Lists of acts have the
-/// newest first.
+/// Its law: if a value stands for a list of acts, then after `act` it stands for the list with
+/// `act` in front, and the answer is the one that a search of the list determines. In a list of
+/// acts the newest act comes first.
 pub trait Layer {
     /// An act of the layer.
     type Act;
@@ -19,14 +19,14 @@ pub trait Layer {
     /// This is the answer to an act that follows this list of acts.
     ghost gives: { List Self.Act → Self.Act → Self.Answer → Type 0 };
 
-    /// Performs an act, and gives its answer.
+    /// Performs an act, and returns its answer.
     fn act(&mut self, act: Self::Act) -> Self::Answer
         ensures stands { (log : List Self.Act) → stands_for self.old log
             → stands_for self.new (act ∷ log) }
         ensures answer { (log : List Self.Act) → stands_for self.old log → gives log act result };
 }
 
-/// Performs acts in order, and drops the answers.
+/// Performs acts in order, and discards the answers.
 pub fn act_each<L: Layer>(layer: &mut L, acts: &[L::Act])
 where
     L::Act: Copy,

@@ -3,10 +3,10 @@
 /// A source of triggers.
 #[derive(Clone, Copy, Debug, PartialEq, Eq)]
 pub enum Source {
-    /// From the instrument itself, as soon as it waits for one: `IMMediate`.
+    /// The instrument itself, as soon as it waits for a trigger: `IMMediate`.
     Immediate,
-    /// From the controller: `BUS`.
+    /// The controller: `BUS`.
     Bus,
-    /// From the trigger input: `EXTernal`.
+    /// The trigger input: `EXTernal`.
     External,
 }

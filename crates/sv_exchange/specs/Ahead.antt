@@ -1,4 +1,4 @@
--- The next unit of a message, as far as the message was read.
+-- The first unit of a text, as far as the text was read.
 use Rattle.std.specs.Prelude.{◌≡◌, ℕ, ◌+◌, ◌≤◌, ◌==◌, Bool, true, false, List, [], ◌∷◌, ◌++◌, length, take, nat_lt, if◌then◌else◌}
 use Rattle.std.specs.List.{list_all, list_any}
 use Rattle.sv_text.specs.White.{is_white, trim_start, trim_end}
@@ -10,7 +10,7 @@ use Rattle.sv_exchange.specs.declared.ahead.Ahead.{Ahead}
 abbrev pub is_separator : ℕ → Bool
 is_separator b = b == 59
 
--- No semicolon follows the unit so far, only white space.
+-- The unit may still go on: after the bytes of it that were read, only white space was read, and no semicolon.
 pub record IsOpen (seen unit space : List ℕ) : Type 0 where
   pub left : (more : List ℕ) → units (seen ++ more) ≡ units ((unit ++ space) ++ more)
   pub single : list_any is_separator (unit ++ space) ≡ false
@@ -19,12 +19,12 @@ pub record IsOpen (seen unit space : List ℕ) : Type 0 where
   pub starts : is_something unit ≡ true → (more : List ℕ) → trim_start (unit ++ more) ≡ unit ++ more
   pub ends : trim_end unit ≡ unit
 
--- If the flag is true, this unit is the first of the text, whatever follows. Otherwise the unit may still go on.
+-- If the flag is true, `unit` is the first unit of the text, whatever bytes follow. Otherwise the unit may still go on.
 abbrev pub IsFound : Bool → (seen unit space : List ℕ) → Type 0
 IsFound true seen unit space = (is_something unit ≡ true) × ((more : List ℕ) → units (seen ++ more) ≡ unit ∷ units more)
 IsFound false seen unit space = IsOpen seen unit space
 
--- The bytes that were read: those before the first unit, that unit so far, and those after it.
+-- The bytes that were read: the bytes before the first unit (`before`), this unit as far as it was read, and the bytes after it (`space`).
 pub record IsAhead (ahead : Ahead) (seen : List ℕ) : Type 0 where
   pub before : List ℕ
   pub unit : List ℕ
@@ -36,7 +36,7 @@ pub record IsAhead (ahead : Ahead) (seen : List ℕ) : Type 0 where
   pub reads : Reads ahead.partial unit
   pub found : IsFound ahead.closed seen unit space
 
--- A prefix of the text was read.
+-- A prefix of the text was read, and `ahead` describes it.
 pub record IsBegun (ahead : Ahead) (text : List ℕ) : Type 0 where
   pub within : ahead.looked ≤ length text
   pub seen : IsAhead ahead (take ahead.looked text)

@@ -5,8 +5,9 @@ use Rattle.sv_exchange.specs.declared.exchange.Next.TheVariants as next
 use Rattle.sv_exchange.specs.Exchange.{ExchangeAct, Symbol, Byte, end_mark, text, messages, messages_finished, current, units_done, has_overrun, has_dropped, answers, units, is_something, joined_answers, response, Due, NothingDue, OverrunDue, InterruptDue, UnitDue, FinishDue, due_unit}
 use Rattle.sv_exchange.specs.Limits.{max_message}
 
--- the state: the rest of the current message, and whether it has ended; the text after it, and whether END follows that text; what happened
--- to the current message; and either its answers or the response
+-- the state: the part of the current message that wasn't executed yet, and whether the message has ended; the text after this message, and
+-- whether END follows that text; what happened to the current message; and the output, which is either the answers of the current message
+-- or the response
 pub record Contents : Type 0 where
   pub rest : List ℕ
   pub ended : Bool
@@ -33,16 +34,17 @@ empty = record {
   output = [];
 }
 
--- bytes, and a mark after them if END follows
+-- bytes as symbols of program text, with a mark after them if END follows
 abbrev pub symbols : List ℕ → Bool → List Symbol
 symbols bytes end_pending = map Byte bytes ++ end_mark end_pending
 
--- the messages after the current one, if that has ended
+-- the messages after the current one; no messages if the current one hasn't ended
 abbrev pub following : Bool → List ℕ → Bool → List (List ℕ)
 following true later end_pending = messages (symbols later end_pending)
 following false later end_pending = []
 
--- The stored output is the joined answers of the current message, and nothing can be read; or there is no answer, and the stored output is
+-- Either the stored output is the answers of the current message, joined, and nothing can be read. Or this message has no answers, and the
+-- stored output is the response.
 -- the response.
 abbrev pub IsShown : Bool → List ℕ → List (List ℕ) → List ℕ → Type 0
 IsShown true output given readable = (given ≢ []) × (output ≡ joined_answers given) × (readable ≡ [])
@@ -74,7 +76,7 @@ abbrev pub readable_of : Bool → List ℕ → List ℕ
 readable_of true output = []
 readable_of false output = output
 
--- the bytes that can be read, by the state
+-- the bytes that can be read in this state
 abbrev pub shown_by : Contents → List ℕ
 shown_by contents = readable_of contents.answering contents.output
 
@@ -83,7 +85,7 @@ abbrev pub unit_of : Contents → Option (List ℕ)
 unit_of contents = if contents.ended && (not contents.overlong && not contents.answers_dropped) then slice_get (units contents.rest) 0
     else None
 
--- the step that is due, by the state
+-- the step that is due in this state
 abbrev pub next_of : Contents → Due
 next_of contents = if contents.overlong && not contents.overrun_reported then OverrunDue else due_unit (unit_of contents)
     (is_something (shown_by contents)) contents.ended
@@ -101,13 +103,13 @@ abbrev pub bit : Bool → ℕ
 bit true = 1
 bit false = 0
 
--- how much text is stored: the bytes of the current message; if it has ended, also 1 for its end, the bytes after it, and 1 if END follows
--- them
+-- how much text is stored: the bytes of the current message. If this message has ended, also 1 for its end, the bytes of the text after it,
+-- and 1 if END follows that text.
 abbrev pub text_size : Bool → ℕ → ℕ → Bool → ℕ
 text_size true rest later end_pending = rest + (1 + (later + bit end_pending))
 text_size false rest later end_pending = rest
 
--- how much is left to do: each step that is due makes this less, so repeated stepping terminates
+-- a measure of the work that remains: each step that is due makes it less, so repeated stepping terminates
 abbrev pub exchange_measure : Contents → ℕ
 exchange_measure contents = 3 * text_size contents.ended (length contents.rest) (length contents.later) contents.end_pending +
     (bit (contents.overlong && not contents.overrun_reported) + bit (is_something (shown_by contents)))

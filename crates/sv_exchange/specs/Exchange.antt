@@ -1,5 +1,5 @@
--- Message exchange (IEEE 488.2, 6.1 and 6.3): program text, its messages and units, and the response, each by a search of the acts, the
--- newest first.
+-- Message exchange (IEEE 488.2, 6.1 and 6.3): program text, its messages and units, and the response. Each is defined by a search of the
+-- acts, the newest first.
 use Rattle.std.specs.Prelude.{ℕ, ◌+◌, ◌==◌, Bool, true, false, not, ◌&&◌, List, [], ◌∷◌, ◌++◌, length, drop, map, filter, Option, Some, None, nat_lt, slice_get, slice_index_or, if◌then◌else◌}
 use Rattle.std.specs.List.{list_any, join_with_byte, onto_first}
 use Rattle.sv_logs.specs.Since.{since, newest}
@@ -7,8 +7,9 @@ use Rattle.sv_text.specs.Cut.{cut_at}
 use Rattle.sv_text.specs.White.{trim}
 use Rattle.sv_exchange.specs.Limits.{max_message, max_response}
 
--- what happens to program text and responses: bytes of a write are accepted, the text is dropped, a message that is too long is reported, a
--- unit is done, an answer is given, the answers are dropped, a message is finished, the response is interrupted, bytes of it are read
+-- what happens to program text and responses: bytes of a write are accepted; the text is dropped; a message that is too long is reported; a
+-- unit is done; an answer is given; the answers are dropped; a message is finished; the response is interrupted; or bytes of the response
+-- are read
 pub data ExchangeAct : Type 0 where
   Accepted : (bytes : List ℕ) (ended : Bool) → ExchangeAct
   TextDropped : ExchangeAct
@@ -25,7 +26,7 @@ pub data Symbol : Type 0 where
   Byte : ℕ → Symbol
   End : Symbol
 
--- the mark of a write with END
+-- the mark after a write: present if the write had END
 abbrev pub end_mark : Bool → List Symbol
 end_mark ended = if ended then End ∷ [] else []
 
@@ -33,7 +34,7 @@ end_mark ended = if ended then End ∷ [] else []
 abbrev pub drops_text : List ExchangeAct → Bool
 drops_text = elim [ TextDropped ∷ acts ↦ true | _ ↦ false ]
 
--- the text that acts bring, in order
+-- the text that these acts accepted, in order
 abbrev pub symbols_of : List ExchangeAct → List Symbol
 symbols_of [] = []
 symbols_of (Accepted bytes ended ∷ acts) = symbols_of acts ++ (map Byte bytes ++ end_mark ended)
@@ -43,7 +44,7 @@ symbols_of (_ ∷ acts) = symbols_of acts
 abbrev pub text : List ExchangeAct → List Symbol
 text acts = symbols_of (since drops_text acts)
 
--- The text cut at each new line and each mark: each part but the last is a message that has ended; the last is one that hasn't.
+-- The text, cut at each new line and each mark. Each part but the last is a message that has ended. The last part is a message that hasn't.
 abbrev pub messages : List Symbol → List (List ℕ)
 messages [] = [] ∷ []
 messages (End ∷ symbols) = [] ∷ messages symbols
@@ -53,7 +54,7 @@ messages (Byte b ∷ symbols) = if b == 10 then [] ∷ messages symbols else ont
 abbrev pub messages_finished : List ExchangeAct → ℕ
 messages_finished acts = length (filter (elim [ Finished ↦ true | _ ↦ false ]) (since drops_text acts))
 
--- the acts since the current message began: since a message was finished, or text dropped
+-- the acts since the current message began: since the newest act that finished a message or dropped the text
 abbrev pub current : List ExchangeAct → List ExchangeAct
 current acts = since (elim [ Finished ∷ older ↦ true | TextDropped ∷ older ↦ true | _ ↦ false ]) acts
 
@@ -75,7 +76,7 @@ all_answers [] = []
 all_answers (Answered answer ∷ acts) = all_answers acts ++ answer ∷ []
 all_answers (_ ∷ acts) = all_answers acts
 
--- the answers of the current message; none once they were dropped
+-- the answers of the current message; none if they were dropped
 abbrev pub answers : List ExchangeAct → List (List ℕ)
 answers acts = if has_dropped (current acts) then [] else all_answers (current acts)
 
@@ -87,7 +88,7 @@ message acts = slice_index_or (messages (text acts)) (messages_finished acts) []
 abbrev pub has_ended : List ExchangeAct → Bool
 has_ended acts = nat_lt (messages_finished acts + 1) (length (messages (text acts)))
 
--- whether the current message is too long: above 4,096 bytes
+-- whether the current message is too long: more than 4,096 bytes
 abbrev pub is_long : List ExchangeAct → Bool
 is_long acts = nat_lt max_message (length (message acts))
 
@@ -96,7 +97,7 @@ abbrev pub is_something : {A : Type 0} → List A → Bool
 is_something [] = false
 is_something (x ∷ xs) = true
 
--- the units of a message: the parts between semicolons, without white space around them, if anything is left
+-- the units of a message: the parts between semicolons, trimmed of white space, without the empty ones
 abbrev pub units : List ℕ → List (List ℕ)
 units bytes = filter is_something (map trim (cut_at 59 bytes))
 
@@ -116,7 +117,7 @@ renews (Finished ∷ acts) = is_something (answers acts)
 renews (Interrupted ∷ acts) = true
 renews _ = false
 
--- the response that the newest act makes: the answers, joined and ended by a new line; empty if it interrupts the response
+-- the response that the newest act makes: the joined answers and a new line; empty if the act interrupts the response
 abbrev pub new_response : List ExchangeAct → List ℕ
 new_response (Finished ∷ acts) = joined_answers (answers acts) ++ 10 ∷ []
 new_response _ = []
@@ -131,8 +132,8 @@ bytes_read (_ ∷ acts) = bytes_read acts
 abbrev pub response : List ExchangeAct → List ℕ
 response acts = drop (bytes_read (since renews acts)) (new_response (newest renews acts))
 
--- The step that is due: a message that is too long is reported once; a unit starts, and before the first unit a response that isn't read to
--- its end is interrupted; a message that has ended is finished.
+-- The step that is due: a message that is too long is reported, one time; a unit starts; a response that isn't read to its end is
+-- interrupted, because a unit is to start; or a message that has ended is finished.
 pub data Due : Type 0 where
   NothingDue : Due
   OverrunDue : Due
@@ -140,8 +141,8 @@ pub data Due : Type 0 where
   UnitDue : (text : List ℕ) → Due
   FinishDue : Due
 
--- the step that is due, given the next unit: it starts or, if `interrupts` is true, the response is interrupted; without a unit, a message
--- that has ended is finished
+-- the step that is due, given the next unit: the unit starts, or, if `interrupts` is true, the response is interrupted. If there is no
+-- unit, the message is finished if it has ended.
 abbrev pub due_unit : Option (List ℕ) → Bool → Bool → Due
 due_unit (Some unit) interrupts ended = if interrupts then InterruptDue else UnitDue unit
 due_unit None interrupts ended = if ended then FinishDue else NothingDue
@@ -152,6 +153,6 @@ due acts =
     if is_long acts && not (has_overrun (current acts)) then OverrunDue
     else due_unit (next_unit acts) ((units_done (current acts) == 0) && is_something (response acts)) (has_ended acts)
 
--- whether an answer fits into the response, after the answers before it and with the new line
+-- whether an answer fits into the response, together with the answers before it and the new line
 abbrev pub fits_response : List (List ℕ) → List ℕ → Bool
 fits_response before answer = nat_lt (length (joined_answers (before ++ answer ∷ []))) max_response

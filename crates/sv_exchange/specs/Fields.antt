@@ -42,7 +42,7 @@ after_finish contents = record {
   output = if contents.answering then contents.output ++ 10 ∷ [] else contents.output;
 }
 
--- the joined answers with one more
+-- the joined answers with `answer` after them; only `answer` if there are no answers yet
 abbrev pub with_answer : Bool → List ℕ → List ℕ → List ℕ
 with_answer true output answer = output ++ 59 ∷ answer
 with_answer false output answer = answer
@@ -66,17 +66,18 @@ contents_of text cursor end next_start ended end_pending overlong overrun_report
   output = drop read response;
 }
 
--- While answers are collected, none of them was read, and a new line fits after them.
+-- While answers are collected, none of their bytes were read, and the new line still fits after them.
 abbrev pub IsOut : Bool → ℕ → ℕ → Type 0
 IsOut true size read = (size < max_response) × (read ≡ 0)
 IsOut false size read = (size ≤ max_response) × (read ≤ size)
 
--- Of a message that hasn't ended, at most 4,096 bytes are kept. After one that has ended, at most 4,096 more are kept, and 8,192 in all.
+-- If the current message hasn't ended, at most 4,096 of its bytes are stored. If it has ended, at most 4,096 bytes are stored after it, and
+-- at most 8,192 bytes in all.
 abbrev pub IsText : Bool → ℕ → ℕ → ℕ → ℕ → Type 0
 IsText true size cursor end next_start = (size ≤ max_text) × (size ≤ next_start + max_message)
 IsText false size cursor end next_start = (end ≡ size) × (next_start ≡ size) × (end ≤ cursor + max_message)
 
--- The fields agree with each other, and there is memory for their contents.
+-- The fields agree with each other, and the allocated memory suffices for their contents.
 pub record IsValid (text : List ℕ) (cursor end next_start : ℕ) (ended : Bool) (space : ℕ) (response : List ℕ) (read : ℕ) (answering : Bool)
     (slots : ℕ) : Type 0 where
   pub order : (cursor ≤ end) × (end ≤ next_start) × (next_start ≤ length text)

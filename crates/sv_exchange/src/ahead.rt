@@ -11,16 +11,16 @@ use sv_lexer::{Partial, Unit};
 use sv_text::is_space;
 
 /// The next unit of a message (IEEE 488.2, 7.3.2 and 7.4.1). The text is read up to the semicolon
-/// after the unit, each byte once. Positions count from the start of the text.
+/// after the unit, and no byte is read twice. Positions count from the start of the text.
 #[derive(Drop)]
 pub(crate) struct Ahead {
-    /// Where the unit begins, and where it ends without the white space after it. Before it has
-    /// begun, both are the number of bytes read.
+    /// Where the unit begins, and where it ends without the white space after it. Before the unit
+    /// has begun, both are the number of bytes read.
     start: usize,
     end: usize,
     /// How many bytes of the text were read.
     looked: usize,
-    /// Whether there was a semicolon after the unit.
+    /// Whether a semicolon came after the unit.
     closed: bool,
     /// The unit, read byte by byte.
     partial: Partial,
@@ -42,7 +42,8 @@ impl Ahead {
         ahead
     }
 
-    /// Reads on in a text that has grown, or reads a text from its start, if `anew`.
+    /// Reads on in a text that has grown. If `anew` is true, it reads the text from its start
+    /// instead.
     pub(crate) fn look_on(&mut self, text: &[u8], anew: bool)
         requires { anew ≡ false → IsBegun self.old text.now }
         ensures { IsLooked self.new text.now }
@@ -54,8 +55,8 @@ impl Ahead {
         }
     }
 
-    /// The unit, and how many bytes to step over with it, with the semicolon after it; `None` if
-    /// only semicolons and white space are left. The text must be all of the message.
+    /// The unit, and how many bytes to step over with it, including the semicolon after it; `None`
+    /// if the text has only semicolons and white space. The text must be all of the message.
     pub(crate) fn unit<'a>(&self, text: &'a [u8]) -> Option<(&'a [u8], usize)>
         requires { IsLooked self.now text.now }
         ensures { MatchOption result (units text.now ≡ [])
@@ -68,7 +69,7 @@ impl Ahead {
         }
     }
 
-    /// The header and parameters of the unit, or its error.
+    /// The unit with its header and parameters, or its error.
     pub(crate) fn lexed<'a>(&self, text: &'a [u8]) -> Result<Unit<'a>, Code>
         requires { IsLooked self.now text.now }
         ensures { (unit : List ℕ) → slice_get (units text.now) 0 ≡ Some unit
@@ -77,7 +78,7 @@ impl Ahead {
         self.partial.finish(&text[self.start..self.end])
     }
 
-    /// Reads the bytes that weren't read yet, up to the semicolon after the unit.
+    /// Reads the bytes that weren't read yet, but only up to the semicolon after the unit.
     fn look(&mut self, text: &[u8])
         requires { IsBegun self.old text.now }
         ensures { IsLooked self.new text.now }
@@ -110,7 +111,7 @@ impl Ahead {
         }
     }
 
-    /// Reads a semicolon: it ends the unit, or is skipped if no unit has begun.
+    /// Reads a semicolon. It ends the unit, or is skipped if no unit has begun.
     fn semicolon(&mut self)
         requires { self.old.looked < 2 ^ 64 - 1 }
         ensures { self.new ≡ behind_semicolon self.old }
@@ -124,7 +125,7 @@ impl Ahead {
         }
     }
 
-    /// Skips white space before the unit.
+    /// Reads a byte of white space. If no unit has begun, the unit can begin only after this byte.
     fn space(&mut self)
         requires { self.old.looked < 2 ^ 64 - 1 }
         ensures { self.new ≡ behind_space self.old }

@@ -1,4 +1,4 @@
-//! Message exchange: program messages in, responses out.
+//! Message exchange: program messages come in, and responses go out.
 
 ghost use Rattle.std.specs.Prelude.{◌≡◌, ℕ, ◌+◌, ◌*◌, ◌<◌, ◌≤◌, ◌==◌, Bool, true, false, not, List, [], ◌∷◌, ◌++◌, Option, length, take, drop, nat_lt, vec_len, vec_capacity, IsTrue, IfOk, if◌then◌else◌};
 ghost use Rattle.sv_lexer.specs.Unit.{IsLexed};
@@ -21,11 +21,12 @@ use sv_lexer::Unit;
 /// The step that is due.
 #[derive(Clone, Copy)]
 pub enum Next<'a> {
-    /// Nothing is due until more text comes.
+    /// No step is due until more text comes.
     Nothing,
-    /// The current message is too long, which is to be reported.
+    /// The current message is too long, and this is to be reported.
     Overrun,
-    /// A unit is to be executed, but a response that isn't read completely has to be dropped first.
+    /// A unit is to be executed, but before that a response must be dropped that wasn't read
+    /// completely.
     Interrupt,
     /// This unit is to be executed.
     Unit(&'a [u8]),
@@ -34,16 +35,16 @@ pub enum Next<'a> {
 }
 
 /// The exchange of messages with an instrument (IEEE 488.2, 6.1 and 6.3): program text, cut into
-/// messages and units, and the response. It keeps at most [`MAX_TEXT`] bytes of text, and
-/// [`MAX_RESPONSE`] of the response.
+/// messages and units, and the response. At most [`MAX_TEXT`] bytes of text are stored, and
+/// [`MAX_RESPONSE`] bytes of the response.
 #[derive(Drop)]
 pub struct Exchange<A: Allocator = Global> {
-    /// Program text, whose units are executed up to `cursor`.
+    /// Program text. The units before `cursor` were executed.
     text: Vec<u8, A>,
     cursor: usize,
     /// Where the current message ends.
     end: usize,
-    /// What was read ahead of the unit that begins at `cursor`.
+    /// The unit that comes next after `cursor`, as far as it was read.
     ahead: Ahead,
     /// Where the next message begins.
     next_start: usize,
@@ -51,9 +52,9 @@ pub struct Exchange<A: Allocator = Global> {
     ended: bool,
     /// Whether END came with the last byte of the text after the current message.
     end_pending: bool,
-    /// Whether the current message is too long; its bytes are then dropped.
+    /// Whether the current message is too long; its bytes are dropped if it is.
     overlong: bool,
-    /// Whether it was reported that the current message is too long.
+    /// Whether the current message was reported as too long.
     overrun_reported: bool,
     /// Whether the answers of the current message were dropped.
     answers_dropped: bool,
@@ -82,7 +83,7 @@ impl<A: Allocator> Model for Exchange<A> {
 }
 
 impl<A: Allocator + Copy> Exchange<A> {
-    /// An exchange with no text and no response. It allocates all the memory that it ever uses.
+    /// An exchange with no text and no response. All memory that it ever uses is allocated here.
     ///
     /// # Errors
     /// If memory is refused.
@@ -108,7 +109,7 @@ impl<A: Allocator + Copy> Exchange<A> {
 }
 
 impl<A: Allocator> Exchange<A> {
-    /// Whether text is accepted: it is, unless a message has ended and isn't finished yet.
+    /// Whether text is accepted. It isn't while a message has ended and isn't finished yet.
     pub fn open_for_write(&self) -> bool
         ensures value { result ≡ is_open self.now }
         ensures answer { (acts : List ExchangeAct) → StandsFor self.now acts
@@ -117,10 +118,10 @@ impl<A: Allocator> Exchange<A> {
         !self.ended
     }
 
-    /// Accepts the bytes of a write, with END after the last of them or without (VXI-11,
-    /// device_write). A message ends at END or at a new line (IEEE 488.2, 7.5). Of a message above
-    /// [`MAX_MESSAGE`] bytes none are kept. The exchange must be open for a write, and a write may
-    /// have at most [`MAX_MESSAGE`] bytes.
+    /// Accepts the bytes of a write; `ended` says whether END comes with the last of them (VXI-11,
+    /// device_write). A message ends at END or at a new line (IEEE 488.2, 7.5). If a message is
+    /// longer than [`MAX_MESSAGE`] bytes, none of its bytes are stored. The exchange must be open
+    /// for a write, and a write may have at most [`MAX_MESSAGE`] bytes.
     pub fn accept(&mut self, bytes: &[u8], ended: bool)
         requires open { IsTrue (is_open self.old) }
         requires short { length bytes.now ≤ max_message }
@@ -144,8 +145,8 @@ impl<A: Allocator> Exchange<A> {
             .look_on(&self.text[self.cursor..self.end], self.overlong);
     }
 
-    /// The step that is due: to report that the message is too long, to drop the response that a
-    /// new message interrupts, to execute a unit, or to finish the message. If a message is too
+    /// The step that is due: to report that the message is too long; to drop the response that a
+    /// new message interrupts; to execute a unit; or to finish the message. If a message is too
     /// long, or its answers were dropped, none of its units is due.
     pub fn next_unit(&self) -> Next<'_>
         ensures value { plain_next result ≡ next_of self.now }
@@ -173,10 +174,10 @@ impl<A: Allocator> Exchange<A> {
         }
     }
 
-    /// The header and parameters of the unit that is due, which were read while its bytes came.
+    /// The unit that is due, with its header and parameters. It was read while its bytes came.
     ///
     /// # Errors
-    /// Those of [`unit`](sv_lexer::unit) for its bytes.
+    /// The errors that [`unit`](sv_lexer::unit) returns for the bytes of this unit.
     pub fn lexed(&self) -> Result<Unit<'_>, Code>
         requires { IsUnitDue (next_of self.now) }
         ensures { (unit : List ℕ) → next_of self.now ≡ UnitDue unit → IsLexed result unit }
@@ -184,7 +185,7 @@ impl<A: Allocator> Exchange<A> {
         self.ahead.lexed(&self.text[self.cursor..self.end])
     }
 
-    /// Steps over the unit that is due: it has been executed.
+    /// Steps over the unit that is due, because it has been executed.
     pub fn done(&mut self)
         requires { IsUnitDue (next_of self.old) }
         ensures value { self.new ≡ record self.old { rest = self.new.rest } }
@@ -200,7 +201,7 @@ impl<A: Allocator> Exchange<A> {
         }
     }
 
-    /// Notes that the message that is too long was reported. The message is dropped up to its end.
+    /// Records that the current message was reported as too long. It is dropped up to its end.
     pub fn overran(&mut self)
         requires { next_of self.old ≡ OverrunDue }
         ensures value { self.new ≡ record self.old { overrun_reported = true } }
@@ -212,7 +213,7 @@ impl<A: Allocator> Exchange<A> {
         self.overrun_reported = true;
     }
 
-    /// Drops the response: a new message interrupts it (IEEE 488.2, 6.3.2.3).
+    /// Drops the response, because a new message interrupts it (IEEE 488.2, 6.3.2.3).
     pub fn drop_response(&mut self)
         requires { next_of self.old ≡ InterruptDue }
         ensures value { self.new ≡ record self.old { output = [] } }
@@ -225,8 +226,8 @@ impl<A: Allocator> Exchange<A> {
         self.read = self.response.len();
     }
 
-    /// Finishes the message that has ended. Its answers, if any, become the response, with a new
-    /// line (IEEE 488.2, 8.5).
+    /// Finishes the message that has ended. If it has answers, these and a new line become the
+    /// response (IEEE 488.2, 8.5).
     pub fn finish(&mut self)
         requires { next_of self.old ≡ FinishDue }
         ensures value { self.new ≡ after_finish self.old }
@@ -248,10 +249,11 @@ impl<A: Allocator> Exchange<A> {
         self.answering = false;
     }
 
-    /// Adds an answer after those of the units before, separated by a semicolon (IEEE 488.2,
-    /// 8.4.1). A unit must have been executed before. Returns whether the answer fits. If the
-    /// response would exceed [`MAX_RESPONSE`] bytes, all answers of the message are dropped, and
-    /// none of its further units is executed.
+    /// Adds an answer after the answers of the units before, separated by a semicolon (IEEE 488.2,
+    /// 8.4.1). The current message must have ended, its answers must not have been dropped, and
+    /// there must be no response to read. Returns whether the answer fits. If the response would
+    /// exceed [`MAX_RESPONSE`] bytes, all answers of the message are dropped, and no further unit
+    /// of the message is executed.
     pub fn respond(&mut self, answer: &[u8]) -> bool
         requires { IsTrue (may_respond self.old) }
         ensures value { self.new ≡ after_answer self.old answer.now result }
@@ -280,8 +282,8 @@ impl<A: Allocator> Exchange<A> {
         true
     }
 
-    /// Whether there is a response to read. The answers of a message become a response once it is
-    /// finished.
+    /// Whether there is a response to read. The answers of a message become a response when the
+    /// message is finished.
     pub fn readable(&self) -> bool
         ensures value { result ≡ is_something (shown_by self.now) }
         ensures answer { (acts : List ExchangeAct) → StandsFor self.now acts
@@ -290,8 +292,8 @@ impl<A: Allocator> Exchange<A> {
         !self.shown().is_empty()
     }
 
-    /// The next bytes of the response: at most as many as asked for, and up to the first
-    /// termination character (VXI-11, device_read). None without a response.
+    /// The next bytes of the response: at most `most` bytes, and no further than the first
+    /// termination character (VXI-11, device_read). Without a response there are no bytes.
     pub fn peek(&self, most: u32, term: Option<u8>) -> Read<'_>
         ensures value { IsReadOf result (shown_by self.now) most term }
         ensures answer { (acts : List ExchangeAct) → StandsFor self.now acts
@@ -300,7 +302,7 @@ impl<A: Allocator> Exchange<A> {
         read_of(self.shown(), most, term)
     }
 
-    /// Drops the first `count` bytes of the response, which were read (VXI-11, device_read).
+    /// Drops the first `count` bytes of the response, because they were read (VXI-11, device_read).
     pub fn take(&mut self, count: usize)
         requires { count ≤ length (shown_by self.old) }
         ensures value { self.new ≡ record self.old { output = drop count self.old.output } }
@@ -311,7 +313,8 @@ impl<A: Allocator> Exchange<A> {
         self.read += count;
     }
 
-    /// Drops the text of the current message, which mustn't have ended (IEEE 488.2, 6.3.2.2).
+    /// Drops the text of the current message. The message must not have ended (IEEE 488.2,
+    /// 6.3.2.2).
     pub fn drop_unfinished(&mut self)
         requires { IsTrue (is_open self.old) }
         ensures value { self.new ≡ record empty {
@@ -338,7 +341,7 @@ impl<A: Allocator> Exchange<A> {
         self.read = 0;
     }
 
-    /// Drops all text and the state of its messages.
+    /// Drops all text, and all that is stored about its messages.
     fn drop_text(&mut self)
         ensures { self.new ≡ record empty {
           answering = self.old.answering;
@@ -370,7 +373,7 @@ impl<A: Allocator> Exchange<A> {
     }
 }
 
-/// Drops the first `count` bytes, whose units were executed.
+/// Drops the first `count` bytes, because their units were executed.
 fn drop_done<A: Allocator>(bytes: &mut Vec<u8, A>, count: usize)
     requires { count ≤ vec_len bytes.old }
     ensures items { bytes.new.items ≡ drop count bytes.old.items }
@@ -381,8 +384,8 @@ fn drop_done<A: Allocator>(bytes: &mut Vec<u8, A>, count: usize)
     }
 }
 
-/// Appends an answer to those before, with a semicolon between, if it joins them; else replaces all
-/// bytes by the answer.
+/// If `joins` is true, appends a semicolon and the answer to the bytes, which are the answers
+/// before. Else replaces all bytes with the answer.
 fn put_answer<A: Allocator>(bytes: &mut Vec<u8, A>, joins: bool, answer: &[u8])
     requires { length (with_answer joins bytes.old.items answer.now) ≤ vec_capacity bytes.old }
     ensures items { bytes.new.items ≡ with_answer joins bytes.old.items answer.now }
@@ -396,7 +399,7 @@ fn put_answer<A: Allocator>(bytes: &mut Vec<u8, A>, joins: bool, answer: &[u8])
     append(bytes, answer);
 }
 
-/// Appends a new line, if the bytes are answers.
+/// Appends a new line if the bytes are answers.
 fn end_response<A: Allocator>(bytes: &mut Vec<u8, A>, answers: bool)
     requires { IsTrue answers → vec_len bytes.old < vec_capacity bytes.old }
     ensures items { bytes.new.items

@@ -1,8 +1,9 @@
 //! Message exchange (IEEE 488.2, 6.1 and 6.3): program text, its messages and units, and the
 //! response.
 //!
-//! [`Exchange`] takes the bytes of writes, says what is due, and gives the response to reads. It
-//! reads the next unit while its bytes come, with `sv_lexer`. Only [`Exchange::new`] allocates.
+//! [`Exchange`] accepts the bytes of writes, decides which step is due, and returns the response to
+//! reads. It reads the next unit with `sv_lexer` while the bytes of the unit come. Only
+//! [`Exchange::new`] allocates.
 #![tactic(auto)]
 
 mod ahead;

@@ -5,7 +5,7 @@ ghost use Rattle.sv_exchange.specs.Fields.{first_size, second_at, has_line};
 
 use sv_text::place_of;
 
-/// The first message of some text.
+/// Where the first message of some text ends.
 #[derive(Clone, Copy)]
 pub(crate) struct Cut {
     /// How many bytes the message has.
@@ -14,12 +14,12 @@ pub(crate) struct Cut {
     pub(crate) next_start: usize,
     /// Whether the message has ended.
     pub(crate) ended: bool,
-    /// Whether END comes after the bytes of the later messages.
+    /// Whether END comes after the bytes of the messages after the first one.
     pub(crate) end_pending: bool,
 }
 
-/// Cuts the first message off. It ends at a new line, or at END, which comes with the last byte
-/// if `end_pending` says so (IEEE 488.2, 7.5).
+/// Finds the first message of `bytes`. It ends at a new line or at END (IEEE 488.2, 7.5). END comes
+/// with the last byte if `end_pending` is true.
 pub(crate) fn first_message(bytes: &[u8], end_pending: bool) -> Cut
     ensures size { result.size ≡ first_size bytes.now }
     ensures next_start { result.next_start ≡ second_at bytes.now }

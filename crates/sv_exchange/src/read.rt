@@ -10,18 +10,18 @@ use sv_text::place_of;
 /// The next bytes of a response, and why they end there.
 #[derive(Clone, Copy)]
 pub struct Read<'a> {
-    /// As many bytes came as were asked for.
+    /// As many bytes were read as were requested.
     pub request_count: bool,
     /// The last byte is the termination character.
     pub character: bool,
-    /// The last byte is the response's last.
+    /// The last byte is the last byte of the response.
     pub end: bool,
     /// The bytes.
     pub bytes: &'a [u8],
 }
 
-/// The first bytes of a response: at most as many as asked for, and no further than to the first
-/// termination character (VXI-11, device_read).
+/// The first bytes of a response: at most `most` bytes, and no further than the first termination
+/// character (VXI-11, device_read).
 pub(crate) fn read_of(response: &[u8], most: u32, term: Option<u8>) -> Read<'_>
     ensures { IsReadOf result response.now most term }
 {
@@ -34,7 +34,7 @@ pub(crate) fn read_of(response: &[u8], most: u32, term: Option<u8>) -> Read<'_>
     }
 }
 
-/// How many bytes a read gives.
+/// How many bytes a read returns.
 fn count_of(response: &[u8], most: u32, term: Option<u8>) -> usize
     ensures value { result ≡ read_count response.now most term }
     ensures within { result ≤ length response.now }

@@ -17,11 +17,11 @@ pub record Row : Type 0 where
   pub parts : List Part
   pub command : CommandId
 
--- a node that isn't optional, by its short form and the rest of its long form
+-- a node that isn't optional, given its short form and the letters that the long form adds
 abbrev pub node : String → String → Part
 node short more = record { short = codes short; long = codes short ++ codes more; optional = false }
 
--- an optional node, by its short form and the rest of its long form
+-- an optional node, given its short form and the letters that the long form adds
 abbrev pub maybe : String → String → Part
 maybe short more = record { short = codes short; long = codes short ++ codes more; optional = true }
 
@@ -33,16 +33,16 @@ row common query parts command = record { common = common; query = query; parts 
 abbrev pub Same : List ℕ → List ℕ → Type 0
 Same sent form = map to_ascii_lowercase sent ≡ map to_ascii_lowercase form
 
--- The mnemonic is the short or the long form of the node, in any case, and nothing between.
+-- The mnemonic is the short or the long form of the node, in upper or lower case. A length between the two doesn't match.
 abbrev pub IsForm : List ℕ → Part → Type 0
 IsForm sent part = Same sent part.short ⊎ Same sent part.long
 
--- The first mnemonic is that of the node, and `Others` holds of those after it.
+-- The first mnemonic is a form of the node, and `Others` holds of the mnemonics after it.
 abbrev IsThere : List (List ℕ) → Part → (List (List ℕ) → Type 0) → Type 0
 IsThere [] part Others = ⊥
 IsThere (sent ∷ others) part Others = IsForm sent part × Others others
 
--- The mnemonics fit the nodes: each node is there, or absent if it is optional.
+-- The mnemonics fit the nodes: each node has its mnemonic, or is optional and left out.
 abbrev pub Fits : List (List ℕ) → List Part → Type 0
 Fits sent [] = sent ≡ []
 Fits sent (part ∷ parts) = IsThere sent part (λ others. Fits others parts) ⊎ ((part.optional ≡ true) × Fits sent parts)

@@ -10,7 +10,7 @@ use Rattle.sv_header.specs.Pattern.{Part}
 abbrev pub part : Node → Part
 part node = record { short = node.short.now; long = node.long.now; optional = node.optional }
 
--- the mnemonics of a text; none without a text
+-- the mnemonics of a text, which colons separate; none if there is no text
 abbrev pub sent_of : Option (Bor (List ℕ)) → List (List ℕ)
 sent_of None = []
 sent_of (Some text) = cut_at 58 text.now
@@ -20,7 +20,7 @@ abbrev pub led_by : Option (Bor (List ℕ)) → List (List ℕ) → List (List �
 led_by None others = []
 led_by (Some first) others = first.now ∷ others
 
--- the mnemonics that are left: the first one, those of the path, and those of the text
+-- the mnemonics that are still to be looked up, in this order: the first one, those of the path, those of the text
 abbrev pub left_of : Mnemonics → List (List ℕ)
 left_of left = led_by left.first (left.kept.now ++ sent_of left.sent)
 

@@ -1,4 +1,4 @@
--- The command that a header names, and the path that it leaves (SCPI-1999, volume 1, chapter 6; common commands: IEEE 488.2, 7.6.1).
+-- The command that a header names, and the path for the next header (SCPI-1999, volume 1, chapter 6; common commands: IEEE 488.2, 7.6.1).
 use Rattle.std.specs.Prelude.{◌≡◌, ℕ, Bool, true, false, List, [], ◌∷◌, ◌++◌}
 use Rattle.std.specs.List.{Contains}
 use Rattle.sv_text.specs.Header.{lead, mnemonics, is_query}
@@ -37,12 +37,12 @@ but_last [] = []
 but_last (part ∷ []) = []
 but_last (part ∷ other ∷ others) = part ∷ but_last (other ∷ others)
 
--- the path that a header leaves, by what the header begins with, the path before it, and all mnemonics, with those of the path
+-- the path for the next header, given what this header begins with, the path before it, and all mnemonics (those of the path, then its own)
 abbrev pub kept_by : Lead → List (List ℕ) → List (List ℕ) → List (List ℕ)
 kept_by Common path all = path
 kept_by _ path all = but_last all
 
--- The path that a header leaves: its mnemonics with the path before them, as they were sent, without the last one. A common command doesn't
--- change the path.
+-- The path for the next header: the path before this header and the mnemonics of this header, as they were sent, without the last mnemonic.
+-- A common command doesn't change the path.
 abbrev pub next_path : List (List ℕ) → List ℕ → List (List ℕ)
 next_path path header = kept_by (lead header) path (full path header)

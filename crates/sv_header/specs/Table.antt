@@ -1,4 +1,4 @@
--- The table of commands: the pattern of each, and what it does, asks for or sets.
+-- The table of commands: for each the pattern of its header, and what the command does, asks for or sets.
 use Rattle.std.specs.Prelude.{true, false, List, [], ◌∷◌, ◌++◌}
 use Prim.Native.String.{String}
 use Rattle.sv_status.specs.declared.register_name.RegisterName.{RegisterName}
@@ -11,23 +11,23 @@ use Rattle.sv_header.specs.declared.command.SettingName.{SettingName}
 use Rattle.sv_header.specs.declared.command.SettingName.TheVariants.{StandardEnable, ServiceEnable, Enable, Rise, Fall, ScanList, Monitor, Range, UpperLimit, LowerLimit, Limits, Source, Count}
 use Rattle.sv_header.specs.Pattern.{Part, Row, row, node, maybe}
 
--- a common command, of one mnemonic
+-- the row of a common command, which has one mnemonic
 abbrev common : String → CommandId → Row
 common name id = row true false (node name "" ∷ []) id
 
--- a common query
+-- the row of a common query
 abbrev common_query : String → CommandId → Row
 common_query name id = row true true (node name "" ∷ []) id
 
--- a command that isn't common, by its nodes
+-- the row of a command that isn't common, given its nodes
 abbrev command : List Part → CommandId → Row
 command nodes id = row false false nodes id
 
--- a query that isn't common, by its nodes
+-- the row of a query that isn't common, given its nodes
 abbrev query : List Part → CommandId → Row
 query nodes id = row false true nodes id
 
--- the command that sets a value, and the query of the value
+-- two rows: the command that sets a value, and the query that returns it
 abbrev setting : List Part → SettingName → List Row
 setting nodes name = command nodes (Set name) ∷ query nodes (Ask (Value name)) ∷ []
 
@@ -58,7 +58,7 @@ system_commands =
     ∷ query (node "SYST" "EM" ∷ node "VERS" "ION" ∷ []) (Ask Version)
     ∷ []
 
--- the commands of a status register, below these nodes
+-- the commands of a status register: their headers begin with the nodes `place`
 abbrev register : List Part → RegisterName → List Row
 register place name =
     query (place ++ maybe "EVEN" "T" ∷ []) (Ask (Events name))

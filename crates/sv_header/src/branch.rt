@@ -1,4 +1,4 @@
-//! Nodes of the tree of headers, at their places.
+//! The nodes of the tree of headers, as the code stores them.
 
 ghost use Rattle.std.specs.Prelude.{◌≡◌, [], MatchOption};
 ghost use Rattle.sv_header.specs.Plain.{left_of};
@@ -24,14 +24,15 @@ pub(crate) struct Branch {
 }
 
 impl Branch {
-    /// The command of a header that ends at this node.
+    /// Returns the command of a header that ends at this node, with the question mark if `query`.
     fn command(&self, query: bool) -> Option<CommandId>
         ensures { result ≡ command_of query self.now }
     {
         if query { self.query } else { self.plain }
     }
 
-    /// The command of the header that ends at this node; `None` if mnemonics are left.
+    /// Returns the command of a header that ends at this node; `None` if mnemonics remain, or if no
+    /// command ends here.
     pub(crate) fn ending(&self, left: &Mnemonics<'_>, query: bool) -> Option<CommandId>
         ensures { IsFound result
             (λ command. Ends (left_of left.now) (command_of query self.now) command) }
@@ -43,7 +44,8 @@ impl Branch {
     }
 }
 
-/// The first of some siblings, the nodes below it, and the other siblings.
+/// Splits siblings into the first one, the nodes below it, and the other siblings. Returns `None`
+/// if there are no siblings.
 pub(crate) fn parted(branches: &[Branch]) -> Option<(&Branch, &[Branch], &[Branch])>
     ensures { MatchOption result (branches.now ≡ [])
         (λ parts. IsParted branches.now parts.0.now parts.1.now parts.2.now) }

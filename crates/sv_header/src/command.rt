@@ -2,8 +2,8 @@
 
 use sv_status::RegisterName;
 
-/// The command that a header names. A query is another command than the same header without the
-/// question mark.
+/// The command that a header names. A header with a question mark names another command than the
+/// same header without it.
 #[derive(Clone, Copy, Debug, PartialEq, Eq)]
 pub enum CommandId {
     /// A command without a parameter, or a query that isn't answered at once.
@@ -19,18 +19,18 @@ pub enum CommandId {
     Measure,
 }
 
-/// A command, or a query that waits, without a parameter.
+/// What a command without a parameter does, or a query whose answer may have to wait.
 #[derive(Clone, Copy, Debug, PartialEq, Eq)]
 pub enum Action {
     /// `*CLS`: clear events and the error queue (IEEE 488.2, 10.3).
     ClearStatus,
-    /// `*RST`: abort, and every setting takes its default (IEEE 488.2, 10.32).
+    /// `*RST`: abort, and set every setting to its default (IEEE 488.2, 10.32).
     Reset,
     /// `*OPC`: set operation complete at the end of the measurement (IEEE 488.2, 10.18).
     TellComplete,
     /// `*WAI`: wait for the end of the measurement (IEEE 488.2, 10.39).
     Wait,
-    /// `*OPC?`: wait for the end of the measurement, and answer a one (IEEE 488.2, 10.19).
+    /// `*OPC?`: wait for the end of the measurement, and answer `1` (IEEE 488.2, 10.19).
     WaitAndTell,
     /// `*TRG`: a trigger from the controller (IEEE 488.2, 10.37).
     Trigger,
@@ -44,7 +44,7 @@ pub enum Action {
     Read,
 }
 
-/// What a query that is answered at once asks for.
+/// The data that a query returns at once.
 #[derive(Clone, Copy, Debug, PartialEq, Eq)]
 pub enum Question {
     /// `*IDN?`: the identification of the instrument.
@@ -57,7 +57,7 @@ pub enum Question {
     StandardEvents,
     /// `*STB?`: the status byte, with the master summary in bit 6.
     StatusByte,
-    /// `SYSTem:ERRor[:NEXT]?`: the oldest entry of the error queue, which the query takes.
+    /// `SYSTem:ERRor[:NEXT]?`: the oldest entry of the error queue, which the query removes.
     Error,
     /// `SYSTem:ERRor:COUNt?`: how many entries the error queue has.
     ErrorCount,

@@ -6,19 +6,20 @@ ghost use Rattle.sv_header.specs.Plain.{left_of, sent_of};
 use crate::path::Mnemonic;
 use sv_text::first_part;
 
-/// The mnemonics that are left: the first, then those left of a path, then those in a text.
+/// The mnemonics that are still to be looked up: the first one, then the remaining ones of a path,
+/// then those in a text.
 #[derive(Clone, Copy, Debug)]
 pub(crate) struct Mnemonics<'a> {
     /// The first mnemonic; `None` if none is left.
     pub(crate) first: Option<&'a [u8]>,
-    /// The mnemonics of the path that follow it.
+    /// The remaining mnemonics of the path, which come after the first one.
     pub(crate) kept: &'a [Mnemonic],
-    /// The text with the mnemonics after those; `None` if there are no more.
+    /// The text with the mnemonics after those of the path; `None` if there are no more mnemonics.
     pub(crate) sent: Option<&'a [u8]>,
 }
 
 impl<'a> Mnemonics<'a> {
-    /// The mnemonics of a path, followed by those of a text.
+    /// Returns the mnemonics of a path, followed by those of a text.
     pub(crate) fn new(kept: &'a [Mnemonic], sent: Option<&'a [u8]>) -> Mnemonics<'a>
         ensures { left_of result ≡ kept.now ++ sent_of sent.entry }
     {
@@ -44,7 +45,7 @@ impl<'a> Mnemonics<'a> {
         }
     }
 
-    /// All mnemonics but the first.
+    /// Returns all mnemonics but the first.
     pub(crate) fn others(&self) -> Mnemonics<'a>
         ensures { left_of result ≡ self.now.kept.now ++ sent_of self.now.sent }
     {

@@ -43,7 +43,7 @@ impl Mnemonic {
         self.text.as_slice()
     }
 
-    /// The mnemonic of these characters.
+    /// Makes the mnemonic of these characters.
     fn new(characters: &[u8]) -> Mnemonic
         requires { length characters.now ≤ 12 }
         ensures { result ≡ characters.now }
@@ -56,9 +56,9 @@ impl Mnemonic {
     }
 }
 
-/// The path: the mnemonics, as they were sent, that the next header continues, unless that header
-/// starts at the root or is a common command. There are at most four, since no pattern has more
-/// than five.
+/// The path: the mnemonics, as they were sent, that come before those of the next header, unless
+/// that header starts at the root or is a common command. There are at most four: no pattern has
+/// more than five nodes, and the last mnemonic of a header isn't part of the path.
 #[derive(Debug, Drop)]
 pub struct Path {
     mnemonics: ArrayVec<Mnemonic, 4>,
@@ -82,9 +82,9 @@ impl Path {
         }
     }
 
-    /// Updates the path after a header that names a command. The new path is the old one, unless
-    /// the header starts at the root, followed by all mnemonics of the header but the last. A
-    /// common command doesn't change the path.
+    /// Updates the path after a header that names a command. The new path is the old path followed
+    /// by all mnemonics of the header but the last. If the header starts at the root, the old path
+    /// is dropped first. A common command doesn't change the path.
     pub fn follow(&mut self, header: &[u8])
         requires { (command : Command) × Resolves self.old header.now command }
         ensures { self.new ≡ next_path self.old header.now }
@@ -100,7 +100,7 @@ impl Path {
         }
     }
 
-    /// Adds all mnemonics but the last to the path.
+    /// Appends all mnemonics of `body` but the last to the path.
     fn walk(&mut self, body: &[u8])
         requires few { length self.old + length (cut_at 58 body.now) ≤ 5 }
         requires short { list_all is_short (cut_at 58 body.now) ≡ true }

@@ -14,7 +14,7 @@ pub(crate) struct Node {
     pub(crate) short: &'static [u8],
     /// The long form.
     pub(crate) long: &'static [u8],
-    /// Whether it may be absent.
+    /// Whether the mnemonic may be left out.
     pub(crate) optional: bool,
 }
 
@@ -26,7 +26,8 @@ impl Node {
         mnemonic.eq_ignore_ascii_case(self.short) || mnemonic.eq_ignore_ascii_case(self.long)
     }
 
-    /// The mnemonics after the first, if the first is a form of this node's.
+    /// Returns the mnemonics after the first one, if the first one is a form of this node; else
+    /// `None`.
     pub(crate) fn behind<'a>(&self, left: &Mnemonics<'a>) -> Option<Mnemonics<'a>>
         ensures { IsBehind (left_of left.now) (part self.now) result }
     {
@@ -38,7 +39,7 @@ impl Node {
         }
     }
 
-    /// All mnemonics, if this node's may be absent.
+    /// Returns all mnemonics, if this node may be left out; else `None`.
     pub(crate) fn absent<'a>(&self, left: &Mnemonics<'a>) -> Option<Mnemonics<'a>>
         ensures { IsAllOf (left_of left.now) (part self.now) result }
     {

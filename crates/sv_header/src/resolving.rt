@@ -36,7 +36,7 @@ impl<A: Allocator> Model for Table<A> {
 }
 
 impl<A: Allocator> Table<A> {
-    /// The table of all commands. It allocates all the memory that it ever uses.
+    /// Makes the table of all commands. This allocates all the memory that the table ever uses.
     ///
     /// # Errors
     /// If memory is refused.
@@ -50,10 +50,11 @@ impl<A: Allocator> Table<A> {
         Ok(Table { branches })
     }
 
-    /// The command that a header names, with the path before it (SCPI-1999, volume 1, chapter 6).
+    /// Returns the command that a header names, with the path before it (SCPI-1999, volume 1,
+    /// chapter 6).
     ///
     /// # Errors
-    /// [`Code::UndefinedHeader`] if it names no command.
+    /// [`Code::UndefinedHeader`] if the header names no command.
     pub fn resolve(&self, path: &Path, header: &[u8]) -> Result<CommandId, Code>
         ensures { MatchResult result (λ command. Resolves path.now header.now command)
             (λ code. (code ≡ UndefinedHeader)
@@ -63,8 +64,8 @@ impl<A: Allocator> Table<A> {
         walk(&sent.mnemonics, sent.query, self.roots(sent.common)).ok_or(Code::UndefinedHeader)
     }
 
-    /// The nodes at the root, with those below them: those of common commands if `common`, else the
-    /// others.
+    /// Returns the nodes at the root and all nodes below them: those of common commands if
+    /// `common`, else those of all other commands.
     fn roots(&self, common: bool) -> &[Branch]
         ensures { tree_rows common result.now ≡ rows_with common }
     {

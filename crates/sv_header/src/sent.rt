@@ -12,17 +12,17 @@ use sv_text::{Lead, header_parts};
 /// A header and the path that it continues.
 #[derive(Clone, Copy, Debug)]
 pub(crate) struct Sent<'a> {
-    /// Whether it is a common command.
+    /// Whether the header is a common command.
     pub(crate) common: bool,
-    /// Whether a question mark ends it.
+    /// Whether the header ends in a question mark.
     pub(crate) query: bool,
-    /// Its mnemonics: those of the path, unless it starts at the root or is a common command, and
-    /// its own after them.
+    /// The mnemonics of the header. Those of the path come before them, unless the header starts at
+    /// the root or is a common command.
     pub(crate) mnemonics: Mnemonics<'a>,
 }
 
 impl<'a> Sent<'a> {
-    /// A header that continues a path.
+    /// Makes the value for a header that continues a path.
     pub(crate) fn new(path: &'a Path, header: &'a [u8]) -> Sent<'a>
         ensures common { result.common ≡ leads_common (lead_of header.now) }
         ensures query { result.query ≡ is_query header.now }

@@ -14,14 +14,15 @@ use sv_status::RegisterName;
 /// How many nodes the tree has.
 pub(crate) const NODES: usize = 63;
 
-/// A node that ends no header, with the number of nodes below it.
+/// A node at which no header ends, with the number of nodes below it.
 macro_rules! group {
     ($node:ident, $below:literal) => {
         ending!($node, $below, None, None)
     };
 }
 
-/// A node with the number of nodes below it, and its commands without and with the question mark.
+/// A node with the number of nodes below it, and the commands of the headers that end at it:
+/// without and with the question mark.
 macro_rules! ending {
     ($node:ident, $below:literal, $plain:expr, $query:expr) => {
         Branch {
@@ -33,21 +34,21 @@ macro_rules! ending {
     };
 }
 
-/// A node that ends the header of an action.
+/// A node at which the header of an action ends.
 macro_rules! does {
     ($node:ident, $action:ident) => {
         ending!($node, 0, Some(CommandId::Do(Action::$action)), None)
     };
 }
 
-/// A node that ends the header of a query.
+/// A node at which the header of a query ends.
 macro_rules! asks {
     ($node:ident, $question:expr) => {
         ending!($node, 0, None, Some(CommandId::Ask($question)))
     };
 }
 
-/// A node that ends the headers of a setting and of its query.
+/// A node at which the headers of a setting and of its query end.
 macro_rules! sets {
     ($node:ident, $name:expr) => {
         ending!(

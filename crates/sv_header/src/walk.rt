@@ -8,8 +8,9 @@ use crate::branch::{Branch, parted};
 use crate::command::CommandId;
 use crate::left::Mnemonics;
 
-/// The command to which mnemonics lead among sibling nodes and the nodes below them. The first
-/// sibling takes the first mnemonic, or is absent if it may be, or is passed over.
+/// Returns the command to which mnemonics lead among sibling nodes and the nodes below them. It
+/// tries in this order: the first mnemonic is a form of the first sibling; the first sibling is
+/// optional and left out; the command belongs to a later sibling.
 #[cycle(walk)]
 pub(crate) fn walk(left: &Mnemonics<'_>, query: bool, branches: &[Branch]) -> Option<CommandId>
     ensures { (fuel : ℕ) → length branches.now ≤ fuel
@@ -29,8 +30,8 @@ pub(crate) fn walk(left: &Mnemonics<'_>, query: bool, branches: &[Branch]) -> Op
     walk(left, query, siblings)
 }
 
-/// The command to which the mnemonics left after a node lead: the node's own command if none is
-/// left, or one below it.
+/// Returns the command to which the mnemonics after a node lead: the node's own command if no
+/// mnemonic remains, or a command below the node.
 #[cycle(walk)]
 fn below(
     left: Option<Mnemonics<'_>>,

@@ -6,12 +6,12 @@ use Rattle.sv_links.specs.Links.{owner, is_this}
 use Rattle.sv_links.specs.Waiting.{waits, link}
 use Rattle.sv_history.specs.Act.{DeviceAct, link_acts, wait_acts}
 
--- the connection that made a link; `None` if there is no such link
+-- the connection that created a link; `None` if there is no such link
 abbrev pub owner_of : Option ℕ → List DeviceAct → Option ℕ
 owner_of (Some lid) acts = owner lid (link_acts acts)
 owner_of None acts = None
 
--- the connection whose suspended call is ended: this one, if it has a suspended call that names this link; else `None`
+-- the connection whose suspended call device_abort ends: this connection, if it has a suspended call on this link; else `None`
 abbrev pub if_waiting : Option ℕ → Option ℕ → List DeviceAct → Option ℕ
 if_waiting (Some c) (Some lid) acts =
     if is_some (waits c (wait_acts acts)) && is_this lid (link c (wait_acts acts)) then Some c else None

@@ -8,8 +8,8 @@ use Rattle.sv_exchange.specs.Exchange.{ExchangeAct}
 use Rattle.sv_layers.specs.Act.{Act as InstrumentAct, exchange_acts as exchanged}
 use Rattle.sv_history.specs.declared.event.Role.{Role}
 
--- an act of one connection: it opened, a piece of bytes came, a call was taken, the record that was taken isn't a call, a reply was sent,
--- the peer took bytes, it closed
+-- an act of one connection: it opened; a piece of bytes came; a call was taken; the record that was taken isn't a call; a reply was sent;
+-- the peer took bytes of replies; it closed
 pub data ConnAct : Type 0 where
   Opened : (role : Role) → ConnAct
   Piece : (bytes : List ℕ) → ConnAct
@@ -44,31 +44,31 @@ device_acts [] = []
 device_acts (On c act ∷ log) = device_acts log
 device_acts (OnDevice act ∷ log) = act ∷ device_acts log
 
--- among the device's acts, those of links
+-- among the device's acts, the acts of links
 abbrev pub link_acts : List DeviceAct → List LinkAct
 link_acts [] = []
 link_acts (Linked act ∷ acts) = act ∷ link_acts acts
 link_acts (_ ∷ acts) = link_acts acts
 
--- among the device's acts, those of suspended calls
+-- among the device's acts, the acts of suspended calls
 abbrev pub wait_acts : List DeviceAct → List WaitAct
 wait_acts [] = []
 wait_acts (Waited act ∷ acts) = act ∷ wait_acts acts
 wait_acts (_ ∷ acts) = wait_acts acts
 
--- among the device's acts, those of interrupt channels
+-- among the device's acts, the acts of interrupt channels
 abbrev pub channel_acts : List DeviceAct → List ChannelAct
 channel_acts [] = []
 channel_acts (Channel act ∷ acts) = act ∷ channel_acts acts
 channel_acts (_ ∷ acts) = channel_acts acts
 
--- among the device's acts, those of the instrument
+-- among the device's acts, the acts of the instrument
 abbrev pub instrument_acts : List DeviceAct → List InstrumentAct
 instrument_acts [] = []
 instrument_acts (Applied act ∷ acts) = act ∷ instrument_acts acts
 instrument_acts (_ ∷ acts) = instrument_acts acts
 
--- among the instrument's acts, those of message exchange
+-- among the instrument's acts, the acts of message exchange
 abbrev pub exchange_acts : List DeviceAct → List ExchangeAct
 exchange_acts acts = exchanged (instrument_acts acts)
 

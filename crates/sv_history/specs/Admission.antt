@@ -1,5 +1,5 @@
--- What stops a call of the core channel (VXI-11 revision 1.0, sections B.4.4 and B.6), in the order of the checks: its link, its size, the
--- lock, what it waits for.
+-- What stops a call of the core channel (VXI-11 revision 1.0, sections B.4.4 and B.6), in the order of the checks: its link; its size; the
+-- lock; what the call has to wait for.
 use Rattle.std.specs.Prelude.{ℕ, ◌+◌, ◌==◌, not, Bool, List, length, Option, Some, None, option_map, is_some, codes, nat_lt, ◌&&◌, if◌then◌else◌}
 use Rattle.std.specs.Str.{bytes_eq}
 use Rattle.sv_vxi.specs.declared.error_code.ErrorCode.{ErrorCode}
@@ -30,16 +30,16 @@ pub data Stop : Type 0 where
 abbrev pub lock_stop : LockWait → Stop
 lock_stop wait = if wait.waits then Awaits Lock (Some wait.timeout) else Fails DeviceLocked
 
--- What a call waits for besides the lock, and its timeout in milliseconds. A write waits while a message that has ended isn't finished, a
--- read until it can be answered.
+-- What a call waits for besides the lock, and its timeout in milliseconds. A write waits while a message that has ended isn't finished. A
+-- read waits until it can be answered.
 abbrev pub device_wait : LinkCall → List DeviceAct → Option (Wait × ℕ)
 device_wait (DeviceWrite timeout lock_timeout flags bytes) acts = if has_ended (exchange_acts acts) then Some (Input, timeout) else None
 device_wait (DeviceRead request_size timeout lock_timeout flags term_char) acts =
     if is_answerable (instrument_acts acts) then None else Some (Response, timeout)
 device_wait _ acts = None
 
--- What stops a call on a link, the first of these: the connection doesn't own the link; a write is too long; another link holds the lock;
--- the call has to wait for the device.
+-- What stops a call on a link, by the first of these that applies: the connection doesn't own the link; a write is too long; another link
+-- holds the lock; the call has to wait for the device.
 abbrev pub call_stop : ℕ → Option ℕ → LinkCall → List DeviceAct → Option Stop
 call_stop c lid call acts =
     if not (owns c lid acts) then Some (Fails InvalidLink)
@@ -47,28 +47,28 @@ call_stop c lid call acts =
     else (if is_some (lock_wait call) && is_locked_out (holder (link_acts acts)) lid then option_map lock_stop (lock_wait call)
     else option_map (λ wait. Awaits wait.0 (Some wait.1)) (device_wait call acts)))
 
--- whether one more link may be made: the live links, and those for which create_links are suspended, are fewer than 32, and a number is
--- left
+-- whether one more link may be created: the live links and the suspended create_link calls are together fewer than 32, and a link number is
+-- still unused
 abbrev pub may_make_more : List DeviceAct → Bool
 may_make_more acts = nat_lt (length (live (link_acts acts)) + creating (wait_acts acts)) max_links && lids_left (link_acts acts)
 
--- What stops create_link, the first of these: the device's name isn't inst0; no more link may be made; the call asks for the lock, which a
--- link holds.
+-- What stops create_link, by the first of these that applies: the device's name isn't inst0; no more link may be created; the call asks for
+-- the lock, and a link holds the lock.
 abbrev pub link_stop : Bool → ℕ → List ℕ → List DeviceAct → Option Stop
 link_stop lock_device timeout device acts =
     if not (bytes_eq device (codes "inst0")) then Some (Fails NotAccessible)
     else (if not (may_make_more acts) then Some (Fails OutOfResources)
     else (if lock_device && is_locked_out (holder (link_acts acts)) None then Some (Awaits Lock (Some timeout)) else None))
 
--- What stops create_intr_chan, the first of these: a channel is open, the protocol isn't TCP (0), the address or the port can't be a
--- peer's. Else it waits without a deadline until its peer is connected.
+-- What stops create_intr_chan, by the first of these that applies: the connection already has a channel; the protocol isn't TCP (0); the
+-- server doesn't connect to this address or port. If none applies, the call waits without a deadline until its peer is connected.
 abbrev pub channel_stop : Bool → ℕ → ℕ → ℕ → Stop
 channel_stop there host_addr host_port prog_family =
     if there then Fails AlreadyEstablished
     else (if not (prog_family == 0) then Fails NotSupported
     else (if not (is_peer host_addr host_port) then Fails InvalidAddress else Awaits Dial None))
 
--- what stops a call; `None` if nothing does
+-- what stops a call; `None` if nothing stops it
 abbrev pub stop_of : ℕ → Arguments → List DeviceAct → Option Stop
 stop_of c (CreateLink client_id lock_device lock_timeout device) acts = link_stop lock_device lock_timeout device acts
 stop_of c (OnLink lid call) acts = call_stop c (lid_of (Some lid)) call acts
@@ -76,7 +76,7 @@ stop_of c (CreateIntrChan host_addr host_port prog_num prog_vers prog_family) ac
     Some (channel_stop (has_channel c acts) host_addr host_port prog_family)
 stop_of c DestroyIntrChan acts = None
 
--- the clock's time at which a wait that begins now times out; `None` without a timeout
+-- the time of the clock at which a wait that begins now times out; `None` without a timeout
 abbrev pub deadline : Config → Option ℕ → List DeviceAct → Option ℕ
 deadline config timeout acts = option_map (λ milliseconds. config.clock + ticks acts + milliseconds) timeout
 

@@ -13,11 +13,11 @@ use Rattle.sv_history.specs.declared.event.Port.TheVariants.{Conn, Intr}
 use Rattle.sv_history.specs.Act.{Act, ConnAct, Opened, Piece, CallTaken, Faulted, Replied, BytesTaken, PortClosed, of}
 use Rattle.sv_history.specs.Limits.{max_output}
 
--- the role after an act that changes it: opening gives a role, closing takes it away
+-- the role of the connection after an act that changes it: an opening gives it a role; after a close it has none
 abbrev pub opening : ConnAct → Option (Option Role)
 opening = elim [ Opened role ↦ Some (Some role) | PortClosed ↦ Some None | _ ↦ None ]
 
--- the role of the connection, if it is open: that of its newest opening, unless it was closed since
+-- the role of the connection, if it is open: the role with which it opened last, unless it has closed since
 abbrev pub open_role : List ConnAct → Option Role
 open_role = last_given opening None
 
@@ -25,7 +25,7 @@ open_role = last_given opening None
 abbrev pub acts_since_opening : List ConnAct → List ConnAct
 acts_since_opening = since (elim [ Opened role ∷ older ↦ true | PortClosed ∷ older ↦ true | _ ↦ false ])
 
--- the bytes of these pieces, the oldest first; in the list the newest piece is first
+-- the bytes of these pieces, joined from the oldest to the newest; in the list the newest piece is first
 abbrev pub join_pieces : List (List ℕ) → List ℕ
 join_pieces [] = []
 join_pieces (piece ∷ pieces) = join_pieces pieces ++ piece
@@ -63,7 +63,7 @@ is_busy acts = is_some (pending_call acts)
 abbrev pub records_ended : List ConnAct → ℕ
 records_ended acts = length (filter (elim [ Replied bytes ↦ true | Faulted ↦ true | _ ↦ false ]) (acts_since_opening acts))
 
--- whether a record was taken that isn't a call
+-- whether a record that isn't a call was taken
 abbrev pub took_no_call : List ConnAct → Bool
 took_no_call acts = list_any (elim [ Faulted ↦ true | _ ↦ false ]) (acts_since_opening acts)
 
@@ -71,7 +71,7 @@ took_no_call acts = list_any (elim [ Faulted ↦ true | _ ↦ false ]) (acts_sin
 abbrev pub is_open : List ConnAct → Bool
 is_open acts = is_some (open_role acts)
 
--- the bytes of replies that the peer didn't take
+-- the bytes of replies that the peer hasn't taken yet
 abbrev pub bytes_left : List ConnAct → List ℕ
 bytes_left acts = drop (bytes_taken acts) (bytes_sent acts)
 
@@ -79,7 +79,7 @@ bytes_left acts = drop (bytes_taken acts) (bytes_sent acts)
 abbrev pub waiting : List ConnAct → List ℕ
 waiting acts = if is_open acts then bytes_left acts else []
 
--- the bytes that wait on a port; `channel_log` is the log of the interrupt channels
+-- the bytes that wait to be sent on a port; `channel_log` is the log of the interrupt channels
 abbrev pub waiting_on : List ChannelAct → Port → List Act → List ℕ
 waiting_on channel_log (Conn c) log = waiting (of c log)
 waiting_on channel_log (Intr c) log = channel_waiting c channel_log
@@ -89,7 +89,8 @@ abbrev pub sent_on : List ChannelAct → Port → List Act → List ℕ
 sent_on channel_log (Conn c) log = bytes_sent (of c log)
 sent_on channel_log (Intr c) log = concat (calls c channel_log)
 
--- The call to take next: the first record that isn't answered. There is none while a call is pending, or once a record wasn't a call.
+-- The call to take next: the first record that isn't answered. There is no call to take while a call is pending, or after a record that
+-- isn't a call was taken.
 abbrev pub next_call : List ConnAct → Option (List ℕ)
 next_call acts = if took_no_call acts || is_busy acts then None else slice_get (records_of (stream acts)) (records_ended acts)
 
@@ -97,20 +98,20 @@ next_call acts = if took_no_call acts || is_busy acts then None else slice_get (
 abbrev pub is_idle : List ConnAct → Bool
 is_idle acts = is_none (next_call acts)
 
--- whether a record that came is too long: nothing after it is taken in
+-- whether a record that came is too long: the server stores no byte after it
 abbrev pub is_overlong : List ConnAct → Bool
 is_overlong acts = ends_overlong (tail_of (stream acts))
 
--- whether the connection is at fault and only waits to be closed: a record was taken that isn't a call, or all records before one that is
--- too long were answered
+-- whether the connection is at fault and only waits to be closed: a record that isn't a call was taken; or a record is too long, and all
+-- records before it were answered
 abbrev pub is_faulted : List ConnAct → Bool
 is_faulted acts = took_no_call acts || (is_overlong acts && (records_ended acts == length (records_of (stream acts))))
 
--- how many bytes may still come: a record uses room until it is answered
+-- how many bytes the connection can still store: a record uses room until it is answered
 abbrev pub room : List ConnAct → ℕ
 room acts =
     if is_open acts then capacity - used_by (drop (records_ended acts) (records_of (stream acts))) (tail_of (stream acts)) else 0
 
--- for how many bytes of replies there is still room
+-- how many more bytes of replies the connection can store
 abbrev pub free : List ConnAct → ℕ
 free acts = max_output - length (bytes_left acts)

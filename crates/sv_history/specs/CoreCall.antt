@@ -16,7 +16,7 @@ abbrev pub creates_link : Option CoreCall → Bool
 creates_link (Some call) = is_create_link call.arguments
 creates_link None = false
 
--- the number of the link that a call names; `None` if it names none or a negative one, which no link has
+-- the number of the link that a call names; `None` if the call names no link, or a negative number, which no link has
 abbrev pub lid_of : Option ℤ → Option ℕ
 lid_of (Some (pos lid)) = Some lid
 lid_of _ = None
@@ -26,11 +26,11 @@ abbrev pub is_too_long : LinkCall → Bool
 is_too_long (DeviceWrite io_timeout lock_timeout flags bytes) = nat_lt max_message (length bytes)
 is_too_long _ = false
 
--- the result of a read that gives no bytes
+-- the result of a read that returns no bytes
 abbrev pub no_bytes : ErrorCode → Outcome
 no_bytes error = Read error (record { request_count = false; character = false; end = false }) []
 
--- the result of a call that fails with this error: its other fields are 0 or empty
+-- the result of a call that fails with this error: all other fields of the result are 0 or empty
 abbrev pub failure : Arguments → ErrorCode → Outcome
 failure (CreateLink client_id lock_device lock_timeout device) error = Link error (pos 0) 0 0
 failure (OnLink lid (DeviceWrite io_timeout lock_timeout flags bytes)) error = Size error 0

@@ -1,4 +1,4 @@
--- What each call of the core channel does once nothing stops it (VXI-11 revision 1.0, section B.6). `Admission` says what stops it.
+-- What each call of the core channel does if nothing stops it (VXI-11 revision 1.0, section B.6). `Admission` says what stops a call.
 use Rattle.std.specs.Prelude.{ℕ, ◌+◌, ◌%◌, ◌==◌, not, pos, negsuc, Bool, false, List, [], ◌∷◌, ◌++◌, length, map, take, Option, Some, None, nat_lt, if◌then◌else◌}
 use Rattle.std.specs.Int.{bit_at}
 use Rattle.sv_errors.specs.declared.code.Code.TheVariants.{QueryUnterminated}
@@ -26,7 +26,7 @@ abbrev pub owns : ℕ → Option ℕ → List DeviceAct → Bool
 owns c (Some lid) acts = is_of c (owner lid (link_acts acts))
 owns c None acts = false
 
--- create_link: a link is made, and gets the lock if the call asks for the lock; error 9 if no number is left
+-- create_link: a link is created, and gets the lock if the call asks for it; error 9 if no link number is unused
 abbrev pub make_link : Config → ℕ → Bool → List DeviceAct → CallOutcome
 make_link config c lock_device acts =
     if not (lids_left (link_acts acts)) then only (Link OutOfResources (pos 0) 0 0)
@@ -34,7 +34,7 @@ make_link config c lock_device acts =
     answer_with ((if lock_device then Linked (Locked lid) ∷ [] else []) ++ Linked (Made lid c) ∷ [])
     (Link NoError (pos lid) config.abort max_message))
 
--- device_lock: the link gets the lock, also if it holds it already; error 11 if another link holds it
+-- device_lock: the link gets the lock, even if it already holds the lock; error 11 if another link holds the lock
 abbrev pub device_lock : ℕ → List DeviceAct → CallOutcome
 device_lock lid acts = if is_locked_out (holder (link_acts acts)) (Some lid) then only (Plain DeviceLocked)
     else answer_with (Linked (Locked lid) ∷ []) (Plain NoError)
@@ -55,7 +55,8 @@ device_write flags bytes acts =
 abbrev pub term_of : ℕ → ℕ → Option ℕ
 term_of flags term_char = if bit_at flags 7 == 1 then Some (term_char % 256) else None
 
--- the result of a read of these bytes: as many as were requested, or up to the termination character; with each reason why it ends there
+-- the result of a read of this response: its first bytes, as many as requested or up to the termination character; and each reason to end
+-- there
 abbrev pub read_of : List ℕ → ℕ → Option ℕ → Outcome
 read_of bytes most term =
     let count = read_count bytes most term in
@@ -66,16 +67,16 @@ read_of bytes most term =
 abbrev pub reads : List ℕ → ℕ → Option ℕ → CallOutcome
 reads bytes most term = answer_with (Applied (Exchanged (ResponseRead (read_count bytes most term))) ∷ []) (read_of bytes most term)
 
--- device_read: bytes of the response, if there is one. Else error 15; if no response can come any more, the unfinished text is also
--- dropped, and -420 is reported.
+-- device_read: returns bytes of the response, if there is a response; else error 15. If there is none and none can come any more, the
+-- unfinished text is also dropped, and -420 is reported.
 abbrev pub device_read : ℕ → Option ℕ → List DeviceAct → CallOutcome
 device_read most term acts =
     if is_something (response (exchange_acts acts)) then reads (response (exchange_acts acts)) most term
     else (if not (is_answerable (instrument_acts acts)) then only (no_bytes IoTimeout)
     else answer_with (Applied (Reported QueryUnterminated) ∷ Applied (Exchanged TextDropped) ∷ []) (no_bytes IoTimeout))
 
--- What a call on this link does, if a poll of the status byte would give `polled`. device_remote and device_local do nothing. device_docmd
--- isn't supported (error 8). device_abort, which isn't a call of this channel, gets error 8 too.
+-- What a call on this link does, if a poll of the status byte would return `polled`. device_remote and device_local do nothing.
+-- device_docmd isn't supported (error 8). device_abort isn't a call of this channel, and gets error 8 too.
 abbrev pub link_call : ℕ → ℕ → ℕ → LinkCall → List DeviceAct → CallOutcome
 link_call polled c lid (DeviceWrite io_timeout lock_timeout flags bytes) acts = device_write flags bytes acts
 link_call polled c lid (DeviceRead request_size io_timeout lock_timeout flags term_char) acts =
@@ -92,8 +93,8 @@ link_call polled c lid (DeviceEnableSrq enable handle) acts =
 link_call polled c lid DestroyLink acts = answer_with (Linked (Destroyed lid) ∷ []) (Plain NoError)
 link_call polled c lid call acts = only (failure (OnLink (pos lid) call) NotSupported)
 
--- What any call of the core channel does. No link has a negative number. create_intr_chan gets error 8 here: it is always stopped before
--- (`Admission`), and its outcome is `connect_outcome` (`Interrupts`).
+-- What any call of the core channel does. No link has a negative number. The error 8 of create_intr_chan is never sent from here:
+-- `Admission` always stops such a call first, and its outcome is `connect_outcome` (in `Interrupts`).
 abbrev pub own_call : Config → ℕ → ℕ → Arguments → List DeviceAct → CallOutcome
 own_call config polled c (CreateLink client_id lock_device lock_timeout device) acts = make_link config c lock_device acts
 own_call config polled c (OnLink (pos lid) call) acts = link_call polled c lid call acts

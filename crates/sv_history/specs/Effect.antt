@@ -11,7 +11,7 @@ pub record Effect : Type 0 where
   pub own : List ConnAct
   pub adds : List DeviceAct
 
--- the acts of an effect, in the order of the log, for the connection of this number
+-- the acts of an effect on the connection of this number, in the order of the log
 abbrev pub acts_of : ℕ → Effect → List Act
 acts_of c effect = map (On c) effect.own ++ map OnDevice effect.adds
 
@@ -28,6 +28,6 @@ replies xid None = []
 abbrev pub call_effect : ℕ → CallOutcome → Effect
 call_effect xid outcome = record { own = replies xid outcome.result; adds = outcome.adds }
 
--- the effect that is only this reply
+-- the effect of an answer that does nothing but send this reply
 abbrev pub only_reply : List ℕ → Effect
 only_reply bytes = record { own = Replied bytes ∷ []; adds = [] }

@@ -7,7 +7,7 @@ use Rattle.sv_history.specs.declared.event.Config.{Config}
 use Rattle.sv_history.specs.declared.event.Event.{Event}
 use Rattle.sv_history.specs.declared.event.Event.TheVariants as events
 
--- an event as plain data: its bytes are a list, whatever memory they lie in
+-- an event as plain data: its bytes are a list, wherever the code stores them
 pub data PlainEvent : Type 0 where
   Open : (conn : ℕ) (role : Role) → PlainEvent
   Bytes : (conn : ℕ) (piece : List ℕ) → PlainEvent

@@ -30,12 +30,12 @@ use Rattle.sv_history.specs.PolledStatus.{IsPolled}
 use Rattle.sv_history.specs.Settling.{Settles}
 use Rattle.sv_history.specs.Limits.{longest_reply}
 
--- the acts of the suspended call that a device_abort ends, if it ends one: error 23
+-- the acts by which a device_abort ends the suspended call of a connection with error 23; none if it ends no call
 abbrev pub abort_acts : Option ℕ → List Act → List Act
 abort_acts (Some c) log = acts_of c (failure_effect Abort c (core_call_in (pending_call (of c log))))
 abort_acts None log = []
 
--- the acts of a record that was taken: those of the call that it aborts, if any, its own effect, and the act of taking it
+-- the acts of a record that was taken: the act of taking it; its own effect; and the end of the suspended call that it aborts, if any
 abbrev pub taken_acts : ℕ → List ℕ → Effect → Option ℕ → List Act → List Act
 taken_acts c bytes effect aborts log =
     let acts = acts_of c effect ++ On c (CallTaken bytes) ∷ [] in abort_acts aborts (acts ++ log) ++ acts
@@ -51,8 +51,8 @@ abbrev pub refuse_acts : ℕ → Option (List ℕ) → Option CoreCall → List 
 refuse_acts c (Some bytes) (Some call) = On c (Replied (refused_reply call)) ∷ On c (CallTaken bytes) ∷ []
 refuse_acts c _ _ = []
 
--- The acts that an event itself adds to the log, if a poll of the status byte would give `polled`. Closing a connection ends its suspended
--- call, destroys its links by rising number, and closes its interrupt channel.
+-- The acts that an event itself adds to the log, if a poll of the status byte would return `polled`. Closing a connection ends its
+-- suspended call, destroys its links from the lowest number up, and closes its interrupt channel.
 abbrev pub own_acts : Config → ℕ → PlainEvent → List Act → List Act
 own_acts config polled (Open c role) log = On c (Opened role) ∷ []
 own_acts config polled (Bytes c piece) log = On c (Piece piece) ∷ []
@@ -69,11 +69,11 @@ own_acts config polled (Input channel microvolts) log = OnDevice (Applied (Scann
 own_acts config polled External log = map OnDevice (map Applied (external_acts (instrument_acts (device_acts log))))
 own_acts config polled Tick log = map OnDevice (map Applied (tick_acts (instrument_acts (device_acts log)))) ++ OnDevice Ticked ∷ []
 
--- whether no connection of this number is open
+-- whether no connection with this number is open
 abbrev pub is_shut : ℕ → List Act → Bool
 is_shut c log = nat_lt 15 c || not (is_open (of c log))
 
--- whether no interrupt channel of this number is open
+-- whether no interrupt channel with this number is open
 abbrev pub is_channel_shut : ℕ → List Act → Bool
 is_channel_shut c log = nat_lt 15 c || not (has_channel c (device_acts log))
 
@@ -87,7 +87,7 @@ abbrev pub is_beyond : ℤ → Bool
 is_beyond (pos n) = nat_lt most_microvolts n
 is_beyond (negsuc n) = nat_lt most_microvolts (n + 1)
 
--- why an Input is refused: there is no such channel, or the voltage is beyond plus or minus 1,000 V
+-- why an Input is refused: there is no such channel; or the voltage is beyond plus or minus 1,000 V
 abbrev pub input_refusal : ℕ → ℤ → Option Refused
 input_refusal channel microvolts =
     if not (is_channel channel) then Some BadChannel else (if is_beyond microvolts then Some BadInput else None)
@@ -96,17 +96,17 @@ input_refusal channel microvolts =
 abbrev pub last_clock : ℕ
 last_clock = 9223372036854775807
 
--- why a Turn of an open connection is refused: there is a call to take, and no room for the longest reply
+-- why a Turn of an open connection is refused: there is a call to take, but no room for the longest reply
 abbrev pub turn_refusal : List ConnAct → Option Refused
 turn_refusal acts = if is_idle acts then None else (if nat_lt (free acts) longest_reply then Some NoRoom else None)
 
--- why a Refuse of an open connection is refused itself: the next call isn't one that may be refused, or there is no room for the longest
--- reply
+-- why a Refuse of an open connection is itself refused: the next call isn't of a kind that may be refused; or there is no room for the
+-- longest reply
 abbrev pub refuse_refusal : List ConnAct → Option Refused
 refuse_refusal acts =
     if is_none (refusable acts) then Some NotRefusable else (if nat_lt (free acts) longest_reply then Some NoRoom else None)
 
--- why a Took is refused: it takes more bytes than wait
+-- why a Took is refused: it takes more bytes than wait to be sent
 abbrev pub took_refusal : ℕ → List ℕ → Option Refused
 took_refusal count bytes = if nat_lt (length bytes) count then Some NotSent else None
 
@@ -114,8 +114,8 @@ took_refusal count bytes = if nat_lt (length bytes) count then Some NotSent else
 abbrev pub unless_shut : ℕ → List Act → Option Refused → Option Refused
 unless_shut c log other = if is_shut c log then Some NoConn else other
 
--- The first check that an event fails, in the order of the checks; `None` if it fails none. `channel_log` is the log of the interrupt
--- channels. Out of memory isn't one of the checks.
+-- The first check that an event fails; `None` if it fails none. `channel_log` is the log of the interrupt channels. Running out of memory
+-- isn't one of these checks.
 abbrev pub refusal : Config → List ChannelAct → PlainEvent → List Act → Option Refused
 refusal config channel_log (Open c role) log = if nat_lt 15 c then Some NoConn else (if is_open (of c log) then Some ConnInUse else None)
 refusal config channel_log (Bytes c piece) log = unless_shut c log (if nat_lt (room (of c log)) (length piece) then Some NoRoom else None)
@@ -131,7 +131,8 @@ refusal config channel_log (Input channel microvolts) log = input_refusal channe
 refusal config channel_log External log = None
 refusal config channel_log Tick log = if config.clock + ticks (device_acts log) == last_clock then Some TimeOver else None
 
--- The log of a history: for each event its own acts, and then the steps that are due. No event is refused, and each number is in range.
+-- The log of a history: for each event its own acts, then the acts of the steps that are due. No event is refused, and each number is in
+-- range.
 abbrev pub IsLogOf : Config → List PlainEvent → List Act → Type 0
 IsLogOf config [] log = IsConfig config × (log ≡ [])
 IsLogOf config (event ∷ history) log = (before : List Act) × (polled : ℕ) × (channel_log : List ChannelAct) × IsEvent event
@@ -144,12 +145,12 @@ abbrev pub did : PlainEvent → List Act → Did
 did (Turn c) log = if is_idle (of c log) then Idle else Done
 did _ log = Done
 
--- whether acts need memory: they make a link, or suspend a create_link or a create_intr_chan
+-- whether acts need memory: they create a link, or suspend a create_link or a create_intr_chan
 abbrev pub wants_memory : List DeviceAct → Bool
 wants_memory acts = nat_lt 0 (links_made (link_acts acts)) || (nat_lt 0 (creating (wait_acts acts)) || nat_lt 0 (dialing (wait_acts acts)))
 
--- The result of an event: what it did, or the first check that failed. Out of memory is possible only if no check fails, and the event
--- makes a link, or suspends a create_link or a create_intr_chan.
+-- The result of an event: what it did, or the first check that it failed. It can run out of memory only if it fails no check, and creates a
+-- link or suspends a create_link or a create_intr_chan.
 abbrev pub AnswersBy : Config → List ChannelAct → PlainEvent → List Act → Result Did Refused → Type 0
 AnswersBy config channel_log event log (Ok what) = (refusal config channel_log event log ≡ None) × (what ≡ did event log)
 AnswersBy config channel_log event log (Err NoMemory) = (refusal config channel_log event log ≡ None) × (polled : ℕ)
@@ -157,12 +158,12 @@ AnswersBy config channel_log event log (Err NoMemory) = (refusal config channel_
     × (wants_memory (device_acts (own_acts config polled event log)) ≡ true)
 AnswersBy config channel_log event log (Err refused) = refusal config channel_log event log ≡ Some refused
 
--- The result of an event that is given after this log.
+-- The result of an event that comes after this log.
 abbrev pub Answers : Config → PlainEvent → List Act → Result Did Refused → Type 0
 Answers config event log result = (channel_log : List ChannelAct) × HearsOf (device_acts log) channel_log
     × AnswersBy config channel_log event log result
 
--- the history after an event: with the event, unless it was refused
+-- the history after an event: the event is added to it, unless the event was refused
 abbrev pub history_after : PlainEvent → Result Did Refused → List PlainEvent → List PlainEvent
 history_after event (Ok what) history = event ∷ history
 history_after event (Err refused) history = history

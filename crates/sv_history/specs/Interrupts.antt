@@ -18,7 +18,7 @@ use Rattle.sv_history.specs.Request.{core_call_in}
 abbrev pub has_channel : ℕ → List DeviceAct → Bool
 has_channel c acts = is_channel_open c (channel_acts acts)
 
--- device_enable_srq: a link enables service requests, with a handle of at most 40 bytes (else error 5), or disables them
+-- device_enable_srq: a link enables service requests with a handle of at most 40 bytes (error 5 for a longer one), or disables them
 abbrev pub enable_srq : ℕ → Bool → ℕ → List ℕ → CallOutcome
 enable_srq c true lid handle = if nat_lt max_handle (length handle) then only (Plain ParameterError)
     else answer_with (Channel (SrqEnabled lid c handle) ∷ []) (Plain NoError)
@@ -28,7 +28,7 @@ enable_srq c false lid handle = answer_with (Channel (SrqDisabled lid) ∷ []) (
 abbrev pub is_peer : ℕ → ℕ → Bool
 is_peer host_addr host_port = (host_addr / 16777216 == 127) && nat_lt 0 host_port && nat_lt host_port 65536
 
--- whether a call waits for the connection to its peer
+-- whether a call waits for the connection to its peer to be made
 abbrev pub is_dial : Option Wait → Bool
 is_dial (Some Dialing) = true
 is_dial _ = false
@@ -41,22 +41,22 @@ is_dialing c acts = is_dial (waits c acts)
 abbrev pub dialing : List WaitAct → ℕ
 dialing acts = length (filter (λ c. is_dialing c acts) connections)
 
--- the address and the port that a create_intr_chan names; `None` for another call, or a port above 65535
+-- the address and the port that a create_intr_chan names; `None` for any other call, and for a port above 65535
 abbrev pub dial_by : Arguments → Option Dial
 dial_by (CreateIntrChan host_addr host_port prog_num prog_vers prog_family) =
     if nat_lt host_port 65536 then Some (record { addr = host_addr; port = host_port }) else None
 dial_by _ = None
 
--- the address and the port that a call names; `None` without a call, or for one that names none
+-- the address and the port that a call names; `None` if there is no call, or if it names none
 abbrev pub dial_in : Option CoreCall → Option Dial
 dial_in (Some call) = dial_by call.arguments
 dial_in None = None
 
--- where to connect the interrupt channel of a connection; `None` if no create_intr_chan of it is suspended
+-- where to connect the interrupt channel of a connection; `None` if the connection has no suspended create_intr_chan
 abbrev pub dial_of : ℕ → List Act → Option Dial
 dial_of c log = if is_dialing c (wait_acts (device_acts log)) then dial_in (core_call_in (pending_call (of c log))) else None
 
--- the outcome of a suspended create_intr_chan whose peer was connected, or couldn't be: the channel opens, or the call gets error 6
+-- the outcome of a suspended create_intr_chan: if its peer was connected, the channel opens; if it couldn't be, the call gets error 6
 abbrev pub connect_outcome : ℕ → Bool → Arguments → CallOutcome
 connect_outcome c true (CreateIntrChan host_addr host_port prog_num prog_vers prog_family) =
     answer_with (Channel (ChannelOpened c (record { prog = prog_num; vers = prog_vers })) ∷ []) (Plain NoError)

@@ -1,9 +1,9 @@
--- The status byte, as a poll would give it (IEEE 488.2, 11.2.2.1).
+-- The status byte, as a poll would return it (IEEE 488.2, 11.2.2.1).
 use Rattle.std.specs.Prelude.{◌≡◌, ◌↔◌, ℕ, List}
 use Rattle.std.specs.Int.{bit_at}
 use Rattle.sv_layers.specs.StatusByte.{PolledBit}
 use Rattle.sv_history.specs.Act.{DeviceAct, instrument_acts}
 
--- A poll of the status byte would give this byte.
+-- A poll of the status byte would return this byte.
 abbrev pub IsPolled : ℕ → List DeviceAct → Type 0
 IsPolled polled acts = (k : ℕ) → (bit_at polled k ≡ 1) ↔ PolledBit k (instrument_acts acts)

@@ -28,22 +28,22 @@ refusal_number TimeOver = 10
 abbrev pub refusal_line : Refused → List ℕ
 refusal_line refusal = codes "refused " ++ (decimal (refusal_number refusal) ++ 10 ∷ [])
 
--- the name of a port: c of a connection, i of an interrupt channel, and the number
+-- the name of a port: `c` for a connection or `i` for an interrupt channel, and its number
 abbrev pub port_name : Port → List ℕ
 port_name (Conn c) = 99 ∷ decimal c
 port_name (Intr c) = 105 ∷ decimal c
 
--- the line of a port: all bytes that wait there, as lower-case hex digits; no line if none wait
+-- the line of a port: all bytes that wait to be sent on it, as lower-case hex digits; no line if none wait
 abbrev pub port_line : Port → List ℕ → List ℕ
 port_line port [] = []
 port_line port (byte ∷ bytes) = port_name port ++ 32 ∷ (encode_lower (byte ∷ bytes) ++ 10 ∷ [])
 
--- the numbers below this one, from 0 up
+-- the numbers below this one, in rising order from 0
 abbrev pub below : ℕ → List ℕ
 below zero = []
 below (suc n) = below n ++ n ∷ []
 
--- the port that has this number in the order of the lines: connections 0 to 15, then their interrupt channels
+-- the port at place n in the order of the lines: first connections 0 to 15, then their interrupt channels
 abbrev pub port_of : ℕ → Port
 port_of n = if nat_lt n 16 then Conn n else Intr (n - 16)
 
@@ -51,7 +51,7 @@ port_of n = if nat_lt n 16 then Conn n else Intr (n - 16)
 abbrev pub ports : List Port
 ports = map port_of (below 32)
 
--- the lines of these ports, by the log and the log of the interrupt channels
+-- the lines of these ports, given the log and the log of the interrupt channels
 abbrev pub lines_of : List ChannelAct → List Port → List Act → List ℕ
 lines_of channel_log [] log = []
 lines_of channel_log (port ∷ others) log = port_line port (waiting_on channel_log port log) ++ lines_of channel_log others log
@@ -61,7 +61,7 @@ abbrev pub with_took : Port → List ℕ → List PlainEvent → List PlainEvent
 with_took port [] history = history
 with_took port (byte ∷ bytes) history = Took port (length (byte ∷ bytes)) ∷ history
 
--- the history after the peers took all that waits on these ports, one port after the other
+-- the history after the peers took all bytes that wait on these ports, one port after the next
 abbrev pub with_tooks : List ChannelAct → List Port → List Act → List PlainEvent → List PlainEvent
 with_tooks channel_log [] log history = history
 with_tooks channel_log (port ∷ others) log history = with_tooks channel_log others log
@@ -82,6 +82,6 @@ abbrev pub ports_after : Result Did Refused → List Port
 ports_after (Ok did) = ports
 ports_after (Err refusal) = if is_no_memory refusal then [] else ports
 
--- what is printed for an event, by its result and the log after it
+-- what is printed for an event, given its result and the log after it
 abbrev pub print_of : Result Did Refused → List ChannelAct → List Act → List ℕ
 print_of did channel_log log = head_of did ++ lines_of channel_log (ports_after did) log

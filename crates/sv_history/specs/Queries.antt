@@ -9,13 +9,13 @@ use Rattle.sv_history.specs.Connection.{waiting_on}
 use Rattle.sv_history.specs.Requests.{HearsOf}
 use Rattle.sv_history.specs.History.{IsLogOf}
 
--- These bytes wait on a port after this history.
+-- These bytes wait to be sent on a port after this history.
 abbrev pub WaitOn : Port → Config → List PlainEvent → List ℕ → Type 0
 WaitOn port config history bytes = (log : List Act) × (channel_log : List ChannelAct) × IsLogOf config history log
     × HearsOf (device_acts log) channel_log
     × (bytes ≡ waiting_on channel_log port log)
 
--- The result is what `answer` gives for the log of the history.
+-- The result is what `answer` returns for the log of the history.
 abbrev pub Answered : {A : Type 0} → (List Act → A) → Config → List PlainEvent → A → Type 0
 Answered answer config history result = (log : List Act) × IsLogOf config history log × (result ≡ answer log)
 

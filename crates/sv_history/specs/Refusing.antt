@@ -1,5 +1,5 @@
--- Refusing a call because resources are lacking (VXI-11 revision 1.0, section B.5, error 9): a create_link or a create_intr_chan, which
--- allocate.
+-- Refusing a call because resources are lacking (VXI-11 revision 1.0, section B.5, error 9). Only a create_link or a create_intr_chan may
+-- be refused, since only these allocate.
 use Rattle.std.specs.Prelude.{ℕ, Bool, true, false, List, Option, Some, None, if◌then◌else◌}
 use Rattle.sv_vxi.specs.declared.error_code.ErrorCode.TheVariants.{OutOfResources}
 use Rattle.sv_vxi.specs.Arguments.{Arguments, CreateLink, CreateIntrChan}
@@ -14,7 +14,7 @@ takes_memory (CreateLink client_id lock_device lock_timeout device) = true
 takes_memory (CreateIntrChan host_addr host_port prog_num prog_vers prog_family) = true
 takes_memory _ = false
 
--- the call that may be refused; `None` if this request may not be
+-- a request as a call that may be refused; `None` if the request may not be refused
 abbrev pub refusable_call : Option Request → Option CoreCall
 refusable_call (Some (CoreRequest call)) = if takes_memory call.arguments then Some call else None
 refusable_call _ = None
@@ -23,6 +23,6 @@ refusable_call _ = None
 abbrev pub refusable : List ConnAct → Option CoreCall
 refusable acts = refusable_call (next_request acts)
 
--- the reply to a call that is refused: error 9
+-- the reply to a call that is refused for lack of resources: error 9
 abbrev pub refused_reply : CoreCall → List ℕ
 refused_reply call = result_reply call.xid (failure call.arguments OutOfResources)

@@ -6,6 +6,6 @@ use Rattle.sv_rpc.specs.declared.reply.Reply.{Reply}
 use Rattle.sv_rpc.specs.Record.{fragment}
 use Rattle.sv_rpc.specs.Reply.{reply_fields}
 
--- the bytes of a reply: its header, and after it the fields of the result
+-- the bytes of a reply: its header, then the fields of the result
 abbrev pub reply_record : ℕ → Reply → List Field → List ℕ
 reply_record xid reply fields = fragment true (concat (map spelling (reply_fields xid reply ++ fields)))

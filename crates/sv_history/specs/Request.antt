@@ -1,5 +1,5 @@
--- What a record asks for (RFC 5531, section 9; VXI-11 revision 1.0, section B.6; RFC 1833, section 3). Its header is checked first; then it
--- is a call of the program that its connection serves.
+-- What a record asks for (RFC 5531, section 9; VXI-11 revision 1.0, section B.6; RFC 1833, section 3). The header of the record is checked
+-- first. After that it is a call of the program that its connection serves.
 use Rattle.std.specs.Prelude.{ℕ, ℤ, ◌==◌, not, List, [], ◌∷◌, Option, Some, None, Result, Ok, Err, if◌then◌else◌}
 use Rattle.sv_xdr.specs.declared.garbage.Garbage.{Garbage}
 use Rattle.sv_rpc.specs.declared.reply.Reply.{Reply}
@@ -15,8 +15,8 @@ use Rattle.sv_history.specs.Act.{ConnAct}
 use Rattle.sv_history.specs.Connection.{next_call, open_role}
 use Rattle.sv_history.specs.CoreCall.{CoreCall}
 
--- what a record is: not a call; a call whose reply is decided by its header, or by arguments that can't be read; a call of the core
--- channel; device_abort; or GETPORT
+-- what a record is: not a call; a call whose header, or whose unreadable arguments, decide the reply; a call of the core channel;
+-- device_abort; or GETPORT
 pub data Request : Type 0 where
   NoCall : Request
   Decided : (xid : ℕ) (reply : Reply) → Request
@@ -30,23 +30,24 @@ program_of Core = (395183, 1, core_calls)
 program_of Abort = (395184, 1, abort_calls)
 program_of Portmap = (100000, 2, 3 ∷ [])
 
--- a call of the core channel, by its arguments; garbage is answered with GARBAGE_ARGS
+-- a call of the core channel, given its arguments; if they can't be read, it is answered with GARBAGE_ARGS
 abbrev pub core_request : ℕ → Result Arguments Garbage → Request
 core_request xid (Ok arguments) = CoreRequest (record { xid = xid; arguments = arguments })
 core_request xid (Err garbage) = Decided xid GarbageArgs
 
--- a call of the abort channel, by its arguments; garbage is answered with GARBAGE_ARGS
+-- a call of the abort channel, given its arguments; if they can't be read, it is answered with GARBAGE_ARGS
 abbrev pub abort_request : ℕ → Result Arguments Garbage → Request
 abort_request xid (Ok (OnLink lid call)) = AbortRequest xid lid
 abort_request xid _ = Decided xid GarbageArgs
 
--- what a call of one of the procedures of the connection's program asks for
+-- what a call of the connection's program asks for, if the program has the call's procedure
 abbrev pub procedure_request : Role → PlainCall → Request
 procedure_request Core call = core_request call.xid (arguments_at call.proc call.args)
 procedure_request Abort call = abort_request call.xid (arguments_at call.proc call.args)
 procedure_request Portmap call = PortRequest call.xid call.args
 
--- What a call asks for. The first of these decides the reply: another program, another version, the null procedure, an unknown procedure.
+-- What a call asks for. The first of these that applies decides the reply: not the role's program; not the program's version; the null
+-- procedure; an unknown procedure.
 abbrev pub call_request : Role → PlainCall → Request
 call_request role call =
     let (program, version, procedures) = program_of role in
@@ -55,14 +56,14 @@ call_request role call =
     else (if call.proc == 0 then Decided call.xid Success
     else (if not (is_one_of procedures call.proc) then Decided call.xid ProcUnavail else procedure_request role call)))
 
--- What a record asks for, by how it reads as a call: a call under another version of RPC is denied, and a record with a bad header isn't a
--- call.
+-- What a record asks for, given the result of reading it as a call. A call with another version of RPC than 2 is denied. A record with a
+-- bad header isn't a call.
 abbrev pub request_of : Role → Result PlainCall CallFault → Request
 request_of role (Ok call) = call_request role call
 request_of role (Err (Version xid)) = Decided xid Mismatch
 request_of role (Err BadHeader) = NoCall
 
--- what the next call of a connection asks for, by its role and the bytes of the call; `None` if there is no call
+-- what the next call of a connection asks for, given the role of the connection and the bytes of the call; `None` if there is no call
 abbrev pub request_for : Option Role → Option (List ℕ) → Option Request
 request_for (Some role) (Some bytes) = Some (request_of role (call_at bytes))
 request_for _ _ = None
@@ -71,12 +72,12 @@ request_for _ _ = None
 abbrev pub next_request : List ConnAct → Option Request
 next_request acts = request_for (open_role acts) (next_call acts)
 
--- a request as a call of the core channel; `None` if it is another request
+-- a request as a call of the core channel; `None` if it is a request of any other kind
 abbrev pub core_call_of : Request → Option CoreCall
 core_call_of (CoreRequest call) = Some call
 core_call_of _ = None
 
--- a record as a call of the core channel; `None` if it isn't one
+-- a record as a call of the core channel; `None` if it isn't such a call
 abbrev pub core_call : List ℕ → Option CoreCall
 core_call bytes = core_call_of (request_of Core (call_at bytes))
 

@@ -1,17 +1,17 @@
--- The log of the interrupt channels (VXI-11 revision 1.0, section B.6, device_intr_srq; IEEE 488.2, 11.3). It has the acts of the channels
--- and each service request that is raised; and if a link is destroyed, an act that disables the link's service requests.
+-- The log of the interrupt channels (VXI-11 revision 1.0, section B.6, device_intr_srq; IEEE 488.2, 11.3). It has the acts of the channels,
+-- and each request for service that is raised. For each link that is destroyed it has an act that disables the link's service requests.
 use Rattle.std.specs.Prelude.{◌≡◌, ◌↔◌, Bool, true, false, List, [], ◌∷◌}
 use Rattle.sv_links.specs.Links.{LinkAct, Destroyed}
 use Rattle.sv_links.specs.Channels.{ChannelAct, SrqDisabled, Requested}
 use Rattle.sv_layers.specs.StatusByte.{IsRaised}
 use Rattle.sv_history.specs.Act.{DeviceAct, Linked, Channel, Applied, instrument_acts}
 
--- the log of the interrupt channels after an act of a link: if the link is destroyed, its service requests are disabled
+-- the log of the interrupt channels after an act of a link: if the act destroys the link, its service requests are disabled
 abbrev pub link_told : LinkAct → List ChannelAct → List ChannelAct
 link_told (Destroyed lid) channel_log = SrqDisabled lid ∷ channel_log
 link_told _ channel_log = channel_log
 
--- the log of the interrupt channels after an act of the instrument, with a service request if the act raises one
+-- the log of the interrupt channels after an act of the instrument: if the act raises a request for service, with that request in front
 abbrev pub request_told : Bool → List ChannelAct → List ChannelAct
 request_told true channel_log = Requested ∷ channel_log
 request_told false channel_log = channel_log

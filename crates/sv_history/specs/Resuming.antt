@@ -1,4 +1,4 @@
--- How a suspended call continues: it resumes, its peer was connected, or it ends with an error.
+-- How a suspended call goes on: it resumes; its peer was connected or couldn't be; or it ends with an error.
 use Rattle.std.specs.Prelude.{ℕ, Bool, List, [], ◌∷◌, ◌++◌, Option, Some, None}
 use Rattle.sv_vxi.specs.declared.error_code.ErrorCode.{ErrorCode}
 use Rattle.sv_vxi.specs.declared.error_code.ErrorCode.TheVariants.{IoTimeout}
@@ -16,27 +16,27 @@ use Rattle.sv_history.specs.CoreChannel.{own_call}
 use Rattle.sv_history.specs.Interrupts.{connect_outcome}
 use Rattle.sv_history.specs.Admission.{device_wait, deadline}
 
--- this outcome, with the act that ends the suspension of the call
+-- this outcome, with an act in addition that ends the suspension of the call
 abbrev pub leaving : ℕ → CallOutcome → CallOutcome
 leaving c outcome = record outcome { adds = outcome.adds ++ Waited (Left c) ∷ [] }
 
--- what a call that waited for the lock waits for next, and its timeout in milliseconds; `None` if it waits for nothing more
+-- what a call waits for after it has waited for the lock, and its timeout in milliseconds; `None` if it waits for nothing more
 abbrev pub next_wait : Wait → Arguments → List DeviceAct → Option (Wait × ℕ)
 next_wait Lock (OnLink lid call) acts = device_wait call acts
 next_wait _ arguments acts = None
 
--- the outcome of a call that resumes: it is suspended anew, or executed
+-- the outcome of a call that resumes: it is suspended again, or executed
 abbrev pub resume_outcome : Config → ℕ → ℕ → Arguments → Option (Wait × ℕ) → List DeviceAct → CallOutcome
 resume_outcome config polled c arguments (Some wait) acts = suspend_by (Again c wait.0 (deadline config (Some wait.1) acts))
 resume_outcome config polled c arguments None acts = leaving c (own_call config polled c arguments (Waited (Left c) ∷ acts))
 
--- the effect of a suspended call with this outcome; if there is no call of the core channel, only the end of the suspension
+-- the effect of a suspended call with this outcome; if there is no call of the core channel, the effect is only that the suspension ends
 abbrev pub effect_of : ℕ → (Arguments → CallOutcome) → Option CoreCall → Effect
 effect_of c does (Some call) = call_effect call.xid (does call.arguments)
 effect_of c does None = record { own = []; adds = Waited (Left c) ∷ [] }
 
--- The effect of a call that resumes after this wait. It is executed; or it is suspended anew: its new timeout begins now, and it keeps its
--- place in the order. Link and lock aren't checked again.
+-- The effect of a call that resumes after this wait. Either it is executed; or it is suspended again, with a timeout that begins now, and
+-- keeps its place in the order of suspended calls. Link and lock aren't checked again.
 abbrev pub resume_effect : Config → ℕ → ℕ → Wait → Option CoreCall → List DeviceAct → Effect
 resume_effect config polled c wait call acts =
     effect_of c (λ arguments. resume_outcome config polled c arguments (next_wait wait arguments acts) acts) call
@@ -45,7 +45,7 @@ resume_effect config polled c wait call acts =
 abbrev pub failure_effect : ErrorCode → ℕ → Option CoreCall → Effect
 failure_effect error c call = effect_of c (λ arguments. leaving c (only (failure arguments error))) call
 
--- the effect of a create_intr_chan whose peer was connected, or couldn't be
+-- the effect of a create_intr_chan after its peer was connected, or couldn't be
 abbrev pub connect_effect : ℕ → Bool → Option CoreCall → Effect
 connect_effect c ok call = effect_of c (λ arguments. leaving c (connect_outcome c ok arguments)) call
 

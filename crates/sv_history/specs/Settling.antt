@@ -1,4 +1,4 @@
--- The steps that follow an event's own acts, one after the other, until none is due.
+-- The steps that follow an event's own acts: one after the next, until no step is due.
 use Rattle.std.specs.Prelude.{◌≡◌, ◌⊎◌, not, ℕ, ◌+◌, zero, suc, Some, List, ◌++◌, map}
 use Rattle.sv_links.specs.declared.waiting.Wait.{Wait}
 use Rattle.sv_links.specs.Links.{holder}
@@ -40,7 +40,7 @@ TimesOut config log new = (c : ℕ) × (wait : Wait)
     × (waits c (wait_acts (device_acts log)) ≡ Some wait)
     × (new ≡ acts_of c (failure_effect (late wait) c (core_call_in (pending_call (of c log)))) ++ log)
 
--- The first of two steps is taken if it is possible, else the second.
+-- The first of two steps is taken if it is possible, else the second one.
 abbrev pub First : (List Act → Type 0) → (List Act → Type 0) → List Act → Type 0
 First IsOne IsOther new = IsOne new ⊎ (((one : List Act) → IsOne one → ⊥) × IsOther new)
 
@@ -54,11 +54,11 @@ IsNext config log =
 abbrev pub IsSettled : Config → List Act → Type 0
 IsSettled config log = (new : List Act) → IsNext config log new → ⊥
 
--- In `n` steps, each the one that is due, `log` becomes `new`, after which no step is due.
+-- After `n` steps, each of which was due, `log` has become `new`, and no further step is due.
 abbrev pub SettlesIn : ℕ → Config → List Act → List Act → Type 0
 SettlesIn zero config log new = IsSettled config log × (new ≡ log)
 SettlesIn (suc n) config log new = (middle : List Act) × IsNext config log middle × SettlesIn n config middle new
 
--- In some number of steps, each the one that is due, `log` becomes `new`, after which no step is due.
+-- After some number of steps, each of which was due, `log` has become `new`, and no further step is due.
 abbrev pub Settles : Config → List Act → List Act → Type 0
 Settles config log new = (n : ℕ) × SettlesIn n config log new

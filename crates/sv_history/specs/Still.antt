@@ -1,4 +1,4 @@
--- When nothing becomes due as time passes.
+-- When the mere passing of time makes nothing due.
 use Rattle.std.specs.Prelude.{◌≡◌, ℕ, ◌+◌, false, List}
 use Rattle.sv_links.specs.Waiting.{IsExpired}
 use Rattle.sv_scan.specs.Counted.{is_scanning}

@@ -13,7 +13,7 @@ pub enum Role {
     Portmap,
 }
 
-/// Where bytes are sent.
+/// Where bytes are sent to.
 #[derive(Clone, Copy, Debug, PartialEq, Eq)]
 pub enum Port {
     /// The connection of this number.
@@ -75,7 +75,7 @@ pub enum Event<'a> {
         /// The voltage in microvolts, within plus or minus 1,000,000,000.
         microvolts: i64,
     },
-    /// The external trigger comes.
+    /// A trigger comes at the trigger input.
     External,
     /// A millisecond passes.
     Tick,
@@ -114,7 +114,7 @@ pub struct Dial {
 /// as `refused as u8`, are those that a replay prints.
 #[derive(Clone, Copy, Debug, PartialEq, Eq, Error)]
 pub enum Refused {
-    /// Out of memory for a link or an interrupt channel.
+    /// Memory for a link or an interrupt channel was refused.
     #[error("no memory was left")]
     NoMemory = 1,
     /// The connection's number is in use.
@@ -127,7 +127,7 @@ pub enum Refused {
     /// there is room for fewer than 8,232 bytes of replies.
     #[error("there is no room")]
     NoRoom = 4,
-    /// More bytes were taken than waited.
+    /// A Took event has more bytes than waited to be sent.
     #[error("so many bytes were not sent")]
     NotSent = 5,
     /// No create_intr_chan of the connection is suspended.
@@ -136,7 +136,7 @@ pub enum Refused {
     /// The next call can't be refused.
     #[error("the next call can't be refused")]
     NotRefusable = 7,
-    /// There is no channel of this number.
+    /// The instrument has no channel of this number.
     #[error("there is no such channel")]
     BadChannel = 8,
     /// The voltage is beyond plus or minus 1,000,000,000 microvolts.

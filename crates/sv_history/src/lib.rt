@@ -1,5 +1,5 @@
-//! The specification of the server: events, the log of a history of events, and the answers that
-//! are recomputed from it.
+//! The specification of the server: events; the log of a history of events; and the answers of the
+//! server, recomputed from the log.
 //!
 //! Nothing here runs. `sv_server` is the code; its contracts cite these definitions.
 #![tactic(auto)]

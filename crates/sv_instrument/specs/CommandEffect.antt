@@ -1,5 +1,5 @@
--- What an order does (IEEE 488.2, chapter 10; SCPI-1999, volume 2). Its acts come in order; then the unit is done and its answer is given.
--- An order that the state refuses reports its error, and does nothing else.
+-- What an order does (IEEE 488.2, chapter 10; SCPI-1999, volume 2). First come the acts of the order; then the unit is done; then its
+-- answer is added. An order that can't be performed in the present state only reports its error.
 use Rattle.std.specs.Prelude.{◌≡◌, ℕ, List, ◌∷◌, Option, Some, None, pos, if◌then◌else◌}
 use Rattle.sv_errors.specs.declared.code.Code.{Code}
 use Rattle.sv_errors.specs.declared.code.Code.TheVariants.{QueryDeadlocked, DataCorruptOrStale}
@@ -30,7 +30,7 @@ after_answering text log =
     if fits_response (answers (exchange_acts log)) text then Exchanged (Answered text) ∷ log
     else Reported QueryDeadlocked ∷ Exchanged AnswersDropped ∷ log
 
--- the log after this error is reported and the unit is done, if there is an error; else `acts`
+-- if there is an error, the log after this error is reported and the unit is done; else `acts`
 abbrev pub unless : Option Code → List Act → List Act → List Act
 unless (Some code) acts log = done (Reported code ∷ log)
 unless None acts log = acts
@@ -40,26 +40,27 @@ abbrev pub set_list : Option (List ℕ) → List Act → List Act
 set_list None log = log
 set_list (Some channels) log = Scanned (scan.Configure (setting.List channels)) ∷ log
 
--- A measurement is configured: it is aborted; range (10 V), source (immediate) and count (1) take their defaults; the list is set, if one
--- is given.
+-- A measurement is configured: it is aborted; range (10 V), source (immediate) and count (1) get their defaults; then the list is set, if
+-- one is given.
 abbrev pub after_configure : Option (List ℕ) → List Act → List Act
 after_configure list log = set_list list
     (Scanned (scan.Configure (setting.Count 1)) ∷ Scanned (scan.Configure (setting.Source Immediate))
     ∷ Scanned (scan.Configure (setting.Range (pos 10000000))) ∷ Scanned scan.Abort ∷ log)
 
--- the log after a query: with the act by which the query takes or clears something, if it does
+-- the log after a query: with the act by which the query removes an entry or clears a register, if it does so
 abbrev pub after_query : Question → List Act → List Act
 after_query question.StandardEvents log = StandardRead ∷ log
 after_query question.Error log = EntryTaken ∷ log
 after_query (question.Events name) log = EventRead name ∷ log
 after_query asked log = log
 
--- why a query is refused: it asks for readings, and they aren't complete or were aborted (-230)
+-- the error of a query that can't be answered: -230 for the readings of a measurement that isn't complete or was aborted
 abbrev pub question_fault : Question → List Act → Option Code
 question_fault question.Readings log = if is_complete (effective_acts log) then None else Some DataCorruptOrStale
 question_fault asked log = None
 
--- A query is answered with its text. If it takes or clears something, that happens before the answer is given. Or its error is reported.
+-- The query is answered with its text. If the query removes an entry or clears a register, that happens before the answer is added. Or the
+-- query only reports its error.
 abbrev pub Replies : Option Code → Question → List Act → List Act → Type 0
 Replies (Some code) asked log new = new ≡ done (Reported code ∷ log)
 Replies None asked log new = (text : List ℕ) × Says asked log text × (new ≡ after_answering text (done (after_query asked log)))

@@ -4,7 +4,7 @@ use Rattle.sv_exchange.specs.Exchange.{UnitDone, TextDropped}
 use Rattle.sv_layers.specs.declared.change.Awaited.{Awaited}
 use Rattle.sv_layers.specs.Act.{Act, Exchanged, Purged, Held}
 
--- what the held unit will answer; `None` if no unit is held. It is held until it is done, or the text is dropped.
+-- what the held unit will answer; `None` if no unit is held. A unit is held until it is done or the program text is dropped.
 abbrev pub held_unit : List Act → Option Awaited
 held_unit [] = None
 held_unit (Held awaited ∷ log) = Some awaited

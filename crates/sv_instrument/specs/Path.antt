@@ -1,5 +1,5 @@
--- The path before the next unit of a message (SCPI-1999, volume 1, 6.2.4). The units before it are read in order, each with the path that
--- the unit before it leaves.
+-- The path before the next unit of a message (SCPI-1999, volume 1, 6.2.4). It results from the units that began: each is read with the path
+-- that results from the units before it.
 use Rattle.std.specs.Prelude.{◌≡◌, ℕ, ◌+◌, List, [], ◌∷◌, Option, Some, None, Result, take, reverse}
 use Rattle.sv_errors.specs.declared.code.Code.{Code}
 use Rattle.sv_exchange.specs.Exchange.{units, message, units_done, current}
@@ -9,7 +9,7 @@ use Rattle.sv_layers.specs.declared.change.Awaited.{Awaited}
 use Rattle.sv_layers.specs.Act.{Act, exchange_acts}
 use Rattle.sv_instrument.specs.HeldUnit.{held_unit}
 
--- These units, listed with the last one first, leave this path.
+-- These units, given with the last one first, result in this path.
 abbrev pub Leaves : List (List ℕ) → List (List ℕ) → Type 0
 Leaves [] path = path ≡ []
 Leaves (unit ∷ before) path =
@@ -24,6 +24,6 @@ one_if_held (Some awaited) = 1
 abbrev pub units_begun : List Act → ℕ
 units_begun log = units_done (current (exchange_acts log)) + one_if_held (held_unit log)
 
--- The units of the current message that began leave this path.
+-- The units of the current message that began result in this path.
 abbrev pub IsPath : List Act → List (List ℕ) → Type 0
 IsPath log path = Leaves (reverse (take (units_begun log) (units (message (exchange_acts log))))) path

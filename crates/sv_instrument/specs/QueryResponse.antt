@@ -1,4 +1,5 @@
--- The answer to each query (IEEE 488.2, chapter 10; SCPI-1999, volume 2): a text, by the log before the query takes or clears anything.
+-- The answer to each query (IEEE 488.2, chapter 10; SCPI-1999, volume 2). It is a text that depends on the log before the query removes an
+-- entry or clears a register.
 use Rattle.std.specs.Prelude.{◌≡◌, ◌↔◌, ℕ, ◌<◌, true, false, List, [], ◌∷◌, Option, length, codes, decimal, unwrap_or}
 use Rattle.std.specs.List.{join_by}
 use Rattle.std.specs.Int.{bit_at}
@@ -22,7 +23,7 @@ use Rattle.sv_layers.specs.Filter.{rise, fall, enable}
 use Rattle.sv_layers.specs.Standard.{Stands, enable as standard_enable}
 use Rattle.sv_layers.specs.StatusByte.{MasterBit, service}
 
--- The text is a word of 16 bits in decimal, in which exactly those bits are set for which `Bit` holds.
+-- The text is a number of 16 bits in decimal. Exactly those of its bits are set for which `Bit` holds.
 pub record IsWord (Bit : ℕ → Type 0) (text : List ℕ) : Type 0 where
   pub word : ℕ
   pub fits : word < 65536
@@ -39,7 +40,7 @@ reading_text Under = overload_text true
 abbrev pub readings_text : List Reading → List ℕ
 readings_text given = join_by reading_text (codes ",") given
 
--- the oldest entry of the error queue, or `0,"No error"`
+-- the oldest entry of the error queue; `0,"No error"` if the queue is empty
 abbrev pub oldest_text : Option Code → List ℕ
 oldest_text oldest = error_text (unwrap_or oldest NoError)
 

@@ -1,5 +1,5 @@
--- The step of message exchange that is due (IEEE 488.2, 6.1.4 and 6.3): a held unit ends, the next unit starts, a message that is too long
--- is reported, or one that has ended is finished.
+-- The step of message exchange that is due (IEEE 488.2, 6.1.4 and 6.3): a held unit ends; the next unit starts; a message that is too long
+-- is reported; or a message that has ended is finished.
 use Rattle.std.specs.Prelude.{◌≡◌, ℕ, Bool, true, false, not, ◌&&◌, ◌||◌, List, ◌∷◌, Option, Some, None, Result, Ok, Err, codes}
 use Rattle.sv_errors.specs.declared.code.Code.{Code}
 use Rattle.sv_errors.specs.declared.code.Code.TheVariants.{InputBufferOverrun, QueryInterrupted}
@@ -22,12 +22,12 @@ after_release Nothing log = done log
 after_release One log = after_answering (codes "1") (done log)
 after_release Readings log = after_answering (readings_text (readings (effective_acts log))) (done log)
 
--- A unit does what it asks for, or its error is reported.
+-- The order of a unit is performed; or, if the unit has an error, the error is reported.
 abbrev pub Does : Result Order Code → List Act → List Act → Type 0
 Does (Err code) log new = new ≡ done (Reported code ∷ log)
 Does (Ok order) log new = Performs order log new
 
--- A unit starts: it is read with the path that the units before it leave.
+-- A unit starts: it is read with the path that results from the units before it.
 abbrev pub Starts : List ℕ → List Act → List Act → Type 0
 Starts unit log new = (path behind : List (List ℕ)) × (outcome : Result Order Code) × IsPath log path × IsReadAs path unit outcome behind
     × Does outcome log new
@@ -36,8 +36,8 @@ Starts unit log new = (path behind : List (List ℕ)) × (outcome : Result Order
 abbrev pub after_interrupt : List Act → List Act
 after_interrupt log = Reported QueryInterrupted ∷ Exchanged Interrupted ∷ log
 
--- The step that is due, by whether a unit is held and by what is due in message exchange. A held unit ends only while no measurement is
--- under way.
+-- The step that is due, which depends on whether a unit is held and on what is due in message exchange. A held unit ends only while no
+-- measurement is under way.
 abbrev pub StepOf : Option Awaited → Due → List Act → List Act → Type 0
 StepOf (Some awaited) next log new = (is_idle log ≡ true) × (new ≡ after_release awaited log)
 StepOf None NothingDue log new = ⊥
@@ -55,6 +55,6 @@ abbrev pub is_held : Option Awaited → Bool
 is_held None = false
 is_held (Some awaited) = true
 
--- whether a read can be answered now: there is a response, or nothing is under way that could make one, so that the read fails at once
+-- whether a read can be answered now: there is a response; or no response is under way, so that the read fails at once
 abbrev pub is_answerable : List Act → Bool
 is_answerable log = is_something (response (exchange_acts log)) || (not (is_held (held_unit log)) && not (has_ended (exchange_acts log)))

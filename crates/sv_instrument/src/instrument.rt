@@ -14,13 +14,13 @@ use sv_layers::{Awaited, Layers};
 pub struct Instrument<A: Allocator = Global> {
     /// The table that finds the command of a header.
     pub(crate) table: Table<A>,
-    /// The path that the next header continues.
+    /// The path before the next header.
     pub(crate) path: Path,
     /// Message exchange, error queue, scanner and status registers.
     pub(crate) layers: Layers<A>,
     /// What the held unit will answer; `None` if no unit is held.
     pub(crate) held: Option<Awaited>,
-    /// The answer of a unit, at most as long as a response.
+    /// The buffer for the answer of a unit, which is at most as long as a response.
     pub(crate) answer: Vec<u8, A>,
 }
 
@@ -39,7 +39,8 @@ impl<A: Allocator> Model for Instrument<A> {
 }
 
 impl<A: Allocator + Copy> Instrument<A> {
-    /// The instrument as at power on. It allocates all the memory that it ever uses.
+    /// Makes the instrument as at power on. This allocates all the memory that the instrument ever
+    /// uses.
     ///
     /// # Errors
     /// If memory is refused.

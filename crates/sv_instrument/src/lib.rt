@@ -1,9 +1,9 @@
 //! The instrument: every command over all its layers (IEEE 488.2; SCPI-1999; VXI-11).
 //!
-//! Its driver calls a function for each thing that happens, and then calls [`Instrument::fire`] and
-//! [`Instrument::step`], in this order, until neither does anything. Only [`Instrument::new`]
-//! allocates: the memory of all layers and of one answer. Each call that changes something returns
-//! how many requests for service it raised.
+//! The driver calls a function for each thing that happens to the instrument. Then it calls
+//! [`Instrument::fire`] and [`Instrument::step`], in this order, until neither of them does
+//! anything. Only [`Instrument::new`] allocates: the memory of all layers and of one answer. Each
+//! function that changes something returns how many requests for service it raised.
 #![tactic(auto)]
 
 mod instrument;

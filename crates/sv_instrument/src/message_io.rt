@@ -18,7 +18,8 @@ use sv_header::Path;
 use sv_layers::Change;
 
 impl<A: Allocator> Instrument<A> {
-    /// Whether a write is accepted now: it is, unless a message has ended and isn't finished yet.
+    /// Whether a write is accepted now: always, except while a message has ended and isn't
+    /// finished.
     pub fn can_write(&self) -> bool
         ensures value { result ≡ is_open self.now.layers.exchange }
         ensures answer { (log : List Act) → StandsFor self.now log
@@ -27,9 +28,10 @@ impl<A: Allocator> Instrument<A> {
         self.layers.exchange().open_for_write()
     }
 
-    /// Accepts the bytes of a write, with END after the last of them or without (VXI-11,
-    /// device_write). A write must be acceptable now, and have at most [`MAX_MESSAGE`] bytes. Like
-    /// every call here that changes something, it returns how many requests for service it raised.
+    /// Accepts the bytes of a write, with END at the last byte or without END (VXI-11,
+    /// device_write). The caller must know that a write is accepted now, and pass at most
+    /// [`MAX_MESSAGE`] bytes. Like every function here that changes something, it returns how many
+    /// requests for service it raised.
     pub fn write(&mut self, bytes: &[u8], ended: bool) -> u8
         requires open { IsTrue (is_open self.old.layers.exchange) }
         requires short { length bytes.now ≤ max_message }
@@ -49,8 +51,8 @@ impl<A: Allocator> Instrument<A> {
         self.layers.exchange().readable()
     }
 
-    /// Whether a read can be answered now: there is a response, or none will come, so that the read
-    /// fails at once.
+    /// Whether a read can be answered now: there is a response; or no response will come, so that
+    /// the read fails at once.
     pub fn can_read(&self) -> bool
         ensures value { result ≡ (is_something (shown_by self.now.layers.exchange)
             || is_open self.now.layers.exchange) }
@@ -59,8 +61,8 @@ impl<A: Allocator> Instrument<A> {
         self.layers.exchange().readable() || self.can_write()
     }
 
-    /// The next bytes of the response: at most as many as asked for, and up to the first
-    /// termination character (VXI-11, device_read). None without a response.
+    /// Returns the next bytes of the response: at most `most`, and up to the first termination
+    /// character (VXI-11, device_read). Returns no bytes if there is no response.
     pub fn peek(&self, most: u32, term: Option<u8>) -> Read<'_>
         ensures value { IsReadOf result (shown_by self.now.layers.exchange) most term }
         ensures answer { (log : List Act) → StandsFor self.now log
@@ -69,7 +71,8 @@ impl<A: Allocator> Instrument<A> {
         self.layers.exchange().peek(most, term)
     }
 
-    /// Drops the first `count` bytes of the response, which were read (VXI-11, device_read).
+    /// Drops the first `count` bytes of the response, after a client has read them (VXI-11,
+    /// device_read).
     pub fn take(&mut self, count: usize) -> u8
         requires { count ≤ length (shown_by self.old.layers.exchange) }
         ensures { (log : List Act) → StandsFor self.old log
@@ -80,8 +83,8 @@ impl<A: Allocator> Instrument<A> {
     }
 
     /// Handles a read to which no response will come: drops the text of the unfinished message, and
-    /// reports -420 (IEEE 488.2, 6.3.2.2). It can't be called while a message that has ended isn't
-    /// finished.
+    /// reports -420 (IEEE 488.2, 6.3.2.2). It must not be called while a message has ended and
+    /// isn't finished.
     pub fn unterminated(&mut self) -> u8
         requires { IsTrue (is_open self.old.layers.exchange) }
         ensures { (log : List Act) → StandsFor self.old log → Ran self.new result log
@@ -94,8 +97,8 @@ impl<A: Allocator> Instrument<A> {
         self.take_requests()
     }
 
-    /// Device clear: drops program text, the held unit and the response, and cancels an `*OPC`
-    /// (VXI-11, device_clear; IEEE 488.2, 5.8).
+    /// Device clear: drops program text, the held unit and the response, and cancels a pending
+    /// `*OPC` (VXI-11, device_clear; IEEE 488.2, 5.8).
     pub fn clear(&mut self) -> u8
         ensures { (log : List Act) → StandsFor self.old log
             → Ran self.new result log (Purged ∷ log) }

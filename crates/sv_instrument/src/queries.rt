@@ -18,7 +18,7 @@ use sv_header::{Question, SettingName};
 use sv_layers::{Awaited, Change, Layers};
 use sv_value::printing::{put_channels, put_error, put_source, put_switch, put_voltage, put_whole};
 
-/// Answers the query that is due.
+/// Answers the query of the unit that is due.
 pub(crate) fn ask<A: Allocator>(
     layers: &mut Layers<A>,
     answer: &mut Vec<u8, A>,
@@ -42,7 +42,8 @@ pub(crate) fn ask<A: Allocator>(
     }
 }
 
-/// The error that refuses a query: -230 if there is no complete measurement to fetch.
+/// Returns the error of a query that can't be answered: -230 if there is no complete measurement to
+/// fetch.
 fn refused<A: Allocator>(layers: &Layers<A>, question: Question) -> Option<Code>
     ensures { (log : List Act) → Stands layers.now log → result ≡ question_fault question log }
 {
@@ -52,8 +53,8 @@ fn refused<A: Allocator>(layers: &Layers<A>, question: Question) -> Option<Code>
     }
 }
 
-/// Does what a query does besides answering: takes an entry of the error queue, or clears an event
-/// register.
+/// Does what a query does besides answering: removes an entry of the error queue, or clears an
+/// event register.
 fn take<A: Allocator>(layers: &mut Layers<A>, question: Question)
     ensures counts { (start log : List Act) → Counts start layers.old log
         → Counts start layers.new (after_query question log) }
@@ -67,8 +68,8 @@ fn take<A: Allocator>(layers: &mut Layers<A>, question: Question)
     }
 }
 
-/// Replaces all bytes by the answer of a query. The readings must be complete if they are asked
-/// for.
+/// Replaces all bytes of `out` by the answer of a query. If the query asks for the readings, they
+/// must be complete.
 pub(crate) fn put_answer<A: Allocator>(out: &mut Vec<u8, A>, layers: &Layers<A>, question: Question)
     requires { max_response ≤ vec_capacity out.old }
     ensures says { (log : List Act) → Stands layers.now log → question_fault question log ≡ None
@@ -92,7 +93,7 @@ pub(crate) fn put_answer<A: Allocator>(out: &mut Vec<u8, A>, layers: &Layers<A>,
     put_whole(out, u32::from(word));
 }
 
-/// Puts the value of a setting into an empty vector.
+/// Writes the value of a setting to `out`, which must be empty.
 fn put_value<A: Allocator>(out: &mut Vec<u8, A>, layers: &Layers<A>, name: SettingName)
     requires empty { out.old.items ≡ [] }
     requires room { max_response ≤ vec_capacity out.old }

@@ -10,7 +10,7 @@ use sv_bytes::append;
 use sv_scan::Reading;
 use sv_value::printing::{put_overload, put_voltage};
 
-/// Appends readings, with commas between them, to bytes that have room for 13 more for each.
+/// Appends readings, separated by commas. `out` must have room for 13 more bytes per reading.
 pub(crate) fn put_readings<A: Allocator>(out: &mut Vec<u8, A>, readings: &[Reading])
     requires room { vec_len out.old + 13 * length readings.now ≤ vec_capacity out.old }
     requires small { list_all is_bounded readings.now ≡ true }

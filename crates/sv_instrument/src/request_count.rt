@@ -9,8 +9,8 @@ use crate::instrument::Instrument;
 use std::alloc::Allocator;
 
 impl<A: Allocator> Instrument<A> {
-    /// How many requests for service were raised since the last call of this function. Each call
-    /// that may raise one ends with this.
+    /// Returns how many requests for service were raised since the last call of this function. Each
+    /// function that may raise a request ends with a call of this one.
     pub(crate) fn take_requests(&mut self) -> u8
         ensures ran { (start log : List Act) → Runs start self.old log → IsCountable start log
             → Ran self.new result start log }

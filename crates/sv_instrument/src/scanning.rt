@@ -18,7 +18,7 @@ use sv_errors::{Code, Source};
 use sv_layers::{Awaited, Change, Layers};
 use sv_scan::{ScanAct, ScanList, Setting};
 
-/// The range that a measurement is configured with, in microvolts.
+/// The range that a configured measurement gets, in microvolts.
 const RANGE: i64 = 10_000_000;
 
 /// Applies a trigger from the controller; reports -211 if the scanner doesn't wait for one.
@@ -37,7 +37,7 @@ pub(crate) fn trigger<A: Allocator>(layers: &mut Layers<A>) -> Option<Awaited>
     }
 }
 
-/// The act of the scanner if it is allowed, else the report of the error.
+/// Returns the act of the scanner if it is allowed, else the report of the error.
 fn unless_refused(allowed: Result<(), Code>, act: ScanAct) -> Change
     ensures { (fault : Option Code) (log : List Act) → allowed ≡ refused_by fault
         → done_of (act_of result ∷ log) ≡ unless fault (done_of (Scanned act ∷ log)) log }
@@ -48,7 +48,7 @@ fn unless_refused(allowed: Result<(), Code>, act: ScanAct) -> Change
     }
 }
 
-/// Changes a setting, or reports why it can't be changed.
+/// Changes a setting, or reports the error if it can't be changed.
 pub(crate) fn set<A: Allocator>(layers: &mut Layers<A>, setting: Setting) -> Option<Awaited>
     requires { IsUnitDue (next_of layers.old.exchange) }
     ensures behaves { (start log : List Act) → Counts start layers.old log
@@ -70,7 +70,7 @@ pub(crate) fn initiate<A: Allocator>(layers: &mut Layers<A>) -> Option<Awaited>
     carry_out(layers, unless_refused(allowed, ScanAct::Init))
 }
 
-/// Configures a measurement: aborts, sets the defaults, and then the list if one is given.
+/// Configures a measurement: aborts, sets the defaults, and then sets the list, if one is given.
 pub(crate) fn configure<A: Allocator>(layers: &mut Layers<A>, list: Option<ScanList>)
     ensures counts { (start log : List Act) → Counts start layers.old log
         → Counts start layers.new (after_configure list log) }
@@ -95,8 +95,8 @@ fn set_list<A: Allocator>(layers: &mut Layers<A>, list: Option<ScanList>)
     }
 }
 
-/// Aborts the measurement, begins a new one, and holds the unit until its readings are complete;
-/// reports -214 if the controller would have to trigger it.
+/// Aborts the measurement, begins a new one, and holds the unit until the new readings are
+/// complete. Reports -214 if the new measurement would wait for a trigger from the controller.
 pub(crate) fn read<A: Allocator>(layers: &mut Layers<A>) -> Option<Awaited>
     requires { IsUnitDue (next_of layers.old.exchange) }
     ensures behaves { (start log : List Act) → Counts start layers.old log

@@ -20,8 +20,8 @@ use sv_layers::{Awaited, Change};
 use sv_scan::State;
 
 impl<A: Allocator> Instrument<A> {
-    /// Triggers the scan that waits for a trigger, if triggers are immediate. Returns how many
-    /// requests for service were raised; `None` if no trigger was due: then nothing changes.
+    /// Triggers the scan that waits for a trigger, if the source of triggers is immediate. Returns
+    /// how many requests for service were raised; `None` if no trigger was due and nothing changed.
     pub fn fire(&mut self) -> Option<u8>
         ensures fires { (log : List Act) → StandsFor self.old log
             → Takes IsFired self.new result log }
@@ -35,10 +35,10 @@ impl<A: Allocator> Instrument<A> {
         }
     }
 
-    /// Takes the step of message exchange that is due: a held unit ends, the next unit starts, a
-    /// message that is too long is reported, or one that has ended is finished (IEEE 488.2, 6.1.4
-    /// and 6.3). Returns how many requests for service were raised; `None` if no step was due: then
-    /// nothing changes.
+    /// Takes the step of message exchange that is due: a held unit ends; the next unit starts; a
+    /// message that is too long is reported; or a message that has ended is finished (IEEE 488.2,
+    /// 6.1.4 and 6.3). Returns how many requests for service were raised; `None` if no step was due
+    /// and nothing changed.
     pub fn step(&mut self) -> Option<u8>
         ensures steps { (log : List Act) → StandsFor self.old log
             → Takes IsStep self.new result log }
@@ -63,7 +63,7 @@ impl<A: Allocator> Instrument<A> {
         }
     }
 
-    /// Ends the held unit, if no measurement is under way.
+    /// Ends the held unit, if no measurement is under way. Returns whether the unit ended.
     fn release(&mut self, awaited: Awaited) -> bool
         requires { self.old.held ≡ Some awaited }
         ensures { Steps result self.old self.new }
@@ -79,7 +79,7 @@ impl<A: Allocator> Instrument<A> {
         }
     }
 
-    /// Takes the step that is due while no unit is held.
+    /// Takes the step that is due while no unit is held. Returns whether a step was due.
     fn next_step(&mut self) -> bool
         requires { self.old.held ≡ None }
         ensures { Steps result self.old self.new }
@@ -106,7 +106,7 @@ impl<A: Allocator> Instrument<A> {
         self.layers.apply(Change::Report(Code::InputBufferOverrun));
     }
 
-    /// Interrupts the response, and starts the unit that is due.
+    /// Interrupts the response of the message before, and starts the unit that is due.
     fn interrupt(&mut self)
         requires free { self.old.held ≡ None }
         requires due { next_of self.old.layers.exchange ≡ InterruptDue }

@@ -16,9 +16,9 @@ use sv_layers::Change;
 use sv_scan::{ScanAct, State};
 
 impl<A: Allocator> Instrument<A> {
-    /// Sets the input of a channel to this voltage, in microvolts; nothing changes if there is no
-    /// such channel. Like each call below that changes something, it returns how many requests for
-    /// service it raised.
+    /// Sets the input of a channel to this voltage, in microvolts. Nothing changes if there is no
+    /// such channel. Like each function below that changes something, it returns how many requests
+    /// for service it raised.
     pub fn input(&mut self, channel: u8, microvolts: i64) -> u8
         ensures { (log : List Act) → StandsFor self.old log
             → Ran self.new result log (Scanned (Input channel microvolts) ∷ log) }
@@ -28,8 +28,8 @@ impl<A: Allocator> Instrument<A> {
         self.take_requests()
     }
 
-    /// A trigger at the trigger input: the next scan begins if the scanner waits for an external
-    /// trigger; else nothing happens.
+    /// Handles a trigger at the trigger input: the next scan begins if the scanner waits for an
+    /// external trigger; else nothing happens.
     pub fn external(&mut self) -> u8
         ensures { (log : List Act) → StandsFor self.old log
             → Ran self.new result log (external_acts log ++ log) }
@@ -40,8 +40,8 @@ impl<A: Allocator> Instrument<A> {
         }
     }
 
-    /// A trigger from the controller: the next scan begins if the scanner waits for a trigger from
-    /// the controller; else -211 is reported (VXI-11, device_trigger).
+    /// Handles a trigger from the controller: the next scan begins if the scanner waits for a
+    /// trigger from the controller; else -211 is reported (VXI-11, device_trigger).
     pub fn trigger(&mut self) -> u8
         ensures { (log : List Act) → StandsFor self.old log
             → Ran self.new result log (trigger_acts log ++ log) }
@@ -53,7 +53,7 @@ impl<A: Allocator> Instrument<A> {
         self.take_requests()
     }
 
-    /// A millisecond passes: if a scan is under way, its next channel is read.
+    /// Lets a millisecond pass: if a scan is under way, its next channel is read.
     pub fn tick(&mut self) -> u8
         ensures { (log : List Act) → StandsFor self.old log
             → Ran self.new result log (tick_acts log ++ log) }
@@ -68,7 +68,7 @@ impl<A: Allocator> Instrument<A> {
         }
     }
 
-    /// Whether a scan is under way, so that the next millisecond reads a channel.
+    /// Whether a scan is under way, so that a channel is read when the next millisecond passes.
     pub fn is_scanning(&self) -> bool
         ensures { (log : List Act) → StandsFor self.now log
             → result ≡ scans (state (effective_acts log)) }

@@ -21,8 +21,9 @@ pub(crate) fn end<A: Allocator>(layers: &mut Layers<A>)
     layers.done();
 }
 
-/// Applies a change, and ends the unit that is due. The result is `None`: no unit is held. Each
-/// function that performs a unit returns what the unit will answer, if it is held.
+/// Applies a change, and ends the unit that is due. Returns `None`, like every function that
+/// performs a unit and doesn't hold it; a function that holds the unit returns what the unit will
+/// answer.
 pub(crate) fn carry_out<A: Allocator>(layers: &mut Layers<A>, change: Change) -> Option<Awaited>
     requires { IsUnitDue (next_of layers.old.exchange) }
     ensures behaves { (start log : List Act) → Counts start layers.old log
@@ -34,7 +35,7 @@ pub(crate) fn carry_out<A: Allocator>(layers: &mut Layers<A>, change: Change) ->
     None
 }
 
-/// Holds the unit that is due.
+/// Holds the unit that is due. Returns what the unit will answer.
 pub(crate) fn hold<A: Allocator>(layers: &mut Layers<A>, awaited: Awaited) -> Option<Awaited>
     requires { IsUnitDue (next_of layers.old.exchange) }
     ensures behaves { (start log : List Act) → Counts start layers.old log
@@ -45,7 +46,8 @@ pub(crate) fn hold<A: Allocator>(layers: &mut Layers<A>, awaited: Awaited) -> Op
     Some(awaited)
 }
 
-/// Gives an answer, if it fits; else drops all answers of the message, and reports -430.
+/// Adds an answer to the response, if it fits; else drops all answers of the message, and reports
+/// -430.
 fn respond<A: Allocator>(layers: &mut Layers<A>, text: &[u8])
     requires { IsTrue (may_respond layers.old.exchange) }
     ensures counts { (start log : List Act) → Counts start layers.old log
@@ -57,7 +59,7 @@ fn respond<A: Allocator>(layers: &mut Layers<A>, text: &[u8])
     }
 }
 
-/// Ends the unit that is due, and gives its answer.
+/// Ends the unit that is due, and adds its answer to the response.
 pub(crate) fn reply<A: Allocator>(layers: &mut Layers<A>, text: &[u8])
     requires { IsUnitDue (next_of layers.old.exchange) }
     ensures behaves { (start log : List Act) → Counts start layers.old log

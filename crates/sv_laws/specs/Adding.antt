@@ -1,5 +1,5 @@
--- All bytes that a history sends on a port, and what further events add to them. They are counted across reconnects: the bytes of all
--- replies, or of all calls for service requests, also those of a port that was closed since.
+-- All bytes that a history sends on a port, and the bytes that further events add to them. All bytes count, even those sent before the port
+-- was last closed: of a connection the bytes of all replies, of an interrupt channel those of all calls for service requests.
 use Rattle.std.specs.Prelude.{◌≡◌, ℕ, List, [], ◌∷◌, ◌++◌}
 use Rattle.std.specs.List.{concat}
 use Rattle.sv_links.specs.Channels.{ChannelAct, all_calls}
@@ -17,7 +17,7 @@ all_replies [] = []
 all_replies (Replied bytes ∷ acts) = all_replies acts ++ bytes
 all_replies (_ ∷ acts) = all_replies acts
 
--- all bytes that were sent on a port, by the log and the log of the interrupt channels
+-- all bytes that were sent on a port, given the log and the log of the interrupt channels
 abbrev pub all_sent : Port → List ChannelAct → List Act → List ℕ
 all_sent (Conn c) channel_log log = all_replies (of c log)
 all_sent (Intr c) channel_log log = concat (all_calls c channel_log)

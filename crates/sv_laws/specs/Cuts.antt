@@ -1,5 +1,6 @@
 -- Cuts: how bytes are split into pieces, records into fragments (RFC 5531, section 11: record marking), and text into writes (VXI-11
--- revision 1.0, section B.6, device_write) changes nothing that is sent but the writes' own replies, under the premises below.
+-- revision 1.0, section B.6, device_write). Under the premises below, the split changes nothing that is sent, except the replies to the
+-- writes themselves.
 use Rattle.std.specs.Prelude.{◌≡◌, ◌≢◌, ◌↔◌, not, ℕ, pos, Bool, true, false, List, [], ◌∷◌, ◌++◌, length, drop, filter, map, Some}
 use Rattle.std.specs.Int.{bit_at}
 use Rattle.std.specs.List.{AllByRecursion}
@@ -37,8 +38,8 @@ is_piece _ = false
 abbrev pub without_pieces : List ConnAct → List ConnAct
 without_pieces = filter (λ act. not (is_piece act))
 
--- The newest acts are a device_write of these bytes on a link, with or without the END flag. It was answered without error, for all its
--- bytes.
+-- The newest acts are a device_write of these bytes on a link, with or without the END flag. Its reply has no error, and says that all its
+-- bytes were written.
 abbrev pub IsWritten : ℕ → List ℕ → Bool → List ConnAct → List ConnAct → Type 0
 IsWritten lid bytes ended before acts = (xid io_timeout lock_timeout flags : ℕ) × (call : List ℕ)
     × (core_call call ≡ Some (record { xid = xid; arguments = OnLink (pos lid) (DeviceWrite io_timeout lock_timeout flags bytes) }))
@@ -53,12 +54,12 @@ pub record Feeds (c : ℕ) (config : Config) (past events : List PlainEvent) (be
   pub is_log : IsLogOf config (events ++ past) log
   pub none_left : drop (records_ended (of c log)) (records_of (stream (of c log))) ≡ []
 
--- No write is suspended until it is accepted, and no read until it is answered.
+-- No write is suspended that waits to be accepted, and no read that waits to be answered.
 abbrev pub NoneWaits : List WaitAct → Type 0
 NoneWaits acts = (c : ℕ) → (waits c acts ≢ Some ForInput) × (waits c acts ≢ Some ForResponse)
 
--- After a history, `one` is a write of x and y. `two` is a write of x without the END flag, and then one of y. Both leave the same
--- unfinished record. No byte of x is a new line, and no read or write was suspended before.
+-- After a history, `one` has a single write of x and y. `two` has a write of x without the END flag, and then a write of y. Both leave the
+-- same unfinished record. No byte of x is a new line, and no read or write was suspended before.
 pub record AreCut (c lid : ℕ) (x y : List ℕ) (ended : Bool) (config : Config) (past one two : List PlainEvent) : Type 0 where
   pub before : List Act
   pub whole : List Act
@@ -73,8 +74,8 @@ pub record AreCut (c lid : ℕ) (x y : List ℕ) (ended : Bool) (config : Config
   pub writes_first : IsWritten lid x false (without_pieces (of c before)) middle
   pub writes_second : IsWritten lid y ended middle (without_pieces (of c cut))
 
--- If one history has a write in one piece and another has it cut in two (`AreCut`), the same further events add the same bytes to each
--- port, provided that both are histories. The writes themselves add the same bytes to each port but their connection.
+-- One history has a write in one piece, the other has it cut in two (`AreCut`). If the same events are added to both, and both are still
+-- histories, these events add the same bytes to each port. The writes themselves add the same bytes to each port except their connection.
 abbrev pub WritesCut : Type 0
 WritesCut = (c lid : ℕ) (x y : List ℕ) (ended : Bool) (config : Config) (past one two events : List PlainEvent) (log other : List Act)
     → AreCut c lid x y ended config past one two → IsLogOf config (events ++ (one ++ past)) log
@@ -93,7 +94,7 @@ pub data Recut (config : Config) : List PlainEvent → List PlainEvent → Type 
       → reading (stream (of c log) ++ join_pieces pieces) ≡ reading (stream (of c log) ++ join_pieces others) → Recut config past other
       → Recut config (map (Bytes c) pieces ++ past) (map (Bytes c) others ++ other)
 
--- Two histories that differ only in pieces and fragments (`Recut`) send the same bytes on each port.
+-- Two histories that differ only in how they are split into pieces and fragments (`Recut`) send the same bytes on each port.
 abbrev pub RecordsCut : Type 0
 RecordsCut = (config : Config) (history other : List PlainEvent) (log also : List Act) → Recut config history other
     → IsLogOf config history log → IsLogOf config other also → (port : Port) (bytes : List ℕ)

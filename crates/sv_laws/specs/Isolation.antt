@@ -15,7 +15,7 @@ use Rattle.sv_history.specs.AbortChannel.{owner_of}
 use Rattle.sv_history.specs.History.{IsLogOf}
 use Rattle.sv_laws.specs.Adding.{Adds}
 
--- whether an event is of a connection other than `c`, or of another connection's interrupt channel
+-- whether an event is of another connection than `c`, or of the interrupt channel of such a connection
 abbrev pub is_foreign : ℕ → PlainEvent → Bool
 is_foreign c (Open d role) = not (d == c)
 is_foreign c (Bytes d piece) = not (d == c)
@@ -32,7 +32,7 @@ is_foreign c Tick = false
 abbrev pub own_events : ℕ → List PlainEvent → List PlainEvent
 own_events c = filter (λ event. not (is_foreign c event))
 
--- the link that a device_abort names; `None` for another request
+-- the link that a device_abort names; `None` for any other request
 abbrev pub aborted_link : Option Request → Option ℕ
 aborted_link (Some (AbortRequest xid lid)) = lid_of (Some lid)
 aborted_link _ = None
@@ -49,7 +49,7 @@ LeavesLinksAlone c (Turn d) log = (owner_of (aborted_link (next_request (of d lo
 LeavesLinksAlone c (Refuse d) log = d ≡ c → makes_link (next_request (of d log)) ≡ false
 LeavesLinksAlone c _ log = ⊤
 
--- `IsSuch` holds of each of these events, which come after the history `past`, with the log of all events before it.
+-- `IsSuch` holds of each of these events, together with the log of all events before that event. The events come after the history `past`.
 abbrev pub EachIs : (PlainEvent → List Act → Type 0) → Config → List PlainEvent → List PlainEvent → Type 0
 EachIs IsSuch config past [] = ⊤
 EachIs IsSuch config past (event ∷ events) =
@@ -60,12 +60,13 @@ abbrev pub HoldsFrom : ℕ → List Act → List Act → Type 0
 HoldsFrom lid before log = (later since : List Act) → log ≡ later ++ (since ++ before)
     → holder (link_acts (device_acts (since ++ before))) ≡ Some lid
 
--- No write of another connection is suspended until it is accepted, and no read until it is answered.
+-- No write of another connection is suspended that waits to be accepted, and no read that waits to be answered.
 abbrev pub NoOtherWaits : ℕ → List WaitAct → Type 0
 NoOtherWaits c acts = (d : ℕ) → d ≢ c → (waits d acts ≢ Some ForInput) × (waits d acts ≢ Some ForResponse)
 
--- These events follow the history `past`. During them a link of this connection holds the lock, and they leave its links alone
--- (`LeavesLinksAlone`). When they begin, no read or write of another connection is suspended (`NoOtherWaits`).
+-- These events follow the history `past`. During them a link of this connection holds the lock. No event is a device_abort of a link of
+-- this connection, or a create_link on this connection (`LeavesLinksAlone`). When the events begin, no read or write of another connection
+-- is suspended (`NoOtherWaits`).
 pub record IsLocked (c lid : ℕ) (config : Config) (past events : List PlainEvent) : Type 0 where
   pub before : List Act
   pub log : List Act
@@ -76,8 +77,8 @@ pub record IsLocked (c lid : ℕ) (config : Config) (past events : List PlainEve
   pub rest : NoOtherWaits c (wait_acts (device_acts before))
   pub left_alone : EachIs (LeavesLinksAlone c) config past events
 
--- While a link of a connection holds the lock (`IsLocked`), the events without those of other connections are a history too. With and
--- without those, the events add the same bytes to the connection and to its interrupt channel.
+-- While a link of a connection holds the lock (`IsLocked`), leave out the events of all other connections. The remaining events are a
+-- history too. They add the same bytes to the connection and to its interrupt channel as all events do.
 abbrev pub Isolation : Type 0
 Isolation = (c lid : ℕ) (config : Config) (past events : List PlainEvent) → IsLocked c lid config past events
     → ((log : List Act) × IsLogOf config (own_events c events ++ past) log)

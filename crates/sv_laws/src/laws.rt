@@ -10,18 +10,19 @@ pub fn one_log()
 {}
 
 /// While a link holds the lock, other connections change nothing that is sent on the connection
-/// that made the link, and on its interrupt channel (VXI-11 revision 1.0, section B.4.4). This
-/// holds if no device_abort names a link of that connection, no create_link comes on it, and at the
-/// beginning no read or write of another connection is suspended for input or output.
+/// that created the link, and on its interrupt channel (VXI-11 revision 1.0, section B.4.4). There
+/// are three premises: no device_abort names a link of that connection; no create_link comes on
+/// that connection; and when the events begin, no read or write of another connection is suspended
+/// for input or output.
 pub fn isolation()
     ensures { Isolation }
 {}
 
-/// How input is split into pieces, records into fragments and text into writes makes no difference,
-/// except to the replies to the writes. This holds if each piece finds room, each write is answered
-/// without error for all its bytes, only the last write has END or a new line, and no read or write
-/// was suspended before (RFC 5531, section 11: record marking; VXI-11 revision 1.0, section B.6,
-/// device_write; IEEE 488.2, 6.1).
+/// It makes no difference to what is sent how input is split into pieces, records into fragments
+/// and text into writes, except for the replies to the writes. There are four premises: each piece
+/// finds room; each write is answered without error for all its bytes; only the last write has END
+/// or a new line; and no read or write was suspended before (RFC 5531, section 11: record marking;
+/// VXI-11 revision 1.0, section B.6, device_write; IEEE 488.2, 6.1).
 pub fn cuts()
     ensures pieces { RecordsCut }
     ensures writes { WritesCut }
@@ -37,13 +38,13 @@ pub fn none_late()
     ensures { NoneLate }
 {}
 
-/// An event that fits the answers of the queries is never refused. So no bytes are lost for which
-/// there was room, or that waited when the peer took them.
+/// An event that the queries allow is never refused. So the server loses no bytes that come while
+/// there is room for them, and counts all bytes that the peer takes of those that wait.
 pub fn nothing_lost()
     ensures { NothingLost }
 {}
 
-/// Each call that is taken on a connection is answered once, or is suspended.
+/// Each call that is taken on a connection is either answered exactly once, or suspended.
 pub fn each_answered()
     ensures { EachAnswered }
 {}
@@ -54,8 +55,8 @@ pub fn replies_match()
     ensures { RepliesMatch }
 {}
 
-/// A call that a Turn takes is answered at once, unless it is suspended because it can't go on yet;
-/// or the record isn't a call (VXI-11 revision 1.0, section B.4.4).
+/// A call that a Turn takes is answered at once, unless it is suspended because it can't go on yet
+/// (VXI-11 revision 1.0, section B.4.4). A record that isn't a call puts its connection at fault.
 pub fn turn_answered()
     ensures { TurnAnswered }
 {}

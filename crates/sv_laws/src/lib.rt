@@ -1,5 +1,5 @@
-//! The laws of the specification: what holds of every history, by the definitions of `sv_history`
-//! alone. Nothing here runs.
+//! The laws of the specification: statements that hold of every history, by the definitions of
+//! `sv_history` alone. Nothing here runs.
 #![tactic(auto)]
 
 pub mod laws;

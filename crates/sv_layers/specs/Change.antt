@@ -1,9 +1,9 @@
--- Which act each change of the code makes.
+-- The act that each `Change` of the code makes.
 use Rattle.sv_layers.specs.declared.change.Change.{Change}
 use Rattle.sv_layers.specs.declared.change.Change.TheVariants as changes
 use Rattle.sv_layers.specs.Act.{Act, Scanned, Held, Reported, EntryTaken, Cleared, Preset, OpcAsked, StandardRead, StandardEnabled, EventRead, Enabled, RiseSet, FallSet, ServiceEnabled}
 
--- the act that a change of the code makes
+-- the act that a `Change` of the code makes
 abbrev pub act_of : Change → Act
 act_of (changes.Scan act) = Scanned act
 act_of (changes.Hold awaited) = Held awaited

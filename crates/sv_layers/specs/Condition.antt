@@ -1,4 +1,4 @@
--- The condition words (SCPI-1999, chapter 20) and the state of the trigger system, by the log.
+-- The condition registers (SCPI-1999, chapter 20) and the state of the trigger system, by searches of the log.
 use Rattle.std.specs.Prelude.{ℕ, ◌+◌, Bool, ◌&&◌, List}
 use Rattle.std.specs.List.{list_any, range_with_len}
 use Rattle.sv_logs.specs.Since.{is_since}
@@ -11,7 +11,7 @@ use Rattle.sv_scan.specs.Condition as scan
 use Rattle.sv_layers.specs.Act.{Act, scan_acts}
 use Rattle.sv_layers.specs.Filter.{enable, has_bit, passes, leaves}
 
--- the acts of the scanner that count: an act that is refused is in the log, but doesn't count
+-- the acts of the scanner that have an effect: a refused act is in the log, but has no effect
 abbrev pub effective_acts : List Act → List ScanAct
 effective_acts log = effective (scan_acts log)
 
@@ -19,17 +19,17 @@ effective_acts log = effective (scan_acts log)
 abbrev pub is_idle : List Act → Bool
 is_idle log = idles (state (effective_acts log))
 
--- the condition bits of a register that the scanner determines, by its acts that count
+-- the condition bits of a register that the scanner determines, given those of its acts that have an effect
 abbrev pub scan_word : RegisterName → List ScanAct → ℕ
 scan_word Operation acts = scan.operation acts
 scan_word Questionable acts = scan.questionable acts
 scan_word Limit acts = scan.limit acts
 
--- the condition bits of a register that the scanner determines, by the log
+-- the condition bits of a register that the scanner determines, given the log
 abbrev pub word : RegisterName → List Act → ℕ
 word name log = scan_word name (effective_acts log)
 
--- The summary of a register that has no nested register: some enabled bit passed its filter after the last clearing.
+-- The summary of a register that has no nested register: since the last clearing some bit passed its filter, and the bit is enabled.
 abbrev pub summary : RegisterName → List Act → Bool
 summary name log =
     list_any (λ k. is_since (passes (word name) name k) (leaves name) log && has_bit (enable name log) k) (range_with_len 0 16)

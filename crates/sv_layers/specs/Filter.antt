@@ -14,11 +14,11 @@ is_same Questionable Questionable = true
 is_same Limit Limit = true
 is_same _ _ = false
 
--- the enable at power on and after a preset: 32767 for the limit register, 0 for the others
+-- the enable at power on and after a preset: 32767 for the limit register, 0 for every other register
 abbrev pub start : RegisterName → ℕ
 start = elim [ Limit ↦ 32767 | _ ↦ 0 ]
 
--- the mask without bit 15, if the register that is named is this one; else `None`
+-- the mask without bit 15, if `name` and `other` are the same register; else `None`
 abbrev pub mask_for : RegisterName → RegisterName → ℕ → Option ℕ
 mask_for name other mask = if is_same name other then Some (without_top_bit mask) else None
 
@@ -38,7 +38,7 @@ enable name = last_given (elim [ Enabled other mask ↦ mask_for name other mask
 abbrev pub has_bit : ℕ → ℕ → Bool
 has_bit word k = bit_at word k == 1
 
--- whether at the newest act a bit of the condition changes in a direction whose filter was on before that act
+-- whether the newest act changes a bit of the condition in a direction for which the filter was on before that act
 abbrev pub passes : (List Act → ℕ) → RegisterName → ℕ → List Act → Bool
 passes condition name k [] = false
 passes condition name k (act ∷ before) =

@@ -25,8 +25,8 @@ IsPending (act ∷ log) = (is_idle (act ∷ log) ≡ false) × (cancels act ≡ 
 abbrev pub Waits : List Act → Type 0
 Waits log = Since IsAsked IsPending log
 
--- At the newest act an `*OPC` completes: no measurement is under way. Either the act is the `*OPC`, or one was pending before and the act
--- doesn't cancel it.
+-- At the newest act an `*OPC` completes: no measurement is under way. Either the newest act is the `*OPC`; or an `*OPC` was pending before,
+-- and the newest act doesn't cancel it.
 abbrev pub Completes : List Act → Type 0
 Completes [] = ⊥
 Completes (act ∷ before) = (is_idle (act ∷ before) ≡ true) × (IsAsked (act ∷ before) ⊎ (Waits before × (cancels act ≡ false)))

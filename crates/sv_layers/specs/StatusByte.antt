@@ -16,7 +16,7 @@ SummaryBit k log = ((k ≡ 7) × Summary Operation log) ⊎ ((k ≡ 5) × Standa
     ⊎ ((k ≡ 4) × (is_something (response (exchange_acts log)) ≡ true)) ⊎ ((k ≡ 3) × Summary Questionable log)
     ⊎ ((k ≡ 2) × (is_something (entries (queue_acts log)) ≡ true))
 
--- the service request enable that was set last; 0 at first. The mask is taken as it is given: sv_command drops bit 6 from that of `*SRE`.
+-- the service request enable that was set last; 0 at first. The whole mask counts: sv_command has dropped bit 6 from the mask of an `*SRE`.
 abbrev pub service : List Act → ℕ
 service = last_given (elim [ ServiceEnabled mask ↦ Some mask | _ ↦ None ]) 0
 
@@ -28,29 +28,29 @@ ServiceRequested k log = SummaryBit k log × (bit_at (service log) k ≡ 1)
 abbrev pub Master : List Act → Type 0
 Master log = (k : ℕ) × ServiceRequested k log
 
--- A reason for service arises at the newest act: some bit is set and enabled that wasn't both before.
+-- A reason for service arises at the newest act: some summary bit is set and enabled, and before the act it wasn't both set and enabled.
 abbrev pub Reason : List Act → Type 0
 Reason [] = ⊥
 Reason (act ∷ before) = (k : ℕ) × ServiceRequested k (act ∷ before) × (ServiceRequested k before → ⊥)
 
--- The newest act keeps a request: it isn't a poll, and the master summary is set.
+-- The newest act doesn't end a request for service: it isn't a poll, and the master summary is set.
 abbrev pub Lasts : List Act → Type 0
 Lasts (Polled ∷ log) = ⊥
 Lasts log = Master log
 
--- A request for service is pending: a reason arose, and at each moment since then the master summary was set and no poll came.
+-- A request for service is pending: a reason arose, and at each moment since then the master summary was set and no poll happened.
 abbrev pub Request : List Act → Type 0
 Request log = Since Reason Lasts log
 
--- A request is raised at the newest act: it is pending after that act, and wasn't before.
+-- A request for service is raised at the newest act: a request is pending after this act, and none was pending before it.
 abbrev pub IsRaised : List Act → Type 0
 IsRaised [] = ⊥
 IsRaised (act ∷ before) = Request (act ∷ before) × (Request before → ⊥)
 
--- A bit of the status byte as a poll gives it: bit 6 is the request.
+-- A bit of the status byte as a poll returns it: bit 6 is the request for service.
 abbrev pub PolledBit : ℕ → List Act → Type 0
 PolledBit k log = SummaryBit k log ⊎ ((k ≡ 6) × Request log)
 
--- A bit of the status byte as `*STB?` gives it (IEEE 488.2, 11.2.2.2): bit 6 is the master summary.
+-- A bit of the status byte as `*STB?` returns it (IEEE 488.2, 11.2.2.2): bit 6 is the master summary.
 abbrev pub MasterBit : ℕ → List Act → Type 0
 MasterBit k log = SummaryBit k log ⊎ ((k ≡ 6) × Master log)

@@ -4,12 +4,12 @@ use sv_errors::Code;
 use sv_scan::ScanAct;
 use sv_status::RegisterName;
 
-/// What a held unit will answer once no measurement is under way.
+/// What a held unit will answer when no measurement is under way any more.
 #[derive(Clone, Copy)]
 pub enum Awaited {
     /// Nothing: `*WAI` (IEEE 488.2, 12.5.1).
     Nothing,
-    /// A one: `*OPC?` (IEEE 488.2, 12.5.3).
+    /// `1`: `*OPC?` (IEEE 488.2, 12.5.3).
     One,
     /// The readings: `READ?` and `MEASure?` (SCPI-1999, volume 2, chapter 3).
     Readings,
@@ -24,9 +24,9 @@ pub enum Change {
     Hold(Awaited),
     /// An error is reported.
     Report(Code),
-    /// The oldest entry of the error queue is taken.
+    /// The oldest entry of the error queue is removed.
     TakeEntry,
-    /// `*CLS`: events and error queue are cleared, and an `*OPC` is cancelled.
+    /// `*CLS`: events and error queue are cleared, and a pending `*OPC` is cancelled.
     ClearStatus,
     /// `STATus:PRESet`: enables and filters of all registers are preset.
     Preset,

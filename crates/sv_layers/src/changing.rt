@@ -1,4 +1,4 @@
-//! What a change does to its own layer, and what follows.
+//! What a change does to its own layer, and how the registers and the status byte are updated.
 
 ghost use Rattle.std.specs.Prelude.{◌≡◌, List, ◌∷◌, Some, None, OnOk, OnErr, MatchResult};
 ghost use Rattle.sv_status.specs.declared.status_byte.StatusAct.{StatusAct};
@@ -18,12 +18,12 @@ use std::alloc::Allocator;
 use sv_errors::{Code, Layer, Source};
 use sv_scan::ScanAct;
 
-/// The bit of device-specific errors in the standard events; an overflow of the error queue sets
-/// it.
+/// The bit of device-specific errors in the standard events. An overflow of the error queue sets
+/// this bit too.
 const DEVICE: u8 = 1 << 3;
 
 impl<A: Allocator> Layers<A> {
-    /// Applies a change to its own layer, then to each register, then to the status byte.
+    /// Applies a change to its own layer, then updates each register, then the status byte.
     pub fn apply(&mut self, change: Change)
         ensures applied { (log : List Act) → StandsFor self.old log
             → IsApplied self.old.requests self.new (act_of change ∷ log) }
@@ -65,7 +65,7 @@ impl<A: Allocator> Layers<A> {
         }
     }
 
-    /// Applies an act to the scanner; a reset cancels an `*OPC`.
+    /// Applies an act to the scanner; a reset cancels a pending `*OPC`.
     fn scan(&mut self, act: ScanAct)
         ensures stands { (at : LayerLogs) (status_log : List StatusAct)
             → Represents self.old at status_log
@@ -77,8 +77,8 @@ impl<A: Allocator> Layers<A> {
         self.scanner.act(act);
     }
 
-    /// Reports an error: puts it into the error queue, and sets the standard event of its class; if
-    /// the queue overflows, also that of device-specific errors.
+    /// Reports an error: adds it to the error queue, and sets the standard event of its class. If
+    /// the queue overflows, also sets the standard event of device-specific errors.
     fn report(&mut self, code: Code)
         ensures stands { (at : LayerLogs) (status_log : List StatusAct)
             → Represents self.old at status_log
@@ -91,11 +91,11 @@ impl<A: Allocator> Layers<A> {
         self.standard.occur(mask_if(DEVICE, overflows));
     }
 
-    /// A trigger from this source begins the next scan.
+    /// Applies a trigger from this source, which begins the next scan.
     ///
     /// # Errors
-    /// [`Code::TriggerIgnored`] if the scanner doesn't wait for a trigger, or waits for one from
-    /// another source; then nothing changes.
+    /// [`Code::TriggerIgnored`] if the scanner doesn't wait for a trigger from this source; then
+    /// nothing changes.
     pub fn trigger(&mut self, source: Source) -> Result<(), Code>
         ensures applied { (log : List Act) → StandsFor self.old log
             → MatchResult result (λ done. (trigger_fault (effective_acts log) source ≡ None)

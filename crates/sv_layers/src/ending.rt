@@ -1,4 +1,4 @@
-//! The end of a change: each register is updated, one after the other.
+//! The end of a change: one register after the next is updated.
 
 ghost use Rattle.std.specs.Prelude.{◌≡◌, ℕ, false, List, ◌∷◌};
 ghost use Rattle.sv_status.specs.declared.register.RegisterAct.{RegisterAct};
@@ -26,10 +26,10 @@ const COMPLETE: u8 = 1 << 0;
 const SUMMARY: u16 = 1 << 9;
 
 impl<A: Allocator> Layers<A> {
-    /// Ends an act that has begun in its own layer, by updating one register after the other. If
-    /// the condition of a register may have changed, it is first run through the filters as they
-    /// were; then the act's own effect on the register is applied. A nested register comes before
-    /// the register above it, so that its summary is known there.
+    /// Ends an act that has begun in its own layer, by updating one register after the next. If the
+    /// condition of a register may have changed, its transitions first pass the filters as they
+    /// were before the act. Then the act's own effect on the register is applied. A nested register
+    /// is updated before the register above it, whose condition contains the nested one's summary.
     pub(crate) fn end(&mut self, change: &Change)
         ensures stands { (log : List Act) (act : Act) (status_log : List StatusAct)
             → EndsAs (act_of change.now) act
@@ -55,7 +55,7 @@ impl<A: Allocator> Layers<A> {
         change_standard(&mut self.standard, change);
     }
 
-    /// Sets operation complete if an `*OPC` waits and no measurement is under way.
+    /// Sets operation complete if an `*OPC` is pending and no measurement is under way.
     fn complete(&mut self)
         ensures stands { (at : LayerLogs) (status_log : List StatusAct)
             → Represents self.old at status_log
@@ -77,14 +77,15 @@ fn differ(first: bool, second: bool) -> bool
     if first { !second } else { second }
 }
 
-/// Bit 9 if the summary of a nested register is set, else 0.
+/// Returns a word with bit 9 set if the summary of a nested register is set, else 0.
 fn summary_bit(stands: bool) -> u16
     ensures { result ≡ bit 9 stands }
 {
     if stands { SUMMARY } else { 0 }
 }
 
-/// Runs the condition of a register through its filters, if it may have changed.
+/// Gives a register its condition, if the condition may have changed; the transitions pass its
+/// filters.
 fn compare(register: &mut Register, touched: bool, word: u16)
     ensures { (start : ℕ) (acts : List RegisterAct) → Registers start register.old acts
         → (touched ≡ false → word ≡ condition acts)
@@ -95,7 +96,7 @@ fn compare(register: &mut Register, touched: bool, word: u16)
     }
 }
 
-/// Applies a change's own effect on a status register.
+/// Applies to a status register what a change does directly to it.
 fn change_register(register: &mut Register, name: RegisterName, change: &Change)
     ensures { (start : ℕ) (acts : List RegisterAct) → Registers start register.old acts
         → Registers start register.new (own name (act_of change.now) acts) }
@@ -136,7 +137,7 @@ fn change_register(register: &mut Register, name: RegisterName, change: &Change)
     }
 }
 
-/// Applies a change's own effect on the standard events.
+/// Applies to the standard events what a change does directly to them.
 fn change_standard(standard: &mut StandardEvent, change: &Change)
     ensures { (acts : List StandardAct) → Standards standard.old acts
         → Standards standard.new (own_standard (act_of change.now) acts) }

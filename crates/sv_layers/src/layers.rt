@@ -29,7 +29,7 @@ pub struct Layers<A: Allocator = Global> {
     pub(crate) operation: Register,
     /// The questionable status register.
     pub(crate) questionable: Register,
-    /// The register of limits, whose summary is a bit of the questionable condition.
+    /// The limit register, whose summary is a bit of the questionable condition.
     pub(crate) limit: Register,
     /// The standard event status register.
     pub(crate) standard: StandardEvent,
@@ -39,10 +39,10 @@ pub struct Layers<A: Allocator = Global> {
     pub(crate) scanner: Scanner<A>,
     /// The service request enable.
     pub(crate) service: u8,
-    /// Whether an `*OPC` waits for the end of a measurement.
+    /// Whether an `*OPC` is pending: it waits for the end of a measurement.
     pub(crate) waits: bool,
-    /// How many requests for service were raised since the count was last taken; 255 if there are
-    /// more.
+    /// How many requests for service were raised since `take_requests` was last called; 255 if
+    /// there were more.
     pub(crate) requests: u8,
 }
 
@@ -69,7 +69,7 @@ impl<A: Allocator> Model for Layers<A> {
 }
 
 impl<A: Allocator + Copy> Layers<A> {
-    /// All layers as at power on. It allocates all the memory that they ever use.
+    /// Makes all layers as at power on. This allocates all the memory that the layers ever use.
     ///
     /// # Errors
     /// If memory is refused.
@@ -118,7 +118,7 @@ impl<A: Allocator> Layers<A> {
         &self.scanner
     }
 
-    /// One of the status registers.
+    /// Returns the status register with this name.
     pub(crate) fn register(&self, name: RegisterName) -> &Register
         ensures { (at : LayerLogs) (status_log : List StatusAct) → Represents self.now at status_log
             → Registers (start name) result.now (register_acts name at) }

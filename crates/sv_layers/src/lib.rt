@@ -1,5 +1,5 @@
-//! The layers of the instrument, joined: an act changes its own layer, then each register is
-//! updated, one after the other, and then the status byte.
+//! The layers of the instrument, joined: an act changes its own layer; then one register after the
+//! next is updated; then the status byte.
 //!
 //! Only [`Layers::new`] allocates.
 #![tactic(auto)]

@@ -1,4 +1,5 @@
-//! Changes of program text and the response, and what follows from them.
+//! Changes of program text and of the response, each followed by the update of registers and status
+//! byte.
 
 ghost use Rattle.std.specs.Prelude.{◌≡◌, ◌+◌, ◌*◌, ◌<◌, ◌≤◌, List, ◌∷◌, drop, length, IsTrue, if◌then◌else◌};
 ghost use Rattle.sv_exchange.specs.Exchange.{Accepted, TextDropped, Overran, UnitDone, Answered, AnswersDropped, Finished, Interrupted, ResponseRead, OverrunDue, InterruptDue, FinishDue, answers, fits_response};
@@ -11,7 +12,7 @@ use crate::layers::Layers;
 use std::alloc::Allocator;
 
 impl<A: Allocator> Layers<A> {
-    /// Accepts the bytes of a write, with END after the last of them or without. Message exchange
+    /// Accepts the bytes of a write, with END at the last byte or without END. Message exchange
     /// must be open for a write, which may have at most [`MAX_MESSAGE`](sv_exchange::MAX_MESSAGE)
     /// bytes.
     pub fn accept(&mut self, bytes: &[u8], ended: bool)
@@ -26,7 +27,7 @@ impl<A: Allocator> Layers<A> {
         self.update_status();
     }
 
-    /// Steps over the unit that is due: it has been executed.
+    /// Marks the unit that is due as done: it has been executed.
     pub fn done(&mut self)
         requires { IsUnitDue (next_of self.old.exchange) }
         ensures applied { (log : List Act) → StandsFor self.old log
@@ -39,7 +40,7 @@ impl<A: Allocator> Layers<A> {
         self.update_status();
     }
 
-    /// Notes that the message that is too long was reported.
+    /// Notes that the error of a message that is too long was reported.
     pub fn overran(&mut self)
         requires { next_of self.old.exchange ≡ OverrunDue }
         ensures applied { (log : List Act) → StandsFor self.old log
@@ -75,8 +76,8 @@ impl<A: Allocator> Layers<A> {
         self.update_status();
     }
 
-    /// Adds an answer after those of the units before, and returns whether it fits. If it doesn't,
-    /// all answers of the message are dropped.
+    /// Adds an answer after the answers of earlier units, and returns whether it fits. If it
+    /// doesn't fit, all answers of the message are dropped.
     pub fn respond(&mut self, answer: &[u8]) -> bool
         requires { IsTrue (may_respond self.old.exchange) }
         ensures fits { (log : List Act) → StandsFor self.old log
@@ -92,7 +93,7 @@ impl<A: Allocator> Layers<A> {
         fits
     }
 
-    /// Drops the first `count` bytes of the response, which were read.
+    /// Drops the first `count` bytes of the response, which a client has read.
     pub fn take(&mut self, count: usize)
         requires { count ≤ length (shown_by self.old.exchange) }
         ensures applied { (log : List Act) → StandsFor self.old log
@@ -116,7 +117,7 @@ impl<A: Allocator> Layers<A> {
         self.update_status();
     }
 
-    /// Device clear: drops program text, answers and response, and cancels an `*OPC`.
+    /// Device clear: drops program text, answers and response, and cancels a pending `*OPC`.
     pub fn purge(&mut self)
         ensures applied { (log : List Act) → StandsFor self.old log
             → IsApplied self.old.requests self.new (Purged ∷ log) }

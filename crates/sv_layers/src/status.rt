@@ -22,7 +22,7 @@ const QUESTIONABLE: u8 = 1 << 3;
 const ERRORS: u8 = 1 << 2;
 
 impl<A: Allocator> Layers<A> {
-    /// The summary bits as they are now.
+    /// Returns the summary bits as they are now.
     fn summary(&self) -> u8
         ensures { (at : LayerLogs) (status_log : List StatusAct) → Represents self.now at status_log
             → IsSummary result at }
@@ -34,7 +34,7 @@ impl<A: Allocator> Layers<A> {
             + mask_if(ERRORS, self.errors.count() > 0)
     }
 
-    /// Updates the status byte, and counts the request for service that this raises, if any.
+    /// Updates the status byte. If this raises a request for service, counts the request.
     pub(crate) fn tell(&mut self)
         ensures applied { (log : List Act) (act : Act) (before : List StatusAct)
             → IsStatus log before
@@ -48,8 +48,8 @@ impl<A: Allocator> Layers<A> {
         self.requests = self.requests.saturating_add(u8::from(raised));
     }
 
-    /// How many requests for service were raised since the last call of this function; 255 if there
-    /// are more.
+    /// Returns how many requests for service were raised since the last call of this function; 255
+    /// if there were more.
     pub fn take_requests(&mut self) -> u8
         ensures count { result ≡ self.old.requests }
         ensures stands { (log : List Act) → StandsFor self.old log → AllRead self.new log }
@@ -60,7 +60,7 @@ impl<A: Allocator> Layers<A> {
         requests
     }
 
-    /// Ends an act that has no effect of its own on a register, and updates the status byte.
+    /// Ends an act that does nothing directly to a register, and updates the status byte.
     pub(crate) fn update_status(&mut self)
         ensures applied { (log : List Act) (act : Act) → Begun self.old act log
             → is_plain act ≡ true → IsApplied self.old.requests self.new (act ∷ log) }
@@ -72,7 +72,7 @@ impl<A: Allocator> Layers<A> {
     }
 }
 
-/// The mask if `holds` is true, else 0.
+/// Returns the mask if `holds`, else 0.
 pub(crate) fn mask_if(mask: u8, holds: bool) -> u8
     ensures { result ≡ (if holds then mask else 0) }
 {

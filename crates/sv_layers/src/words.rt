@@ -1,4 +1,4 @@
-//! The words of the status registers, which queries ask for.
+//! The values of the status registers, as queries return them.
 
 ghost use Rattle.std.specs.Prelude.{◌≡◌, ◌↔◌, ℕ, List};
 ghost use Rattle.std.specs.Int.{bit_at};
@@ -15,7 +15,7 @@ use std::alloc::Allocator;
 use sv_status::RegisterName;
 
 impl<A: Allocator> Layers<A> {
-    /// The standard events (IEEE 488.2, 11.5.1). This doesn't clear them.
+    /// Returns the standard events (IEEE 488.2, 11.5.1), without clearing them.
     pub fn standard_events(&self) -> u8
         ensures { (log : List Act) → StandsFor self.now log → (k : ℕ)
             → (bit_at result k ≡ 1) ↔ Stands k log }
@@ -45,7 +45,7 @@ impl<A: Allocator> Layers<A> {
         self.service
     }
 
-    /// The event bits of a register (SCPI-1999, chapter 20). This doesn't clear them.
+    /// Returns the event bits of a register (SCPI-1999, chapter 20), without clearing them.
     pub fn events(&self, name: RegisterName) -> u16
         ensures { (log : List Act) → StandsFor self.now log → (k : ℕ)
             → (bit_at result k ≡ 1) ↔ EventStands name k log }

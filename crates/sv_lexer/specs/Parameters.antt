@@ -7,23 +7,22 @@ use Rattle.sv_errors.specs.declared.code.Code.TheVariants.{InvalidExpression, Sy
 use Rattle.sv_text.specs.White.{trim}
 use Rattle.sv_lexer.specs.Unit.{rest, rest_place, white_size}
 
--- whether a parenthesis is open after these bytes, which are listed from the last to the first: the last parenthesis among them is an
--- opening one
+-- whether a parenthesis is open after these bytes, listed from the last to the first: the last parenthesis in the bytes is an opening one
 abbrev pub is_open : List ℕ → Bool
 is_open [] = false
 is_open (b ∷ before) = if b == 40 then true else if b == 41 then false else is_open before
 
--- the bytes, cut at each comma outside parentheses; `before` are the bytes before them, from the last to the first
+-- `bytes`, cut at each comma outside parentheses; `before` are the bytes in front of `bytes`, from the last to the first
 abbrev pub cut_outside : (before bytes : List ℕ) → List (List ℕ)
 cut_outside before [] = [] ∷ []
 cut_outside before (b ∷ bytes) = if b == 44 && not (is_open before) then []
     ∷ cut_outside (b ∷ before) bytes else onto_first b (cut_outside (b ∷ before) bytes)
 
--- the parts of a text between its commas outside parentheses; none if the text is empty
+-- the parts of a text between its commas outside parentheses; no parts if the text is empty
 abbrev pub parts : List ℕ → List (List ℕ)
 parts text = if is_empty text then [] else cut_outside [] text
 
--- where a part begins: after the parts before it, and their commas
+-- where the part with this index begins: after the parts in front of it, and their commas
 abbrev pub part_place : ℕ → List (List ℕ) → ℕ
 part_place index parts = sum_by (λ part. length part + 1) (take index parts)
 
@@ -31,7 +30,7 @@ part_place index parts = sum_by (λ part. length part + 1) (take index parts)
 abbrev pub count : List ℕ → ℕ
 count unit = length (parts (rest unit))
 
--- the part of a unit's program data with this index, from 0
+-- the part of a unit's program data with this index, counted from 0
 abbrev part : List ℕ → ℕ → List ℕ
 part unit index = slice_index_or (parts (rest unit)) index []
 
@@ -54,11 +53,11 @@ parameters_fault unit =
     else if list_any is_blank (parts (rest unit)) then Some SyntaxError
     else None
 
--- whether a parenthesis is open after a byte, given whether one was open before it
+-- whether a parenthesis is open after byte b; `inside` says whether one was open before it
 abbrev pub opens : Bool → ℕ → Bool
 opens inside b = if b == 40 then true else if b == 41 then false else inside
 
--- how long the first part is, given whether a parenthesis is open before it
+-- how long the part before the first comma outside parentheses is; `inside` says whether a parenthesis is open in front of the bytes
 abbrev pub first_size : Bool → List ℕ → ℕ
 first_size inside [] = 0
 first_size inside (b ∷ bytes) = if b == 44 && not inside then 0 else 1 + first_size (opens inside b) bytes

@@ -8,8 +8,8 @@ use Rattle.sv_lexer.specs.Unit.{header, header_place, rest, rest_place, is_legal
 use Rattle.sv_lexer.specs.declared.stage.Stage.{Stage}
 use Rattle.sv_lexer.specs.declared.stage.Stage.TheVariants.{WhiteSpace, Asterisk, Colon, CommonMnemonic, Mnemonic, QuerySign, HeaderSeparator, ProgramData, DataSpace, Misspelled, Illegal}
 
--- the stage at which the unit ends, and its size in bytes; where its header begins and ends; the length of its last mnemonic, and of the
--- longest one before that; where its program data begin, and where they end, without white space after them
+-- how far a unit was read: its stage and its size in bytes; where its header begins and ends; the length of its last mnemonic, and of the
+-- longest mnemonic before that one; where its program data begin, and where they end, without the white space after them
 pub record Progress : Type 0 where
   pub stage : Stage
   pub size : ℕ
@@ -20,7 +20,7 @@ pub record Progress : Type 0 where
   pub data_start : ℕ
   pub data_end : ℕ
 
--- a count, but at most 2 ^ 64 - 1
+-- n, but at most 2 ^ 64 - 1
 abbrev pub in_u64 : ℕ → ℕ
 in_u64 n = min n (2 ^ 64 - 1)
 
@@ -54,20 +54,20 @@ abbrev pub is_common : List ℕ → Bool
 is_common [] = false
 is_common (b ∷ text) = b == 42
 
--- A mnemonic must follow this text: its last word is empty, and the others are mnemonics.
+-- A mnemonic must follow this text. After its last colon or its asterisk nothing has come, and the parts before are mnemonics.
 pub record Awaits (text : List ℕ) : Type 0 where
   pub some : is_empty text ≡ false
   pub unsigned : is_query text ≡ false
   pub empty : last (words text) ≡ []
   pub mnemonics : list_all is_mnemonic (others (words text)) ≡ true
 
--- The text is a header, without the question mark that may follow it.
+-- The text is a complete header. A question mark may still follow it, but isn't in it.
 pub record IsUnsigned (text : List ℕ) : Type 0 where
   pub header : is_header text ≡ true
   pub unsigned : is_query text ≡ false
 
--- What the header so far is at each stage (7.6.1): empty, an asterisk, a text that a mnemonic must follow, a common command, another
--- header, or one of these two with its question mark. At later stages it is a complete header.
+-- The header read so far has the form that the stage requires (7.6.1): empty; an asterisk; a text that a mnemonic must follow; a common
+-- command header; another header; or a header with its question mark. At later stages it is a complete header.
 abbrev pub HeaderEnds : Stage → List ℕ → Type 0
 HeaderEnds WhiteSpace text = text ≡ []
 HeaderEnds Asterisk text = text ≡ 42 ∷ []
@@ -77,20 +77,20 @@ HeaderEnds Mnemonic text = (is_common text ≡ false) × IsUnsigned text
 HeaderEnds QuerySign text = (front : List ℕ) × (text ≡ front ++ 63 ∷ []) × IsUnsigned front
 HeaderEnds _ text = is_header text ≡ true
 
--- The unit has program data, and `p` says where they begin and end.
+-- The unit has program data, and `p` has the places where they begin and end.
 pub record HasData (p : Progress) (unit : List ℕ) : Type 0 where
   pub some : is_empty (rest unit) ≡ false
   pub begins : p.data_start ≡ in_u64 (rest_place unit)
   pub ends : p.data_end ≡ in_u64 (rest_end unit)
 
--- What a unit ends in at this stage (7.3): its header, white space after the header, program data, or white space after the data.
+-- The unit ends in what its stage says (7.3): its header; white space after the header; program data; or white space after the data.
 abbrev pub UnitEnds : Stage → Progress → List ℕ → Type 0
 UnitEnds HeaderSeparator p unit = (rest unit ≡ []) × (header_end unit < length unit) × (p.data_start ≡ in_u64 (length unit))
 UnitEnds ProgramData p unit = HasData p unit × (rest_end unit ≡ length unit)
 UnitEnds DataSpace p unit = HasData p unit × (rest_end unit < length unit)
 UnitEnds _ p unit = header_end unit ≡ length unit
 
--- At this stage, `p` describes the unit: where its header and its program data begin and end, and how long its mnemonics are.
+-- At this stage, `p` describes the unit: where the header and the program data begin and end, and how long the mnemonics are.
 pub record IsRead (stage : Stage) (p : Progress) (unit : List ℕ) : Type 0 where
   pub spelled : HeaderEnds stage (header unit)
   pub ends : UnitEnds stage p unit
@@ -99,7 +99,7 @@ pub record IsRead (stage : Stage) (p : Progress) (unit : List ℕ) : Type 0 wher
   pub mnemonic : p.mnemonic ≡ in_u64 (length (last (words (header unit))))
   pub front : p.longest ≡ in_u64 (longest (others (words (header unit))))
 
--- What holds of a unit at each stage. A misspelled unit has no valid header, whatever bytes follow.
+-- What each stage says about the unit. A misspelled unit has no valid header, whatever bytes follow.
 abbrev pub At : Stage → Progress → List ℕ → Type 0
 At Misspelled p unit = (more : List ℕ) → is_header (header (unit ++ more)) ≡ false
 At Illegal p unit = ⊤
@@ -110,7 +110,7 @@ abbrev pub is_illegal : Stage → Bool
 is_illegal Illegal = true
 is_illegal _ = false
 
--- `p` is the progress after these bytes. Its stage is `Illegal` exactly if one of them is an illegal byte.
+-- `p` is the progress after these bytes. Its stage is `Illegal` exactly if one of the bytes is illegal.
 pub record Reads (p : Progress) (unit : List ℕ) : Type 0 where
   pub size : p.size ≡ in_u64 (length unit)
   pub legal : list_all is_legal unit ≡ not (is_illegal p.stage)

@@ -1,4 +1,4 @@
--- The header of a program message unit, the text after it, and the faults of their syntax (IEEE 488.2, 7.3 and 7.6).
+-- The header of a program message unit, the text after the header, and the syntax faults of a unit (IEEE 488.2, 7.3 and 7.6).
 use Rattle.std.specs.Prelude.{◌≡◌, ℕ, ◌+◌, ◌&&◌, ◌||◌, not, Bool, List, take, drop, Option, Some, None, Result, MatchResult, nat_lt, nat_le, length, if◌then◌else◌}
 use Rattle.std.specs.List.{prefix_len, position_or_len, list_all}
 use Rattle.sv_errors.specs.declared.code.Code.{Code}
@@ -6,11 +6,11 @@ use Rattle.sv_errors.specs.declared.code.Code.TheVariants.{InvalidCharacter, Syn
 use Rattle.sv_text.specs.White.{is_white, trim, trim_start}
 use Rattle.sv_lexer.specs.Spelled.{is_header, words}
 
--- how many bytes of white space the text begins with
+-- how many bytes of white space the bytes begin with
 abbrev pub white_size : List ℕ → ℕ
 white_size bytes = prefix_len is_white bytes
 
--- how many bytes the header has: those up to the first white space
+-- how many bytes the header has: it ends before the first white space
 abbrev pub header_size : List ℕ → ℕ
 header_size unit = position_or_len is_white (trim unit)
 
@@ -38,8 +38,8 @@ rest_place unit = header_place unit + header_size unit + white_size (behind unit
 abbrev pub is_legal : ℕ → Bool
 is_legal b = is_white b || (nat_lt 32 b && nat_lt b 127)
 
--- the first fault of a unit: an illegal byte (-101), a text in the header's place that isn't a header (-102), a mnemonic of more than 12
--- characters (-112); `None` if there is no fault
+-- the first fault of a unit: an illegal byte (-101); no valid header where the header should be (-102); or a mnemonic of more than 12
+-- characters (-112). `None` if there is no fault.
 abbrev pub unit_fault : List ℕ → Option Code
 unit_fault unit =
     if not (list_all is_legal unit) then Some InvalidCharacter

@@ -7,7 +7,7 @@ ghost use Rattle.sv_lexer.specs.Parameters.{cut_outside, first_size, is_blank as
 
 use sv_text::trim;
 
-/// Whether a parenthesis isn't closed.
+/// Whether a parenthesis is still open at the end of the text.
 pub(crate) fn is_open(text: &[u8]) -> bool
     ensures { result ≡ is_open_behind (reverse text.now) }
 {
@@ -22,7 +22,7 @@ pub(crate) fn is_open(text: &[u8]) -> bool
     false
 }
 
-/// How many parts there are between commas; `None` if one of them is blank.
+/// How many parts the text has between commas; `None` if one of the parts is blank.
 pub(crate) fn filled(text: &[u8]) -> Option<usize>
     ensures { MatchOption result (list_any is_blank_part (parts text.now) ≡ true)
         (λ count. (list_any is_blank_part (parts text.now) ≡ false)
@@ -43,7 +43,8 @@ pub(crate) fn filled(text: &[u8]) -> Option<usize>
     if is_blank(rest) { None } else { Some(count) }
 }
 
-/// The part with this index, from 0, and its position in the text; `None` if there are fewer parts.
+/// The part with this index, counted from 0, and its position in the text; `None` if the text has
+/// fewer parts.
 pub(crate) fn part_at(text: &[u8], index: usize) -> Option<(&[u8], usize)>
     ensures { MatchOption result (length (cut_outside [] text.now) ≤ index)
         (λ found. (index < length (cut_outside [] text.now))
@@ -63,15 +64,15 @@ pub(crate) fn part_at(text: &[u8], index: usize) -> Option<(&[u8], usize)>
     Some((first_outside(rest).0, place))
 }
 
-/// Whether a part is empty or white space alone.
+/// Whether a part is empty or has only white space.
 fn is_blank(part: &[u8]) -> bool
     ensures { result ≡ is_blank_part part.now }
 {
     trim(part).is_empty()
 }
 
-/// The part before the first comma outside of parentheses, and the text after this comma. Without
-/// such a comma the part is all of the text, and there is no text after it.
+/// The part before the first comma outside of parentheses, and the text after this comma. If there
+/// is no such comma: the whole text, and `None`.
 fn first_outside(text: &[u8]) -> (&[u8], Option<&[u8]>)
     ensures parts { MatchOption result.1 (cut_outside [] text.now ≡ result.0.now ∷ [])
         (λ behind. cut_outside [] text.now ≡ result.0.now ∷ cut_outside [] behind.now) }
@@ -88,8 +89,8 @@ fn first_outside(text: &[u8]) -> (&[u8], Option<&[u8]>)
     }
 }
 
-/// The position of the first comma outside of parentheses, or the length of the text if there is
-/// none.
+/// The position of the first comma outside of parentheses; the length of the text if there is no
+/// such comma.
 fn comma_in(text: &[u8]) -> usize
     ensures value { result ≡ first_size false text.now }
     ensures within { result ≤ length text.now }

@@ -1,8 +1,8 @@
 //! Program message units: the header and the parameters of a unit, each a slice of the unit with
 //! its position (IEEE 488.2, 7.6 and 7.7).
 //!
-//! A unit is read at once by [`unit`], or by [`Partial`] while its bytes come one by one. Nothing
-//! allocates.
+//! [`unit`] reads a complete unit. [`Partial`] reads a unit while its bytes come one by one.
+//! Nothing allocates.
 #![tactic(auto)]
 
 mod commas;

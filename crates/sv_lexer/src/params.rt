@@ -12,8 +12,8 @@ use std::marker::Model;
 use sv_errors::Code;
 use sv_text::trim;
 
-/// The parameters of a unit: the parts between commas outside parentheses. Contracts see them as
-/// the bytes of the unit.
+/// The parameters of a unit: the parts between commas outside parentheses. Contracts see this value
+/// as the bytes of the unit.
 #[derive(Debug, Drop)]
 pub struct Params<'a> {
     /// The bytes of the unit.
@@ -42,7 +42,8 @@ impl<'a> Model for Params<'a> {
 }
 
 impl<'a> Params<'a> {
-    /// Reads the parameters from the text of a unit after its header, which begins at `place`.
+    /// Reads the parameters of a unit from `text`, the part of `bytes` after the header. This part
+    /// begins at `place`.
     pub(crate) fn new(bytes: &'a [u8], text: &'a [u8], place: usize) -> Result<Params<'a>, Code>
         requires text { text.now ≡ rest_of bytes.now }
         requires place { place ≡ rest_place bytes.now }
@@ -72,7 +73,7 @@ impl<'a> Params<'a> {
         self.count
     }
 
-    /// The parameter with this index, from 0; `None` if there are fewer.
+    /// The parameter with this index, counted from 0; `None` if the unit has fewer parameters.
     pub fn get(&self, index: usize) -> Option<Token<'a>>
         ensures { MatchOption result (count_of self.now ≤ index)
             (λ token. (index < count_of self.now)

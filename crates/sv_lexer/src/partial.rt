@@ -12,14 +12,14 @@ use crate::token::token_at;
 use std::marker::Model;
 use sv_errors::Code;
 
-/// The most characters of a mnemonic.
+/// The most characters that a mnemonic may have.
 const MOST: usize = 12;
 
-/// A unit whose bytes come one by one (IEEE 488.2, 7.3). It stores no bytes, only what they end in
-/// so far, and where the header and the program data begin and end.
+/// A unit whose bytes come one by one (IEEE 488.2, 7.3). The bytes aren't stored, only the stage
+/// that they have reached, and where the header and the program data begin and end.
 #[derive(Debug, Drop)]
 pub struct Partial {
-    /// What the bytes end in so far.
+    /// What the bytes read so far end in.
     stage: Stage,
     /// How many bytes the unit has so far.
     size: usize,
@@ -53,7 +53,7 @@ impl Model for Partial {
 }
 
 impl Partial {
-    /// A unit without bytes.
+    /// A unit of which no bytes have come.
     pub fn new() -> Partial
         ensures { Reads result [] }
     {
@@ -87,10 +87,10 @@ impl Partial {
         }
     }
 
-    /// Ends the unit and returns it. `text` must be the bytes that were read.
+    /// Ends the unit and returns it. `text` must be the bytes that were pushed.
     ///
     /// # Errors
-    /// Those of [`unit`](crate::unit).
+    /// The errors of [`unit`](crate::unit).
     pub fn finish<'a>(&self, text: &'a [u8]) -> Result<Unit<'a>, Code>
         requires { Reads self.now text.now }
         ensures { MatchResult result (λ unit. (unit ≡ text.now) × (unit_fault text.now ≡ None))
@@ -105,7 +105,7 @@ impl Partial {
         }
     }
 
-    /// Counts one more byte, which leads to this stage.
+    /// Counts one more byte, which leads to `stage`.
     fn move_to(&mut self, stage: Stage)
         ensures { self.new ≡ progress_to stage self.old }
     {
@@ -136,7 +136,7 @@ impl Partial {
         }
     }
 
-    /// The error of the unit if it ends here; `None` if it has none.
+    /// The error of the unit if it ends here; `None` if it has no error.
     fn fault(&self) -> Option<Code>
         ensures { result ≡ fault_of self.now.stage self.now }
     {
@@ -155,7 +155,7 @@ impl Partial {
         }
     }
 
-    /// The error of a unit in which a mnemonic is too long; `None` if none is.
+    /// The error of a unit in which a mnemonic is too long; `None` if no mnemonic is.
     fn length_fault(&self) -> Option<Code>
         ensures { result ≡ length_fault_of self.now }
     {
@@ -166,8 +166,8 @@ impl Partial {
         }
     }
 
-    /// Where the program data begin and end if the unit ends here. Without program data, both are
-    /// the end of the header.
+    /// Where the program data begin and end if the unit ends here. If it has no program data, both
+    /// are the end of the header.
     fn data(&self) -> (usize, usize)
         ensures start { result.0 ≡ data_of self.now.stage self.now.header_end self.now.data_start }
         ensures end { result.1 ≡ data_of self.now.stage self.now.header_end self.now.data_end }

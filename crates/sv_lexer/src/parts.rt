@@ -1,4 +1,4 @@
-//! A unit in its parts.
+//! A unit, split into its parts.
 
 ghost use Rattle.std.specs.Prelude.{◌≡◌, None, Some, MatchResult};
 ghost use Rattle.sv_lexer.specs.Token.{IsToken};
@@ -10,16 +10,16 @@ use crate::token::Token;
 use std::marker::Model;
 use sv_errors::Code;
 
-/// A unit whose header has the form of one. Contracts see it as the bytes that it was read from.
+/// A unit with a well-formed header. Contracts see it as the bytes that it was read from.
 #[derive(Debug, Drop)]
 pub struct Unit<'a> {
-    /// The bytes that it was read from.
+    /// The bytes that the unit was read from.
     pub(crate) bytes: &'a [u8],
     /// The header.
     pub(crate) header: Token<'a>,
     /// The text after the header, without white space around it.
     pub(crate) rest: &'a [u8],
-    /// The position of this text in the unit, in bytes.
+    /// The position of `rest` in the unit, in bytes.
     pub(crate) place: usize,
 }
 
@@ -49,8 +49,8 @@ impl<'a> Unit<'a> {
     /// The parameters after the header.
     ///
     /// # Errors
-    /// [`Code::InvalidExpression`] if a parenthesis isn't closed; then [`Code::SyntaxError`] if a
-    /// parameter is empty.
+    /// The first that applies: [`Code::InvalidExpression`] if a parenthesis isn't closed;
+    /// [`Code::SyntaxError`] if a parameter is empty.
     pub fn parameters(&self) -> Result<Params<'a>, Code>
         ensures { MatchResult result (λ params. (params ≡ self.now)
             × (parameters_fault self.now ≡ None)) (λ code. parameters_fault self.now ≡ Some code) }

@@ -17,7 +17,7 @@ pub(crate) enum Stage {
     Colon,
     /// The program mnemonic of a common command.
     CommonMnemonic,
-    /// A program mnemonic of another header.
+    /// A program mnemonic of a header that isn't a common command.
     Mnemonic,
     /// The question mark at the end of the header.
     QuerySign,
@@ -27,7 +27,7 @@ pub(crate) enum Stage {
     ProgramData,
     /// White space after program data.
     DataSpace,
-    /// A header that doesn't have the form of one, and the bytes after it.
+    /// A header that isn't well-formed, and the bytes after it.
     Misspelled,
     /// A byte that no unit may have, and the bytes after it.
     Illegal,
@@ -97,8 +97,8 @@ fn header_begun(byte: u8) -> Stage
     }
 }
 
-/// The stage after a byte that must begin a mnemonic: `mnemonic` if it is a letter (IEEE 488.2,
-/// 7.6.1.4).
+/// The stage after a byte that must begin a mnemonic: `mnemonic` if the byte is a letter (IEEE
+/// 488.2, 7.6.1.4).
 fn mnemonic_begun(mnemonic: Stage, byte: u8) -> Stage
     ensures { result ≡ letter_stage mnemonic byte }
 {
@@ -122,7 +122,7 @@ fn behind_common(byte: u8) -> Stage
     }
 }
 
-/// The stage after a byte that follows another mnemonic.
+/// The stage after a byte that follows a mnemonic of a header that isn't a common command.
 fn behind_mnemonic(byte: u8) -> Stage
     ensures { result ≡ graphic Stage.Mnemonic byte }
 {

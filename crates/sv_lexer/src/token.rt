@@ -3,7 +3,7 @@
 ghost use Rattle.std.specs.Prelude.{◌≡◌, min};
 ghost use Rattle.sv_lexer.specs.Token.{kind_of, in_u32};
 
-/// The kind of data of a token, by its first byte.
+/// The kind of data of a token, determined by its first byte.
 #[derive(Clone, Copy, Debug, PartialEq, Eq)]
 pub enum Kind {
     /// A decimal number: a digit, a sign or a point begins it.
@@ -23,13 +23,13 @@ pub enum Kind {
 pub struct Token<'a> {
     /// Its bytes, without white space around them.
     pub text: &'a [u8],
-    /// Its position in the unit, in bytes; 4,294,967,295 if that is less than the position.
+    /// Its position in the unit, in bytes; 4,294,967,295 for every position above that number.
     pub start: u32,
     /// Its kind, by its first byte.
     pub kind: Kind,
 }
 
-/// The token of a text at a place.
+/// The token with this text, at this place.
 pub(crate) fn token_at(text: &[u8], place: usize) -> Token<'_>
     ensures text { result.text.now ≡ text.now }
     ensures start { result.start ≡ in_u32 place }
@@ -40,7 +40,7 @@ pub(crate) fn token_at(text: &[u8], place: usize) -> Token<'_>
     Token { text, start, kind }
 }
 
-/// The kind, by the first byte.
+/// The kind of the data in `text`, determined by its first byte.
 fn kind_in(text: &[u8]) -> Kind
     ensures { result ≡ kind_of text.now }
 {

@@ -8,7 +8,7 @@ use Rattle.sv_links.specs.declared.channel.Stage.TheVariants.{Closed, Prepared, 
 use Rattle.sv_links.specs.Limits.{max_connections, max_enabled}
 use Rattle.sv_links.specs.Channels.{ChannelAct, enabled_links, peer, bytes_taken, calls, calls_left}
 
--- one channel: its stage, how many calls were sent on it, how many bytes wait of each call, and these bytes
+-- one channel: its stage; how many calls were sent on it; how many bytes of each waiting call are still to be sent; and these bytes
 pub record Channel : Type 0 where
   pub stage : Stage
   pub made : ℕ
@@ -32,17 +32,17 @@ is_prepared Prepared = true
 is_prepared Closed = false
 is_prepared (Open what) = false
 
--- what is left of these sizes after `count` bytes in total are taken
+-- what remains of calls with these sizes after the peer took `count` bytes in total
 abbrev pub left_in : ℕ → List ℕ → List ℕ
 left_in count [] = []
 left_in count (size ∷ sizes) = if nat_lt count size then (size - count) ∷ sizes else left_in (count - size) sizes
 
--- The channel stores what is left of these calls after the peer took `count` of their bytes, which are no more than there are.
+-- The channel stores what remains of `calls` after the peer took `count` of their bytes. It can't have taken more than they have.
 abbrev pub IsQueued : Channel → ℕ → List (List ℕ) → Type 0
 IsQueued kept count calls = (kept.made ≡ length calls) × (kept.sizes ≡ map length (calls_left count calls))
     × (kept.bytes ≡ concat (calls_left count calls)) × (count ≤ length (concat calls))
 
--- If the channel is open, it stores what is left of these calls after the peer took `count` of their bytes.
+-- If the channel is open, it stores what remains of `calls` after the peer took `count` of their bytes.
 abbrev pub IsChannelFor : Option Peer → Channel → ℕ → List (List ℕ) → Type 0
 IsChannelFor (Some what) kept count calls = IsQueued kept count calls
 IsChannelFor None kept count calls = ⊤
@@ -65,7 +65,7 @@ abbrev pub without_links : List ℕ → List Enabled → List Enabled
 without_links [] links = links
 without_links (lid ∷ lids) links = filter (λ other. not (other.lid == lid)) (without_links lids links)
 
--- the links without those of a connection
+-- the links of all connections but c
 abbrev pub of_others : ℕ → List Enabled → List Enabled
 of_others c links = filter (λ other. not (other.conn == c)) links
 
@@ -78,11 +78,11 @@ bytes_in None = []
 abbrev pub bytes_of : Channels → ℕ → List ℕ
 bytes_of kept c = bytes_in (slice_get kept.channels c)
 
--- The channel of a connection is prepared.
+-- The channel of connection c is prepared.
 abbrev pub IsReady : Channels → ℕ → Type 0
 IsReady kept c = (other : Channel) → is_prepared (slice_index_or kept.channels c other).stage ≡ true
 
--- Links and channels have the state that the acts determine, and no channel of a connection above 15 is open.
+-- Links and channels have the state that the acts determine, and no connection above 15 has an open channel.
 pub record AreChannels (kept : Channels) (acts : List ChannelAct) : Type 0 where
   pub enabled : kept.enabled ≡ enabled_links acts
   pub each : (c : ℕ) (other : Channel) → c < max_connections → IsChannel (slice_index_or kept.channels c other) c acts

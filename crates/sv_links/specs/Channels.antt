@@ -1,5 +1,5 @@
 -- Interrupt channels (VXI-11 revision 1.0, section B.6: device_enable_srq, create_intr_chan, destroy_intr_chan, device_intr_srq): which
--- links have service requests enabled, and what is sent on each channel. Lists of acts have the newest first.
+-- links have service requests enabled, and which bytes are sent on each channel. In a list of acts the newest act comes first.
 use Rattle.std.specs.Prelude.{ℕ, ◌+◌, ◌-◌, ◌==◌, max, ◌&&◌, Bool, List, [], ◌∷◌, ◌++◌, length, map, filter, drop, Option, Some, None, is_some, nat_lt, if◌then◌else◌}
 use Rattle.std.specs.List.{concat, filter_map, fold, range_with_len}
 use Rattle.sv_links.specs.declared.enabled.Enabled.{Enabled}
@@ -7,8 +7,8 @@ use Rattle.sv_links.specs.declared.request.Peer.{Peer}
 use Rattle.sv_links.specs.Limits.{max_calls}
 use Rattle.sv_links.specs.Request.{request}
 
--- what happens: a link enables service requests, with a handle, or disables them; the channel of a connection opens, for a program and its
--- version, or closes; a service request is raised; the peer takes bytes of a channel
+-- what happens: a link enables service requests, with a handle; a link disables them; the channel of a connection opens, for a program and
+-- its version; the channel of a connection closes; a service request is raised; or the peer takes bytes of a channel
 pub data ChannelAct : Type 0 where
   SrqEnabled : (lid conn : ℕ) (handle : List ℕ) → ChannelAct
   SrqDisabled : (lid : ℕ) → ChannelAct
@@ -17,7 +17,7 @@ pub data ChannelAct : Type 0 where
   Requested : ChannelAct
   ChannelTaken : (conn count : ℕ) → ChannelAct
 
--- the connection and the newest handle of a link that has service requests enabled; `None` if the link hasn't enabled them
+-- the connection of a link and the newest handle that it enabled service requests with; `None` if they aren't enabled on the link
 abbrev pub srq_enabled : ℕ → List ChannelAct → Option Enabled
 srq_enabled lid [] = None
 srq_enabled lid (SrqEnabled other conn handle ∷ acts) =
@@ -25,13 +25,13 @@ srq_enabled lid (SrqEnabled other conn handle ∷ acts) =
 srq_enabled lid (SrqDisabled other ∷ acts) = if other == lid then None else srq_enabled lid acts
 srq_enabled lid (_ ∷ acts) = srq_enabled lid acts
 
--- a number above those of all links that ever enabled service requests
+-- a number above the numbers of all links that ever enabled service requests
 abbrev pub past : List ChannelAct → ℕ
 past [] = 0
 past (SrqEnabled lid conn handle ∷ acts) = max (lid + 1) (past acts)
 past (_ ∷ acts) = past acts
 
--- the links that have service requests enabled, by rising number, each with its newest handle
+-- the links that have service requests enabled, in the order of their numbers, each with its newest handle
 abbrev pub enabled_links : List ChannelAct → List Enabled
 enabled_links acts = filter_map (λ lid. srq_enabled lid acts) (range_with_len 0 (past acts))
 
@@ -50,7 +50,7 @@ peer c (_ ∷ acts) = peer c acts
 abbrev pub is_channel_open : ℕ → List ChannelAct → Bool
 is_channel_open c acts = is_some (peer c acts)
 
--- how many bytes of a channel the peer took since it was opened
+-- how many bytes the peer took of a connection's channel since the channel was opened
 abbrev pub bytes_taken : ℕ → List ChannelAct → ℕ
 bytes_taken c [] = 0
 bytes_taken c (ChannelOpened conn what ∷ acts) = if conn == c then 0 else bytes_taken c acts
@@ -58,22 +58,23 @@ bytes_taken c (ChannelClosed conn ∷ acts) = if conn == c then 0 else bytes_tak
 bytes_taken c (ChannelTaken conn count ∷ acts) = if conn == c then bytes_taken c acts + count else bytes_taken c acts
 bytes_taken c (_ ∷ acts) = bytes_taken c acts
 
--- the calls that the peer didn't take completely, the first without the bytes that it took
+-- what remains of these calls after the peer took `count` bytes: the calls that it didn't take completely, the first of them without the
+-- bytes that it took
 abbrev pub calls_left : ℕ → List (List ℕ) → List (List ℕ)
 calls_left count [] = []
 calls_left count (call ∷ calls) = if nat_lt count (length call) then drop count call ∷ calls else calls_left (count - length call) calls
 
--- whether one more call may be sent: fewer than 32 calls aren't taken completely, and a number is left for it
+-- whether one more call may be sent: fewer than 32 calls are still not completely taken by the peer, and a number remains for the new call
 abbrev pub may_call : ℕ → List (List ℕ) → Bool
 may_call count calls = nat_lt (length (calls_left count calls)) max_calls && nat_lt (length calls) 4294967295
 
--- these calls, with one more for this handle if it may be sent; the calls of a channel are numbered from 1
+-- `calls`, and after them one more call with this handle if `may_call` allows it; the calls of a channel are numbered from 1
 abbrev pub add_call : Option Peer → ℕ → List (List ℕ) → List ℕ → List (List ℕ)
 add_call (Some what) count calls handle = if may_call count calls then calls ++ request (length calls + 1) what handle ∷ [] else calls
 add_call None count calls handle = calls
 
--- the calls that were sent on the channel of a connection since it was opened: at each service request, one for each link of the connection
--- that has service requests enabled
+-- the calls that were sent on the channel of a connection since it was opened: each service request sends one call for each link of the
+-- connection that has service requests enabled
 abbrev pub calls : ℕ → List ChannelAct → List (List ℕ)
 calls c [] = []
 calls c (ChannelOpened conn what ∷ acts) = if conn == c then [] else calls c acts
@@ -81,12 +82,12 @@ calls c (ChannelClosed conn ∷ acts) = if conn == c then [] else calls c acts
 calls c (Requested ∷ acts) = fold (add_call (peer c acts) (bytes_taken c acts)) (calls c acts) (handles_of c (enabled_links acts))
 calls c (_ ∷ acts) = calls c acts
 
--- all calls that were ever sent on the channel of a connection, across its openings
+-- all calls that were ever sent on the channel of a connection, over all its openings
 abbrev pub all_calls : ℕ → List ChannelAct → List (List ℕ)
 all_calls c [] = []
 all_calls c (Requested ∷ acts) = all_calls c acts ++ drop (length (calls c acts)) (calls c (Requested ∷ acts))
 all_calls c (_ ∷ acts) = all_calls c acts
 
--- the bytes that wait to be sent on the channel of a connection; none if it isn't open
+-- the bytes that wait to be sent on the channel of a connection; none if the channel isn't open
 abbrev pub waiting : ℕ → List ChannelAct → List ℕ
 waiting c acts = if is_channel_open c acts then concat (calls_left (bytes_taken c acts) (calls c acts)) else []

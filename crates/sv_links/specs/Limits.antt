@@ -9,7 +9,7 @@ max_connections = 16
 abbrev pub max_waiting : ℕ
 max_waiting = max_connections
 
--- how many links may exist at once
+-- how many links may exist at the same time
 abbrev pub max_links : ℕ
 max_links = 32
 
@@ -17,7 +17,7 @@ max_links = 32
 abbrev pub max_enabled : ℕ
 max_enabled = max_links
 
--- how many calls may wait on an interrupt channel that its peer didn't take completely
+-- how many calls may wait on an interrupt channel, including a call of which the peer took only a part
 abbrev pub max_calls : ℕ
 max_calls = 32
 

@@ -1,25 +1,25 @@
--- Links (VXI-11 revision 1.0, sections B.4.4 and B.6): which links there are, which connection owns each, and which link holds the lock. A
--- link is live if it was made and not destroyed. Lists of acts have the newest first.
+-- Links (VXI-11 revision 1.0, sections B.4.4 and B.6): which links exist, which connection owns each, and which link holds the lock. A link
+-- is live if it was made and not destroyed. In a list of acts the newest act comes first.
 use Rattle.std.specs.Prelude.{ℕ, ◌+◌, ◌==◌, not, ◌&&◌, ◌||◌, Bool, true, false, List, [], ◌∷◌, ◌++◌, length, map, filter, find, reverse, option_map, Option, Some, None, nat_lt}
 use Rattle.std.specs.List.{filter_map}
 use Rattle.std.specs.Option.{option_map_or}
 use Rattle.sv_links.specs.Limits.{max_links}
 use Rattle.sv_links.specs.declared.links.Link.{Link}
 
--- what happens to links: a link is made on a connection, is destroyed, gets the lock, or frees it
+-- what happens to a link: it is made on a connection; it is destroyed; it gets the lock; or it frees the lock
 pub data LinkAct : Type 0 where
   Made : (lid conn : ℕ) → LinkAct
   Destroyed : (lid : ℕ) → LinkAct
   Locked : (lid : ℕ) → LinkAct
   Unlocked : (lid : ℕ) → LinkAct
 
--- how many links were ever made; the next link gets the number that is one more
+-- how many links were ever made; the number of the next link is one above this
 abbrev pub links_made : List LinkAct → ℕ
 links_made [] = 0
 links_made (Made lid conn ∷ acts) = links_made acts + 1
 links_made (_ ∷ acts) = links_made acts
 
--- the live links, each with the connection that made it: those that were made and not destroyed, in the order in which they were made
+-- the live links, in the order in which they were made, each with the connection that made it
 abbrev pub live : List LinkAct → List Link
 live [] = []
 live (Made lid conn ∷ acts) = live acts ++ record { lid = lid; conn = conn } ∷ []
@@ -30,11 +30,11 @@ live (_ ∷ acts) = live acts
 abbrev pub owner : ℕ → List LinkAct → Option ℕ
 owner lid acts = option_map (λ link. link.conn) (find (λ link. link.lid == lid) (live acts))
 
--- whether this connection is the owner; false if there is no owner
+-- whether connection `conn` is the owner; false if there is no owner
 abbrev pub is_of : ℕ → Option ℕ → Bool
 is_of conn owner = option_map_or (λ other. other == conn) owner false
 
--- the numbers of a connection's live links, rising
+-- the numbers of a connection's live links, in rising order
 abbrev pub links_of : ℕ → List LinkAct → List ℕ
 links_of conn acts = map (λ link. link.lid) (filter (λ link. link.conn == conn) (live acts))
 
@@ -42,15 +42,15 @@ links_of conn acts = map (λ link. link.lid) (filter (λ link. link.conn == conn
 abbrev pub lowest : ℕ → List LinkAct → Option ℕ
 lowest conn acts = find (λ lid. true) (links_of conn acts)
 
--- whether a number is left for a link: the last is 2,147,483,647
+-- whether a number remains for a further link: the last number is 2,147,483,647
 abbrev pub lids_left : List LinkAct → Bool
 lids_left acts = nat_lt (links_made acts) 2147483647
 
--- whether one more link may be made: fewer than 32 links are live, and a number is left
+-- whether one more link may be made: fewer than 32 links are live, and a number remains
 abbrev pub may_make : List LinkAct → Bool
 may_make acts = nat_lt (length (live acts)) max_links && lids_left acts
 
--- the acts of closing a connection: its links are destroyed, in the order in which they were made
+-- the acts of closing a connection, the newest first: its links are destroyed in the order in which they were made
 abbrev pub closing : ℕ → List LinkAct → List LinkAct
 closing conn acts = reverse (map Destroyed (links_of conn acts))
 
@@ -66,16 +66,17 @@ is_locked lid (Unlocked other ∷ acts) = not (other == lid) && is_locked lid ac
 is_locked lid (Destroyed other ∷ acts) = not (other == lid) && is_locked lid acts
 is_locked lid (_ ∷ acts) = is_locked lid acts
 
--- the link that holds the lock: the newest that was locked, and since then neither unlocked nor destroyed; `None` if the lock is free
+-- the link that holds the lock: of all links that were locked, and since then neither unlocked nor destroyed, the one locked last; `None`
+-- if the lock is free
 abbrev pub holder : List LinkAct → Option ℕ
 holder acts = find (λ lid. is_locked lid acts) (lock_order acts)
 
--- whether a link other than this one holds the lock; for a call that names no link, whether any link does
+-- whether a link other than the named one holds the lock; if no link is named, whether any link holds it
 abbrev pub is_locked_out : Option ℕ → Option ℕ → Bool
 is_locked_out (Some holder) (Some lid) = not (lid == holder)
 is_locked_out (Some holder) None = true
 is_locked_out None named = false
 
--- whether the link that is named is this one; false if none is named
+-- whether link `lid` is the named link; false if no link is named
 abbrev pub is_this : ℕ → Option ℕ → Bool
 is_this lid named = option_map_or (λ other. other == lid) named false

@@ -23,7 +23,7 @@ IsBelow most entries = AllByRecursion (λ entry. entry.conn < most) entries
 abbrev pub entry_of : ℕ → List Entry → Option Entry
 entry_of conn entries = find (λ entry. entry.conn == conn) entries
 
--- The entry is what the acts determine for its connection.
+-- The entry has the wait, the deadline and the link that the acts determine for its connection.
 abbrev pub IsEntry : List WaitAct → Entry → Type 0
 IsEntry acts entry = (waits entry.conn acts ≡ Some entry.wait) × (deadline entry.conn acts ≡ entry.deadline)
     × (link entry.conn acts ≡ entry.lid)
@@ -40,7 +40,8 @@ pub record IsQueue (entries : List Entry) (acts : List WaitAct) : Type 0 where
   pub ordered : IsOrdered acts entries
   pub all : (conn : ℕ) → waits conn acts ≡ option_map (λ entry. entry.wait) (entry_of conn entries)
 
--- an entry, suspended anew with this wait and this deadline if it is of this connection; otherwise unchanged
+-- an entry after the call of connection `conn` was suspended anew: if it is the entry of `conn`, it gets this wait and deadline; otherwise
+-- it is unchanged
 abbrev pub anew : ℕ → Wait → Option ℕ → Entry → Entry
 anew conn wait deadline entry = if entry.conn == conn then record entry { wait = wait; deadline = deadline } else entry
 
@@ -57,11 +58,12 @@ creates entry = is_lock (Some entry.wait) && is_none entry.lid
 abbrev pub creations : List Entry → ℕ
 creations entries = length (filter creates entries)
 
--- the entries without the one of this connection
+-- the entries without the one of connection `conn`
 abbrev pub without : ℕ → List Entry → List Entry
 without conn entries = filter (λ entry. not (entry.conn == conn)) entries
 
--- how often a call may still be suspended anew or leave the queue: a call that waits for the lock may be suspended once more
+-- the most steps that a suspended call can still take: being suspended anew and leaving the queue. A call that waits for the lock can be
+-- suspended anew one time.
 abbrev pub wait_measure : Wait → ℕ
 wait_measure Lock = 2
 wait_measure Input = 1

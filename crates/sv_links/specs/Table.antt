@@ -4,8 +4,8 @@ use Rattle.std.specs.List.{AllByRecursion}
 use Rattle.sv_links.specs.declared.links.Link.{Link}
 use Rattle.sv_links.specs.Links.{LinkAct, links_made, live, is_locked, is_this}
 
--- the state: how many links were ever made; the slots, each with a live link or empty; the link that holds the lock; for how many more
--- links there is memory
+-- the state: how many links were ever made; the slots, each with a live link or empty; the link that holds the lock; and the number of
+-- further links for which memory is reserved
 pub record Table : Type 0 where
   pub made : ℕ
   pub slots : List (Option Link)
@@ -16,19 +16,19 @@ pub record Table : Type 0 where
 abbrev pub count_of : Table → ℕ
 count_of table = count_by is_some table.slots
 
--- These slots hold these links, each once, in any order.
+-- The slots hold exactly these links, each link in one slot, in any order.
 abbrev pub IsKept : List (Option Link) → List Link → Type 0
 IsKept [] links = links ≡ []
 IsKept (None ∷ slots) links = IsKept slots links
 IsKept (Some link ∷ slots) links =
     (before : List Link) × (after : List Link) × (links ≡ before ++ link ∷ after) × IsKept slots (before ++ after)
 
--- The numbers of the links rise, and none is above this one.
+-- The numbers of the links rise, and none of them is above `last`.
 abbrev pub IsRising : List Link → ℕ → Type 0
 IsRising [] last = ⊤
 IsRising (link ∷ links) last = (link.lid ≤ last) × AllByRecursion (λ other. link.lid < other.lid) links × IsRising links last
 
--- The table has the state that the acts determine: each live link in one slot, and nothing else.
+-- The table has the state that the acts determine: each live link is in one slot, and the slots have nothing else.
 pub record IsTable (table : Table) (acts : List LinkAct) : Type 0 where
   pub made : table.made ≡ links_made acts
   pub kept : IsKept table.slots (live acts)

@@ -1,5 +1,5 @@
 -- Suspended calls (VXI-11 revision 1.0, section B.4.4: locks and timeouts): what each waits for, until when, and in which order they came.
--- Lists of acts have the newest first.
+-- In a list of acts the newest act comes first.
 use Rattle.std.specs.Prelude.{◌≡◌, ℕ, ◌==◌, ◌≤◌, not, ◌&&◌, Bool, true, false, List, [], ◌∷◌, length, filter, is_none, option_map, Option, Some, None, if◌then◌else◌}
 use Rattle.std.specs.List.{range_with_len}
 use Rattle.sv_logs.specs.Since.{newest}
@@ -8,21 +8,21 @@ use Rattle.sv_links.specs.Limits.{max_connections}
 use Rattle.sv_links.specs.Links.{is_locked_out}
 use Rattle.sv_links.specs.declared.waiting.Wait.TheVariants.{Lock, Input, Response}
 
--- What happens to the call of a connection: it is suspended, with the link that it names, if any; it is suspended anew, for something else;
--- it isn't suspended any more. A wait may have a deadline, in milliseconds of the clock.
+-- What happens to the call of a connection. `Entered`: it is suspended, with the link that it names, if any. `Again`: it stays suspended,
+-- but now waits for something else. `Left`: it isn't suspended any more. A wait may have a deadline, in milliseconds of the clock.
 pub data WaitAct : Type 0 where
   Entered : (conn : ℕ) (link : Option ℕ) (wait : Wait) (deadline : Option ℕ) → WaitAct
   Again : (conn : ℕ) (wait : Wait) (deadline : Option ℕ) → WaitAct
   Left : (conn : ℕ) → WaitAct
 
--- what the call of a connection waits for; `None` if none is suspended
+-- what the call of a connection waits for; `None` if the connection has no suspended call
 abbrev pub waits : ℕ → List WaitAct → Option Wait
 waits c [] = None
 waits c (Entered conn link wait deadline ∷ acts) = if conn == c then Some wait else waits c acts
 waits c (Again conn wait deadline ∷ acts) = if conn == c then option_map (λ before. wait) (waits c acts) else waits c acts
 waits c (Left conn ∷ acts) = if conn == c then None else waits c acts
 
--- the deadline of the newest wait of a connection; `None` if that has none
+-- the deadline of the newest wait of a connection; `None` if this wait has no deadline
 abbrev pub deadline : ℕ → List WaitAct → Option ℕ
 deadline c [] = None
 deadline c (Entered conn link wait last ∷ acts) = if conn == c then last else deadline c acts
@@ -33,7 +33,7 @@ deadline c (Left conn ∷ acts) = deadline c acts
 abbrev pub enters : ℕ → List WaitAct → Bool
 enters c = elim [ Entered conn link wait deadline ∷ acts ↦ conn == c | _ ↦ false ]
 
--- when the call of a connection was suspended: how many acts there were then
+-- when the call of a connection was suspended: the length that the list of acts had then
 abbrev pub arrival : ℕ → List WaitAct → ℕ
 arrival c acts = length (newest (enters c) acts)
 
@@ -41,7 +41,7 @@ arrival c acts = length (newest (enters c) acts)
 abbrev link_of : List WaitAct → Option ℕ
 link_of = elim [ Entered conn link wait deadline ∷ acts ↦ link | _ ↦ None ]
 
--- the link that the suspended call of a connection names; `None` if it names none
+-- the link that the suspended call of a connection names; `None` if the call names no link
 abbrev pub link : ℕ → List WaitAct → Option ℕ
 link c acts = link_of (newest (enters c) acts)
 
@@ -53,7 +53,7 @@ is_lock = elim [ Some Lock ↦ true | _ ↦ false ]
 abbrev pub connections : List ℕ
 connections = range_with_len 0 max_connections
 
--- whether a call needn't wait any longer: the lock is free for its link, a write is accepted now, or a read is answered now
+-- whether what a call waits for is there: the lock is free for its link; a write is accepted now; or a read is answered now
 abbrev pub is_there : Option ℕ → Bool → Bool → Option ℕ → Option Wait → Bool
 is_there holder can_write can_read named (Some Lock) = not (is_locked_out holder named)
 is_there holder can_write can_read named (Some Input) = can_write

@@ -19,7 +19,7 @@ use sv_bytes::drop_front;
 pub(crate) enum Stage {
     /// The channel is closed.
     Closed,
-    /// The memory of the channel is allocated, and it may be opened.
+    /// The memory of the channel is allocated, and the channel can be opened.
     Prepared,
     /// The channel is open to this peer.
     Open(Peer),
@@ -29,9 +29,10 @@ pub(crate) enum Stage {
 #[derive(Drop)]
 pub(crate) struct Channel<A: Allocator> {
     stage: Stage,
-    /// How many calls were sent.
+    /// How many calls were sent since the channel was opened.
     made: u32,
-    /// For each call that the peer didn't take completely: how many of its bytes wait.
+    /// For each call that the peer didn't take completely: how many of its bytes are still to be
+    /// sent.
     sizes: ArrayVec<u8, MAX_CALLS>,
     /// The bytes that wait to be sent.
     bytes: Vec<u8, A>,
@@ -80,7 +81,7 @@ impl<A: Allocator> Channel<A> {
         matches!(self.stage, Stage::Open(_))
     }
 
-    /// Allocates the memory of the channel, so that it may be opened. An open channel doesn't
+    /// Allocates the memory of the channel, so that it can be opened. An open channel doesn't
     /// change.
     pub(crate) fn prepare(&mut self) -> Result<(), AllocError>
         ensures open { OnOk result (opened_for self.new.stage ≡ opened_for self.old.stage) }
@@ -111,7 +112,7 @@ impl<A: Allocator> Channel<A> {
         }
     }
 
-    /// Opens the channel, with nothing to send. A channel that isn't prepared doesn't change.
+    /// Opens the channel, with no bytes to send. A channel that isn't prepared doesn't change.
     pub(crate) fn open(&mut self, peer: Peer)
         ensures { is_prepared self.old.stage ≡ true
             → (opened_for self.new.stage ≡ Some peer) × IsQueued self.new 0 [] }
@@ -151,7 +152,7 @@ impl<A: Allocator> Channel<A> {
         self.bytes.as_slice()
     }
 
-    /// Drops the first `count` bytes that wait: the peer took them.
+    /// Drops the first `count` of the bytes that wait, because the peer took them.
     pub(crate) fn take(&mut self, count: usize)
         requires { count ≤ length self.old.bytes }
         ensures stage { self.new.stage ≡ self.old.stage }
@@ -162,8 +163,8 @@ impl<A: Allocator> Channel<A> {
         let_go(&mut self.sizes, count);
     }
 
-    /// Appends a call with this handle, if fewer calls wait than [`MAX_CALLS`] and a number for the
-    /// call is left.
+    /// Appends a call with this handle. It does nothing if [`MAX_CALLS`] calls wait, or if the
+    /// numbers for calls are used up.
     fn request(&mut self, peer: Peer, handle: &[u8])
         requires open { self.old.stage ≡ Stage.Open peer }
         requires short { length handle.now ≤ max_handle }
@@ -181,7 +182,7 @@ impl<A: Allocator> Channel<A> {
         self.made += 1;
     }
 
-    /// If the channel is open, appends a call for each of these links that its connection made.
+    /// If the channel is open: for each of these links that connection `conn` made, appends a call.
     pub(crate) fn request_each(&mut self, conn: u8, enabled: &[Enabled])
         ensures stage { self.new.stage ≡ self.old.stage }
         ensures queued { (count : ℕ) (calls : List (List ℕ)) (peer : Peer)
@@ -200,7 +201,8 @@ impl<A: Allocator> Channel<A> {
     }
 }
 
-/// Takes `count` bytes off calls of these sizes, beginning with the first call.
+/// Takes `count` bytes off calls of these sizes, beginning with the first call. Calls without bytes
+/// are dropped.
 fn let_go(sizes: &mut ArrayVec<u8, MAX_CALLS>, count: usize)
     ensures { sizes.new.items ≡ left_in count sizes.old.items }
 {

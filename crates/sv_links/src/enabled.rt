@@ -7,7 +7,7 @@ use crate::limits::MAX_HANDLE;
 use arrayvec::ArrayVec;
 use std::marker::Model;
 
-/// The handle by which a controller knows a link: at most [`MAX_HANDLE`] bytes.
+/// The handle by which a controller identifies a link: at most [`MAX_HANDLE`] bytes.
 #[derive(Debug, Drop)]
 pub(crate) struct Handle {
     bytes: ArrayVec<u8, MAX_HANDLE>,
@@ -22,7 +22,7 @@ impl Model for Handle {
 }
 
 impl Handle {
-    /// The handle of these bytes; an empty one if they are too many.
+    /// The handle with these bytes; an empty handle if there are too many bytes.
     fn new(given: &[u8]) -> Handle
         ensures { length given.now ≤ max_handle → result ≡ given.now }
     {
@@ -49,7 +49,7 @@ pub(crate) struct Enabled {
     pub(crate) lid: u32,
     /// The connection that made the link.
     pub(crate) conn: u8,
-    /// The handle that the link's controller gave.
+    /// The handle that the controller passed when it enabled service requests.
     pub(crate) handle: Handle,
 }
 

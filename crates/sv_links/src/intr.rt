@@ -13,8 +13,8 @@ use crate::request::Peer;
 use std::alloc::{AllocError, Allocator, Global};
 use std::marker::Model;
 
-/// The links that have service requests enabled, and the interrupt channels: at most one of each
-/// connection.
+/// The links that have service requests enabled, and the interrupt channels. Each connection has at
+/// most one channel.
 #[derive(Drop)]
 pub struct Intr<A: Allocator = Global> {
     enabled: Vec<Enabled, A>,
@@ -38,8 +38,8 @@ impl<A: Allocator> Model for Intr<A> {
 }
 
 impl<A: Allocator + Copy> Intr<A> {
-    /// No link has service requests enabled, and no channel is open. It allocates the memory of all
-    /// handles.
+    /// The state in which no link has service requests enabled, and no channel is open. The memory
+    /// for all handles is allocated here.
     ///
     /// # Errors
     /// If memory is refused.
@@ -56,7 +56,7 @@ impl<A: Allocator + Copy> Intr<A> {
 }
 
 impl<A: Allocator> Intr<A> {
-    /// Whether the channel of a connection, below [`MAX_CONNECTIONS`], is open.
+    /// Whether the channel of a connection is open. `conn` must be below [`MAX_CONNECTIONS`].
     pub fn is_open(&self, conn: u8) -> bool
         requires { conn < max_connections }
         ensures { (acts : List ChannelAct) → AreChannels self.now acts
@@ -65,8 +65,8 @@ impl<A: Allocator> Intr<A> {
         self.channels[usize::from(conn)].is_open()
     }
 
-    /// Allocates the memory of the channel of a connection, below [`MAX_CONNECTIONS`], so that it
-    /// may be opened. If the channel is open, nothing changes.
+    /// Allocates the memory of a connection's channel, so that it can be opened. If the channel is
+    /// open, nothing changes. `conn` must be below [`MAX_CONNECTIONS`].
     ///
     /// # Errors
     /// If memory is refused; nothing changes then.
@@ -84,8 +84,8 @@ impl<A: Allocator> Intr<A> {
         self.channels[usize::from(conn)].prepare()
     }
 
-    /// Undoes the preparation of the channel of a connection, below [`MAX_CONNECTIONS`]: it won't
-    /// be opened. An open channel stays open.
+    /// Undoes the preparation of a connection's channel: it won't be opened. An open channel stays
+    /// open. `conn` must be below [`MAX_CONNECTIONS`].
     pub fn cancel(&mut self, conn: u8)
         requires { conn < max_connections }
         ensures unready { IsReady self.new conn → ⊥ }
@@ -98,8 +98,8 @@ impl<A: Allocator> Intr<A> {
         self.channels[usize::from(conn)].cancel();
     }
 
-    /// Opens the channel of a connection, below [`MAX_CONNECTIONS`], with nothing to send. The
-    /// channel must be prepared.
+    /// Opens the channel of a connection, with no bytes to send. The channel must be prepared, and
+    /// `conn` must be below [`MAX_CONNECTIONS`].
     pub fn open(&mut self, conn: u8, peer: Peer)
         requires { conn < max_connections }
         ensures others { (other : ℕ) → (other ≡ conn → ⊥) → IsReady self.old other
@@ -112,8 +112,8 @@ impl<A: Allocator> Intr<A> {
         self.channels[usize::from(conn)].open(peer);
     }
 
-    /// Closes the channel of a connection, below [`MAX_CONNECTIONS`], and drops the bytes that wait
-    /// on it. Returns whether it was open.
+    /// Closes the channel of a connection, drops the bytes that wait on it, and returns whether the
+    /// channel was open. `conn` must be below [`MAX_CONNECTIONS`].
     pub fn close(&mut self, conn: u8) -> bool
         requires { conn < max_connections }
         ensures answer { (acts : List ChannelAct) → AreChannels self.old acts
@@ -131,7 +131,7 @@ impl<A: Allocator> Intr<A> {
 
     /// Enables service requests of a link, with this handle of at most
     /// [`MAX_HANDLE`](crate::MAX_HANDLE) bytes. The link must have them enabled already, or fewer
-    /// than 32 links have them enabled.
+    /// than 32 links must have them enabled.
     pub fn enable(&mut self, lid: u32, conn: u8, handle: &[u8])
         ensures stands { length handle.now ≤ max_handle → HasRoomFor lid self.old
             → (acts : List ChannelAct) → AreChannels self.old acts
@@ -168,9 +168,9 @@ impl<A: Allocator> Intr<A> {
         self.enabled.retain(|other| other.conn != conn);
     }
 
-    /// Raises a service request. For each link that has service requests enabled, by rising number,
-    /// a call is sent on the channel of the link's connection. The call is left out while 32 calls
-    /// wait on that channel, or once the numbers for its calls are used up.
+    /// Raises a service request. For each link that has service requests enabled, in the order of
+    /// their numbers, a call is sent on the channel of the link's connection. No call is sent if
+    /// that channel is closed, if 32 calls wait on it, or if the numbers for its calls are used up.
     pub fn raise(&mut self)
         ensures stands { (acts : List ChannelAct) → AreChannels self.old acts
             → AreChannels self.new (Requested ∷ acts) }
@@ -182,8 +182,8 @@ impl<A: Allocator> Intr<A> {
         }
     }
 
-    /// The bytes that wait on the channel of a connection, below [`MAX_CONNECTIONS`]; none if the
-    /// channel isn't open.
+    /// The bytes that wait on the channel of a connection; none if the channel isn't open. `conn`
+    /// must be below [`MAX_CONNECTIONS`].
     pub fn waiting(&self, conn: u8) -> &[u8]
         requires { conn < max_connections }
         ensures same { result.now ≡ bytes_of self.now conn }
@@ -199,8 +199,9 @@ impl<A: Allocator> Intr<A> {
         }
     }
 
-    /// Drops the first `count` bytes that wait on the channel of a connection, below
-    /// [`MAX_CONNECTIONS`]: the peer took them. There must be at least as many.
+    /// Drops the first `count` of the bytes that wait on the channel of a connection, because the
+    /// peer took them. At least `count` bytes must wait, and `conn` must be below
+    /// [`MAX_CONNECTIONS`].
     pub fn take(&mut self, conn: u8, count: usize)
         requires within { conn < max_connections }
         requires waits { count ≤ length (bytes_of self.old conn) }

@@ -4,11 +4,12 @@
 pub const MAX_CONNECTIONS: usize = 16;
 /// How many calls may be suspended: one of each connection.
 pub(crate) const MAX_WAITING: usize = MAX_CONNECTIONS;
-/// How many links there may be at once.
+/// How many links there may be at the same time.
 pub const MAX_LINKS: usize = 32;
 /// How many links may have service requests enabled: all that there may be.
 pub(crate) const MAX_ENABLED: usize = MAX_LINKS;
-/// How many calls may wait on an interrupt channel, with one that the peer took in part.
+/// How many calls may wait on an interrupt channel, including a call of which the peer took only a
+/// part.
 pub(crate) const MAX_CALLS: usize = 32;
 /// How long the handle of a service request may be, in bytes (VXI-11 revision 1.0, section B.6,
 /// device_enable_srq).

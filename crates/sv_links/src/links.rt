@@ -1,4 +1,4 @@
-//! Links: which there are, which connection made each, and which link holds the lock.
+//! Links: which links exist, which connection made each, and which link holds the lock.
 
 ghost use Rattle.std.specs.Prelude.{◌≡◌, ◌+◌, ◌<◌, ◌≤◌, ◌^◌, ◌↔◌, not, ℕ, List, [], ◌∷◌, ◌++◌, length, IfOk, OnOk, OnErr, IsOk, Some, Err, true, false};
 ghost use Rattle.sv_links.specs.Limits.{max_links};
@@ -11,7 +11,7 @@ use std::alloc::{AllocError, Allocator, Global};
 use std::marker::Model;
 use thiserror::Error;
 
-/// The last number of a link.
+/// The highest number that a link can have.
 const LAST: u32 = i32::MAX as u32;
 
 /// A link that wasn't destroyed.
@@ -26,7 +26,7 @@ pub struct Link {
 /// Why no link was made.
 #[derive(Clone, Copy, Debug, PartialEq, Eq, Error)]
 pub enum CreateRefused {
-    /// There are [`MAX_LINKS`] links, or no number is left (VXI-11 error 9).
+    /// There are [`MAX_LINKS`] links, or no number remains for a further link (VXI-11 error 9).
     #[error("no further link may be made")]
     OutOfResources,
     /// Out of memory.
@@ -34,14 +34,14 @@ pub enum CreateRefused {
     NoMemory,
 }
 
-/// The links that there are, at most [`MAX_LINKS`]; how many were ever made; and which holds the
-/// lock.
+/// The links that exist, at most [`MAX_LINKS`]; how many links were ever made; and which link holds
+/// the lock.
 #[derive(Drop)]
 pub struct Links<A: Allocator = Global> {
     made: u32,
     links: Slab<Link, A>,
     holder: Option<u32>,
-    /// For how many further links memory is reserved.
+    /// The number of further links for which memory is reserved.
     spare: u8,
 }
 
@@ -88,15 +88,15 @@ impl<A: Allocator> Links<A> {
         self.links.len() as u8
     }
 
-    /// Whether a number is left for a link: 2,147,483,647 is the last.
+    /// Whether a number remains for a further link: 2,147,483,647 is the last.
     pub fn lids_left(&self) -> bool
         ensures { (acts : List LinkAct) → IsTable self.now acts → result ≡ lids_left acts }
     {
         self.made < LAST
     }
 
-    /// Allocates the memory for this many further links, unless it is reserved already. A later
-    /// `create` uses it.
+    /// Allocates the memory for this many further links, as far as it isn't reserved already. A
+    /// later `create` uses the reserved memory.
     ///
     /// # Errors
     /// If memory is refused; nothing changes then.
@@ -115,11 +115,11 @@ impl<A: Allocator> Links<A> {
         Ok(())
     }
 
-    /// Makes a link and returns its number: one above the last; the first is 1. With reserved
-    /// memory it can't run out of memory.
+    /// Makes a link and returns its number: 1 for the first link, then one above the number of the
+    /// last link that was made. If memory was reserved, `NoMemory` can't occur.
     ///
     /// # Errors
-    /// `OutOfResources` if there are [`MAX_LINKS`] links or no number is left; else `NoMemory` if
+    /// `OutOfResources` if there are [`MAX_LINKS`] links or no number remains; else `NoMemory` if
     /// memory is refused. Nothing changes then.
     pub fn create(&mut self, conn: u8) -> Result<u32, CreateRefused>
         ensures number { IfOk result (λ lid. lid < 2 ^ 31) }

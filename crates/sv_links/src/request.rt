@@ -12,7 +12,7 @@ use sv_xdr::Writer;
 /// The procedure device_intr_srq.
 const DEVICE_INTR_SRQ: u32 = 30;
 
-/// The program that an interrupt channel calls.
+/// The program to which the calls on an interrupt channel are sent.
 #[derive(Clone, Copy, Debug, PartialEq, Eq)]
 pub struct Peer {
     /// The number of the program.
@@ -21,7 +21,7 @@ pub struct Peer {
     pub vers: u32,
 }
 
-/// Appends a call to the outgoing bytes.
+/// Appends a device_intr_srq call with this handle to the outgoing bytes.
 pub(crate) fn put_request<A: Allocator>(out: &mut Vec<u8, A>, xid: u32, peer: Peer, handle: &[u8])
     requires room { vec_len out.old + longest_call ≤ vec_capacity out.old }
     requires short { length handle.now ≤ max_handle }

@@ -36,8 +36,8 @@ pub struct Entry {
     pub deadline: Option<u64>,
 }
 
-/// Whether another link than the one named holds the lock; for a call that names no link, whether
-/// any link does.
+/// Whether a link other than the named one holds the lock; if no link is named, whether any link
+/// holds it.
 pub fn is_locked_out(holder: Option<u32>, named: Option<u32>) -> bool
     ensures { result ≡ locked_out holder named }
 {
@@ -51,7 +51,7 @@ pub fn is_locked_out(holder: Option<u32>, named: Option<u32>) -> bool
 }
 
 impl Entry {
-    /// Whether the call can resume, since it needn't wait any longer.
+    /// Whether the call can resume: what it waits for is there.
     fn is_able(&self, holder: Option<u32>, can_write: bool, can_read: bool) -> bool
         ensures { result ≡ is_there holder can_write can_read self.now.lid (Some self.now.wait) }
     {
@@ -83,7 +83,7 @@ impl Entry {
         }
     }
 
-    /// Suspends the call anew, if it is that of this connection.
+    /// Suspends the call anew if it is the call of connection `conn`.
     fn renew(&mut self, conn: u8, wait: Wait, deadline: Option<u64>)
         ensures { self.new ≡ anew conn wait deadline self.old }
     {
@@ -117,7 +117,7 @@ impl<A: Allocator> Model for Waiting<A> {
 }
 
 impl<A: Allocator> Waiting<A> {
-    /// A queue without calls. It allocates the memory of all that there may be.
+    /// An empty queue. The memory for as many calls as can be suspended is allocated here.
     ///
     /// # Errors
     /// If memory is refused.
@@ -129,8 +129,8 @@ impl<A: Allocator> Waiting<A> {
         })
     }
 
-    /// Suspends the call of a connection, below [`MAX_CONNECTIONS`](crate::MAX_CONNECTIONS), after
-    /// all others.
+    /// Suspends a call, as the newest in the order of arrival. Its connection must be below
+    /// [`MAX_CONNECTIONS`](crate::MAX_CONNECTIONS).
     pub fn enter(&mut self, entry: Entry)
         requires { entry.conn < max_connections }
         ensures value { self.new ≡ without entry.conn self.old ++ entry ∷ [] }
@@ -141,7 +141,7 @@ impl<A: Allocator> Waiting<A> {
         self.entries.push_reserved(entry);
     }
 
-    /// The suspended call of a connection; `None` if it has none.
+    /// The suspended call of a connection; `None` if the connection has none.
     pub fn of(&self, conn: u8) -> Option<Entry>
         ensures { (acts : List WaitAct) → IsQueue self.now acts
             → MatchOption result (waits_for conn acts ≡ None)
@@ -153,7 +153,7 @@ impl<A: Allocator> Waiting<A> {
             .copied()
     }
 
-    /// What the suspended call of a connection waits for; `None` if it has none.
+    /// What the suspended call of a connection waits for; `None` if the connection has none.
     pub fn waits(&self, conn: u8) -> Option<Wait>
         ensures { (acts : List WaitAct) → IsQueue self.now acts → result ≡ waits_for conn acts }
     {
@@ -161,7 +161,7 @@ impl<A: Allocator> Waiting<A> {
         Some(entry.wait)
     }
 
-    /// How many create_links are suspended: they wait for the lock.
+    /// How many create_links are suspended. Each of them waits for the lock.
     pub fn creating(&self) -> u8
         ensures value { result ≡ creations self.now }
         ensures bounded { result ≤ max_waiting }
@@ -170,8 +170,8 @@ impl<A: Allocator> Waiting<A> {
         self.entries.iter().filter(|entry| entry.creates()).count() as u8
     }
 
-    /// Suspends the call of a connection anew, until another deadline. The call keeps its place in
-    /// the order. If it isn't suspended, nothing changes.
+    /// Suspends the call of a connection anew: it now waits for `wait`, until `deadline`. It keeps
+    /// its place in the order of arrival. If the connection has no suspended call, nothing changes.
     pub fn again(&mut self, conn: u8, wait: Wait, deadline: Option<u64>)
         ensures value { self.new ≡ map (anew conn wait deadline) self.old }
         ensures stands { (acts : List WaitAct) → IsQueue self.old acts
@@ -195,8 +195,9 @@ impl<A: Allocator> Waiting<A> {
         self.entries.retain(|entry| entry.conn != conn);
     }
 
-    /// The oldest call that can resume, given which link holds the lock, and whether a write is
-    /// accepted and a read is answered now; `None` if no call can resume.
+    /// The oldest call that can resume; `None` if no call can. `holder` is the link that holds the
+    /// lock. `can_write` says whether a write is accepted now, and `can_read` whether a read is
+    /// answered now.
     pub fn oldest_able(&self, holder: Option<u32>, can_write: bool, can_read: bool) -> Option<Entry>
         ensures answer { (acts : List WaitAct) → IsQueue self.now acts
             → IsOldest acts (IsAble holder can_write can_read acts)
@@ -216,7 +217,7 @@ impl<A: Allocator> Waiting<A> {
             .copied()
     }
 
-    /// The oldest call whose deadline has come at this clock; `None` if there is no such call.
+    /// The oldest call whose deadline has come at this clock; `None` if no deadline has come.
     pub fn expired(&self, clock: u64) -> Option<Entry>
         ensures answer { (acts : List WaitAct) → IsQueue self.now acts
             → IsOldest acts (IsExpired clock acts) (option_map (λ entry. entry.conn) result) }

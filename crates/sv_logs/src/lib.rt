@@ -1,4 +1,4 @@
-//! Searches of logs. A log is a list of acts, the newest first; a place of it is one of its
+//! Searches of logs. A log is a list of acts, the newest first. A place of a log is one of its
 //! suffixes.
 //!
 //! There is no code here: `specs/` defines the searches, and `proofs/` has their laws.

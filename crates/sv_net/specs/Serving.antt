@@ -1,4 +1,4 @@
--- What a loop of sweeps does: sweeps, and waits between them. Lists have the newest first.
+-- What a loop of sweeps does: it makes sweeps, and waits between them. Lists of its actions have the newest first.
 use Rattle.std.specs.Prelude.{◌≡◌, ℕ, ◌-◌, ◌/◌, ◌<◌, min, Bool, true, false, List, [], ◌∷◌, length, Option, Some, None}
 use Rattle.std.specs.declared.time.Duration.{Duration}
 use Rattle.sv_logs.specs.Since.{last_given}
@@ -8,8 +8,8 @@ use Rattle.sv_serve.specs.DriverView.{DriverState, Steps}
 use Rattle.sv_serve.specs.Sweep.{Sweeps}
 use Rattle.sv_net.specs.Sleep.{MaySleep}
 
--- What a loop does: a sweep; or a wait for reports, with its limit, whether reports came, and the nanosecond since the beginning at which
--- it ended; or passing the reports to a wire, which is given as it was then.
+-- An action of a loop: a sweep; a wait for reports, with its limit, whether reports came, and when it ended, in nanoseconds since the
+-- beginning; or passing the reports to a wire, which is given in its state at that moment.
 pub data Doing (W : Type 0) : Type 0 where
   MadeSweep : Doing W
   Waited : (limit : Option Duration) (reported : Bool) (ended : ℕ) → Doing W
@@ -29,22 +29,23 @@ swept_at (_ ∷ doings) = swept_at doings
 abbrev pub ticks_between : ℕ → ℕ → ℕ
 ticks_between before now = min (now / 1000000 - before / 1000000) 1000
 
--- the milliseconds that pass in each sweep: those since the sweep before it
+-- for each sweep the milliseconds that pass in it: those since the sweep before
 abbrev pub handed_in : {W : Type 0} → List (Doing W) → List ℕ
 handed_in [] = []
 handed_in (MadeSweep ∷ doings) = ticks_between (swept_at doings) (time_of doings) ∷ handed_in doings
 handed_in (_ ∷ doings) = handed_in doings
 
--- whether the last thing done was a wait, whose reports weren't passed on yet, or nothing was done yet
+-- whether the last action was a wait, so that its reports weren't passed on yet; or there was no action yet
 abbrev pub is_fresh : {W : Type 0} → List (Doing W) → Bool
 is_fresh = elim [ MadeSweep ∷ doings ↦ false | Told wire ∷ doings ↦ false | _ ↦ true ]
 
--- whether all reports were passed on
+-- whether all reports so far were passed on
 abbrev pub is_told : {W : Type 0} → List (Doing W) → Bool
 is_told = last_given (elim [ Waited limit true ended ↦ Some false | Told wire ↦ Some true | _ ↦ None ]) true
 
--- The loop leads from one state of the driver to another. In each sweep its milliseconds pass; a sweep in which some pass comes before the
--- reports of the last wait are passed on. No wait is longer than allowed, and none begins before all reports were passed on.
+-- The loop leads from one state of the driver to another. In each sweep, the milliseconds since the sweep before pass. If this is at least
+-- one, the reports of the last wait are passed on only after the sweep. No wait is longer than allowed, and none begins before all reports
+-- were passed on.
 abbrev pub Serves : {W : Type 0} → (W → Heard → W → Type 0) → List (Doing W) → DriverState W → DriverState W → Type 0
 Serves hears [] start now = now ≡ start
 Serves hears (MadeSweep ∷ doings) start now = let ticks = ticks_between (swept_at doings) (time_of doings) in
@@ -54,14 +55,14 @@ Serves hears (Waited limit reported ended ∷ doings) start now =
     Serves hears doings start now × MaySleep (swept_at doings) (time_of doings) limit now × (is_told doings ≡ true)
 Serves hears (Told wire ∷ doings) start now = Serves hears doings start now × (wire ≡ now.wire)
 
--- A machine was asked for these waits in order and gave these answers. The reports were passed to these wires.
+-- A machine made these waits in order, and they ended as listed. The reports were passed to these wires.
 abbrev pub Waits : {W M : Type 0} → (M → Doing W → M → Type 0) → List (Doing W) → M → M → Type 0
 Waits answers [] start now = now ≡ start
 Waits answers (MadeSweep ∷ doings) start now = Waits answers doings start now
 Waits answers (doing ∷ doings) start now = (between : _) × Waits answers doings start between × answers between doing now
 
--- A loop leads from one state of the driver to another, and `IsCount` holds of the number of its sweeps. Its sweeps alone, with their
--- milliseconds, lead from the one state to the other, too.
+-- A loop leads from one state of the driver to another, and `IsCount` holds of the number of its sweeps. Its sweeps alone, with the
+-- milliseconds of each, also lead from the first state to the second.
 abbrev pub Served : {W : Type 0} → (W → Heard → W → Type 0) → (ℕ → Type 0) → DriverState W → DriverState W → Type 0
 Served hears IsCount old new = (doings : List (Doing _)) × IsCount (length (handed_in doings)) × Serves hears doings old new
     × Swept hears (handed_in doings) old new

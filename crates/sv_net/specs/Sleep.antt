@@ -9,7 +9,7 @@ use Rattle.sv_serve.specs.Asked.{IsReady}
 use Rattle.sv_serve.specs.DriverView.{DriverState, driver_view}
 use Rattle.sv_serve.specs.Still.{StaysStill}
 
--- No connection has a call to take, whatever happened before.
+-- Whatever history the server had before, no connection has a call to take.
 abbrev pub NoneReady : {W : Type 0} → DriverState W → Type 0
 NoneReady driving = (config : Config) (history : List PlainEvent) → StandsFor driving.server config history
     → (c : ℕ) → IsReady c config (driver_view driving history) false
@@ -23,9 +23,9 @@ IsIdle most driving = NoneReady driving × ((config : Config) (history : List Pl
 abbrev pub left_until : ℕ → ℕ → ℕ → ℕ
 left_until ticks swept now = ticks * 1000000 - (now - swept / 1000000 * 1000000)
 
--- The server sleeps without a limit if it is idle for as many milliseconds as a timeout may have (32 bits: VXI-11 revision 1.0, B.4.4) and
--- the scenario has no entry left. If it is idle for 100 milliseconds, it sleeps at most until these have passed since the last sweep. Else
--- it sleeps at most until the next millisecond.
+-- How long the server may sleep. Without a limit, if it is idle for as many milliseconds as a timeout may have (32 bits: VXI-11 revision
+-- 1.0, B.4.4), and the scenario has no more entries. If it is idle for 100 milliseconds, at most until 100 milliseconds have passed since
+-- the last sweep. Else at most until the next millisecond.
 abbrev pub MaySleep : {W : Type 0} → ℕ → ℕ → Option Duration → DriverState W → Type 0
 MaySleep swept now None driving = (driving.ahead ≡ []) × IsIdle 4294967295 driving
 MaySleep swept now (Some limit) driving =

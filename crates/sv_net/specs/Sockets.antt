@@ -1,4 +1,4 @@
--- The sockets of a wire, by number, and what each call of the wire does to them.
+-- The sockets of a wire, by number, and what each call of the wire's methods does to them.
 use Rattle.std.specs.Prelude.{◌≡◌, ℕ, ◌+◌, Bool, true, false, List, take, Option, Some, None, slice_set, slice_index_or}
 use Rattle.std.specs.Io.KnownBytes.{Keeps, Appends, Consumes}
 use Rattle.sv_history.specs.declared.event.Port.{Port}
@@ -12,33 +12,33 @@ abbrev pub socket_number : Port → ℕ
 socket_number (Conn c) = c
 socket_number (Intr c) = 16 + c
 
--- A read takes the next bytes that a stream has left. If it gives no bytes, they stay.
+-- A read returns the next bytes that a stream still has, and removes them from it. If the read returns no bytes, the stream doesn't change.
 abbrev pub Gives : {S : Type 0} → (S → Option (List ℕ)) → Answer (List ℕ) → S → S → Type 0
 Gives left (Got bytes) old new = Consumes (left old) (left new) bytes
 Gives left answer old new = Keeps (left old) (left new)
 
--- With `drops`, a probe reads and discards the bytes that came; else nothing changes.
+-- With `drops`, a probe reads and discards bytes that came. Without `drops`, the stream doesn't change.
 abbrev pub Skips : {S : Type 0} → (S → Option (List ℕ)) → Bool → S → S → Type 0
 Skips left true old new = (dropped : Answer (List ℕ)) × Gives left dropped old new
 Skips left false old new = Keeps (left old) (left new)
 
--- A write that takes `n` bytes appends the first `n` to what the stream was sent. Otherwise nothing changes.
+-- A write that takes `n` bytes appends the first `n` bytes to those that the stream was sent. If it takes none, the stream doesn't change.
 abbrev pub Takes : {S : Type 0} → (S → Option (List ℕ)) → List ℕ → Answer ℕ → S → S → Type 0
 Takes sent bytes (Got n) old new = Appends (sent old) (sent new) (take n bytes)
 Takes sent bytes answer old new = Keeps (sent old) (sent new)
 
--- The stream in this place takes the step. If there is no stream, the call fails.
+-- The stream in this place takes the step. If there is no stream in this place, the call fails.
 abbrev pub Does : {S A : Type 0} → (S → S → Type 0) → Answer A → Option S → Option S → Type 0
 Does step answer None after = (answer ≡ Failed) × (after ≡ None)
 Does step answer (Some old) after = (new : _) × step old new × (after ≡ Some new)
 
--- The socket with this number takes the step, and all others stay.
+-- The socket with this number takes the step. All other sockets don't change.
 abbrev pub At : {S A : Type 0} → ℕ → (S → S → Type 0) → Answer A → List (Option S) → List (Option S) → Type 0
 At n step answer before after =
     (place : Option _) × Does step answer (slice_index_or before n None) place × (after ≡ slice_set before n place)
 
--- What a call of the wire, with its answer, does to the sockets: only the socket of its port changes. Of a stream two things are known: the
--- bytes that it has left to read, and the bytes that it was sent.
+-- What a call of a wire's method, with its answer, does to the sockets: only the socket of its port changes. Of a stream two things are
+-- known: the bytes that can still be read from it, and the bytes that it was sent.
 abbrev pub Hears : {S : Type 0} → (S → Option (List ℕ)) → (S → Option (List ℕ)) → List (Option S) → Heard → List (Option S) → Type 0
 Hears left sent before (WasAccepted role (Some c) (Got all)) after = (stream : _) × (after ≡ slice_set before c (Some stream))
 Hears left sent before (WasAccepted role number answer) after = after ≡ before

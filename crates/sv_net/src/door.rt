@@ -1,4 +1,4 @@
-//! A listening socket, with what the system reported of it.
+//! A listening socket, with what the system last reported about it.
 
 ghost use Rattle.std.specs.Prelude.{◌≤◌};
 
@@ -36,7 +36,7 @@ impl Door {
         registry.register(&mut self.listener, token, Interest::READABLE)
     }
 
-    /// Remembers that the system reported the socket.
+    /// Records that the system reported something about the socket.
     pub(crate) fn report(&self) {
         self.knocked.set(true);
     }
@@ -46,13 +46,14 @@ impl Door {
         self.knocked.get()
     }
 
-    /// Whether a connection may be waiting to be accepted, and the last accept didn't fail.
+    /// Whether a connection may be waiting to be accepted, and the last accept didn't fail: the
+    /// next accept is due at once.
     pub(crate) fn is_waiting(&self) -> bool {
         self.knocked.get() & (self.delay.get() == 0)
     }
 
-    /// How many milliseconds to sleep before the next accept: 100 if no connection may be waiting;
-    /// else 1, doubled after each further accept that fails, at most 100.
+    /// How many milliseconds to sleep before the next accept. If no connection may be waiting, 100.
+    /// Else 1, doubled after each further failure of accept, but at most 100.
     pub(crate) fn patience(&self) -> u32
         ensures { result ≤ 100 }
     {
@@ -63,7 +64,7 @@ impl Door {
         }
     }
 
-    /// Accepts a connection.
+    /// Accepts a connection, if one may be waiting.
     pub(crate) fn accept(&self) -> Answer<TcpStream> {
         if !self.knocked.get() {
             return Answer::Pending;
@@ -77,7 +78,7 @@ impl Door {
         }
     }
 
-    /// The answer of an accept that failed.
+    /// Returns the answer of an accept that failed with this kind of error.
     fn refused(&self, kind: ErrorKind) -> Answer<TcpStream> {
         match kind {
             ErrorKind::WouldBlock => {

@@ -1,5 +1,5 @@
-//! The sockets of a server, over mio: the wire of a driver on a real machine. It answers at once,
-//! from what the system last reported of each socket.
+//! The sockets of a server, over mio: the wire of a driver on a real machine. It answers without
+//! waiting. For this it uses what the system last reported about each socket.
 #![tactic(auto)]
 
 mod door;

@@ -10,16 +10,17 @@ use std::io;
 use std::net::Net as Network;
 use std::time::{Clock, Duration, Instant};
 
-/// A clock, and the reports that sockets are ready.
+/// A clock, and a wait for the system's reports that sockets are ready.
 pub(crate) trait Machine<S: Stream> {
     ghost use Rattle.sv_net.specs.Serving.{Doing, Waited, Told};
     ghost use Rattle.std.specs.Prelude.{List, Option, ⊤};
 
-    /// How a wait and its outcome change the machine; nothing is known of a real machine.
+    /// How a wait and its outcome change the machine. Of a real machine nothing is known.
     ghost answers: { Self → Doing (List (Option S)) → Self → Type 0 } = { λ before doing after. ⊤ };
 
-    /// Waits until something is reported of a socket, at most for `limit`, if there is one. Returns
-    /// whether something was reported, and when the wait ended, in nanoseconds since the beginning.
+    /// Waits until something is reported about a socket; but if there is a `limit`, no longer than
+    /// that. Returns whether something was reported, and when the wait ended, in nanoseconds since
+    /// the beginning.
     ///
     /// # Errors
     /// If the system's clock can't be read, or the wait fails.
@@ -31,7 +32,8 @@ pub(crate) trait Machine<S: Stream> {
         ensures { answers self.old (Told net.now) self.new };
 }
 
-/// The machine's clock, the time of its first reading, and what waits for reports of the sockets.
+/// The machine's clock, the time of its first reading, and the watch that waits for reports about
+/// sockets.
 #[derive(Drop)]
 pub(crate) struct System<'a, C: Clock, A: Allocator> {
     clock: &'a C,
@@ -40,7 +42,7 @@ pub(crate) struct System<'a, C: Clock, A: Allocator> {
 }
 
 impl<'a, C: Clock, A: Allocator> System<'a, C, A> {
-    /// A machine at its beginning.
+    /// Makes a machine whose time begins now.
     ///
     /// # Errors
     /// If the system's clock can't be read.

@@ -17,16 +17,15 @@ use std::net::Net as Network;
 use sv_serve::{Answer, Wire};
 use sv_server::{Dial, Port, Role};
 
-/// How many sockets there may be: those of sixteen connections, and after them those of their
-/// interrupt channels.
+/// How many sockets there may be: first those of sixteen connections, then those of their interrupt
+/// channels.
 const SOCKETS: usize = 32;
 
 /// The sockets of sixteen connections and their interrupt channels, and three listening sockets on
 /// ports of 127.0.0.1.
 ///
-/// No call blocks. A socket that answered that it would block isn't asked again until the system
-/// reports something of it.
-/// it would block.
+/// No method blocks. A socket that answered that it would block isn't asked again until the system
+/// reports something about it.
 #[derive(Drop)]
 pub struct Net<N: Network + Drop, A: Allocator = Global, S: Stream = TcpStream> {
     network: N,
@@ -64,7 +63,7 @@ fn socket_number(port: Port) -> usize
     }
 }
 
-/// Reads the socket at a place, if there is one.
+/// Reads from the socket at a place. Without a socket the read fails.
 fn read_at<S: Stream>(place: &mut Option<Socket<S>>, buffer: &mut [u8]) -> Answer<usize>
     ensures within { IsWithin result (length buffer.old) }
     ensures gives { let answer = bytes_of result buffer.new in
@@ -76,7 +75,7 @@ fn read_at<S: Stream>(place: &mut Option<Socket<S>>, buffer: &mut [u8]) -> Answe
     }
 }
 
-/// Whether the socket at a place is gone.
+/// Asks whether the socket at a place is gone.
 fn probe_at<S: Stream>(place: &mut Option<Socket<S>>, drops: bool) -> Answer<()>
     ensures { Does (Skips S.remaining drops) result place.old place.new }
 {
@@ -86,7 +85,7 @@ fn probe_at<S: Stream>(place: &mut Option<Socket<S>>, drops: bool) -> Answer<()>
     }
 }
 
-/// Writes to the socket at a place, if there is one.
+/// Writes to the socket at a place. Without a socket the write fails.
 fn write_at<S: Stream>(place: &mut Option<Socket<S>>, bytes: &[u8]) -> Answer<usize>
     ensures within { IsWithin result (length bytes.now) }
     ensures takes { Does (Takes S.contents bytes.now result) result place.old place.new }
@@ -129,7 +128,7 @@ impl<N: Network + Drop, A: Allocator, S: Stream> Net<N, A, S> {
         })
     }
 
-    /// Remembers a report of a socket or of a listening socket.
+    /// Records a report about a socket or about a listening socket.
     pub(crate) fn report(&self, event: &Event) {
         let Token(number) = event.token();
         match self.sockets.get(number) {
@@ -139,19 +138,21 @@ impl<N: Network + Drop, A: Allocator, S: Stream> Net<N, A, S> {
         }
     }
 
-    /// Remembers a report of a listening socket.
+    /// Records a report about a listening socket.
     fn report_door(&self, number: usize) {
         if let Some(door) = self.doors.get(number.saturating_sub(SOCKETS)) {
             door.report();
         }
     }
 
-    /// Whether a connection may be waiting to be accepted, and the last accept didn't fail.
+    /// Whether some accept is due at once: a connection may be waiting to be accepted, and the last
+    /// accept on its port didn't fail.
     pub(crate) fn is_called(&self) -> bool {
         self.doors[0].is_waiting() | self.doors[1].is_waiting() | self.doors[2].is_waiting()
     }
 
-    /// Whether a connection may be waiting to be accepted; the last accept may have failed.
+    /// Whether a connection may be waiting to be accepted on any port, even if the last accept
+    /// failed.
     pub(crate) fn is_knocked(&self) -> bool {
         self.doors[0].is_knocked() | self.doors[1].is_knocked() | self.doors[2].is_knocked()
     }

@@ -18,18 +18,18 @@ use std::time::{Clock, Duration};
 use sv_pace::Pace;
 use sv_serve::Driver;
 
-/// The most polls in one pause before it sleeps.
+/// The most polls in one pause.
 const LOOKS: u32 = 1_000;
 
-/// Makes this number of sweeps. Between two sweeps it waits until something is reported of a
-/// socket, or something is due. In each sweep the whole milliseconds since the one before pass, at
-/// most 1,000.
+/// Makes this number of sweeps. Between two sweeps it waits until something is reported about a
+/// socket, or something is due. In each sweep the whole milliseconds since the sweep before pass,
+/// at most 1,000.
 ///
-/// Without a report, a wait ends at the next whole millisecond, or at the hundredth if nothing
-/// becomes due before. If nothing will ever be due, and more than a million sweeps are left, only a
-/// report ends it. For 50 microseconds after a report it polls without sleeping, if that was
-/// worthwhile of late. The clock is read after each wait, so that deadlines are met even while many
-/// peers send calls without a pause.
+/// Without a report, a wait ends at the next whole millisecond, or at the latest at the hundredth
+/// if nothing becomes due before. If nothing will ever be due, and more than a million sweeps
+/// remain, only a report ends the wait. For 50 microseconds after a report it polls without
+/// sleeping, if polling was worthwhile of late. The clock is read after each wait, so that
+/// deadlines are met even while many peers send calls without a pause.
 ///
 /// # Errors
 /// If the system's clock can't be read, or a wait fails.
@@ -48,7 +48,7 @@ pub fn serve<N: Network + Drop, A: Allocator, S: Stream>(
     run(&mut machine, driver, sweeps)
 }
 
-/// Makes this number of sweeps, by the clock and the waits of a machine.
+/// Makes this number of sweeps. `machine` tells the time and waits between sweeps.
 fn run<M: Machine<S>, N: Network + Drop, A: Allocator, S: Stream>(
     machine: &mut M,
     driver: &mut Driver<Net<N, A, S>, A>,
@@ -68,8 +68,8 @@ fn run<M: Machine<S>, N: Network + Drop, A: Allocator, S: Stream>(
     Ok(())
 }
 
-/// Makes a sweep. If milliseconds passed during the wait, they are applied first, and the reports
-/// of the wait are left to the next sweep.
+/// Makes a sweep. If milliseconds passed during the wait before, they pass in this sweep, and the
+/// sockets get the reports of the wait only after it, for the next sweep.
 fn sweep<M: Machine<S>, N: Network + Drop, A: Allocator, S: Stream>(
     machine: &mut M,
     driver: &mut Driver<Net<N, A, S>, A>,
@@ -87,8 +87,8 @@ fn sweep<M: Machine<S>, N: Network + Drop, A: Allocator, S: Stream>(
     }
 }
 
-/// Waits for reports, at most for `limit`, if there is one. Returns whether something was reported,
-/// and when the wait ended.
+/// Waits for reports; but if there is a `limit`, no longer than that. Returns whether something was
+/// reported, and when the wait ended.
 fn wait<M: Machine<S>, S: Stream>(
     machine: &mut M,
     pace: &mut Pace,
@@ -105,8 +105,9 @@ fn wait<M: Machine<S>, S: Stream>(
     Ok((reported, now))
 }
 
-/// Waits for the next sweep, with `left` sweeps left, and returns when it begins. It begins at once
-/// if it will find something to do, which is only checked if the first poll finds no report.
+/// Waits for the next sweep, with `left` sweeps remaining, and returns when that sweep begins. If
+/// the sweep has something to do, it begins after a single poll. If polling is worthwhile and this
+/// poll finds a report, there is no need to check whether the sweep has something to do.
 fn pause<M: Machine<S>, N: Network + Drop, A: Allocator, S: Stream>(
     machine: &mut M,
     driver: &Driver<Net<N, A, S>, A>,
@@ -130,8 +131,8 @@ fn pause<M: Machine<S>, N: Network + Drop, A: Allocator, S: Stream>(
     spin(machine, driver, pace, now, left)
 }
 
-/// Polls until something is reported, or sleeps once polling isn't worthwhile any more. Returns
-/// when the wait ended.
+/// Polls until something is reported or the polls of this pause are used up. Sleeps as soon as
+/// polling isn't worthwhile any more. Returns when the wait ended.
 fn spin<M: Machine<S>, N: Network + Drop, A: Allocator, S: Stream>(
     machine: &mut M,
     driver: &Driver<Net<N, A, S>, A>,

@@ -24,7 +24,8 @@ fn is_ready<N: Network + Drop, A: Allocator, S: Stream>(driver: &Driver<Net<N, A
     false
 }
 
-/// Whether nothing becomes due within this number of milliseconds, and no call waits to be taken.
+/// Whether nothing becomes due within this number of milliseconds, and no connection has a call to
+/// take.
 fn is_idle<N: Network + Drop, A: Allocator, S: Stream>(
     driver: &Driver<Net<N, A, S>, A>,
     ticks: u32,
@@ -34,8 +35,8 @@ fn is_idle<N: Network + Drop, A: Allocator, S: Stream>(
     driver.is_still(ticks) & !is_ready(driver)
 }
 
-/// How many milliseconds after the last sweep the server may sleep at most: until something is due,
-/// or until the next accept.
+/// Returns how many milliseconds after the last sweep the server may sleep at most: until something
+/// may become due, or until the next accept is due.
 fn longest<N: Network + Drop, A: Allocator, S: Stream>(driver: &Driver<Net<N, A, S>, A>) -> u32
     ensures { (result ≡ 1) ⊎ ((result ≤ 100) × IsIdle 100 driver.now) }
 {
@@ -46,9 +47,9 @@ fn longest<N: Network + Drop, A: Allocator, S: Stream>(driver: &Driver<Net<N, A,
     }
 }
 
-/// How long the server may sleep, with `left` sweeps left; `None` for no limit, if nothing will
-/// ever be due. The timeout of a call is at most 4,294,967,295 ms (VXI-11 revision 1.0, section
-/// B.4.4).
+/// Returns how long the server may sleep, with `left` sweeps remaining; `None` if nothing will ever
+/// be due, so that no limit is needed. The timeout of a call is at most 4,294,967,295 ms (VXI-11
+/// revision 1.0, section B.4.4).
 pub(crate) fn sleep_time<N: Network + Drop, A: Allocator, S: Stream>(
     driver: &Driver<Net<N, A, S>, A>,
     pace: &Pace,

@@ -1,4 +1,4 @@
-//! A socket, with what the system reported of it.
+//! A socket, with what the system last reported about it.
 
 ghost use Rattle.std.specs.Prelude.{◌≡◌, ◌⊎◌, true, length};
 ghost use Rattle.sv_serve.specs.Heard.{IsWithin, bytes_of};
@@ -12,10 +12,10 @@ use std::io::{self, ErrorKind};
 use std::marker::Model;
 use sv_serve::Answer;
 
-/// How many bytes one read discards, at most.
+/// How many bytes one read discards at most.
 const DROPPED: usize = 1_024;
 
-/// A socket, and what was reported of it since its last answer that it would block.
+/// A socket, and what was reported about it since it last answered that it would block.
 #[derive(Drop)]
 pub(crate) struct Socket<S: Stream> {
     stream: S,
@@ -23,11 +23,11 @@ pub(crate) struct Socket<S: Stream> {
     readable: Cell<bool>,
     /// The socket may take bytes.
     writable: Cell<bool>,
-    /// The peer sends no more, so that the system makes no further report of bytes to read.
+    /// The peer sends no more, so that the system won't report again that bytes can be read.
     ended: Cell<bool>,
     /// The socket was reset, or is closed in both directions.
     broken: Cell<bool>,
-    /// Urgent bytes may be waiting: a read ends before them, though more bytes follow.
+    /// Urgent bytes may be waiting: a read ends in front of them, even if more bytes follow.
     urgent: Cell<bool>,
 }
 
@@ -38,7 +38,7 @@ impl<S: Stream> Model for Socket<S> {
 }
 
 impl<S: Stream> Socket<S> {
-    /// A connected socket, of which nothing is known until it is asked.
+    /// Makes a connected socket, of which nothing is known until it is read or written.
     pub(crate) fn connected(stream: S) -> Socket<S>
         ensures { result ≡ stream }
     {
@@ -52,7 +52,8 @@ impl<S: Stream> Socket<S> {
         }
     }
 
-    /// A socket that has begun to connect. It can be written to once the system reports it.
+    /// Makes a socket that has begun to connect. It can be written to after the system has reported
+    /// it as writable.
     pub(crate) fn connecting(stream: S) -> Socket<S>
         ensures { result ≡ stream }
     {
@@ -77,7 +78,7 @@ impl<S: Stream> Socket<S> {
         )
     }
 
-    /// Remembers what the system reported.
+    /// Records what the system reported about the socket.
     pub(crate) fn report(&self, event: &Event) {
         let broken = event.is_error();
         let ended = broken | event.is_read_closed();
@@ -102,14 +103,14 @@ impl<S: Stream> Socket<S> {
         self.readable.get()
     }
 
-    /// Whether the socket may take bytes, or know whether it is connected.
+    /// Whether the socket may take bytes, or may have finished connecting.
     pub(crate) fn is_writable(&self) -> bool {
         self.writable.get()
     }
 
-    /// Reads the bytes that are waiting. A read that gives less than the buffer holds has emptied
-    /// the socket; it isn't read again until the system reports more, unless the peer had ended its
-    /// stream, or sent urgent bytes.
+    /// Reads bytes that are waiting. A read that returns less than the buffer holds has emptied the
+    /// socket. Then the socket isn't read again until the system reports more bytes, unless the
+    /// peer had ended its stream or sent urgent bytes.
     pub(crate) fn read(&mut self, buffer: &mut [u8]) -> Answer<usize>
         ensures within { IsWithin result (length buffer.old) }
         ensures gives { Gives S.remaining (bytes_of result buffer.new) self.old self.new }
@@ -131,8 +132,8 @@ impl<S: Stream> Socket<S> {
         }
     }
 
-    /// Whether a socket that isn't read is gone: it is broken, or its stream ended while its bytes
-    /// are dropped.
+    /// Asks whether a socket that isn't read is gone: it is broken, or, with `drops`, the end of
+    /// its stream was read. With `drops`, bytes that came are discarded.
     pub(crate) fn probe(&mut self, drops: bool) -> Answer<()>
         ensures { Skips S.remaining drops self.old self.new }
     {
@@ -142,7 +143,7 @@ impl<S: Stream> Socket<S> {
         if drops { self.skip() } else { Answer::Pending }
     }
 
-    /// Reads the bytes that come, and drops them.
+    /// Reads bytes that came, and discards them.
     fn skip(&mut self) -> Answer<()>
         ensures { Skips S.remaining true self.old self.new }
     {
@@ -153,7 +154,7 @@ impl<S: Stream> Socket<S> {
         }
     }
 
-    /// Writes as many bytes as the socket takes.
+    /// Writes as many of the bytes as the socket takes, and returns how many it took.
     pub(crate) fn write(&mut self, bytes: &[u8]) -> Answer<usize>
         ensures within { IsWithin result (length bytes.now) }
         ensures takes { Takes S.contents bytes.now result self.old self.new }
@@ -186,8 +187,8 @@ impl<S: Stream> Socket<S> {
     }
 }
 
-/// The answer of a call that failed: pending if it would block. Then the socket isn't asked again
-/// until the system reports something of it.
+/// Returns the answer of a call that failed: pending if the call would block. In that case the
+/// socket isn't asked again until the system reports something about it.
 fn would_wait(flag: &Cell<bool>, kind: ErrorKind) -> Answer<usize>
     ensures { (result ≡ Answer.Pending) ⊎ (result ≡ Answer.Failed) }
 {

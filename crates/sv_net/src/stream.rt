@@ -6,18 +6,18 @@ use std::io::{self, ErrorKind, Read, Write};
 use std::net::{Ipv4Addr, Net as Network, SocketAddr, SocketAddrV4};
 use sv_server::Dial;
 
-/// A stream between this machine and a peer. No call of it blocks.
+/// A stream between this machine and a peer. None of its methods blocks.
 pub trait Stream: Read + Write + Source + Drop {
-    /// The stream of a connection that was accepted.
+    /// Makes the stream of a connection that was accepted.
     fn accepted(stream: TcpStream) -> Self;
 
-    /// Begins to call a peer.
+    /// Begins to connect to a peer.
     ///
     /// # Errors
-    /// If the system can't begin the call.
+    /// If the system can't begin to connect.
     fn call(network: &impl Network, dial: Dial) -> io::Result<Self>;
 
-    /// Whether the peer that was called answered.
+    /// Whether the peer that this stream connects to has answered.
     ///
     /// # Errors
     /// If the peer refused, or can't be reached.

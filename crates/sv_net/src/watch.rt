@@ -1,4 +1,4 @@
-//! Waiting until the system reports something.
+//! Waiting until the system reports something about a socket.
 
 ghost use Rattle.std.specs.Prelude.{◌≡◌, None, IfOk, replicate};
 
@@ -10,10 +10,10 @@ use std::io;
 use std::net::Net as Network;
 use std::time::Duration;
 
-/// How many reports one wait takes, at most.
+/// How many reports one wait returns at most.
 const REPORTS: usize = 64;
 
-/// Waits for reports of the system.
+/// What waits for the system's reports about sockets.
 #[derive(Drop)]
 pub struct Watch<A: Allocator = Global> {
     poll: Poll,
@@ -21,9 +21,9 @@ pub struct Watch<A: Allocator = Global> {
 }
 
 impl<A: Allocator + Copy> Watch<A> {
-    /// Listens on three ports of 127.0.0.1: of the core channel, the abort channel and the port
-    /// mapper. Returns the watch, which waits for reports, and the sockets, none of which is
-    /// connected yet.
+    /// Listens on three ports of 127.0.0.1: those of the core channel, the abort channel and the
+    /// port mapper. Returns the watch, which waits for reports, and the sockets. None of the
+    /// sockets is connected yet.
     ///
     /// # Errors
     /// If a port can't be listened on, or memory is refused (`ErrorKind::OutOfMemory`).
@@ -42,8 +42,8 @@ impl<A: Allocator + Copy> Watch<A> {
 }
 
 impl<A: Allocator> Watch<A> {
-    /// Waits until something is reported, at most for `limit`, if there is one. Returns whether
-    /// something was reported.
+    /// Waits until something is reported; but if there is a `limit`, no longer than that. Returns
+    /// whether something was reported.
     ///
     /// # Errors
     /// If the wait fails.

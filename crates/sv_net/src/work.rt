@@ -1,4 +1,4 @@
-//! Whether the next sweep will find something to do without a report.
+//! Whether the next sweep has something to do even if no report comes.
 
 use crate::net::Net;
 use crate::socket::Socket;
@@ -8,9 +8,9 @@ use std::net::Net as Network;
 use sv_serve::Driver;
 use sv_server::Port;
 
-/// Whether the next sweep will find something to do on a connection without a report: bytes wait
-/// and can be written, or none wait and there is a call to take; or it will read the connection; or
-/// there is something to do on its interrupt channel.
+/// Whether the next sweep has something to do on a connection even if no report comes: bytes wait
+/// and can be written; no bytes wait and a call can be taken; it will read the connection; or it
+/// has something to do on the connection's interrupt channel.
 fn has_work_on<N: Network + Drop, A: Allocator, S: Stream>(
     driver: &Driver<Net<N, A, S>, A>,
     conn: u8,
@@ -27,8 +27,8 @@ fn has_work_on<N: Network + Drop, A: Allocator, S: Stream>(
     goes_on || has_input(driver, conn, socket) || has_work_for(driver, conn)
 }
 
-/// Whether the next sweep will have input on a connection: bytes may be waiting that the connection
-/// has room for, or that are dropped; or the socket is broken.
+/// Whether the next sweep finds input on a connection: the socket is broken; or bytes may be
+/// waiting, and the connection has room for them or discards them.
 fn has_input<N: Network + Drop, A: Allocator, S: Stream>(
     driver: &Driver<Net<N, A, S>, A>,
     conn: u8,
@@ -39,8 +39,8 @@ fn has_input<N: Network + Drop, A: Allocator, S: Stream>(
     socket.is_broken() || socket.is_readable() && reads
 }
 
-/// Whether the next sweep will find something to do on the connection's interrupt channel without a
-/// report.
+/// Whether the next sweep has something to do on the connection's interrupt channel even if no
+/// report comes.
 fn has_work_for<N: Network + Drop, A: Allocator, S: Stream>(
     driver: &Driver<Net<N, A, S>, A>,
     conn: u8,
@@ -53,7 +53,7 @@ fn has_work_for<N: Network + Drop, A: Allocator, S: Stream>(
     channel.is_writable() && wanted
 }
 
-/// Whether the next sweep will find something to do without a report.
+/// Whether the next sweep has something to do even if no report comes.
 pub(crate) fn has_work<N: Network + Drop, A: Allocator, S: Stream>(
     driver: &Driver<Net<N, A, S>, A>,
 ) -> bool {

@@ -1,4 +1,4 @@
--- When a server polls instead of sleeping at once, by how its earlier waits ended. Lists of waits have the newest first.
+-- When a server polls and doesn't sleep at once, depending on how its earlier waits ended. Lists of waits have the newest first.
 use Rattle.std.specs.Prelude.{◌≡◌, ℕ, zero, suc, ◌-◌, ◌*◌, ◌≤◌, min, max, Bool, true, false, List, [], ◌∷◌}
 
 -- How a wait ended: polling found something (`Found`), polling found nothing in its time (`Missed`), or the server slept at once (`Slept`).
@@ -7,21 +7,22 @@ pub data Wait : Type 0 where
   Missed : Wait
   Slept : Wait
 
--- how many times polling found nothing since it last found something
+-- how many times polling has found nothing since it last found something
 abbrev pub misses : List Wait → ℕ
 misses [] = 0
 misses (Found ∷ waits) = 0
 misses (Missed ∷ waits) = suc (misses waits)
 misses (Slept ∷ waits) = misses waits
 
--- how many times the server slept at once since it last polled
+-- how many times the server has slept at once since it last polled
 abbrev pub sleeps : List Wait → ℕ
 sleeps [] = 0
 sleeps (Found ∷ waits) = 0
 sleeps (Missed ∷ waits) = 0
 sleeps (Slept ∷ waits) = suc (sleeps waits)
 
--- the pause after one more miss: 0 if it is the first miss, else twice the pause before it, at least 1 and at most 1,024
+-- how many times the server sleeps at once after one more miss: 0 if this is the first miss; else twice as many as before, at least 1 and
+-- at most 1,024
 abbrev pub longer : Bool → ℕ → ℕ
 longer false pause = 0
 longer true pause = min (max (pause * 2) 1) 1024
@@ -36,16 +37,16 @@ abbrev pub pause_after : ℕ → ℕ
 pause_after zero = 0
 pause_after (suc n) = longer (is_any n) (pause_after n)
 
--- The waits, with one more, in which the server polled this many times before it found something or gave up. A wait that finds something
--- before it polls isn't counted, since that was there already.
+-- The waits with one more, in which the server polled this many times before it found something or gave up. A wait that found something
+-- without a poll isn't added: what it found was there already.
 abbrev pub after_wait : ℕ → Bool → List Wait → List Wait
 after_wait zero true waits = waits
 after_wait zero false waits = Slept ∷ waits
 after_wait (suc n) true waits = Found ∷ waits
 after_wait (suc n) false waits = Missed ∷ waits
 
--- The state: the nanosecond at which the last sweep began, and the one at which something was last reported; whether the last run of polls
--- found nothing; how many times the server sleeps at once after that, and how many of these sleeps are left.
+-- The state: the nanosecond at which the last sweep began; the nanosecond at which something was last reported; whether the last run of
+-- polls found nothing; how many times the server sleeps at once after that run; and how many of these sleeps remain.
 pub record Kept : Type 0 where
   pub swept : ℕ
   pub worked : ℕ
@@ -59,6 +60,6 @@ pub record StandsFor (kept : Kept) (waits : List Wait) : Type 0 where
   pub pause : kept.pause ≡ pause_after (misses waits)
   pub left : kept.left ≡ pause_after (misses waits) - sleeps waits
 
--- The server may poll again: it slept at once as many times as it has to.
+-- The server may poll again: it has slept at once as many times as it has to.
 abbrev pub IsDue : List Wait → Type 0
 IsDue waits = pause_after (misses waits) ≤ sleeps waits

@@ -7,9 +7,9 @@ use std::marker::Model;
 
 /// How many milliseconds a server sleeps at most, if nothing is due earlier.
 pub const STILL: u32 = 100;
-/// With more sweeps left than this, a server for which nothing will ever be due sleeps until
-/// something is reported. The last sweeps are made every [`STILL`] milliseconds, so that they come
-/// to an end.
+/// If nothing will ever be due and more sweeps than this remain, a server sleeps until something is
+/// reported. If fewer sweeps remain, it makes one at least every [`STILL`] milliseconds, so that it
+/// comes to an end.
 pub const FEW: u32 = 1_000_000;
 /// The most milliseconds that pass in one sweep.
 const MOST_TICKS: u64 = 1_000;
@@ -17,25 +17,25 @@ const MOST_TICKS: u64 = 1_000;
 const WINDOW: u64 = 50_000;
 /// Nanoseconds of a millisecond.
 const MILLISECOND: u64 = 1_000_000;
-/// The most sleeps between one run of polls and the next.
+/// The most sleeps between one run of polls and the next one.
 const MOST_SLEEPS: u32 = 1_024;
 
-/// What a loop of sweeps remembers of the time, in nanoseconds since its beginning, and of its
-/// waits.
+/// What a loop of sweeps remembers: times, in nanoseconds since its beginning, and how its waits
+/// ended.
 ///
-/// Polling has to be worthwhile: if it found nothing of late, as on a machine whose cores are busy,
+/// Polling has to be worthwhile. If it found nothing of late, as on a machine whose cores are busy,
 /// the server sleeps at once, and polls again only now and then.
 #[derive(Drop)]
 pub struct Pace {
     /// When the last sweep began.
     swept: u64,
-    /// When something was reported last.
+    /// When something was last reported.
     worked: u64,
     /// Whether the last run of polls found nothing.
     missed: bool,
-    /// How many times it sleeps between one run of polls and the next.
+    /// How many times the server sleeps between one run of polls and the next one.
     pause: u32,
-    /// How many sleeps are left before the next run of polls.
+    /// How many of these sleeps remain before the next run of polls.
     left: u32,
 }
 
@@ -56,7 +56,7 @@ impl Model for Pace {
     ghost invariant = { λ a. a.pause ≤ 1024 };
 }
 
-/// How many times to sleep after another run of polls that found nothing.
+/// Returns how many times to sleep after one more run of polls that found nothing.
 fn longer(missed: bool, pause: u32) -> u32
     requires { pause ≤ 1024 }
     ensures value { result ≡ longer missed pause }
@@ -70,7 +70,7 @@ fn longer(missed: bool, pause: u32) -> u32
 }
 
 impl Pace {
-    /// A policy with no history.
+    /// Makes a policy with no waits yet.
     pub fn new() -> Pace
         ensures times { (result.swept ≡ 0) × (result.worked ≡ 0) }
         ensures stands { StandsFor result [] }
@@ -84,8 +84,8 @@ impl Pace {
         }
     }
 
-    /// Begins a sweep, and returns how many whole milliseconds have passed since the last one, at
-    /// most 1,000.
+    /// Begins a sweep, and returns how many whole milliseconds have passed since the sweep before,
+    /// at most 1,000.
     pub fn ticks(&mut self, now: u64) -> u32
         ensures count { result ≡ min (now / 1000000 - self.old.swept / 1000000) 1000 }
         ensures kept { self.new ≡ record self.old { swept = now } }
@@ -103,7 +103,7 @@ impl Pace {
     }
 
     /// Whether to poll again without sleeping: something was reported less than 50 microseconds
-    /// ago, and polling found something of late, or is due to be tried again.
+    /// ago; and polling found something of late, or it is time to try polling again.
     pub fn is_spinning(&self, now: u64) -> bool
         ensures { (waits : List Wait) → StandsFor self.now waits
             → (result ≡ true) ↔ ((now - self.now.worked < 50000) × IsDue waits) }
@@ -111,8 +111,8 @@ impl Pace {
         (self.left == 0) & (now.saturating_sub(self.worked) < WINDOW)
     }
 
-    /// Records the end of a wait: after `looks` polls the server found something, or gave up and
-    /// slept.
+    /// Records the end of a wait: the server polled `looks` times, and then found something, or
+    /// gave up and slept.
     pub fn end(&mut self, looks: u32, found: bool)
         ensures times { (self.new.swept ≡ self.old.swept) × (self.new.worked ≡ self.old.worked) }
         ensures stands { (waits : List Wait) → StandsFor self.old waits
@@ -156,8 +156,8 @@ impl Pace {
         self.left = self.pause;
     }
 
-    /// How many nanoseconds the server may sleep until `ticks` whole milliseconds have passed since
-    /// the last sweep; 0 if they have passed.
+    /// Returns how many nanoseconds the server may sleep until `ticks` whole milliseconds have
+    /// passed since the last sweep; 0 if they have already passed.
     pub fn sleep_time(&self, now: u64, ticks: u32) -> u64
         ensures { result ≡ ticks * 1000000 - (now - self.now.swept / 1000000 * 1000000) }
     {

@@ -1,4 +1,4 @@
--- What a recorder records of the calls of a wire.
+-- What a recorder records of the calls of a wire's methods.
 use Rattle.std.specs.Prelude.{◌≡◌, ℕ, Bool, true, List, ◌∷◌, ◌++◌}
 use Rattle.sv_serve.specs.declared.wire.Answer.{Answer}
 use Rattle.sv_serve.specs.declared.wire.Answer.TheVariants.{Got, Pending, Failed}
@@ -7,7 +7,7 @@ use Rattle.sv_serve.specs.Served.{Through}
 use Rattle.sv_recording.specs.declared.call.Call.{Call}
 use Rattle.sv_recording.specs.declared.call.Call.TheVariants.{Accept, Read, Probe, Write, Dial, Dialed, Close}
 
--- a recorded call, as the call of the wire with its answer
+-- a recorded call in the form of the specification
 abbrev pub heard_of : Call → Heard
 heard_of (Accept role conn answer) = WasAccepted role conn answer
 heard_of (Read conn most Pending) = WasRead conn most Pending
@@ -19,22 +19,22 @@ heard_of (Dial conn dial answer) = WasDialed conn dial answer
 heard_of (Dialed conn answer) = PeerAnswered conn answer
 heard_of (Close port) = WasClosed port
 
--- the wire that answers, the calls that were recorded, the newest first, and whether all were
+-- the wire that answers; the calls that were recorded, the newest first; and whether all calls were recorded
 pub record Recording (W : Type 0) : Type 0 where
   pub wire : W
   pub trace : List Heard
   pub is_whole : Bool
 
--- If all calls are recorded after this one, all were recorded before it, and this one is recorded.
+-- If all calls are recorded after this call, all were recorded before it, and this call is recorded.
 abbrev pub Keeps : {W : Type 0} → Recording W → Heard → Recording W → Type 0
 Keeps before heard after = after.is_whole ≡ true → (before.is_whole ≡ true) × (after.trace ≡ heard ∷ before.trace)
 
--- The recorded wire was called, and gave this answer. The call is recorded, if all calls are.
+-- The method of the recorded wire was called, and returned this answer. The call is recorded, if all calls are.
 abbrev pub Passes : {W : Type 0} → (W → Heard → W → Type 0) → Recording W → Heard → Recording W → Type 0
 Passes hears before heard after = hears before.wire heard after.wire × Keeps before heard after
 
--- The calls of a recorder are made on the recorded wire, with the same answers. If all calls are recorded, this trace was added to what was
--- recorded before.
+-- The calls of a recorder's methods are made on the recorded wire, and have the same answers. If all calls are recorded, this trace was
+-- added to the calls recorded before.
 abbrev pub TraceIsKept : {W : Type 0} → (W → Heard → W → Type 0) → (Recording W → Heard → Recording W → Type 0) → Type 0
 TraceIsKept hears recorded = (trace : List Heard) (start now : Recording _) → Through recorded trace start now
     → Through hears trace start.wire now.wire × (now.is_whole ≡ true → now.trace ≡ trace ++ start.trace)

@@ -1,9 +1,9 @@
-//! A call of a wire, with its answer.
+//! A call of a wire's method, with its answer.
 
 use sv_serve::Answer;
 use sv_server::{Dial, Port, Role};
 
-/// One call of a wire, with its answer.
+/// One call of a wire's method, with its answer.
 #[derive(Drop)]
 pub enum Call {
     /// Whether a connection of this role was accepted, under this number.
@@ -12,13 +12,14 @@ pub enum Call {
         conn: Option<u8>,
         answer: Answer<()>,
     },
-    /// The bytes that were read of a connection, and how many were asked for at most.
+    /// The bytes that were read from a connection, and how many bytes the read could return at
+    /// most.
     Read {
         conn: u8,
         most: usize,
         answer: Answer<Vec<u8>>,
     },
-    /// Whether a connection that isn't read is gone; with `drops` its bytes were dropped.
+    /// Whether a connection that isn't read is gone; with `drops` its bytes were discarded.
     Probe {
         conn: u8,
         drops: bool,
@@ -30,13 +31,13 @@ pub enum Call {
         bytes: Vec<u8>,
         answer: Answer<usize>,
     },
-    /// The result of calling a peer for the interrupt channel of a connection.
+    /// The answer to dialing a peer for the interrupt channel of a connection.
     Dial {
         conn: u8,
         dial: Dial,
         answer: Answer<()>,
     },
-    /// Whether the peer that was called for a connection's interrupt channel answered.
+    /// Whether the peer that was dialed for a connection's interrupt channel has answered.
     Dialed {
         conn: u8,
         answer: Answer<()>,

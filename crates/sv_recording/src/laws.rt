@@ -5,8 +5,8 @@ ghost use Rattle.sv_recording.specs.Recorded.{TraceIsKept};
 use crate::recorder::Recorder;
 use sv_serve::Wire;
 
-/// As long as a recorder is whole, the trace that the laws of a driver speak of is the list of
-/// calls that it recorded.
+/// As long as a recorder is whole, the trace in the laws of a driver is the list of calls that the
+/// recorder recorded.
 pub fn trace_is_kept<W: Wire + Drop>()
     ensures { TraceIsKept W.hears ⟦<Recorder<W> as Wire>⟧.hears }
 {}

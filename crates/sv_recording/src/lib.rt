@@ -1,7 +1,7 @@
-//! A wire that records each call with its answer, over any other wire.
+//! A wire that passes each call to another wire, and records the call with its answer.
 //!
-//! The laws of `sv_serve` speak of a trace: what the wire of a driver was asked and answered. With
-//! a recorder as the wire, the trace is the list of calls that it recorded.
+//! The laws of `sv_serve` are about a trace: the calls of the methods of a driver's wire, with
+//! their answers. If a recorder is the wire, the trace is the list of calls that it recorded.
 #![tactic(auto)]
 
 mod call;

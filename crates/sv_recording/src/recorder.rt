@@ -10,8 +10,8 @@ use std::marker::Model;
 use sv_serve::{Answer, Wire};
 use sv_server::{Dial, Port, Role};
 
-/// A wire that records each of its calls, in order. If memory for a call is refused, it isn't whole
-/// any more.
+/// A wire that records each call of its methods, in order. If memory for a call is refused, the
+/// recorder isn't whole any more.
 #[derive(Drop)]
 pub struct Recorder<W: Wire + Drop> {
     alloc: Global,
@@ -35,7 +35,7 @@ impl<W: Wire + Drop> Model for Recorder<W> {
     ghost invariant = { λ a. ⊤ };
 }
 
-/// A read as a call to record: the answer, with the bytes that came into the buffer.
+/// Returns the record of a read: its answer, with the bytes that were read into the buffer.
 fn read_call(
     alloc: Global,
     conn: u8,
@@ -55,7 +55,7 @@ fn read_call(
     Ok(Call::Read { conn, most, answer })
 }
 
-/// A write of these bytes as a call to record.
+/// Returns the record of a write of these bytes.
 fn write_call(
     alloc: Global,
     port: Port,
@@ -73,7 +73,7 @@ fn write_call(
 }
 
 impl<W: Wire + Drop> Recorder<W> {
-    /// A recorder without calls, over this wire.
+    /// Makes a recorder over this wire, which has no calls yet.
     pub fn new(alloc: Global, wire: W) -> Recorder<W>
         ensures { result ≡ record { wire = wire; trace = []; is_whole = true } }
     {
@@ -85,7 +85,7 @@ impl<W: Wire + Drop> Recorder<W> {
         }
     }
 
-    /// The wire that answers.
+    /// Returns the wire to which the calls are passed.
     pub fn wire(&self) -> &W
         ensures { result.now ≡ self.now.wire }
     {
@@ -99,7 +99,7 @@ impl<W: Wire + Drop> Recorder<W> {
         &self.calls
     }
 
-    /// Whether every call was recorded.
+    /// Whether all calls were recorded.
     pub fn is_whole(&self) -> bool
         ensures { result ≡ self.now.is_whole }
     {

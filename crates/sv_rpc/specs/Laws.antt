@@ -10,7 +10,7 @@ use Rattle.sv_rpc.specs.declared.ports.Ports.{Ports}
 use Rattle.sv_rpc.specs.Ports.{PortIs, port_at}
 use Rattle.sv_rpc.specs.Reply.{reply_fields}
 
--- A stream can be read in only one way: as one list of records, and one tail.
+-- A stream splits in only one way into a list of records and a tail.
 abbrev pub OneReading : Type 0
 OneReading = (stream : List ℕ) (a b : List (List ℕ)) (s t : Tail) → Splits stream a s → Splits stream b t → (a ≡ b) × (s ≡ t)
 
@@ -23,7 +23,7 @@ abbrev pub ReadAlone : Type 0
 ReadAlone = (stream : List ℕ) (records : List (List ℕ)) (tail : Tail) → Splits stream records tail
     → (records ≡ records_of stream) × (tail ≡ tail_of stream)
 
--- For any bytes, `call_at` returns what they are by `CallIs`.
+-- For any bytes, the result of `call_at` is the one that `CallIs` requires.
 abbrev pub CallAsSpelled : Type 0
 CallAsSpelled = (bytes : List ℕ) → All (λ byte. byte < 256) bytes → CallIs bytes (call_at bytes)
 
@@ -31,12 +31,12 @@ CallAsSpelled = (bytes : List ℕ) → All (λ byte. byte < 256) bytes → CallI
 abbrev pub PortAsSpelled : Type 0
 PortAsSpelled = (ports : Ports) (args : List ℕ) → All (λ byte. byte < 256) args → PortIs ports args (port_at ports args)
 
--- No record is two different calls, has two different faults, or is a call and has a fault.
+-- No record is two different calls, has two different faults, or is both a call and faulty.
 abbrev pub OneCall : Type 0
 OneCall = (bytes : List ℕ) (a b : Result PlainCall CallFault) → CallIs bytes a → CallIs bytes b → a ≡ b
 
 -- If bytes begin with two headers of calls, the headers are equal, and so are the bytes after them. So no header of a call is a proper
--- prefix of another.
+-- prefix of another call's header.
 abbrev pub CallsPrefixFree : Type 0
 CallsPrefixFree = (x y : PlainCall) (c d v w : Auth) (bytes after behind : List ℕ) → BeginsAll bytes (heading x c v) after
     → BeginsAll bytes (heading y d w) behind

@@ -1,11 +1,11 @@
 -- How long records and their parts may be.
 use Rattle.std.specs.Prelude.{ℕ, ◌/◌}
 
--- how many bytes the records of a buffer may use; each uses 4 more than its length
+-- the capacity of a record buffer, in bytes; each record in it uses 4 bytes more than its length
 abbrev pub capacity : ℕ
 capacity = 16384
 
--- how many records a buffer may hold, because even an empty one uses 4 bytes
+-- the most records that a buffer can hold: even an empty record uses 4 bytes
 abbrev pub max_records : ℕ
 max_records = capacity / 4
 

@@ -4,7 +4,7 @@ use Rattle.std.specs.List.{concat, flat_map, AllByRecursion}
 use Rattle.sv_xdr.specs.Spelling.{Unsigned, spelling}
 use Rattle.sv_rpc.specs.Limits.{max_record}
 
--- the header of a fragment, a word: its top bit marks the last fragment of a record, the low 31 bits are the length of the data
+-- the header of a fragment, a word: its top bit marks the last fragment of a record, its low 31 bits are the length of the fragment's data
 abbrev pub header_of : Bool → ℕ → List ℕ
 header_of last size = spelling (Unsigned (if last then size + 2 ^ 31 else size))
 
@@ -12,7 +12,7 @@ header_of last size = spelling (Unsigned (if last then size + 2 ^ 31 else size))
 abbrev pub fragment : Bool → List ℕ → List ℕ
 fragment last text = header_of last (length text) ++ text
 
--- a record as it is sent: the data of each fragment but the last, and the data of the last fragment
+-- a record as it is sent, in fragments: `front` has the data of each fragment before the last one, `final` the data of the last fragment
 pub record Sent : Type 0 where
   pub front : List (List ℕ)
   pub final : List ℕ
@@ -29,8 +29,9 @@ record_of sent = concat sent.front ++ sent.final
 abbrev pub IsTaken : Sent → Type 0
 IsTaken sent = length (record_of sent) ≤ max_record
 
--- what follows the last complete record of a stream: an unfinished record, which lacks bytes of a fragment's header (`Header`) or of its
--- data (`Data`); or a record that is too long. The payload is the part of the record's data that came.
+-- what follows the last complete record of a stream: an unfinished record that lacks bytes of a fragment's header (`Header`); an unfinished
+-- record that lacks bytes of a fragment's data (`Data`); or a record that is too long (`TooLong`). `payload` is the part of the unfinished
+-- record's data that has come.
 pub data Tail : Type 0 where
   Header : (payload header : List ℕ) → Tail
   Data : (payload : List ℕ) (missing : ℕ) (last : Bool) → Tail
@@ -40,8 +41,8 @@ pub data Tail : Type 0 where
 abbrev pub ends_overlong : Tail → Bool
 ends_overlong = elim [ TooLong ↦ true | _ ↦ false ]
 
--- These bytes are this tail. First come complete fragments, none of them the last of its record. Then come fewer bytes than a header has;
--- or a header and less data than it says; or a header that makes the record too long, and anything after it.
+-- The bytes are this tail. They begin with complete fragments, none of which is the last of its record. After these follow: fewer bytes
+-- than a header has; a header and less data than the header says; or a header that makes the record too long, and any bytes after it.
 abbrev pub IsTail : List ℕ → Tail → Type 0
 IsTail bytes (Header payload header) = (front : List (List ℕ)) × (bytes ≡ flat_map (fragment false) front ++ header)
     × (payload ≡ concat front) × (length header < 4) × (length payload ≤ max_record)
@@ -52,7 +53,7 @@ IsTail bytes TooLong = (front : List (List ℕ)) × (size : ℕ) × (last : Bool
     × (bytes ≡ flat_map (fragment false) front ++ (header_of last size ++ more))
     × (length (concat front) ≤ max_record) × (size < 2 ^ 31) × (max_record < length (concat front) + size)
 
--- The stream is these records, and then this tail.
+-- The stream consists of these records, followed by this tail.
 pub record Splits (stream : List ℕ) (records : List (List ℕ)) (tail : Tail) : Type 0 where
   pub sent : List Sent
   pub rest : List ℕ

@@ -4,7 +4,7 @@ use Rattle.sv_xdr.specs.Spelling.{Field, Unsigned, Opaque}
 use Rattle.sv_rpc.specs.declared.reply.Reply.{Reply}
 use Rattle.sv_rpc.specs.declared.reply.Reply.TheVariants.{Success, Mismatch, ProgUnavail, ProgMismatch, ProcUnavail, GarbageArgs}
 
--- AUTH_NONE, of length 0 (8.2): no credential, or no verifier
+-- no credential or no verifier: the flavor AUTH_NONE (0), with a body of length 0 (8.2)
 abbrev pub no_auth : List Field
 no_auth = Unsigned 0 ∷ Opaque [] ∷ []
 
@@ -12,8 +12,8 @@ no_auth = Unsigned 0 ∷ Opaque [] ∷ []
 abbrev pub accepted : ℕ → ℕ → List Field
 accepted xid status = Unsigned xid ∷ Unsigned 1 ∷ Unsigned 0 ∷ no_auth ++ Unsigned status ∷ []
 
--- The fields of a reply. A call under another version of RPC than 2 is denied (1) as RPC_MISMATCH (0), with the lowest and the highest
--- version.
+-- The fields of a reply. A call under an RPC version other than 2 is denied (1) with RPC_MISMATCH (0) and the lowest and the highest RPC
+-- version that are served, both 2.
 abbrev pub reply_fields : ℕ → Reply → List Field
 reply_fields xid Success = accepted xid 0
 reply_fields xid ProgUnavail = accepted xid 1

@@ -1,4 +1,4 @@
--- How the fields of a record buffer represent what it holds, and how pieces and bytes change that.
+-- How the fields of a record buffer represent its records and its tail, and how pushed bytes change these.
 use Rattle.std.specs.Prelude.{◌≡◌, ℕ, ◌+◌, ◌-◌, ◌*◌, ◌%◌, ◌<◌, ◌≤◌, ◌^◌, Bool, List, [], ◌∷◌, ◌++◌, length, take, drop, sum, nat_lt, nat_le, if◌then◌else◌}
 use Rattle.std.specs.Int.{w32, from_be_bytes}
 use Rattle.sv_rpc.specs.declared.record_buf.Place.{Place}
@@ -22,18 +22,19 @@ tail_of place.TooLong payload header = TooLong
 abbrev pub held_of : List ℕ → List ℕ → List ℕ → Place → Records
 held_of bytes lengths header place = record { records = cut lengths bytes; tail = tail_of place (drop (sum lengths) bytes) header }
 
--- how many bytes fit beyond the counted room: 4 while the unfinished record has no data, because it counts 4 bytes that aren't used yet
+-- how many bytes fit beyond the counted room: 4 while the unfinished record has no data, because `used_by` counts 4 bytes for it that
+-- aren't used yet
 abbrev pub spare_of : List ℕ → ℕ
 spare_of [] = 4
 spare_of (b ∷ payload) = 0
 
--- This many more bytes fit after these records and this tail.
+-- `n` more bytes fit after these records and this tail.
 abbrev pub Fits : List (List ℕ) → Tail → ℕ → Type 0
 Fits records (Header payload header) n = used_by records (Header payload header) + n ≤ capacity + spare_of payload
 Fits records (Data payload missing last) n = used_by records (Data payload missing last) + n ≤ capacity
 Fits records TooLong n = Unit {0}
 
--- This many more bytes fit after what a buffer holds.
+-- `n` more bytes fit after what a buffer holds.
 abbrev pub InRoom : Records → ℕ → Type 0
 InRoom held n = Fits held.records held.tail n
 
@@ -43,13 +44,13 @@ begun_of place.Header header_len = header_len
 begun_of (place.Data missing last) header_len = 0
 begun_of place.TooLong header_len = capacity
 
--- The place is possible after this many bytes of the record's data and this many of a header.
+-- The place is possible after `payload` bytes of the unfinished record's data and `header_len` bytes of an unfinished header.
 abbrev pub IsPlace : Place → ℕ → ℕ → Type 0
 IsPlace place.Header payload header_len = (payload ≤ max_record) × (header_len < 4)
 IsPlace (place.Data missing last) payload header_len = (0 < missing) × (payload + missing ≤ max_record) × (header_len ≡ 0)
 IsPlace place.TooLong payload header_len = Unit {0}
 
--- what always holds of the fields: their lengths agree, and there is memory for the capacity
+-- the invariant of the fields: they agree with each other, and the memory suffices for the capacity
 pub record IsValid (bytes lengths header : List ℕ) (space slots payload header_len : ℕ) (place : Place) : Type 0 where
   pub whole : sum lengths + payload ≡ length bytes
   pub four : length header ≡ 4
@@ -70,7 +71,7 @@ IsBeforeHeader (Header payload header) = header ≡ []
 IsBeforeHeader (Data payload missing last) = ⊥
 IsBeforeHeader TooLong = ⊥
 
--- Data come next: `n` bytes are missing from a fragment, and `b` says whether it is the last of its record.
+-- Data come next: `n` bytes are missing from a fragment, and `b` says whether this fragment is the last of its record.
 abbrev pub IsInData : Tail → ℕ → Bool → Type 0
 IsInData (Header payload header) n b = ⊥
 IsInData (Data payload missing last) n b = (missing ≡ n) × (last ≡ b)
@@ -82,11 +83,12 @@ payload_of (Header payload header) = payload
 payload_of (Data payload missing last) = payload
 payload_of TooLong = []
 
--- what the buffer holds once the unfinished record is complete
+-- what the buffer holds after the unfinished record was completed
 abbrev pub finish_record : List (List ℕ) → Tail → Records
 finish_record records tail = record { records = records ++ payload_of tail ∷ []; tail = Header [] [] }
 
--- what the buffer holds once a header is complete, which says the size of the fragment and whether it is the last of its record
+-- what the buffer holds after a header was completed, which says that the fragment has `size` bytes and whether it is the last of its
+-- record
 abbrev pub after_header : List (List ℕ) → Tail → ℕ → Bool → Records
 after_header records tail size last =
     let payload = payload_of tail in
@@ -115,7 +117,7 @@ after_data records (Data payload missing last) piece =
     })
 after_data records TooLong piece = record { records = records; tail = TooLong }
 
--- If the old buffer stands for a stream, the new one stands for the stream with these bytes after it.
+-- If the old buffer stands for a stream, the new buffer stands for this stream with the bytes `front` appended.
 abbrev pub GoesOn : Records → Records → List ℕ → Type 0
 GoesOn old new front = (stream : List ℕ) (dropped : ℕ) → StandsFor old stream dropped → StandsFor new (stream ++ front) dropped
 

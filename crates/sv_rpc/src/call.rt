@@ -13,7 +13,7 @@ const MAX_AUTH: u32 = 400;
 /// A call, without its credential and verifier.
 #[derive(Clone, Copy, Debug, PartialEq, Eq)]
 pub struct Call<'a> {
-    /// The transaction, which the reply repeats.
+    /// The number of the transaction, which the reply repeats.
     pub xid: u32,
     /// The program's number.
     pub prog: u32,
@@ -28,12 +28,12 @@ pub struct Call<'a> {
 /// Why a record isn't a call that a program can answer.
 #[derive(Clone, Copy, Debug, PartialEq, Eq, Error)]
 pub enum CallFault {
-    /// The record isn't a call: it is too short, its message type isn't 0, or, with version 2 of
-    /// RPC, a later field of the header can't be read. Nothing is answered.
+    /// The record isn't a call: it is too short, its message type isn't 0, or, with RPC version 2,
+    /// a later field of the header can't be read. The server sends no reply.
     #[error("the record is no call")]
     BadHeader,
-    /// The call of this transaction uses another version of RPC than 2. It is denied, whatever
-    /// follows the version.
+    /// The call with this transaction number uses an RPC version other than 2. The server denies
+    /// it, whatever follows the version.
     #[error("another version of RPC than 2")]
     Version(u32),
 }
@@ -53,16 +53,17 @@ impl From<XdrFault> for CallFault {
 /// verifier are ignored.
 ///
 /// # Errors
-/// `BadHeader` if the transaction, the message type or the version of RPC is missing, or the
-/// message type isn't 0. Then `Version`, whatever follows, if the version isn't 2. Then `BadHeader`
-/// if a later field can't be read, or the body of a credential or a verifier is above 400 bytes.
+/// The first that applies: `BadHeader` if the transaction number, the message type or the RPC
+/// version is missing, or if the message type isn't 0; `Version` if the RPC version isn't 2,
+/// whatever follows it; `BadHeader` if a later field can't be read, or if the body of the
+/// credential or verifier is longer than 400 bytes.
 pub fn read_call(bytes: &[u8]) -> Result<Call<'_>, CallFault>
-    // The result is one that the bytes encode.
+    // By `CallIs`, the bytes are what the result says.
     ensures found { CallIs bytes.now (plain_call_result result) }
-    // The bytes encode no other result.
+    // By `CallIs`, the bytes are nothing else.
     ensures only { (outcome : Result PlainCall CallFault) → CallIs bytes.now outcome
         → plain_call_result result ≡ outcome }
-    // The result, a call or one of two faults, as a function of the bytes.
+    // The result as a function of the bytes. It is a call or one of two faults.
     ensures exact { plain_call_result result ≡ call_at bytes.now }
 {
     call_of(bytes)
@@ -83,7 +84,7 @@ fn call_of(bytes: &[u8]) -> Result<Call<'_>, CallFault>
     body_of(xid, reader.rest())
 }
 
-/// Reads the header after the version.
+/// Reads the part of a call after the RPC version.
 #[tactic(auto, unfolding(crate::specs::Call::body_at))]
 fn body_of(xid: u32, bytes: &[u8]) -> Result<Call<'_>, CallFault>
     ensures { plain_call_result result ≡ body_at xid bytes.now }

@@ -1,9 +1,9 @@
-//! Laws of records, calls, replies and GETPORT. Each is the contract of a function that does
-//! nothing.
+//! Laws of records, calls, replies and GETPORT. Each law is the contract of a function with an
+//! empty body.
 
 ghost use Rattle.sv_rpc.specs.Laws.{OneReading, ReadAsSplit, ReadAlone, OneCall, CallAsSpelled, PortAsSpelled, CallsPrefixFree, RepliesPrefixFree};
 
-/// A stream of bytes can be read in only one way: as one list of records, with one tail after them.
+/// A stream of bytes splits in only one way into a list of records and a tail after them.
 pub fn one_reading()
     ensures { OneReading }
 {}
@@ -14,20 +14,22 @@ pub fn read_as_split()
     ensures alone { ReadAlone }
 {}
 
-/// The functions `call_at` and `port_at` give the call that a record encodes, and the answer to the
-/// arguments of GETPORT.
+/// The function `call_at` returns what a record is: a call, or which fault. The function `port_at`
+/// returns the answer to the arguments of GETPORT.
 pub fn read_as_spelled()
     ensures call { CallAsSpelled }
     ensures port { PortAsSpelled }
 {}
 
-/// A record is one call, or has one fault, and not both.
+/// A record isn't two different calls, doesn't have two different faults, and isn't both a call and
+/// faulty.
 pub fn one_call()
     ensures { OneCall }
 {}
 
-/// No header of a call is a proper prefix of another, and no header of a reply is one of another:
-/// if bytes begin with two of them, the two are equal, and so are the bytes after them.
+/// No header of a call is a proper prefix of another call's header, and no header of a reply is a
+/// proper prefix of another reply's header. If bytes begin with two headers of calls, or with two
+/// of replies, the two headers are equal, and so are the bytes after them.
 pub fn prefix_free()
     ensures calls { CallsPrefixFree }
     ensures replies { RepliesPrefixFree }

@@ -23,11 +23,11 @@ pub struct Ports {
     pub abort: u16,
 }
 
-/// Answers GETPORT: the port of the core or the abort channel, each at version 1 over TCP, and 0
-/// for every other program, version or protocol. Bytes after the arguments are ignored.
+/// Answers GETPORT with the port of the core or the abort channel, each at version 1 over TCP, or
+/// with 0 for every other program, version or protocol. Bytes after the arguments are ignored.
 ///
 /// # Errors
-/// [`Garbage`] if there are fewer than 16 bytes, those of the four numbers of the arguments.
+/// [`Garbage`] if there are fewer than 16 bytes: the arguments are four numbers of 4 bytes each.
 #[tactic(auto, unfolding(crate::specs::Ports::port_at))]
 pub fn getport(args: &[u8], ports: Ports) -> Result<u32, Garbage>
     ensures answer { PortIs ports args.now result }

@@ -13,9 +13,9 @@ use std::marker::Model;
 use sv_bytes::{append, drop_front};
 use thiserror::Error;
 
-/// How many bytes the records in a buffer may take, counting 4 more for each.
+/// How many bytes the records in a buffer may take. Each takes 4 bytes more than its length.
 const CAPACITY: usize = 16384;
-/// How many records a buffer may hold: the shortest is empty and takes 4 bytes.
+/// The most records that a buffer can hold: even an empty record takes 4 bytes.
 const MAX_RECORDS: usize = CAPACITY / 4;
 /// The longest record, in bytes.
 const MAX_RECORD: usize = 8192;
@@ -23,7 +23,8 @@ const MAX_RECORD: usize = 8192;
 /// Why no further record comes.
 #[derive(Clone, Copy, Debug, PartialEq, Eq, Error)]
 pub enum RpcFault {
-    /// A fragment's header made its record longer than a record may be. No record follows.
+    /// A fragment's header makes its record longer than a record may be. No record is read after
+    /// it.
     #[error("a record is longer than {max} bytes", max = MAX_RECORD)]
     RecordTooLong = 1,
 }
@@ -35,7 +36,7 @@ enum Place {
     Header,
     /// A fragment's data, of which `missing` bytes are still to come.
     Data { missing: usize, last: bool },
-    /// Nothing, because a record was too long.
+    /// Nothing: a record was too long, and no more bytes are accepted.
     TooLong,
 }
 
@@ -72,7 +73,7 @@ impl<A: Allocator> Model for RecordBuf<A> {
 }
 
 impl<A: Allocator + Copy> RecordBuf<A> {
-    /// An empty buffer. It allocates all the memory that it ever uses.
+    /// An empty buffer. All memory that the buffer ever uses is allocated here.
     ///
     /// # Errors
     /// If memory is refused.
@@ -91,10 +92,10 @@ impl<A: Allocator + Copy> RecordBuf<A> {
 }
 
 impl<A: Allocator> RecordBuf<A> {
-    /// How many bytes may be pushed. The capacity is 16,384 bytes. Each complete record that wasn't
-    /// dropped takes 4 of them plus its length. The unfinished record takes 4, plus its data so
-    /// far, plus the bytes of an unfinished fragment header. Once a record was too long, there is
-    /// no room.
+    /// How many more bytes can be pushed. The capacity is 16,384 bytes. Each complete record that
+    /// wasn't dropped takes 4 bytes of it plus the record's length. The unfinished record takes 4
+    /// bytes, plus its data so far, plus the bytes of an unfinished fragment header. If a record is
+    /// too long, there is no room.
     pub fn room(&self) -> usize
         ensures value { result ≡ room_of self.now }
         ensures answer { (stream : List ℕ) (dropped : ℕ) → StandsFor self.now stream dropped
@@ -112,7 +113,8 @@ impl<A: Allocator> RecordBuf<A> {
     /// such record yet.
     ///
     /// # Errors
-    /// `RecordTooLong` if no complete record is left before one that is too long.
+    /// `RecordTooLong` if the buffer has no complete record, and the record that follows is too
+    /// long.
     pub fn next(&self) -> Result<Option<&[u8]>, RpcFault>
         ensures value { plain_record result ≡ next_among self.now.records self.now.tail }
         ensures answer { (stream : List ℕ) (dropped : ℕ) → StandsFor self.now stream dropped
@@ -164,8 +166,8 @@ impl<A: Allocator> RecordBuf<A> {
         self.place = Place::Header;
     }
 
-    /// Takes in the next bytes of the stream, for which there must be room. The records in the
-    /// buffer stay.
+    /// Takes in the next bytes of the stream, for which there must be room. The records already in
+    /// the buffer stay unchanged.
     pub fn push(&mut self, piece: &[u8])
         requires { length piece.now ≤ room_of self.old }
         ensures stands { GoesOn self.old self.new piece.now }
@@ -179,7 +181,7 @@ impl<A: Allocator> RecordBuf<A> {
         }
     }
 
-    /// Takes in some of the bytes, and returns how many.
+    /// Takes in bytes from the front of `piece`, at least one, and returns how many.
     fn take_in(&mut self, piece: &[u8]) -> usize
         requires some { 0 < length piece.now }
         requires fits { InRoom self.old (length piece.now) }
@@ -240,7 +242,7 @@ impl<A: Allocator> RecordBuf<A> {
         }
     }
 
-    /// Takes in some of a fragment's data, of which `missing` bytes are still to come.
+    /// Takes in some of a fragment's data. `missing` bytes of the fragment are still to come.
     fn take_data(&mut self, piece: &[u8], missing: usize, last: bool)
         requires data { IsInData self.old.tail missing last }
         requires some { length piece.now ≤ missing }
@@ -273,7 +275,7 @@ impl<A: Allocator> RecordBuf<A> {
     }
 }
 
-/// The header as a word.
+/// The four bytes of a header as a 32-bit number, the most significant byte first.
 fn word_of(header: &[u8]) -> u32
     requires { length header.now ≡ 4 }
     ensures value { result ≡ from_be_bytes w32 header.now }

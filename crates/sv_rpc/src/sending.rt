@@ -6,8 +6,8 @@ ghost use Rattle.sv_rpc.specs.Record.{fragment};
 use std::alloc::Allocator;
 use sv_bytes::append;
 
-/// Appends a record of one fragment to the outgoing bytes, which must have room for it. The record
-/// must be shorter than 2,147,483,648 bytes.
+/// Appends `text` to the outgoing bytes as a record of one fragment. The outgoing bytes must have
+/// room for it, and `text` must be shorter than 2,147,483,648 bytes.
 pub fn put_record<A: Allocator>(out: &mut Vec<u8, A>, text: &[u8])
     requires fits { vec_len out.old + 4 + length text.now ≤ vec_capacity out.old }
     requires short { length text.now < 2 ^ 31 }

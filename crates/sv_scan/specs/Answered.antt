@@ -1,4 +1,4 @@
--- What each act of the scanner answers.
+-- What each act of the scanner returns.
 use Rattle.std.specs.Prelude.{◌≡◌, List, Option, Some, None, Result, Ok, Err, ⊤}
 use Rattle.sv_errors.specs.declared.code.Code.{Code}
 use Rattle.sv_scan.specs.declared.acts.ScanAct.{ScanAct}
@@ -8,12 +8,12 @@ use Rattle.sv_scan.specs.declared.acts.ScanAnswer.TheVariants.{Done, Answered, S
 use Rattle.sv_scan.specs.Scan.{state}
 use Rattle.sv_scan.specs.Counted.{effective, is_scanning, setting_fault, init_fault, trigger_fault}
 
--- the result: done, or refused with this error
+-- the result of an act: done, or refused with this error
 abbrev pub refused_by : Option Code → Result ⊤ Code
 refused_by None = Ok tt
 refused_by (Some code) = Err code
 
--- the answer to an act that comes after these acts, which all count
+-- the answer to `act` after the acts of `log`, all of which count
 abbrev pub answer_to : List ScanAct → ScanAct → ScanAnswer
 answer_to log (Input channel microvolts) = Done
 answer_to log (Configure setting) = Answered (refused_by (setting_fault log setting))
@@ -23,6 +23,6 @@ answer_to log Reset = Done
 answer_to log (Trigger source) = Answered (refused_by (trigger_fault log source))
 answer_to log Sample = Sampled (is_scanning (state log))
 
--- The scanner gives this answer to an act that comes after these acts.
+-- After these acts, the scanner gives this answer to `act`.
 abbrev pub Gives : List ScanAct → ScanAct → ScanAnswer → Type 0
 Gives acts act answer = answer ≡ answer_to (effective acts) act

@@ -1,4 +1,4 @@
--- Which acts count. These don't: a call that is refused, a sample outside a scan, an input of a channel that doesn't exist.
+-- Which acts count. These don't count: an act that is refused; a sample outside a scan; an input of a channel that doesn't exist.
 use Rattle.std.specs.Prelude.{◌&&◌, not, Bool, true, false, List, [], ◌∷◌, Option, Some, None, is_none, if◌then◌else◌}
 use Rattle.sv_errors.specs.declared.code.Code.{Code}
 use Rattle.sv_errors.specs.declared.code.Code.TheVariants.{DataOutOfRange, SettingsConflict, TriggerIgnored, InitIgnored, TriggerDeadlock}
@@ -32,25 +32,28 @@ same_source Bus Bus = true
 same_source External External = true
 same_source _ _ = false
 
--- why a setting is refused after these acts: -222 for its value, -221 if it can't be changed during a measurement
+-- why a setting is refused after these acts: -222 if its value isn't possible; -221 if it can't be changed during a measurement; `None` if
+-- it isn't refused
 abbrev pub setting_fault : List ScanAct → Setting → Option Code
 setting_fault log setting =
     if not (is_possible setting) then Some DataOutOfRange
     else if is_fixed setting && not (is_idle (state log)) then Some SettingsConflict else None
 
--- why an initiation is refused: -213 if a measurement is under way
+-- why an initiation is refused: -213 if a measurement is under way; `None` if it isn't refused
 abbrev pub init_fault : List ScanAct → Option Code
 init_fault log = if is_idle (state log) then None else Some InitIgnored
 
--- why a trigger is refused: -211 if no scan waits for a trigger, or it waits for one from another source
+-- why a trigger is refused: -211 if no scan waits for a trigger, or if the scan waits for a trigger from another source; `None` if it isn't
+-- refused
 abbrev pub trigger_fault : List ScanAct → Source → Option Code
 trigger_fault log from = if is_waiting (state log) && same_source (source log) from then None else Some TriggerIgnored
 
--- why the controller can't wait for a reading: -214 if triggers come from the controller, which can't send one while it waits
+-- why the controller can't wait for a reading: -214 if the trigger source is the bus, because the controller can't send a trigger while it
+-- waits
 abbrev pub read_fault : List ScanAct → Option Code
 read_fault log = if same_source (source log) Bus then Some TriggerDeadlock else None
 
--- whether an act counts that comes after these acts, which all count
+-- whether `act` counts after the acts of `log`, all of which count
 abbrev pub counts : List ScanAct → ScanAct → Bool
 counts log (Input channel microvolts) = is_channel channel
 counts log (Configure setting) = is_none (setting_fault log setting)
@@ -59,7 +62,7 @@ counts log (Trigger source) = is_none (trigger_fault log source)
 counts log Sample = is_scanning (state log)
 counts log _ = true
 
--- of all acts, those that count
+-- those of the acts that count
 abbrev pub effective : List ScanAct → List ScanAct
 effective [] = []
 effective (act ∷ acts) = if counts (effective acts) act then act ∷ effective acts else effective acts

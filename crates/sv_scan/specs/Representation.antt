@@ -1,4 +1,4 @@
--- What always holds of the state of the scanner.
+-- The invariants of the scanner's state.
 use Rattle.std.specs.Prelude.{◌≡◌, ℕ, ◌*◌, ◌==◌, ◌≤◌, ℤ, pos, int_le, unsigned_abs, Bool, true, false, List, length, Option, Some, None}
 use Rattle.std.specs.List.{list_all}
 use Rattle.sv_scan.specs.declared.setting.Setting.TheVariants.{Count}
@@ -30,13 +30,13 @@ pub record IsRun (run : Run) (samples : ℕ) : Type 0 where
   pub triggers : run.triggers ≤ run.scans
   pub read : samples ≤ run.triggers * length run.channels
 
--- If there is a measurement, it is a valid one (`IsRun`). Without a measurement there are no samples.
+-- If there is a measurement, it is a valid one (`IsRun`). If there is none, there are no samples.
 abbrev pub IsRunOf : Option Run → ℕ → Type 0
 IsRunOf None samples = samples ≡ 0
 IsRunOf (Some run) samples = IsRun run samples
 
--- There are inputs of all channels and room for all readings. Scan list, monitored channel, range, limits, count and measurement are legal,
--- and no reading is beyond 1,000 V.
+-- The state has an input for each channel, and memory for the most readings. Scan list, monitored channel, range, limits, count and
+-- measurement are legal, and no reading is beyond 1,000 V.
 pub record IsValid (contents : Contents) (capacity : ℕ) : Type 0 where
   pub inputs : length contents.inputs ≡ channel_count
   pub room : most_readings ≤ capacity

@@ -1,4 +1,5 @@
--- The trigger state and the readings (SCPI-1999, volume 2, chapter 24), by searches and counts of the acts that count, the newest first.
+-- The trigger state and the readings (SCPI-1999, volume 2, chapter 24). They are defined by searches and counts of the acts that count, the
+-- newest first.
 use Rattle.std.specs.Prelude.{ℕ, ◌-◌, ◌*◌, ◌%◌, ◌==◌, ℤ, neg_ℤ, int_lt, nat_le, unsigned_abs, Bool, true, false, List, [], ◌∷◌, ◌++◌, length, filter, Option, Some, None, slice_get, slice_index_or, if◌then◌else◌}
 use Rattle.sv_errors.specs.Limits.{most_microvolts}
 use Rattle.std.specs.Option.{option_map_or}
@@ -11,19 +12,19 @@ use Rattle.sv_scan.specs.declared.acts.ScanAct.{ScanAct}
 use Rattle.sv_scan.specs.declared.acts.ScanAct.TheVariants.{Init, Abort, Reset, Trigger, Sample}
 use Rattle.sv_scan.specs.Setting.{scan_list, count, range, input}
 
--- whether the newest act begins or ends a measurement
+-- whether the newest act is an initiation, an abort or a reset
 abbrev pub starts_or_ends : List ScanAct → Bool
 starts_or_ends = elim [ Init ∷ log ↦ true | Abort ∷ log ↦ true | Reset ∷ log ↦ true | _ ↦ false ]
 
--- the acts before the initiation of the measurement; `None` if it was aborted or reset since, or there was none
+-- the acts before the current or last measurement was initiated; `None` if none was initiated, or if it was aborted or reset later
 abbrev pub before_init : List ScanAct → Option (List ScanAct)
 before_init log = elim (newest starts_or_ends log) [ Init ∷ before ↦ Some before | _ ↦ None ]
 
--- how many triggers came since a measurement last began or ended
+-- how many triggers came since the newest initiation, abort or reset
 abbrev pub triggers : List ScanAct → ℕ
 triggers log = length (filter (elim [ Trigger source ↦ true | _ ↦ false ]) (since starts_or_ends log))
 
--- how many samples came since a measurement last began or ended
+-- how many samples came since the newest initiation, abort or reset
 abbrev pub samples : List ScanAct → ℕ
 samples log = length (filter (elim [ Sample ↦ true | _ ↦ false ]) (since starts_or_ends log))
 
@@ -32,12 +33,12 @@ abbrev pub state_by : ℕ → ℕ → ℕ → ℕ → State
 state_by triggers samples channels scans =
     if samples == scans * channels then Idle else if samples == triggers * channels then Waiting else Scanning
 
--- the state of the measurement since its initiation, with scan list and count as they were then; idle if there is no measurement
+-- the state of the measurement, with the scan list and the count that were set when it was initiated; idle if there is no measurement
 abbrev pub state : List ScanAct → State
 state log =
     option_map_or (λ before. state_by (triggers log) (samples log) (length (scan_list before)) (count before)) (before_init log) Idle
 
--- the reading of a voltage in a range: the voltage, or an overload beyond the range
+-- the reading of a voltage in a range: the voltage itself, or an overload if the voltage is beyond the range
 abbrev pub reading_in : ℤ → ℤ → Reading
 reading_in range value = if int_lt range value then Over else if int_lt value (neg_ℤ range) then Under else Value value
 
@@ -46,11 +47,11 @@ abbrev pub is_bounded : Reading → Bool
 is_bounded (Value microvolts) = nat_le (unsigned_abs microvolts) most_microvolts
 is_bounded _ = true
 
--- the channel of the next sample, by how many samples came before it: the list is read over and over
+-- the channel of the next sample, if `before` samples came before it: the list is read again and again
 abbrev pub channel_at : List ℕ → ℕ → ℕ
 channel_at channels before = slice_index_or channels (before % length channels) 0
 
--- the reading of a sample after these acts: the next channel, with its input and the range as they are then
+-- the reading of a sample that comes after these acts: it reads the next channel, with the input and the range that are set at that moment
 abbrev pub reading : List ScanAct → Reading
 reading log = reading_in (range log) (input (channel_at (option_map_or scan_list (before_init log) []) (samples log)) log)
 

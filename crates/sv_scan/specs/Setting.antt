@@ -1,4 +1,4 @@
--- Settings and inputs: the value last given, by a search of the acts that count, the newest first.
+-- Settings and inputs: each has the value to which it was last set. This is a search of the acts that count, the newest first.
 use Rattle.std.specs.Prelude.{ℕ, ℤ, pos, neg_ℤ, int_le, nat_le, ◌==◌, ◌&&◌, Bool, true, false, List, [], ◌∷◌, Option, Some, None, if◌then◌else◌}
 use Rattle.sv_errors.specs.Limits.{is_channel, is_channel_list, is_within, most_microvolts, most_scans}
 use Rattle.sv_logs.specs.Since.{last_given}
@@ -9,7 +9,7 @@ use Rattle.sv_errors.specs.declared.source.Source.TheVariants.{Immediate}
 use Rattle.sv_scan.specs.declared.acts.ScanAct.{ScanAct}
 use Rattle.sv_scan.specs.declared.acts.ScanAct.TheVariants.{Input, Configure, Reset}
 
--- the value that a setting was last given; its default if it was given none since the newest reset
+-- the value to which a setting was last set; its default if it wasn't set since the newest reset
 abbrev pub last_set : {A : Type 0} → (Setting → Option A) → A → List ScanAct → A
 last_set gives default = last_given (elim [ Configure setting ↦ gives setting | Reset ↦ Some default | _ ↦ None ]) default
 
@@ -21,7 +21,7 @@ scan_list = last_set (elim [ SetList channels ↦ Some channels | _ ↦ None ]) 
 abbrev pub monitor : List ScanAct → ℕ
 monitor = last_set (elim [ Monitor channel ↦ Some channel | _ ↦ None ]) 1
 
--- the smallest of the ranges 1, 10 and 100 V that isn't below what was asked for
+-- the smallest of the ranges 1, 10 and 100 V that isn't below the wanted voltage
 abbrev pub least_range : ℤ → ℤ
 least_range wanted =
     if int_le wanted (pos 1000000) then pos 1000000 else if int_le wanted (pos 10000000) then pos 10000000 else pos 100000000
@@ -55,7 +55,7 @@ abbrev pub input : ℕ → List ScanAct → ℤ
 input channel =
     last_given (elim [ Input given microvolts ↦ if given == channel then Some microvolts else None | _ ↦ None ]) (pos 0)
 
--- whether a setting may have its value
+-- whether the value of a setting is allowed
 abbrev pub is_possible : Setting → Bool
 is_possible (SetList channels) = is_channel_list channels
 is_possible (Monitor channel) = is_channel channel

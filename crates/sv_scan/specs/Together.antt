@@ -1,4 +1,4 @@
--- All settings together, and what setting one of them changes.
+-- All settings together, and what changes when one of them is set.
 use Rattle.std.specs.Prelude.{◌≡◌, List}
 use Rattle.sv_scan.specs.declared.acts.ScanAct.{ScanAct}
 use Rattle.sv_scan.specs.declared.setting.Setting.{Setting}
@@ -6,7 +6,7 @@ use Rattle.sv_scan.specs.declared.setting.Setting.TheVariants.{List as SetList, 
 use Rattle.sv_scan.specs.declared.settings.Settings.{Settings}
 use Rattle.sv_scan.specs.Setting.{least_range, scan_list, monitor, range, upper, lower, limits, source, count}
 
--- Each setting is what the acts determine.
+-- Each setting has the value that the acts determine.
 pub record AreOf (settings : Settings) (log : List ScanAct) : Type 0 where
   pub list : settings.list ≡ scan_list log
   pub monitor : settings.monitor ≡ monitor log
@@ -17,7 +17,7 @@ pub record AreOf (settings : Settings) (log : List ScanAct) : Type 0 where
   pub source : settings.source ≡ source log
   pub count : settings.count ≡ count log
 
--- The setting that is given has its new value; the others are unchanged.
+-- The one setting has its new value; the other settings are unchanged.
 abbrev pub IsSet : Setting → Settings → Settings → Type 0
 IsSet (SetList channels) old new = new ≡ record old { list = channels }
 IsSet (Monitor channel) old new = new ≡ record old { monitor = channel }

@@ -1,16 +1,17 @@
--- Which condition words (SCPI-1999, chapter 20) the newest act that counts left as they were.
+-- Which condition words (SCPI-1999, chapter 20) didn't change at the newest act that counts.
 use Rattle.std.specs.Prelude.{◌≡◌, false, ⊤, List, [], ◌∷◌}
 use Rattle.sv_scan.specs.declared.touched.Touched.{Touched}
 use Rattle.sv_scan.specs.declared.acts.ScanAct.{ScanAct}
 use Rattle.sv_scan.specs.Condition.{operation, questionable, limit}
 
--- If a field of `touched` is false, that condition word is what it was before the newest act. Of a new scanner nothing is said.
+-- If a field of `touched` is false, the condition word that it names is as it was before the newest act. If there are no acts, nothing is
+-- stated.
 abbrev pub IsTouched : Touched → List ScanAct → Type 0
 IsTouched touched [] = ⊤
 IsTouched touched (act ∷ log) = (touched.operation ≡ false → operation (act ∷ log) ≡ operation log)
     × (touched.questionable ≡ false → questionable (act ∷ log) ≡ questionable log)
     × (touched.limit ≡ false → limit (act ∷ log) ≡ limit log)
 
--- no condition word may have changed
+-- the value that says that no condition word changed
 abbrev pub nothing : Touched
 nothing = record { operation = false; questionable = false; limit = false }

@@ -1,4 +1,4 @@
-//! Which values a setting may have, and when it can be changed.
+//! Which values of a setting are allowed, and when a setting can be changed.
 
 ghost use Rattle.std.specs.Prelude.{◌≡◌};
 ghost use Rattle.sv_errors.specs.Limits.{is_within};
@@ -10,14 +10,14 @@ use sv_errors::{MOST_MICROVOLTS, MOST_SCANS, is_channel, is_channel_list};
 /// The ranges, in microvolts: 1, 10 and 100 V.
 const RANGES: (i64, i64, i64) = (1_000_000, 10_000_000, 100_000_000);
 
-/// Whether a limit may have this value, in microvolts: up to 1,000 V in magnitude.
+/// Whether this value of a limit, in microvolts, is allowed: up to 1,000 V in magnitude.
 fn is_limit(microvolts: i64) -> bool
     ensures { result ≡ is_within microvolts }
 {
     -i64::from(MOST_MICROVOLTS) <= microvolts && microvolts <= i64::from(MOST_MICROVOLTS)
 }
 
-/// The smallest range that is at least the wanted one, in microvolts.
+/// The smallest range that is at least the wanted voltage, both in microvolts.
 pub(crate) fn least_range(wanted: i64) -> i64
     ensures { result ≡ least_range_of wanted }
 {
@@ -30,7 +30,7 @@ pub(crate) fn least_range(wanted: i64) -> i64
     }
 }
 
-/// Whether a setting may have its value.
+/// Whether the value of a setting is allowed.
 pub(crate) fn is_possible(setting: &Setting) -> bool
     ensures { result ≡ may_have setting.now }
 {

@@ -43,8 +43,8 @@ pub(crate) fn is_overload(reading: Option<Reading>) -> bool
     }
 }
 
-/// Whether there is a reading and it is below a limit, in microvolts: a negative overload is below
-/// every limit.
+/// Whether there is a reading and it is below a limit, in microvolts. A negative overload counts as
+/// below every limit.
 pub(crate) fn is_below(reading: Option<Reading>, limit: i64) -> bool
     ensures { result ≡ lies_below reading limit }
 {
@@ -56,8 +56,8 @@ pub(crate) fn is_below(reading: Option<Reading>, limit: i64) -> bool
     }
 }
 
-/// Whether there is a reading and it is above a limit, in microvolts: a positive overload is above
-/// every limit.
+/// Whether there is a reading and it is above a limit, in microvolts. A positive overload counts as
+/// above every limit.
 pub(crate) fn is_above(reading: Option<Reading>, limit: i64) -> bool
     ensures { result ≡ lies_above reading limit }
 {

@@ -1,4 +1,4 @@
-//! A measurement from its initiation on.
+//! A measurement after its initiation.
 
 ghost use Rattle.std.specs.Prelude.{◌≡◌, ◌+◌, ◌*◌, ◌<◌, ◌==◌, length};
 ghost use Rattle.sv_errors.specs.Limits.{most_scans};
@@ -61,7 +61,8 @@ impl Run {
         samples == usize::from(self.scans) * self.list.channels().len()
     }
 
-    /// The channel to read after this number of samples: the list is read again and again.
+    /// The channel to read after this number of samples. After the last channel of the list, the
+    /// first comes again.
     pub(crate) fn channel(&self, samples: usize) -> u8
         requires { 0 < length self.now.channels }
         ensures { result ≡ channel_at self.now.channels samples }

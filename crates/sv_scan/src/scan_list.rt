@@ -56,7 +56,7 @@ impl ScanList {
         }
     }
 
-    /// The list of this channel alone.
+    /// The list that has only this channel.
     pub fn of(channel: u8) -> ScanList
         ensures { result ≡ channel ∷ [] }
     {

@@ -31,7 +31,7 @@ use sv_errors::{CHANNELS, Code, Layer, MOST_READINGS, Source, is_channel};
 /// measurement with its readings.
 #[derive(Drop)]
 pub struct Scanner<A: Allocator = Global> {
-    /// The input of each channel, in microvolts; that of channel 1 first.
+    /// The input of each channel, in microvolts, in the order of the channels' numbers.
     inputs: [i64; CHANNELS],
     /// The settings.
     pub(crate) settings: Settings,
@@ -58,8 +58,8 @@ impl<A: Allocator> Model for Scanner<A> {
 }
 
 impl<A: Allocator> Scanner<A> {
-    /// A scanner whose settings are their defaults and whose inputs are 0. It allocates the memory
-    /// of all readings.
+    /// A scanner with all settings at their defaults and all inputs 0. The memory of all readings
+    /// is allocated here.
     ///
     /// # Errors
     /// If memory is refused.
@@ -79,8 +79,8 @@ impl<A: Allocator> Scanner<A> {
         })
     }
 
-    /// Sets the input of a channel to this voltage, in microvolts. Nothing changes if there is no
-    /// such channel. If it isn't the monitored channel, no condition changes.
+    /// Sets the input of a channel to this voltage, in microvolts. If no channel has this number,
+    /// nothing changes. If the channel isn't the monitored one, no condition changes.
     pub fn input(&mut self, channel: u8, microvolts: i64)
         ensures stands { (acts : List ScanAct) → StandsFor self.old acts
             → StandsFor self.new (ScanAct.Input channel microvolts ∷ acts) }
@@ -100,8 +100,8 @@ impl<A: Allocator> Scanner<A> {
     /// Changes a setting.
     ///
     /// # Errors
-    /// [`Code::DataOutOfRange`] if the setting may not have this value, then
-    /// [`Code::SettingsConflict`] if it can't be changed now. Then nothing changes.
+    /// The first that applies: [`Code::DataOutOfRange`] if this value of the setting isn't allowed;
+    /// [`Code::SettingsConflict`] if the setting can't be changed now. Nothing changes then.
     pub fn configure(&mut self, setting: Setting) -> Result<(), Code>
         ensures stands { (acts : List ScanAct) → StandsFor self.old acts
             → StandsFor self.new (ScanAct.Configure setting ∷ acts) }
@@ -126,8 +126,9 @@ impl<A: Allocator> Scanner<A> {
     /// Whether [`Scanner::configure`] would change a setting.
     ///
     /// # Errors
-    /// The error that it would answer: [`Code::DataOutOfRange`] if the setting may not have this
-    /// value, then [`Code::SettingsConflict`] if it can't be changed now.
+    /// The error that [`Scanner::configure`] would return: [`Code::DataOutOfRange`] if this value
+    /// of the setting isn't allowed; else [`Code::SettingsConflict`] if the setting can't be
+    /// changed now.
     pub fn may_set(&self, setting: &Setting) -> Result<(), Code>
         ensures answer { (acts : List ScanAct) → StandsFor self.now acts
             → result ≡ refused_by (setting_fault (effective acts) setting.now) }
@@ -145,7 +146,7 @@ impl<A: Allocator> Scanner<A> {
     /// Initiates a measurement with the current scan list and count.
     ///
     /// # Errors
-    /// [`Code::InitIgnored`] if a measurement is under way. Then nothing changes.
+    /// [`Code::InitIgnored`] if a measurement is under way. Nothing changes then.
     pub fn init(&mut self) -> Result<(), Code>
         ensures stands { (acts : List ScanAct) → StandsFor self.old acts
             → StandsFor self.new (ScanAct.Init ∷ acts) }
@@ -182,11 +183,11 @@ impl<A: Allocator> Scanner<A> {
         Ok(())
     }
 
-    /// Whether the controller may wait for readings.
+    /// Whether the controller can wait for readings.
     ///
     /// # Errors
-    /// [`Code::TriggerDeadlock`] if triggers come from the controller, which can't send one while
-    /// it waits.
+    /// [`Code::TriggerDeadlock`] if the trigger source is the bus: the controller can't send a
+    /// trigger while it waits.
     pub fn may_read(&self) -> Result<(), Code>
         ensures { (acts : List ScanAct) → StandsFor self.now acts
             → result ≡ refused_by (read_fault (effective acts)) }
@@ -197,7 +198,7 @@ impl<A: Allocator> Scanner<A> {
         Ok(())
     }
 
-    /// Ends the measurement, and drops its readings.
+    /// Ends the measurement, if there is one, and drops its readings.
     pub fn abort(&mut self)
         ensures { (acts : List ScanAct) → StandsFor self.old acts
             → StandsFor self.new (ScanAct.Abort ∷ acts) }
@@ -211,7 +212,7 @@ impl<A: Allocator> Scanner<A> {
         };
     }
 
-    /// Ends the measurement, and gives each setting its default. The inputs stay.
+    /// Ends the measurement, and sets each setting to its default. The inputs don't change.
     pub fn reset(&mut self)
         ensures { (acts : List ScanAct) → StandsFor self.old acts
             → StandsFor self.new (ScanAct.Reset ∷ acts) }
@@ -229,8 +230,8 @@ impl<A: Allocator> Scanner<A> {
     /// Applies a trigger from this source: the next scan begins.
     ///
     /// # Errors
-    /// [`Code::TriggerIgnored`] if the scanner doesn't wait for a trigger, or waits for one from
-    /// another source. Then nothing changes.
+    /// [`Code::TriggerIgnored`] if the scanner doesn't wait for a trigger, or waits for a trigger
+    /// from another source. Nothing changes then.
     pub fn trigger(&mut self, source: Source) -> Result<(), Code>
         ensures stands { (acts : List ScanAct) → StandsFor self.old acts
             → StandsFor self.new (ScanAct.Trigger source ∷ acts) }
@@ -261,8 +262,8 @@ impl<A: Allocator> Scanner<A> {
     /// Whether [`Scanner::trigger`] with this source would begin the next scan.
     ///
     /// # Errors
-    /// [`Code::TriggerIgnored`] if the scanner doesn't wait for a trigger, or waits for one from
-    /// another source.
+    /// [`Code::TriggerIgnored`] if the scanner doesn't wait for a trigger, or waits for a trigger
+    /// from another source.
     pub fn may_trigger(&self, source: Source) -> Result<(), Code>
         ensures answer { (acts : List ScanAct) → StandsFor self.now acts
             → result ≡ refused_by (trigger_fault (effective acts) source) }
@@ -275,8 +276,8 @@ impl<A: Allocator> Scanner<A> {
         Ok(())
     }
 
-    /// Reads the next channel of the scan that is under way, and returns whether it did. Outside a
-    /// scan nothing changes.
+    /// Reads the next channel of the scan that is under way, and returns true. If no scan is under
+    /// way, returns false, and nothing changes.
     pub fn sample(&mut self) -> bool
         ensures stands { (acts : List ScanAct) → StandsFor self.old acts
             → StandsFor self.new (ScanAct.Sample ∷ acts) }
@@ -348,11 +349,12 @@ impl<A: Allocator> Scanner<A> {
         }
     }
 
-    /// The readings of the last measurement, oldest first: scan by scan, each in the order of its
-    /// list.
+    /// The readings of the last measurement, oldest first: scan by scan, and within a scan in the
+    /// order of the scan list.
     ///
     /// # Errors
-    /// [`Code::DataCorruptOrStale`] if the readings aren't complete, or were aborted.
+    /// [`Code::DataCorruptOrStale`] if the measurement isn't complete, was aborted, or doesn't
+    /// exist.
     pub fn readings(&self) -> Result<&[Reading], Code>
         ensures { (acts : List ScanAct) → StandsFor self.now acts
             → MatchResult result (λ found. (completes (effective acts) ≡ true)
@@ -367,8 +369,8 @@ impl<A: Allocator> Scanner<A> {
         }
     }
 
-    /// The readings of the current or last measurement, oldest first, complete or not. There are at
-    /// most [`MOST_READINGS`], and none is a voltage beyond 1,000 V in magnitude.
+    /// The readings of the current or last measurement, oldest first, even if they aren't complete.
+    /// There are at most [`MOST_READINGS`], and none is a voltage beyond 1,000 V in magnitude.
     pub fn readings_so_far(&self) -> &[Reading]
         ensures answer { (acts : List ScanAct) → StandsFor self.now acts
             → result.now ≡ readings_of (effective acts) }

@@ -4,15 +4,15 @@ use crate::scan_list::ScanList;
 use sv_errors::Source;
 
 /// A setting and its value. [`Setting::Monitor`] and the settings of the limits can be changed at
-/// any time, the others only in the idle state.
+/// any time, the other settings only in the idle state.
 #[derive(Clone, Copy, Debug)]
 pub enum Setting {
     /// The channels of a scan, in order; at least one. The default is channel 1.
     List(ScanList),
     /// The monitored channel, whose input is compared with the limits. The default is 1.
     Monitor(u8),
-    /// A voltage to measure, in microvolts, 0 to 100 V: the smallest of the ranges 1, 10 and 100 V
-    /// that is at least as large is set. The default is 10 V.
+    /// The voltage to measure, in microvolts, 0 to 100 V. It sets the smallest of the ranges 1, 10
+    /// and 100 V that is at least this voltage. The default is 10 V.
     Range(i64),
     /// The upper limit, in microvolts, up to 1,000 V in magnitude. The default is 1,000 V.
     Upper(i64),

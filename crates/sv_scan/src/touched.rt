@@ -9,8 +9,8 @@ ghost use Rattle.sv_scan.specs.Touched.{IsTouched};
 use crate::scanner::Scanner;
 use std::alloc::Allocator;
 
-/// Which condition words the newest effective act may have changed. If a field is false, its word
-/// is as before the act (SCPI-1999, chapter 20).
+/// Which condition words the newest effective act may have changed. If a field is false, the word
+/// is the same as before the act (SCPI-1999, chapter 20).
 #[derive(Clone, Copy)]
 pub struct Touched {
     /// The word of the operation register.
@@ -22,8 +22,8 @@ pub struct Touched {
 }
 
 impl<A: Allocator> Scanner<A> {
-    /// Which condition words the last effective act may have changed. A refused act is not
-    /// effective, and changes none.
+    /// Which condition words the last effective act may have changed. A refused act isn't
+    /// effective, and doesn't change a word.
     pub fn touched(&self) -> Touched
         ensures value { result ≡ self.now.touched }
         ensures stands { (acts : List ScanAct) → StandsFor self.now acts

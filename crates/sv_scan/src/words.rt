@@ -18,7 +18,7 @@ const OVERLOAD: u16 = 1 << 0;
 const BELOW: u16 = 1 << 0;
 /// Bit of the register of limits: the last reading is above the upper limit.
 const ABOVE: u16 = 1 << 1;
-/// Bit of the register of limits: the live input of the monitored channel is outside.
+/// Bit of the register of limits: the live input of the monitored channel is outside the limits.
 const OUTSIDE: u16 = 1 << 2;
 
 /// The condition words of the status registers, as they are now (SCPI-1999, chapter 20).
@@ -28,8 +28,8 @@ pub struct Conditions {
     pub operation: u16,
     /// Bit 0: the last reading is an overload. Bit 9, the summary of the register of limits, is 0.
     pub questionable: u16,
-    /// With limits on, bit 0: the last reading is below the lower limit; bit 1: it is above the
-    /// upper limit; bit 2: the input of the monitored channel is outside the limits.
+    /// With limits on, bit 0: the last reading is below the lower limit; bit 1: the last reading is
+    /// above the upper limit; bit 2: the input of the monitored channel is outside the limits.
     pub limit: u16,
 }
 
@@ -52,8 +52,8 @@ pub(crate) fn questionable_word(overload: bool) -> u16
     mask_if(OVERLOAD, overload)
 }
 
-/// The condition word of the register of limits: if the limits are on, whether the last reading
-/// is below or above them, and whether the live input is outside.
+/// The condition word of the register of limits. If the limits are on, it says whether the last
+/// reading is below or above them, and whether the live input is outside them.
 pub(crate) fn limit_word(limits: bool, below: bool, above: bool, outside: bool) -> u16
     ensures { result ≡ bit 0 (limits && below) + bit 1 (limits && above) + bit 2
         (limits && outside) }

@@ -1,4 +1,4 @@
--- What the server answers to the driver's queries at a moment, by its history.
+-- The server's answers to the driver's queries at a moment, given the server's history.
 use Rattle.std.specs.Prelude.{ℕ, ◌<◌, not, Bool, true, false, List, Option, Some, None}
 use Rattle.sv_history.specs.declared.event.Config.{Config}
 use Rattle.sv_history.specs.declared.event.Dial.{Dial}
@@ -19,11 +19,11 @@ IsOpen port config at answer = Answered (λ log. not (is_port_shut port log)) co
 abbrev pub HasRoom : {W : Type 0} → ℕ → Config → DriverView W → ℕ → Type 0
 HasRoom c config at answer = Answered (λ log. room (of c log)) config at.history answer
 
--- The answer says whether a connection has a call to take.
+-- The answer says whether there is a call to take on a connection.
 abbrev pub IsReady : {W : Type 0} → ℕ → Config → DriverView W → Bool → Type 0
 IsReady c config at answer = Answered (λ log. not (is_idle (of c log))) config at.history answer
 
--- The answer says whether a record that is too long came on a connection, so that nothing more is taken in.
+-- The answer says whether a record that is too long came on a connection, so that the server stores no more bytes of this connection.
 abbrev pub IsOverlong : {W : Type 0} → ℕ → Config → DriverView W → Bool → Type 0
 IsOverlong c config at answer = Answered (λ log. is_overlong (of c log)) config at.history answer
 
@@ -31,7 +31,7 @@ IsOverlong c config at answer = Answered (λ log. is_overlong (of c log)) config
 abbrev pub IsFaulted : {W : Type 0} → ℕ → Config → DriverView W → Bool → Type 0
 IsFaulted c config at answer = Answered (λ log. is_faulted (of c log)) config at.history answer
 
--- The answer is where to connect the interrupt channel of a connection, if that is asked for.
+-- The answer is where to connect the interrupt channel of a connection; `None` if no create_intr_chan of this connection is suspended.
 abbrev pub Wants : {W : Type 0} → ℕ → Config → DriverView W → Option Dial → Type 0
 Wants c config at answer = Answered (λ log. dial_of c log) config at.history answer
 
@@ -39,11 +39,11 @@ Wants c config at answer = Answered (λ log. dial_of c log) config at.history an
 abbrev pub Waits : {W : Type 0} → Port → Config → DriverView W → List ℕ → Type 0
 Waits port config at bytes = WaitOn port config at.history bytes
 
--- No connection of this number or above was ever opened.
+-- No connection with this number or a higher one was ever opened.
 abbrev pub NoneUsed : {W : Type 0} → ℕ → Config → DriverView W → Type 0
 NoneUsed n config at = (log : List Act) × IsLogOf config at.history log × IsUnused n log
 
--- The lowest of the numbers 0 to 15 whose connection isn't open; `None` if all are.
+-- The lowest of the numbers 0 to 15 whose connection isn't open; `None` if all 16 connections are open.
 abbrev pub IsLowest : {W : Type 0} → Option ℕ → Config → DriverView W → Type 0
 IsLowest (Some c) config at = (c < 16) × IsOpen (Conn c) config at false × ((d : ℕ) → d < c → IsOpen (Conn d) config at true)
 IsLowest None config at = (d : ℕ) → d < 16 → IsOpen (Conn d) config at true

@@ -6,8 +6,8 @@ use Rattle.sv_history.specs.Event.{PlainEvent}
 use Rattle.sv_server.specs.Server.State.{State, StandsFor}
 use Rattle.sv_replay.specs.declared.entry.Entry.{Entry}
 
--- The state of a driver: a server, a wire, which peer was called for the interrupt channel of each connection, the entries of the scenario
--- still to come, and how many milliseconds have passed.
+-- The state of a driver: a server; a wire; which peer the driver dialed for the interrupt channel of each connection; the entries of the
+-- scenario that are still to come; and how many milliseconds have passed.
 pub record DriverState (W : Type 0) : Type 0 where
   pub server : State
   pub wire : W
@@ -15,7 +15,7 @@ pub record DriverState (W : Type 0) : Type 0 where
   pub ahead : List Entry
   pub ticks : ℕ
 
--- The state of a driver, with the history of its server in place of the server.
+-- The state of a driver, where the server is replaced by its history.
 pub record DriverView (W : Type 0) : Type 0 where
   pub wire : W
   pub history : List PlainEvent
@@ -23,7 +23,7 @@ pub record DriverView (W : Type 0) : Type 0 where
   pub ahead : List Entry
   pub ticks : ℕ
 
--- the state of a driver, with this history in place of its server
+-- the state of a driver, with this history instead of its server
 abbrev pub driver_view : {W : Type 0} → DriverState W → List PlainEvent → DriverView W
 driver_view driving history =
     record { wire = driving.wire; history = history; called = driving.called; ahead = driving.ahead; ticks = driving.ticks }
@@ -32,18 +32,18 @@ driver_view driving history =
 abbrev pub Unchanged : {W : Type 0} → Config → DriverView W → DriverView W → Type 0
 Unchanged config before after = after ≡ before
 
--- one step, and then another one
+-- one step, and then a second one
 infixr 10 ◌then◌
 abbrev pub ◌then◌ : {W : Type 0} → (Config → DriverView W → DriverView W → Type 0) → (Config → DriverView W → DriverView W → Type 0)
     → Config → DriverView W → DriverView W → Type 0
 (first then next) config before after = (between : DriverView _) × first config before between × next config between after
 
--- a step for each number below this one, in rising order
+-- one step for each number below n, in rising order
 abbrev pub ForEach : {W : Type 0} → ℕ → (ℕ → Config → DriverView W → DriverView W → Type 0) → Config → DriverView W → DriverView W → Type 0
 ForEach zero step config before after = after ≡ before
 ForEach (suc n) step config before after = (between : DriverView _) × ForEach n step config before between × step n config between after
 
--- Whatever happened to the server before, the driver takes this step.
+-- The driver takes this step, whatever history its server had before.
 abbrev pub Steps : {W : Type 0} → (Config → DriverView W → DriverView W → Type 0) → DriverState W → DriverState W → Type 0
 Steps step old new = (config : Config) (history : List PlainEvent) → StandsFor old.server config history
     → (after : List PlainEvent) × StandsFor new.server config after × step config (driver_view old history) (driver_view new after)

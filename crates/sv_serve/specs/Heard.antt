@@ -1,4 +1,4 @@
--- The calls of a wire, with their answers.
+-- The calls of a wire's methods, with their answers.
 use Rattle.std.specs.Prelude.{ℕ, ◌≤◌, Bool, List, length, take, Option, ⊤}
 use Rattle.sv_history.specs.declared.event.Role.{Role}
 use Rattle.sv_history.specs.declared.event.Port.{Port}
@@ -6,8 +6,8 @@ use Rattle.sv_history.specs.declared.event.Dial.{Dial}
 use Rattle.sv_serve.specs.declared.wire.Answer.{Answer}
 use Rattle.sv_serve.specs.declared.wire.Answer.TheVariants.{Got, Pending, Failed}
 
--- One call of a wire, with its answer. `most` is how many bytes a read asked for. A probe asks whether a connection that isn't read is
--- gone; with `drops` it discards the bytes that come on the connection.
+-- One call of a wire's method, with its answer. `most` is how many bytes a read may return. A probe asks whether a connection that isn't
+-- read is gone. With `drops` it also discards the bytes that come on the connection.
 pub data Heard : Type 0 where
   WasAccepted : (role : Role) (conn : Option ℕ) (answer : Answer ⊤) → Heard
   WasRead : (conn : ℕ) (most : ℕ) (answer : Answer (List ℕ)) → Heard
@@ -17,7 +17,7 @@ pub data Heard : Type 0 where
   PeerAnswered : (conn : ℕ) (answer : Answer ⊤) → Heard
   WasClosed : (port : Port) → Heard
 
--- the answer of a read, with the bytes that it put into the buffer
+-- the answer of a read, with the bytes that the read stored in the buffer
 abbrev pub bytes_of : Answer ℕ → List ℕ → Answer (List ℕ)
 bytes_of (Got n) buffer = Got (take n buffer)
 bytes_of Pending buffer = Pending

@@ -1,4 +1,4 @@
--- What the inner steps of a driver require of the moment at which they begin.
+-- What the inner steps of a driver require of the moment at which each of them begins.
 use Rattle.std.specs.Prelude.{◌≡◌, ℕ, ◌<◌, Bool, true, List, length, Some, Result, Err}
 use Rattle.sv_links.specs.Channels.{ChannelAct}
 use Rattle.sv_history.specs.declared.event.Config.{Config}
@@ -18,32 +18,32 @@ use Rattle.sv_serve.specs.Heard.{IsWithin}
 use Rattle.sv_serve.specs.DriverView.{DriverState, DriverView, driver_view}
 use Rattle.sv_serve.specs.Asked.{Wants, Waits}
 
--- At any moment of which `IsSo` holds, the driver takes this step.
+-- The driver takes this step from any moment of which `IsSo` holds.
 abbrev pub From : {W : Type 0} → (Config → DriverView W → Type 0) → (Config → DriverView W → DriverView W → Type 0) → DriverState W
     → DriverState W → Type 0
 From IsSo step old new = (config : Config) (history : List PlainEvent) → StandsFor old.server config history
     → IsSo config (driver_view old history)
     → (after : List PlainEvent) × StandsFor new.server config after × step config (driver_view old history) (driver_view new after)
 
--- The event fits the answers of the queries at this moment (`Suits`).
+-- The event is one that the queries allow at this moment (`Suits`).
 abbrev pub IsSuited : {W : Type 0} → PlainEvent → Config → DriverView W → Type 0
 IsSuited event config at = (log : List Act) × (channel_log : List ChannelAct) × IsLogOf config at.history log
     × HearsOf (device_acts log) channel_log
     × Suits event channel_log log
 
--- The interrupt channel of a connection is to be connected.
+-- A create_intr_chan of a connection is suspended, so that its interrupt channel has to be connected.
 abbrev pub IsAwaited : {W : Type 0} → ℕ → Config → DriverView W → Type 0
 IsAwaited c config at = (dial : Dial) × Wants c config at (Some dial)
 
--- Some bytes waited on a port, and the wire took no more than these.
+-- Some bytes waited on a port, and the wire took at most as many of them.
 abbrev pub Handed : {W : Type 0} → Port → Answer ℕ → Config → DriverView W → Type 0
 Handed port answer config at = (bytes : List ℕ) × Waits port config at bytes × (0 < length bytes) × IsWithin answer (length bytes)
 
--- There was a call to take, and memory for it was refused.
+-- There was a call to take on a connection, and memory for it was refused.
 abbrev pub FoundNone : {W : Type 0} → ℕ → Config → DriverView W → Type 0
 FoundNone c config at = (log : List Act) × IsLogOf config at.history log × Answers config (Turn c) log (Err NoMemory)
 
--- If the result is out of memory, a call was there to take, and memory for it was refused.
+-- If the result is that memory was refused, there was a call to take, and memory for it was refused.
 abbrev pub MayFindNone : {W : Type 0} → ℕ → Result Did Refused → Config → DriverView W → Type 0
 MayFindNone c answer config at = answer ≡ Err NoMemory → FoundNone c config at
 

@@ -1,4 +1,4 @@
--- The answers of a wire as events, and what a sweep does for each connection. Traces and histories have the newest first.
+-- The answers of a wire as events, and what a sweep does for each connection. Traces and histories have the newest item first.
 use Rattle.std.specs.Prelude.{◌≡◌, ◌⊎◌, ℕ, ◌<◌, not, Bool, true, false, List, [], ◌∷◌, ◌++◌, filter, flat_map, Some, Err}
 use Rattle.std.specs.List.{AllByRecursion}
 use Rattle.sv_history.specs.declared.event.Config.{Config}
@@ -17,12 +17,12 @@ use Rattle.sv_serve.specs.DriverView.{DriverState, Steps}
 use Rattle.sv_serve.specs.Sweep.{Sweeps}
 use Rattle.sv_serve.specs.Timed.{is_timed}
 
--- The wire was called as this trace says, and gave its answers.
+-- The wire's methods were called as this trace says, and returned the answers of the trace.
 abbrev pub Through : {W : Type 0} → (W → Heard → W → Type 0) → List Heard → W → W → Type 0
 Through hears [] start now = now ≡ start
 Through hears (heard ∷ trace) start now = (between : _) × Through hears trace start between × hears between heard now
 
--- the event that an answer of the wire becomes, if it becomes one
+-- the event that an answer of the wire causes, if it causes one
 abbrev pub event_of : Heard → List PlainEvent
 event_of (WasAccepted role (Some c) (Got all)) = Open c role ∷ []
 event_of (WasRead c most (Got bytes)) = Bytes c bytes ∷ []
@@ -47,26 +47,26 @@ abbrev pub Takes : Config → ℕ → List Act → List PlainEvent → Type 0
 Takes config c before turn = (turn ≡ Turn c ∷ []) ⊎ (((turn ≡ Refuse c ∷ []) × Answers config (Turn c) before (Err NoMemory))
     ⊎ ((turn ≡ []) × ((is_idle (of c before) ≡ true) ⊎ (free (of c before) < longest_reply))))
 
--- The bytes that wait on a connection, if any, are given to the wire in one write, perhaps with more after them.
+-- All bytes that wait on a connection, if any, are passed to the wire in one write. The write may have further bytes after these.
 abbrev pub Offers : ℕ → List Act → List Heard → Type 0
 Offers c log piece = (waiting (of c log) ≡ []) ⊎ ((more : List ℕ) × (answer : Answer ℕ) × (newer older : List Heard)
     × (piece ≡ newer ++ (WasWritten (Conn c) (waiting (of c log) ++ more) answer ∷ older)))
 
--- In a sweep a connection has its turn after all reads, and the bytes that wait then are given to the wire in the same sweep.
+-- In a sweep a connection has its turn after all reads. The bytes that wait after the turn are passed to the wire in the same sweep.
 abbrev pub Serves : Config → ℕ → List PlainEvent → List PlainEvent → List Heard → Type 0
 Serves config c history events piece = (first turn behind : List PlainEvent) × (before after : List Act)
     × (events ≡ behind ++ (turn ++ first)) × AllByRecursion (λ event. (d : ℕ) (bytes : List ℕ) → event ≡ Bytes d bytes → ⊥) behind
     × IsLogOf config (first ++ history) before × IsLogOf config (turn ++ (first ++ history)) after
     × Takes config c before turn × Offers c after piece
 
--- A sweep has these events and these answers of the wire, which agree, and serves each connection.
+-- A sweep has these events and these answers of the wire, which agree with each other, and it serves each connection.
 abbrev pub IsServed : {W : Type 0} → (W → Heard → W → Type 0) → Config → DriverState W → DriverState W → List PlainEvent → List PlainEvent
     → List Heard → Type 0
 IsServed hears config old new history events piece = StandsFor old.server config history × StandsFor new.server config (events ++ history)
     × Through hears piece old.wire new.wire × (filter is_outer events ≡ flat_map event_of piece)
     × ((c : ℕ) → c < 16 → Serves config c history events piece)
 
--- Every sweep has events and answers of the wire for which `IsServed` holds, whatever happened before.
+-- For every sweep, whatever happened before it, there are events and answers of the wire for which `IsServed` holds.
 abbrev pub Served : {W : Type 0} → (W → Heard → W → Type 0) → Type 0
 Served hears = (config : Config) (ticks : ℕ) (history : List PlainEvent) (old new : DriverState _) → StandsFor old.server config history
     → Steps (Sweeps hears ticks) old new → (done : List PlainEvent) × (piece : List Heard)

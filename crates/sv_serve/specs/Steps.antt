@@ -1,5 +1,5 @@
--- The steps of a driver. In each the wire is asked at most once, and its answer is applied to the server. Only a Turn, a Tick and an entry
--- of the scenario may be refused.
+-- The steps of a driver. In each step at most one method of the wire is called, and its answer is applied to the server. Of the events that
+-- steps give to the server, only a Turn, a Tick or an entry of the scenario may be refused.
 use Rattle.std.specs.Prelude.{◌≡◌, ◌⊎◌, ℕ, ◌<◌, min, ◌==◌, ◌&&◌, ◌||◌, Bool, true, false, List, [], length, Option, Some, None, Result, Ok, Err, ⊤, slice_set, slice_index_or}
 use Rattle.sv_history.specs.declared.event.Config.{Config}
 use Rattle.sv_history.specs.declared.event.Dial.{Dial}
@@ -19,11 +19,11 @@ use Rattle.sv_serve.specs.Heard.{Heard, WasAccepted, WasRead, WasProbed, WasWrit
 use Rattle.sv_serve.specs.DriverView.{DriverView, Unchanged, ◌then◌}
 use Rattle.sv_serve.specs.Asked.{IsOpen, HasRoom, IsReady, IsOverlong, IsFaulted, Wants, Waits, IsLowest}
 
--- The wire is asked, and gives this answer.
+-- A method of the wire is called, and returns this answer.
 abbrev pub Hears : {W : Type 0} → (W → Heard → W → Type 0) → Heard → Config → DriverView W → DriverView W → Type 0
 Hears hears heard config before after = (wire : _) × hears before.wire heard wire × (after ≡ record before { wire = wire })
 
--- The server is given an event, and answers this.
+-- The server is given an event, and returns this result.
 abbrev pub Given : {W : Type 0} → PlainEvent → Result Did Refused → Config → DriverView W → DriverView W → Type 0
 Given event result config before after = (log : List Act) × IsLogOf config before.history log × Answers config event log result
     × (after ≡ record before { history = history_after event result before.history })
@@ -32,38 +32,38 @@ Given event result config before after = (log : List Act) × IsLogOf config befo
 abbrev pub IsApplied : {W : Type 0} → PlainEvent → Config → DriverView W → DriverView W → Type 0
 IsApplied event = Given event (Ok Done)
 
--- which peer the driver called for the interrupt channel of a connection; `None` if it called none
+-- the peer that the driver dialed for the interrupt channel of a connection; `None` if it dialed none
 abbrev pub called_of : {W : Type 0} → ℕ → DriverView W → Option Dial
 called_of c at = slice_index_or at.called c None
 
--- The driver records which peer it called for the interrupt channel of a connection, or that it called none.
+-- The driver records which peer it dialed for the interrupt channel of a connection; or that it has dialed none.
 abbrev pub Remembers : {W : Type 0} → ℕ → Option Dial → Config → DriverView W → DriverView W → Type 0
 Remembers c dial config before after = after ≡ record before { called = slice_set before.called c dial }
 
--- If a connection was accepted under a number, it opens under that number.
+-- If a connection was accepted under a number, it opens at the server under that number.
 abbrev pub Opens : {W : Type 0} → Role → Option ℕ → Answer ⊤ → Config → DriverView W → DriverView W → Type 0
 Opens role (Some c) (Got all) = IsApplied (Open c role)
 Opens role number answer = Unchanged
 
--- A connection is accepted, under the lowest free number. If no number is free, the connection is dropped.
+-- A connection is accepted under the lowest free number. If no number is free, the connection is dropped.
 abbrev pub Accepts : {W : Type 0} → (W → Heard → W → Type 0) → Role → Config → DriverView W → DriverView W → Type 0
 Accepts hears role config before after = (number : Option ℕ) × (answer : Answer ⊤) × IsLowest number config before
     × (Hears hears (WasAccepted role number answer) then Opens role number answer) config before after
 
--- The socket of an interrupt channel is closed, if a peer was called for it.
+-- The socket of an interrupt channel is closed, if a peer was dialed for the channel.
 abbrev pub ClosesChannelOn : {W : Type 0} → (W → Heard → W → Type 0) → ℕ → Option Dial → Config → DriverView W → DriverView W → Type 0
 ClosesChannelOn hears c None = Unchanged
 ClosesChannelOn hears c (Some dial) = Hears hears (WasClosed (Intr c)) then Remembers c None
 
--- The socket of a connection's interrupt channel is closed, if the driver called a peer for it.
+-- The socket of a connection's interrupt channel is closed, if the driver dialed a peer for the channel.
 abbrev pub ClosesChannel : {W : Type 0} → (W → Heard → W → Type 0) → ℕ → Config → DriverView W → DriverView W → Type 0
 ClosesChannel hears c config before after = ClosesChannelOn hears c (called_of c before) config before after
 
--- A connection is closed, with its interrupt channel.
+-- A connection is closed, and with it its interrupt channel.
 abbrev pub Closes : {W : Type 0} → (W → Heard → W → Type 0) → ℕ → Config → DriverView W → DriverView W → Type 0
 Closes hears c = Hears hears (WasClosed (Conn c)) then ClosesChannel hears c then IsApplied (Close (Conn c))
 
--- If the flag is true, a connection is closed, with its interrupt channel.
+-- If the flag is true, a connection is closed, and with it its interrupt channel.
 abbrev pub ClosesIf : {W : Type 0} → (W → Heard → W → Type 0) → ℕ → Bool → Config → DriverView W → DriverView W → Type 0
 ClosesIf hears c true = Closes hears c
 ClosesIf hears c false = Unchanged
@@ -74,37 +74,37 @@ Comes hears c (Got bytes) = IsApplied (Bytes c bytes)
 Comes hears c Pending = Unchanged
 Comes hears c Failed = Closes hears c
 
--- how many bytes are read at once, at most
+-- how many bytes one read returns at most
 abbrev pub longest_piece : ℕ
 longest_piece = 16384
 
--- A connection that is gone is closed.
+-- A connection is closed, if the wire answered that it is gone.
 abbrev pub Drops : {W : Type 0} → (W → Heard → W → Type 0) → ℕ → Answer ⊤ → Config → DriverView W → DriverView W → Type 0
 Drops hears c Failed = Closes hears c
 Drops hears c answer = Unchanged
 
--- If the flag is true, the connection is open, and the wire is asked whether it is gone.
+-- If the flag is true, the connection is open, and the driver asks the wire whether the connection is gone.
 abbrev pub ProbesIf : {W : Type 0} → (W → Heard → W → Type 0) → ℕ → Bool → Config → DriverView W → DriverView W → Type 0
 ProbesIf hears c false config before after = after ≡ before
 ProbesIf hears c true config before after = (drops : Bool) × (answer : Answer ⊤) × IsOverlong c config before drops
     × (Hears hears (WasProbed c drops answer) then Drops hears c answer) config before after
 
--- An open connection without room isn't read, but the wire is asked whether it is gone. Bytes after a record that is too long are
--- discarded.
+-- An open connection without room isn't read. Instead the driver asks the wire whether the connection is gone. Bytes after a record that is
+-- too long are discarded.
 abbrev pub Probes : {W : Type 0} → (W → Heard → W → Type 0) → ℕ → Config → DriverView W → DriverView W → Type 0
 Probes hears c config before after = (opened : Bool) × IsOpen (Conn c) config before opened × ProbesIf hears c opened config before after
 
--- With room for `room` bytes, at most that many are read, and at most 16,384. Without room the connection is probed.
+-- If a connection has room for some bytes, at most `room` and at most 16,384 bytes are read. Without room the connection is probed.
 abbrev pub ReadsUpTo : {W : Type 0} → (W → Heard → W → Type 0) → ℕ → ℕ → Config → DriverView W → DriverView W → Type 0
 ReadsUpTo hears room c config before after = ((room ≡ 0) × Probes hears c config before after)
     ⊎ ((0 < room) × (answer : Answer (List ℕ)) × IsPiece answer (min room longest_piece)
     × (Hears hears (WasRead c (min room longest_piece) answer) then Comes hears c answer) config before after)
 
--- A connection is read, for at most as many bytes as it has room.
+-- A connection is read: at most as many bytes as it has room for.
 abbrev pub ReadsFrom : {W : Type 0} → (W → Heard → W → Type 0) → ℕ → Config → DriverView W → DriverView W → Type 0
 ReadsFrom hears c config before after = (room : ℕ) × HasRoom c config before room × ReadsUpTo hears room c config before after
 
--- If the flag is true, the call is refused with error 9.
+-- If the flag is true, the next call of a connection is refused with error 9.
 abbrev pub RefusesIf : {W : Type 0} → ℕ → Bool → Config → DriverView W → DriverView W → Type 0
 RefusesIf c true = IsApplied (Refuse c)
 RefusesIf c false = Unchanged
@@ -123,40 +123,42 @@ TurnsIf c true config before after = (result : Result Did Refused) × (Given (Tu
 abbrev pub Turns : {W : Type 0} → ℕ → Config → DriverView W → DriverView W → Type 0
 Turns c config before after = (ready : Bool) × IsReady c config before ready × TurnsIf c ready config before after
 
--- whether this peer is the one that is wanted
+-- whether the peer that was dialed is the one to which the channel has to be connected
 abbrev pub is_wanted : Dial → Option Dial → Bool
 is_wanted called (Some wanted) = (called.addr == wanted.addr) && (called.port == wanted.port)
 is_wanted called None = false
 
--- A peer that was called is kept if the flag is true, and dropped if it is false.
+-- If the flag is true, the connection to a dialed peer stays as it is; if it is false, its socket is closed.
 abbrev pub KeepsCall : {W : Type 0} → (W → Heard → W → Type 0) → ℕ → Bool → Config → DriverView W → DriverView W → Type 0
 KeepsCall hears c true = Unchanged
 KeepsCall hears c false = ClosesChannel hears c
 
--- A peer that was called is dropped, unless its interrupt channel is open or it is still wanted.
+-- The socket of a dialed peer is closed, unless the interrupt channel is open, or still has to be connected to this peer.
 abbrev pub CancelsUnwanted : {W : Type 0} → (W → Heard → W → Type 0) → ℕ → Option Dial → Config → DriverView W → DriverView W → Type 0
 CancelsUnwanted hears c None config before after = after ≡ before
 CancelsUnwanted hears c (Some called) config before after = (channel : Bool) × (wanted : Option Dial) × IsOpen
     (Intr c) config before channel
     × Wants c config before wanted × KeepsCall hears c (channel || is_wanted called wanted) config before after
 
--- The peer that was called for a connection's interrupt channel is dropped, unless the channel is open or the peer is still wanted.
+-- The socket of the peer that was dialed for a connection is closed, unless its interrupt channel is open, or still has to be connected to
+-- this peer.
 abbrev pub LetsGo : {W : Type 0} → (W → Heard → W → Type 0) → ℕ → Config → DriverView W → DriverView W → Type 0
 LetsGo hears c config before after = CancelsUnwanted hears c (called_of c before) config before after
 
--- The answer to calling a peer: it is connected, it is waited for, or it can't be reached.
+-- The answer to dialing a peer: the peer is connected; it hasn't answered yet; or it can't be reached.
 abbrev pub ConnectResult : {W : Type 0} → ℕ → Dial → Answer ⊤ → Config → DriverView W → DriverView W → Type 0
 ConnectResult c dial (Got all) = Remembers c (Some dial) then IsApplied (Dialed c true)
 ConnectResult c dial Pending = Remembers c (Some dial)
 ConnectResult c dial Failed = IsApplied (Dialed c false)
 
--- The answer about a peer that was called before: it is connected, it is still waited for, or it can't be reached.
+-- The answer about a peer that was dialed before: the peer is connected; it still hasn't answered; or it can't be reached.
 abbrev pub PollResult : {W : Type 0} → (W → Heard → W → Type 0) → ℕ → Answer ⊤ → Config → DriverView W → DriverView W → Type 0
 PollResult hears c (Got all) = IsApplied (Dialed c true)
 PollResult hears c Pending = Unchanged
 PollResult hears c Failed = ClosesChannel hears c then IsApplied (Dialed c false)
 
--- The peer that is wanted is called. If one was called already, the wire is asked whether it answered.
+-- If a channel has to be connected, its peer is dialed. If a peer was dialed already, the driver asks the wire whether that peer has
+-- answered.
 abbrev pub CallsFor : {W : Type 0} → (W → Heard → W → Type 0) → ℕ → Option Dial → Option Dial → Config → DriverView W → DriverView W
     → Type 0
 CallsFor hears c None called config before after = after ≡ before
@@ -165,12 +167,13 @@ CallsFor hears c (Some dial) None config before after =
 CallsFor hears c (Some dial) (Some called) config before after =
     (answer : Answer ⊤) × (Hears hears (PeerAnswered c answer) then PollResult hears c answer) config before after
 
--- The peer that is wanted for a connection's interrupt channel is called. If one was called already, the wire is asked whether it answered.
+-- If a connection's interrupt channel has to be connected, its peer is dialed. If a peer was dialed already, the driver asks the wire
+-- whether that peer has answered.
 abbrev pub Calls : {W : Type 0} → (W → Heard → W → Type 0) → ℕ → Config → DriverView W → DriverView W → Type 0
 Calls hears c config before after =
     (wanted : Option Dial) × Wants c config before wanted × CallsFor hears c wanted (called_of c before) config before after
 
--- A peer that isn't wanted any more is dropped, and one that is wanted is called.
+-- The socket of a peer that isn't wanted any more is closed; then the peer that is wanted is dialed.
 abbrev pub Dials : {W : Type 0} → (W → Heard → W → Type 0) → ℕ → Config → DriverView W → DriverView W → Type 0
 Dials hears c = LetsGo hears c then Calls hears c
 
@@ -179,30 +182,30 @@ abbrev pub BreaksOff : {W : Type 0} → (W → Heard → W → Type 0) → Port 
 BreaksOff hears (Conn c) = Closes hears c
 BreaksOff hears (Intr c) = ClosesChannel hears c then IsApplied (Close (Intr c))
 
--- The bytes that the wire took leave the server; if writing failed, the port is closed.
+-- The bytes that the wire took are removed at the server. If writing failed, the port is closed.
 abbrev pub EndsWrite : {W : Type 0} → (W → Heard → W → Type 0) → Port → Answer ℕ → Config → DriverView W → DriverView W → Type 0
 EndsWrite hears port (Got n) = IsApplied (Took port n)
 EndsWrite hears port Pending = Unchanged
 EndsWrite hears port Failed = BreaksOff hears port
 
--- These bytes are given to the wire, if there are any.
+-- These bytes are passed to the wire in one write, if there are any.
 abbrev pub WritesAll : {W : Type 0} → (W → Heard → W → Type 0) → Port → List ℕ → Config → DriverView W → DriverView W → Type 0
 WritesAll hears port bytes config before after = ((bytes ≡ []) × (after ≡ before))
     ⊎ ((0 < length bytes) × (answer : Answer ℕ) × IsWithin answer (length bytes)
     × (Hears hears (WasWritten port bytes answer) then EndsWrite hears port answer) config before after)
 
--- All bytes that wait on a port are given to the wire.
+-- All bytes that wait on a port are passed to the wire in one write.
 abbrev pub WritesTo : {W : Type 0} → (W → Heard → W → Type 0) → Port → Config → DriverView W → DriverView W → Type 0
 WritesTo hears port config before after =
     (bytes : List ℕ) × Waits port config before bytes × WritesAll hears port bytes config before after
 
--- If the flag is true, the connection is at fault, and is closed once no bytes wait on it.
+-- If the flag is true, the connection is at fault, and is closed if no bytes wait on it.
 abbrev pub EndsIf : {W : Type 0} → (W → Heard → W → Type 0) → ℕ → Bool → Config → DriverView W → DriverView W → Type 0
 EndsIf hears c false config before after = after ≡ before
 EndsIf hears c true config before after =
     (bytes : List ℕ) × Waits (Conn c) config before bytes × ClosesIf hears c (length bytes == 0) config before after
 
--- If the server says that a connection is at fault, the connection is closed once no bytes wait on it.
+-- If the server says that a connection is at fault, the connection is closed if no bytes wait on it.
 abbrev pub Ends : {W : Type 0} → (W → Heard → W → Type 0) → ℕ → Config → DriverView W → DriverView W → Type 0
 Ends hears c config before after =
     (faulted : Bool) × IsFaulted c config before faulted × EndsIf hears c faulted config before after

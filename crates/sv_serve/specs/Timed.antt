@@ -1,4 +1,4 @@
--- The events that come as time passes: ticks, and the entries of a scenario.
+-- The events that happen as time passes: ticks, and the entries of a scenario.
 use Rattle.std.specs.Prelude.{ℕ, zero, suc, ◌==◌, Bool, true, false, List, [], ◌∷◌, ◌++◌, ◌+◌, if◌then◌else◌}
 use Rattle.sv_history.specs.Event.{PlainEvent, Input, External, Tick}
 use Rattle.sv_replay.specs.Entry.{stimulus_event}
@@ -13,12 +13,12 @@ abbrev pub entry_events : ℕ → List Entry → List PlainEvent
 entry_events tick [] = []
 entry_events tick (entry ∷ entries) = entry_events tick entries ++ (if entry.tick == tick then stimulus_event entry.stimulus ∷ [] else [])
 
--- the events of this many milliseconds, with the entries that are due before each of them, and after the last one
+-- the events of this many milliseconds; the entries that are due come before each millisecond, and after the last one
 abbrev pub time_events : ℕ → List Entry → List PlainEvent
 time_events zero entries = entry_events 0 entries
 time_events (suc n) entries = entry_events (suc n) entries ++ Tick ∷ time_events n entries
 
--- how many milliseconds pass in all these sweeps
+-- how many milliseconds pass in all these sweeps together
 abbrev pub handed_ticks : List ℕ → ℕ
 handed_ticks [] = 0
 handed_ticks (ticks ∷ passed) = handed_ticks passed + ticks

@@ -16,8 +16,8 @@ use std::alloc::Allocator;
 use sv_server::{Event, Port, Role};
 
 impl<W: Wire + Drop, A: Allocator> Driver<W, A> {
-    /// Accepts a connection of this role, if one comes. If no number is free, the connection is
-    /// dropped.
+    /// Accepts a connection of this role, if a peer connects. If no number is free, drops the
+    /// connection.
     pub(crate) fn accept(&mut self, role: Role)
         ensures { Steps (Accepts W.hears role) self.old self.new }
     {
@@ -26,14 +26,15 @@ impl<W: Wire + Drop, A: Allocator> Driver<W, A> {
         self.open(role, conn, answer);
     }
 
-    /// Asks the wire to accept a connection under this number, or to drop it if there is no number.
+    /// Asks the wire to accept a connection under this number; without a number, to drop the
+    /// connection.
     fn greet(&mut self, role: Role, conn: Option<u8>) -> Answer<()>
         ensures { Steps (Hears W.hears (WasAccepted role conn result)) self.old self.new }
     {
         self.wire.accept(role, conn)
     }
 
-    /// The lowest number that no open connection has.
+    /// Returns the lowest number that no open connection has.
     fn lowest(&self) -> Option<u8>
         ensures { (config : Config) (history : List PlainEvent)
             → StandsFor self.now.server config history
@@ -47,7 +48,7 @@ impl<W: Wire + Drop, A: Allocator> Driver<W, A> {
         None
     }
 
-    /// Opens the connection at the server, if one was accepted.
+    /// Opens the connection at the server, if the wire accepted one.
     fn open(&mut self, role: Role, conn: Option<u8>, answer: Answer<()>)
         ensures { From (IsLowest conn) (Opens role conn answer) self.old self.new }
     {

@@ -1,4 +1,4 @@
-//! Calling the peers of interrupt channels.
+//! Dialing the peers of interrupt channels.
 
 ghost use Rattle.std.specs.Prelude.{◌≡◌, ◌<◌, slice_index_or, Some, None};
 ghost use Rattle.sv_history.specs.declared.event.Config.{Config};
@@ -13,7 +13,7 @@ use crate::wire::{Answer, Wire};
 use std::alloc::Allocator;
 use sv_server::{Dial, Event, Port};
 
-/// Whether the peer that was called is the one that is still wanted.
+/// Whether the peer that was dialed is the one to which the channel still has to be connected.
 fn is_wanted(called: Dial, wanted: Option<Dial>) -> bool
     ensures { result ≡ is_wanted called wanted }
 {
@@ -24,7 +24,8 @@ fn is_wanted(called: Dial, wanted: Option<Dial>) -> bool
 }
 
 impl<W: Wire + Drop, A: Allocator> Driver<W, A> {
-    /// Connects to each peer that is wanted, and drops each that isn't any more.
+    /// For each connection: dials the peer of its interrupt channel if the channel has to be
+    /// connected, and drops a peer that isn't wanted any more.
     pub(crate) fn dial_each(&mut self)
         ensures { Steps (ForEach 16 (Dials W.hears)) self.old self.new }
     {
@@ -36,7 +37,8 @@ impl<W: Wire + Drop, A: Allocator> Driver<W, A> {
         }
     }
 
-    /// Connects to the peer of a connection's interrupt channel, or drops it.
+    /// Dials the peer of a connection's interrupt channel, or drops a peer that isn't wanted any
+    /// more.
     fn dial(&mut self, conn: u8)
         requires { conn < 16 }
         ensures { Steps (Dials W.hears conn) self.old self.new }
@@ -45,7 +47,8 @@ impl<W: Wire + Drop, A: Allocator> Driver<W, A> {
         self.call(conn);
     }
 
-    /// Drops the peer of a connection, unless its channel is open or the peer is still wanted.
+    /// Drops the peer that was dialed for a connection, unless its channel is open or still has to
+    /// be connected to this peer.
     fn cancel_unwanted(&mut self, conn: u8)
         requires { conn < 16 }
         ensures { Steps (LetsGo W.hears conn) self.old self.new }
@@ -54,7 +57,7 @@ impl<W: Wire + Drop, A: Allocator> Driver<W, A> {
         self.cancel_if_unwanted(conn, called);
     }
 
-    /// Drops the peer that was called for a connection, if it isn't wanted any more.
+    /// Drops the peer `called`, which was dialed for a connection, if it isn't wanted any more.
     fn cancel_if_unwanted(&mut self, conn: u8, called: Option<Dial>)
         requires { conn < 16 }
         ensures { Steps (CancelsUnwanted W.hears conn called) self.old self.new }
@@ -69,7 +72,7 @@ impl<W: Wire + Drop, A: Allocator> Driver<W, A> {
         }
     }
 
-    /// Drops the peer of a connection, unless `keeps` is true.
+    /// Drops the peer that was dialed for a connection, unless `keeps`.
     fn keep_call(&mut self, conn: u8, keeps: bool)
         requires { conn < 16 }
         ensures { Steps (KeepsCall W.hears conn keeps) self.old self.new }
@@ -80,7 +83,8 @@ impl<W: Wire + Drop, A: Allocator> Driver<W, A> {
         self.close_channel(conn);
     }
 
-    /// Calls the peer that is wanted, or asks whether it answered.
+    /// Dials the peer to which a connection's channel has to be connected, or asks whether it has
+    /// answered.
     fn call(&mut self, conn: u8)
         requires { conn < 16 }
         ensures { Steps (Calls W.hears conn) self.old self.new }
@@ -90,7 +94,7 @@ impl<W: Wire + Drop, A: Allocator> Driver<W, A> {
         self.call_for(conn, wanted, called);
     }
 
-    /// Calls the wanted peer, if it wasn't called; else asks whether it answered.
+    /// Dials the peer `wanted`, if no peer was dialed yet; else asks whether the peer has answered.
     fn call_for(&mut self, conn: u8, wanted: Option<Dial>, called: Option<Dial>)
         requires { conn < 16 }
         ensures { From (λ (config : Config) (at : DriverView W). Wants conn config at wanted)
@@ -109,21 +113,21 @@ impl<W: Wire + Drop, A: Allocator> Driver<W, A> {
         }
     }
 
-    /// Asks the wire to call a peer.
+    /// Asks the wire to dial a peer.
     fn start_connect(&mut self, conn: u8, dial: Dial) -> Answer<()>
         ensures { Steps (Hears W.hears (WasDialed conn dial result)) self.old self.new }
     {
         self.wire.dial(conn, dial)
     }
 
-    /// Asks the wire whether a peer answered.
+    /// Asks the wire whether the peer that was dialed for a connection has answered.
     fn poll_connect(&mut self, conn: u8) -> Answer<()>
         ensures { Steps (Hears W.hears (PeerAnswered conn result)) self.old self.new }
     {
         self.wire.dialed(conn)
     }
 
-    /// Applies the result of calling a peer.
+    /// Applies the answer to dialing a peer.
     fn connect_result(&mut self, conn: u8, dial: Dial, answer: Answer<()>)
         requires { conn < 16 }
         ensures { From (λ (config : Config) (at : DriverView W). Wants conn config at (Some dial))
@@ -141,7 +145,7 @@ impl<W: Wire + Drop, A: Allocator> Driver<W, A> {
         }
     }
 
-    /// Remembers which peer was called for a connection.
+    /// Records which peer was dialed for a connection.
     fn remember(&mut self, conn: u8, dial: Dial)
         requires { conn < 16 }
         ensures { Steps (Remembers conn (Some dial)) self.old self.new }
@@ -150,7 +154,7 @@ impl<W: Wire + Drop, A: Allocator> Driver<W, A> {
         self.dial_limit = self.dial_limit.max(conn + 1);
     }
 
-    /// Applies the result of waiting for a peer.
+    /// Applies the answer about a peer that was dialed before.
     fn poll_result(&mut self, conn: u8, answer: Answer<()>)
         requires { conn < 16 }
         ensures { From (IsAwaited conn) (PollResult W.hears conn answer) self.old self.new }

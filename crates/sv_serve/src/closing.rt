@@ -15,7 +15,7 @@ use std::alloc::Allocator;
 use sv_server::{Event, Port};
 
 impl<W: Wire + Drop, A: Allocator> Driver<W, A> {
-    /// Closes the socket of a connection's interrupt channel, if a peer was called.
+    /// Closes the socket of a connection's interrupt channel, if a peer was dialed for it.
     pub(crate) fn close_channel(&mut self, conn: u8)
         requires { conn < 16 }
         ensures { Steps (ClosesChannel W.hears conn) self.old self.new }
@@ -36,7 +36,7 @@ impl<W: Wire + Drop, A: Allocator> Driver<W, A> {
         self.wire.close(port);
     }
 
-    /// Forgets which peer was called for a connection.
+    /// Records that no peer is dialed for a connection.
     fn forget(&mut self, conn: u8)
         requires { conn < 16 }
         ensures { Steps (Remembers conn None) self.old self.new }
@@ -56,7 +56,7 @@ impl<W: Wire + Drop, A: Allocator> Driver<W, A> {
         self.apply(Event::Close { port });
     }
 
-    /// Closes each connection at fault that has no bytes left to send.
+    /// Closes each connection at fault that has no more bytes to send.
     pub(crate) fn end_each(&mut self)
         ensures { Steps (ForEach 16 (Ends W.hears)) self.old self.new }
     {
@@ -68,7 +68,7 @@ impl<W: Wire + Drop, A: Allocator> Driver<W, A> {
         }
     }
 
-    /// Closes a connection at fault, if it has no bytes left to send.
+    /// Closes a connection, if it is at fault and has no more bytes to send.
     fn end(&mut self, conn: u8)
         requires { conn < 16 }
         ensures { Steps (Ends W.hears conn) self.old self.new }
@@ -77,7 +77,7 @@ impl<W: Wire + Drop, A: Allocator> Driver<W, A> {
         self.end_if(conn, faulted);
     }
 
-    /// Closes a connection that has no bytes left to send, if `so` is true.
+    /// If `so`, a connection is at fault: closes it, if it has no more bytes to send.
     fn end_if(&mut self, conn: u8, so: bool)
         requires { conn < 16 }
         ensures { From (λ (config : Config) (at : DriverView W). IsFaulted conn config at so)
@@ -89,7 +89,7 @@ impl<W: Wire + Drop, A: Allocator> Driver<W, A> {
         }
     }
 
-    /// Closes a connection, if `so` is true.
+    /// Closes a connection, if `so`.
     fn close_if(&mut self, conn: u8, so: bool)
         requires { conn < 16 }
         ensures { From (λ (config : Config) (at : DriverView W). IsOpen (Conn conn) config at true)

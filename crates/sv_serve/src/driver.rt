@@ -15,22 +15,22 @@ use std::marker::Model;
 use sv_replay::Entry;
 use sv_server::{Dial, Did, Event, Refused, Server};
 
-/// How many connections there may be.
+/// How many connections can be open.
 pub(crate) const CONNECTIONS: u8 = 16;
-/// How many bytes one read asks for, at most.
+/// How many bytes one read returns at most.
 const PIECE: usize = 16_384;
 
-/// A server and the wire to its peers, with a scenario that is played to the server.
+/// A server, the wire to its peers, and a scenario whose entries are applied to the server.
 #[derive(Drop)]
 pub struct Driver<W: Wire + Drop, A: Allocator = Global> {
     pub(crate) server: Server<A>,
     pub(crate) wire: W,
-    /// The peer that was called for the interrupt channel of each connection.
+    /// For each connection, the peer that was dialed for its interrupt channel.
     pub(crate) called: [Option<Dial>; 16],
-    /// No peer was ever called for a connection of this number or above.
+    /// No peer was ever dialed for a connection with this number or a higher one.
     pub(crate) dial_limit: u8,
     pub(crate) scenario: Vec<Entry, A>,
-    /// How many entries of the scenario were played.
+    /// How many entries of the scenario were applied.
     pub(crate) next: usize,
     /// How many milliseconds have passed.
     pub(crate) ticks: u64,
@@ -58,7 +58,7 @@ impl<W: Wire + Drop, A: Allocator> Model for Driver<W, A> {
 }
 
 impl<W: Wire + Drop, A: Allocator> Driver<W, A> {
-    /// A driver at the beginning of its scenario, which has called no peer yet. It allocates its
+    /// Makes a driver at the beginning of its scenario, which has dialed no peer yet. Allocates the
     /// read buffer.
     ///
     /// # Errors
@@ -103,7 +103,7 @@ impl<W: Wire + Drop, A: Allocator> Driver<W, A> {
         &self.server
     }
 
-    /// Whether no connection of this number or above was ever opened.
+    /// Whether no connection with this number or a higher one was ever opened.
     pub(crate) fn is_unused(&self, conn: u8) -> bool
         ensures { result ≡ true → (config : Config) (history : List PlainEvent)
             → StandsFor self.now.server config history
@@ -112,7 +112,8 @@ impl<W: Wire + Drop, A: Allocator> Driver<W, A> {
         conn >= self.server.connections_used()
     }
 
-    /// Whether no peer is to be called or dropped for a connection of this number or above.
+    /// Whether no peer has to be dialed or dropped for any connection with this number or a higher
+    /// one.
     pub(crate) fn is_uncalled(&self, conn: u8) -> bool
         ensures { result ≡ true → (config : Config) (history : List PlainEvent)
             → StandsFor self.now.server config history
@@ -122,7 +123,7 @@ impl<W: Wire + Drop, A: Allocator> Driver<W, A> {
         self.is_unused(conn) && conn >= self.dial_limit
     }
 
-    /// Applies an event that fits the server's current answers, so that it isn't refused.
+    /// Applies an event that the server's queries allow at this moment, so that it isn't refused.
     pub(crate) fn apply(&mut self, event: Event<'_>)
         ensures { From (IsSuited (plain event.entry)) (IsApplied (plain event.entry))
             self.old self.new }

@@ -6,15 +6,16 @@ ghost use Rattle.sv_serve.specs.Served.{Served};
 
 use crate::wire::Wire;
 
-/// Every byte that is read enters its connection's stream, and every byte that the wire takes comes
-/// out of what the history sends: in order, none lost or doubled. The events from the wire are
-/// exactly those that its answers cause, and as time passes exactly the scenario's entries happen.
+/// Every byte that is read enters its connection's stream, and every byte that the wire takes is
+/// one that the history sends: in order, none lost or doubled. The events from the wire are exactly
+/// those that its answers cause. As time passes, exactly the entries of the scenario that are due
+/// are applied.
 pub fn carried<W: Wire>()
     ensures { Carried W.hears }
 {}
 
-/// In a sweep each connection has its turn after all reads, and the bytes that wait then are given
-/// to the wire in the same sweep.
+/// In a sweep each connection has its turn after all reads. The bytes that wait after the turn are
+/// passed to the wire in the same sweep.
 pub fn served<W: Wire>()
     ensures { Served W.hears }
 {}

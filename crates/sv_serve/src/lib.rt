@@ -1,5 +1,5 @@
-//! A driver connects a server with its sockets. In a sweep it asks each socket once, and applies
-//! the answers to the server.
+//! A driver connects a server with its sockets. In a sweep it serves each socket once, through a
+//! wire, and applies the wire's answers to the server.
 #![tactic(auto)]
 
 mod accepting;

@@ -1,4 +1,4 @@
-//! Time passes, and the scenario is played.
+//! Letting time pass, and applying the entries of the scenario that are due.
 
 ghost use Rattle.std.specs.Prelude.{◌≡◌, ◌<◌, length, true};
 ghost use Rattle.sv_serve.specs.DriverView.{Steps};
@@ -11,7 +11,7 @@ use sv_server::{Did, Event, Refused};
 
 impl<W: Wire + Drop, A: Allocator> Driver<W, A> {
     /// Lets this number of milliseconds pass. The entries of the scenario that are due are applied
-    /// before each of them and after the last one.
+    /// before each millisecond and after the last one.
     pub(crate) fn pass(&mut self, ticks: u32)
         ensures { Steps (Passes ticks) self.old self.new }
     {
@@ -29,7 +29,7 @@ impl<W: Wire + Drop, A: Allocator> Driver<W, A> {
         while self.play_one() {}
     }
 
-    /// Plays the next entry of the scenario, if it is due, and returns whether it was.
+    /// Applies the next entry of the scenario, if it is due. Returns whether it was due.
     fn play_one(&mut self) -> bool
         ensures goes { Steps (PlaysIf result) self.old self.new }
         ensures measure { result ≡ true → length self.new.ahead < length self.old.ahead }
@@ -54,7 +54,7 @@ impl<W: Wire + Drop, A: Allocator> Driver<W, A> {
         self.count(answer);
     }
 
-    /// Counts a millisecond, unless the server refused it.
+    /// Counts a millisecond, unless the server refused the Tick.
     fn count(&mut self, answer: Result<Did, Refused>)
         ensures { Steps (Counts answer) self.old self.new }
     {

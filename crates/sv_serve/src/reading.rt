@@ -14,7 +14,7 @@ use crate::wire::{Answer, Wire};
 use std::alloc::Allocator;
 use sv_server::{Event, Port};
 
-/// Reads at most `size` bytes of a connection, to the front of a buffer.
+/// Reads at most `size` bytes of a connection into the front of a buffer.
 fn read_into<W: Wire>(wire: &mut W, conn: u8, buffer: &mut [u8], size: usize) -> Answer<usize>
     requires { size ≤ length buffer.old }
     ensures within { IsWithin result size }
@@ -45,7 +45,7 @@ impl<W: Wire + Drop, A: Allocator> Driver<W, A> {
         self.read_up_to(room, conn);
     }
 
-    /// Reads a connection that has room for `room` bytes.
+    /// Reads at most `room` bytes of a connection, which has room for that many.
     fn read_up_to(&mut self, room: u32, conn: u8)
         requires { conn < 16 }
         ensures { From (λ (config : Config) (at : DriverView W). HasRoom conn config at room)
@@ -66,7 +66,7 @@ impl<W: Wire + Drop, A: Allocator> Driver<W, A> {
         }
     }
 
-    /// Asks whether a connection that has no room is gone, if the connection is open.
+    /// Asks whether a connection without room is gone, if the connection is open.
     fn probe(&mut self, conn: u8)
         requires { conn < 16 }
         ensures { Steps (Probes W.hears conn) self.old self.new }
@@ -75,7 +75,7 @@ impl<W: Wire + Drop, A: Allocator> Driver<W, A> {
         self.probe_if(conn, opened);
     }
 
-    /// Asks whether a connection is gone, if `opened` is true.
+    /// Asks whether a connection is gone, if `opened`.
     fn probe_if(&mut self, conn: u8, opened: bool)
         requires { conn < 16 }
         ensures { From (λ (config : Config) (at : DriverView W). IsOpen
@@ -96,7 +96,7 @@ impl<W: Wire + Drop, A: Allocator> Driver<W, A> {
         self.wire.probe(conn, drops)
     }
 
-    /// Closes a connection, if the answer is that it is gone.
+    /// Closes a connection, if the wire answered that it is gone.
     fn drop_gone(&mut self, conn: u8, answer: Answer<()>)
         requires { conn < 16 }
         ensures { From (λ (config : Config) (at : DriverView W). IsOpen (Conn conn) config at true)

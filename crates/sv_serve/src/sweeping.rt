@@ -9,19 +9,22 @@ use std::alloc::Allocator;
 use sv_server::Role;
 
 impl<W: Wire + Drop, A: Allocator> Driver<W, A> {
-    /// Asks each socket once, applies its answers to the server, and lets `ticks` milliseconds
-    /// pass.
+    /// Serves each socket once through the wire, applies the wire's answers to the server, and lets
+    /// `ticks` milliseconds pass. The order is:
     ///
-    /// First a connection is accepted on the core channel, one on the abort channel and one on the
-    /// port mapper, each under the lowest free number of 0 to 15. Then each connection, by rising
-    /// number, is read, for at most as many bytes as it has room. Then one call of each connection
-    /// is taken, if it has a complete one, and the peer of each wanted interrupt channel is called.
-    /// Then time passes: entries of the scenario that are due happen before each millisecond and
-    /// after the last one. Then the bytes that wait are written, first those of connections. Last,
-    /// each connection at fault that has no bytes left to send is closed.
+    /// 1. A connection is accepted on the core channel, one on the abort channel and one on the
+    ///    port mapper, each under the lowest free number of 0 to 15.
+    /// 2. Each connection is read, in rising order of the numbers: at most as many bytes as it has
+    ///    room for.
+    /// 3. One call of each connection is taken, if it has a complete one.
+    /// 4. The peer of each interrupt channel that has to be connected is dialed.
+    /// 5. Time passes. Entries of the scenario that are due are applied before each millisecond and
+    ///    after the last one.
+    /// 6. The bytes that wait are written, first those of connections, then those of channels.
+    /// 7. Each connection at fault that has no more bytes to send is closed.
     ///
     /// If reading or writing fails, the connection or the channel is closed. If there is no memory
-    /// for a call, the server answers it with error 9, and its connection stays open.
+    /// for a call, the server answers the call with error 9, and its connection stays open.
     pub fn sweep(&mut self, ticks: u32)
         ensures { Steps (Sweeps W.hears ticks) self.old self.new }
     {

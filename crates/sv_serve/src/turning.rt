@@ -19,7 +19,7 @@ fn is_no_memory(refused: Refused) -> bool
 }
 
 impl<W: Wire + Drop, A: Allocator> Driver<W, A> {
-    /// Takes a call of each connection that has one.
+    /// Takes one call of each connection that has one.
     pub(crate) fn turn_each(&mut self)
         ensures { Steps (ForEach 16 Turns) self.old self.new }
     {
@@ -31,7 +31,7 @@ impl<W: Wire + Drop, A: Allocator> Driver<W, A> {
         }
     }
 
-    /// Takes a call of a connection, if it has one.
+    /// Takes one call of a connection, if it has one.
     fn turn(&mut self, conn: u8)
         requires { conn < 16 }
         ensures { Steps (Turns conn) self.old self.new }
@@ -40,7 +40,7 @@ impl<W: Wire + Drop, A: Allocator> Driver<W, A> {
         self.take(conn, ready);
     }
 
-    /// Takes a call of a connection, if `ready` is true.
+    /// Takes one call of a connection, if `ready`.
     fn take(&mut self, conn: u8, ready: bool)
         requires { conn < 16 }
         ensures { Steps (TurnsIf conn ready) self.old self.new }
@@ -51,7 +51,7 @@ impl<W: Wire + Drop, A: Allocator> Driver<W, A> {
         }
     }
 
-    /// Refuses a call for which there was no memory; its connection stays open.
+    /// Refuses the call of a Turn for which memory was refused. Its connection stays open.
     fn end_turn(&mut self, conn: u8, answer: Result<Did, Refused>)
         requires { conn < 16 }
         ensures { From (MayFindNone conn answer) (EndsTurn conn answer) self.old self.new }
@@ -62,7 +62,7 @@ impl<W: Wire + Drop, A: Allocator> Driver<W, A> {
         }
     }
 
-    /// Refuses the next call of a connection, if `so` is true.
+    /// Refuses the next call of a connection, if `so`.
     fn refuse_if(&mut self, conn: u8, so: bool)
         requires { conn < 16 }
         ensures { From (FindsNoneIf conn so) (RefusesIf conn so) self.old self.new }

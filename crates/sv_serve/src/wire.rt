@@ -1,10 +1,10 @@
-//! A wire carries bytes: over sockets, or by lists of answers in a test.
+//! A wire carries bytes: over sockets, or in a test by lists of answers.
 
 ghost use Rattle.std.specs.Prelude.{length, option_map};
 
 use sv_server::{Dial, Port, Role};
 
-/// The answer of a wire, which comes at once.
+/// The answer of a wire's method, which returns without waiting.
 #[derive(Clone, Copy, Debug, PartialEq, Eq)]
 pub enum Answer<T> {
     /// The call succeeded, with this result.
@@ -15,15 +15,17 @@ pub enum Answer<T> {
     Failed,
 }
 
-/// What carries the bytes of connections and interrupt channels. No call of a wire blocks.
+/// What carries the bytes of connections and interrupt channels. No method of a wire blocks.
 pub trait Wire {
     ghost use Rattle.sv_serve.specs.Heard.{Heard, WasAccepted, WasRead, WasProbed, WasWritten, WasDialed, PeerAnswered, WasClosed, bytes_of, IsWithin};
     ghost use Rattle.std.specs.Prelude.{⊤};
 
-    /// How a call and its answer change the wire; nothing is known of the system's sockets.
+    /// How a call of a method and its answer change the wire. Of the system's sockets nothing is
+    /// known.
     ghost hears: { Self → Heard → Self → Type 0 } = { λ before heard after. ⊤ };
 
-    /// Accepts a connection of this role under this number; without a number, drops the connection.
+    /// Accepts a connection of this role under this number. Without a number, accepts and drops the
+    /// connection.
     fn accept(&mut self, role: Role, conn: Option<u8>) -> Answer<()>
         ensures { hears self.old (WasAccepted role conn result) self.new };
 
@@ -33,13 +35,13 @@ pub trait Wire {
         ensures heard { let answer = bytes_of result buffer.new in
             hears self.old (WasRead conn (length buffer.old) answer) self.new };
 
-    /// Whether a connection is gone that isn't read because it has no room: `Failed` if it was
-    /// reset, or closed in both directions. With `drops` its bytes are read and discarded, and the
-    /// end of its stream is `Failed` too.
+    /// Asks whether a connection that isn't read for lack of room is gone. The answer is `Failed`
+    /// if the connection was reset, or closed in both directions. With `drops`, its bytes are read
+    /// and discarded, and the end of its stream is `Failed` too.
     fn probe(&mut self, conn: u8, drops: bool) -> Answer<()>
         ensures { hears self.old (WasProbed conn drops result) self.new };
 
-    /// Writes bytes to a connection or an interrupt channel, and returns how many were taken.
+    /// Writes bytes to a connection or an interrupt channel, and returns how many of them it took.
     fn write(&mut self, port: Port, bytes: &[u8]) -> Answer<usize>
         ensures within { IsWithin result (length bytes.now) }
         ensures heard { hears self.old (WasWritten port bytes.now result) self.new };
@@ -48,7 +50,7 @@ pub trait Wire {
     fn dial(&mut self, conn: u8, dial: Dial) -> Answer<()>
         ensures { hears self.old (WasDialed conn dial result) self.new };
 
-    /// Whether the peer that was called for a connection answered.
+    /// Asks whether the peer that was dialed for a connection has answered.
     fn dialed(&mut self, conn: u8) -> Answer<()>
         ensures { hears self.old (PeerAnswered conn result) self.new };
 

@@ -34,7 +34,7 @@ impl<W: Wire + Drop, A: Allocator> Driver<W, A> {
         }
     }
 
-    /// Writes the bytes that wait on a port, once.
+    /// Makes one write of the bytes that wait on a port. The wire may take only some of them.
     #[inline(always)]
     fn write(&mut self, port: Port)
         requires { port_number port < 16 }
@@ -48,7 +48,7 @@ impl<W: Wire + Drop, A: Allocator> Driver<W, A> {
         self.leave(port, answer);
     }
 
-    /// Drops the bytes that the wire took, or closes the port if the write failed.
+    /// Removes at the server the bytes that the wire took, or closes the port if the write failed.
     fn leave(&mut self, port: Port, answer: Answer<usize>)
         requires number { port_number port < 16 }
         requires counted { (n : ℕ) → answer ≡ Answer.Got n → n < 4294967296 }

@@ -1,12 +1,12 @@
--- A status register (SCPI-1999, chapter 20, STATus): condition, filters, event bits and enable, each by a search of the acts, the newest
--- first.
+-- A status register (SCPI-1999, chapter 20, STATus): its condition, filters, event bits and enable. Each is defined by a search of the
+-- acts, the newest first.
 use Rattle.std.specs.Prelude.{◌≡◌, ◌↔◌, ◌⊎◌, ℕ, ◌%◌, ◌^◌, ⊤, List, [], ◌∷◌, Some, None}
 use Rattle.std.specs.Int.{bit_at}
 use Rattle.sv_logs.specs.Since.{Since, last_given}
 use Rattle.sv_status.specs.declared.register.RegisterAct.{RegisterAct}
 use Rattle.sv_status.specs.declared.register.RegisterAct.TheVariants.{Condition, SetFilter, SetEnable, ReadEvent, Preset, Clear}
 
--- the condition: the newest word that was given
+-- the condition: the word that was set last; 0 at first
 abbrev pub condition : List RegisterAct → ℕ
 condition = last_given (elim [ Condition word ↦ Some word | _ ↦ None ]) 0
 
@@ -26,7 +26,7 @@ fall = last_given (elim [ SetFilter up down ↦ Some (without_top_bit down) | Pr
 abbrev pub enable : ℕ → List RegisterAct → ℕ
 enable start = last_given (elim [ SetEnable word ↦ Some (without_top_bit word) | Preset ↦ Some start | _ ↦ None ]) start
 
--- At the newest act a bit of the condition changes in a direction whose filter was on before that act.
+-- At the newest act, bit k of the condition rises or falls, and before that act the filter for this direction was on for bit k.
 abbrev pub Passes : ℕ → List RegisterAct → Type 0
 Passes k [] = ⊥
 Passes k (act ∷ before) =
@@ -37,11 +37,11 @@ Passes k (act ∷ before) =
 abbrev pub NotCleared : List RegisterAct → Type 0
 NotCleared = elim [ ReadEvent ∷ acts ↦ ⊥ | Clear ∷ acts ↦ ⊥ | _ ↦ ⊤ ]
 
--- A bit of the event register is set: it passed its filter after the last clearing.
+-- Bit k of the event register is set: after the last clearing, a change of the condition's bit k passed its filter.
 abbrev pub EventStands : ℕ → List RegisterAct → Type 0
 EventStands k acts = Since (Passes k) NotCleared acts
 
--- Some bit of the event register is set and enabled.
+-- Some bit is set both in the event register and in the enable.
 abbrev pub Summary : ℕ → List RegisterAct → Type 0
 Summary start acts = (k : ℕ) × EventStands k acts × (bit_at (enable start acts) k ≡ 1)
 
@@ -63,6 +63,6 @@ pub record StandsFor (start : ℕ) (latches : Latches) (acts : List RegisterAct)
   pub enable : latches.enable ≡ enable start acts
   pub event : (k : ℕ) → (bit_at latches.event k ≡ 1) ↔ EventStands k acts
 
--- The state of the register stands for the acts, with the start value of the enable that it stores.
+-- The state of the register stands for the acts. The enable at first and after a preset is the `start` that the state stores.
 abbrev pub Stands : Latches → List RegisterAct → Type 0
 Stands latches acts = StandsFor latches.start latches acts

@@ -1,11 +1,11 @@
--- The standard event status register (IEEE 488.2, 11.5.1), by a search of the acts, the newest first.
+-- The standard event status register (IEEE 488.2, 11.5.1). It is defined by a search of the acts, the newest first.
 use Rattle.std.specs.Prelude.{◌≡◌, ◌↔◌, ℕ, ⊤, List, [], ◌∷◌, Some, None}
 use Rattle.std.specs.Int.{bit_at}
 use Rattle.sv_logs.specs.Since.{Since, last_given}
 use Rattle.sv_status.specs.declared.standard_event.StandardAct.{StandardAct}
 use Rattle.sv_status.specs.declared.standard_event.StandardAct.TheVariants.{Occur, Read, SetEnable, Clear}
 
--- An event occurs at the newest act; power on, bit 7, occurs before all acts.
+-- Event k occurs at the newest act. Power on (bit 7) occurs before all acts.
 abbrev pub Occurs : ℕ → List StandardAct → Type 0
 Occurs k [] = k ≡ 7
 Occurs k (Occur bits ∷ acts) = bit_at bits k ≡ 1
@@ -15,7 +15,7 @@ Occurs k (_ ∷ acts) = ⊥
 abbrev pub NotCleared : List StandardAct → Type 0
 NotCleared = elim [ Read ∷ acts ↦ ⊥ | Clear ∷ acts ↦ ⊥ | _ ↦ ⊤ ]
 
--- A bit of the standard event status register is set: its event occurred after the last clearing.
+-- Bit k of the standard event status register is set: event k occurred after the last clearing.
 abbrev pub Stands : ℕ → List StandardAct → Type 0
 Stands k acts = Since (Occurs k) NotCleared acts
 
@@ -23,7 +23,7 @@ Stands k acts = Since (Occurs k) NotCleared acts
 abbrev pub enable : List StandardAct → ℕ
 enable = last_given (elim [ SetEnable word ↦ Some word | _ ↦ None ]) 0
 
--- Some event is set and enabled.
+-- Some bit is set both in the register and in the enable.
 abbrev pub Summary : List StandardAct → Type 0
 Summary acts = (k : ℕ) × Stands k acts × (bit_at (enable acts) k ≡ 1)
 

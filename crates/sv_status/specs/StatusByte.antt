@@ -1,23 +1,23 @@
--- The status byte and requests for service (IEEE 488.2, 11.2 and 11.3), by a search of the acts, the newest first.
+-- The status byte and requests for service (IEEE 488.2, 11.2 and 11.3). They are defined by a search of the acts, the newest first.
 use Rattle.std.specs.Prelude.{◌≡◌, ◌≢◌, ◌↔◌, ◌⊎◌, ℕ, Bool, true, List, [], ◌∷◌, Some, None}
 use Rattle.std.specs.Int.{bit_at}
 use Rattle.sv_logs.specs.Since.{Since, last_given}
 use Rattle.sv_status.specs.declared.status_byte.StatusAct.{StatusAct}
 use Rattle.sv_status.specs.declared.status_byte.StatusAct.TheVariants.{Update, Poll}
 
--- the summary bits, as last given
+-- the summary bits, as last set
 abbrev pub bits : List StatusAct → ℕ
 bits = last_given (elim [ Update word mask ↦ Some word | _ ↦ None ]) 0
 
--- the service request enable, as last given
+-- the service request enable, as last set
 abbrev pub enable : List StatusAct → ℕ
 enable = last_given (elim [ Update word mask ↦ Some mask | _ ↦ None ]) 0
 
--- This bit is a summary bit, which bit 6 isn't, and it is set and enabled.
+-- Bit k is set in `word` and enabled in `mask`. It isn't bit 6, which is no summary bit.
 abbrev pub ServiceRequested : ℕ → ℕ → ℕ → Type 0
 ServiceRequested k word mask = (k ≢ 6) × (bit_at word k ≡ 1) × (bit_at mask k ≡ 1)
 
--- After these acts this bit is a summary bit, which bit 6 isn't, and it is set and enabled.
+-- After these acts, bit k is a summary bit (bit 6 isn't one) that is set and enabled.
 abbrev pub ServiceRequestedAt : ℕ → List StatusAct → Type 0
 ServiceRequestedAt k acts = ServiceRequested k (bits acts) (enable acts)
 
@@ -25,12 +25,12 @@ ServiceRequestedAt k acts = ServiceRequested k (bits acts) (enable acts)
 abbrev pub Master : List StatusAct → Type 0
 Master acts = (k : ℕ) × ServiceRequestedAt k acts
 
--- A reason for service arises at the newest act: some bit is set and enabled that wasn't both before.
+-- A reason for service arises at the newest act: after it, some summary bit is both set and enabled, and before it, that bit wasn't both.
 abbrev pub Reason : List StatusAct → Type 0
 Reason [] = ⊥
 Reason (act ∷ before) = (k : ℕ) × ServiceRequestedAt k (act ∷ before) × (ServiceRequestedAt k before → ⊥)
 
--- The newest act keeps a request: it isn't a poll, and the master summary is set.
+-- The newest act lets a pending request last: it isn't a poll, and the master summary is set after it.
 abbrev pub Lasts : List StatusAct → Type 0
 Lasts (Poll ∷ acts) = ⊥
 Lasts acts = Master acts
@@ -39,16 +39,16 @@ Lasts acts = Master acts
 abbrev pub Request : List StatusAct → Type 0
 Request acts = Since Reason Lasts acts
 
--- A request is raised at the newest act: it is pending after that act, and wasn't before.
+-- A request is raised at the newest act: it is pending after that act, and none was pending before.
 abbrev pub IsRaised : List StatusAct → Type 0
 IsRaised [] = ⊥
 IsRaised (act ∷ before) = Request (act ∷ before) × (Request before → ⊥)
 
--- A bit of the status byte as a poll gives it: bit 6 is the request.
+-- Bit k of the status byte that a poll returns is set. Bit 6 is the request for service.
 abbrev pub StatusBit : ℕ → List StatusAct → Type 0
 StatusBit k acts = ((k ≢ 6) × (bit_at (bits acts) k ≡ 1)) ⊎ ((k ≡ 6) × Request acts)
 
--- A bit of the status byte as `*STB?` gives it (IEEE 488.2, 11.2.2.2): bit 6 is the master summary.
+-- Bit k of the status byte that `*STB?` returns is set (IEEE 488.2, 11.2.2.2). Bit 6 is the master summary.
 abbrev pub MasterBit : ℕ → List StatusAct → Type 0
 MasterBit k acts = ((k ≢ 6) × (bit_at (bits acts) k ≡ 1)) ⊎ ((k ≡ 6) × Master acts)
 

@@ -8,7 +8,7 @@ use std::marker::Model;
 use std::mem::replace;
 use sv_errors::Layer;
 
-/// Bit 15, which is dropped from a mask that is set.
+/// Bit 15, which is dropped from each filter and enable that is set.
 const MASK_END: u16 = 1 << 15;
 /// The filter that passes every bit.
 const ALL: u16 = 32767;
@@ -73,22 +73,22 @@ impl Model for Register {
 }
 
 impl Register {
-    /// A register as at power on: its positive filter is 32767, all else is 0.
+    /// A register as it is at power on: its positive filter is 32767, and all else is 0.
     pub fn new() -> Register
         ensures { StandsFor 0 result [] }
     {
         Register::starting(0)
     }
 
-    /// A register as at power on whose summary is a bit of another register's condition. Its enable
-    /// is 32767, also after a preset; all else is as in [`Register::new`].
+    /// A register whose summary is a bit of another register's condition, as it is at power on. Its
+    /// enable is 32767, also after a preset; all else is as in [`Register::new`].
     pub fn nested() -> Register
         ensures { StandsFor 32767 result [] }
     {
         Register::starting(ALL)
     }
 
-    /// A register with this enable at power on.
+    /// A register as it is at power on, with `start` as its enable then and after a preset.
     fn starting(start: u16) -> Register
         ensures { StandsFor start result [] }
     {
@@ -102,8 +102,8 @@ impl Register {
         }
     }
 
-    /// Sets the condition. A bit of the event register is set if its condition rises and its
-    /// positive filter is on, or falls and its negative filter is on.
+    /// Sets the condition. A bit of the event register becomes set if this bit of the condition
+    /// rises and its positive filter is on, or if it falls and its negative filter is on.
     pub fn condition(&mut self, word: u16)
         ensures { (start : ℕ) (acts : List RegisterAct) → StandsFor start self.old acts
             → StandsFor start self.new (RegisterAct.Condition word ∷ acts) }
@@ -131,7 +131,7 @@ impl Register {
         self.enable = enable % MASK_END;
     }
 
-    /// Reads the event register, which clears it.
+    /// Returns the event register and clears it.
     pub fn read_event(&mut self) -> u16
         ensures stands { (start : ℕ) (acts : List RegisterAct) → StandsFor start self.old acts
             → StandsFor start self.new (RegisterAct.ReadEvent ∷ acts) }
@@ -142,7 +142,7 @@ impl Register {
     }
 
     /// Presets the filters and the enable: the positive filter to 32767, the negative one to 0, and
-    /// the enable to its value at power on. Event bits stay.
+    /// the enable to its value at power on. The event register doesn't change.
     pub fn preset(&mut self)
         ensures { (start : ℕ) (acts : List RegisterAct) → StandsFor start self.old acts
             → StandsFor start self.new (RegisterAct.Preset ∷ acts) }
@@ -152,7 +152,7 @@ impl Register {
         self.enable = self.start;
     }
 
-    /// Clears the event register. Filters and enable stay.
+    /// Clears the event register. Filters and enable don't change.
     pub fn clear(&mut self)
         ensures { (start : ℕ) (acts : List RegisterAct) → StandsFor start self.old acts
             → StandsFor start self.new (RegisterAct.Clear ∷ acts) }
@@ -184,7 +184,7 @@ impl Register {
         self.fall
     }
 
-    /// The event register. This doesn't clear it.
+    /// The event register, without clearing it.
     pub fn event(&self) -> u16
         ensures { (start : ℕ) (acts : List RegisterAct) → StandsFor start self.now acts
             → (k : ℕ) → (bit_at result k ≡ 1) ↔ EventStands k acts }
@@ -200,7 +200,7 @@ impl Register {
         self.enable
     }
 
-    /// Whether some event bit is set and enabled.
+    /// Whether some bit is set both in the event register and in the enable.
     pub fn summary(&self) -> bool
         ensures { (start : ℕ) (acts : List RegisterAct) → StandsFor start self.now acts
             → (result ≡ true) ↔ Summary start acts }

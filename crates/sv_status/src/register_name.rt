@@ -6,10 +6,10 @@ pub enum RegisterName {
     /// What the instrument is doing, such as measuring or waiting for a trigger:
     /// `STATus:OPERation`. Its summary is bit 7 of the status byte.
     Operation,
-    /// What makes readings doubtful, such as an overload or a limit that is passed:
+    /// What makes readings doubtful, such as an overload or a voltage outside the limits:
     /// `STATus:QUEStionable`. Its summary is bit 3 of the status byte.
     Questionable,
-    /// Which limit is passed: `STATus:QUEStionable:LIMit`. Its summary is bit 9 of the condition of
-    /// [`RegisterName::Questionable`].
+    /// Which limit is passed, by a reading or by the monitored input: `STATus:QUEStionable:LIMit`.
+    /// Its summary is bit 9 of the condition of [`RegisterName::Questionable`].
     Limit,
 }

@@ -8,13 +8,13 @@ use std::marker::Model;
 use std::mem::replace;
 use sv_errors::Layer;
 
-/// Power on, which is set in a new register.
+/// The bit of power on, which is set in a new register.
 const POWER_ON: u8 = 1 << 7;
 
 /// An act of the register.
 #[derive(Clone, Copy, Debug, PartialEq, Eq)]
 pub enum StandardAct {
-    /// Events occur: those with these bits.
+    /// The events of these bits occur.
     Occur(u8),
     /// The register is read, which clears it.
     Read,
@@ -49,7 +49,7 @@ impl Model for StandardEvent {
 }
 
 impl StandardEvent {
-    /// The register as at power on: power on (bit 7) is set, and nothing is enabled.
+    /// The register as it is at power on: bit 7 (power on) is set, and no event is enabled.
     pub fn new() -> StandardEvent
         ensures { StandsFor result [] }
     {
@@ -59,7 +59,7 @@ impl StandardEvent {
         }
     }
 
-    /// The events with these bits occur.
+    /// Sets the bits of events that occur.
     pub fn occur(&mut self, bits: u8)
         ensures { (acts : List StandardAct) → StandsFor self.old acts
             → StandsFor self.new (StandardAct.Occur bits ∷ acts) }
@@ -67,7 +67,7 @@ impl StandardEvent {
         self.event |= bits;
     }
 
-    /// Reads the register, which clears it.
+    /// Returns the register and clears it.
     pub fn read(&mut self) -> u8
         ensures stands { (acts : List StandardAct) → StandsFor self.old acts
             → StandsFor self.new (StandardAct.Read ∷ acts) }
@@ -85,7 +85,7 @@ impl StandardEvent {
         self.enable = enable;
     }
 
-    /// Clears the register. The enable stays.
+    /// Clears the register. The enable doesn't change.
     pub fn clear(&mut self)
         ensures { (acts : List StandardAct) → StandsFor self.old acts
             → StandsFor self.new (StandardAct.Clear ∷ acts) }
@@ -93,7 +93,7 @@ impl StandardEvent {
         self.event = 0;
     }
 
-    /// The standard event register. This doesn't clear it.
+    /// The standard event status register, without clearing it.
     pub fn event(&self) -> u8
         ensures { (acts : List StandardAct) → StandsFor self.now acts → (k : ℕ)
             → (bit_at result k ≡ 1) ↔ Stands k acts }
@@ -108,7 +108,7 @@ impl StandardEvent {
         self.enable
     }
 
-    /// Whether some event is set and enabled.
+    /// Whether some bit is set both in the register and in the enable.
     pub fn summary(&self) -> bool
         ensures { (acts : List StandardAct) → StandsFor self.now acts
             → (result ≡ true) ↔ Summary acts }

@@ -7,7 +7,7 @@ ghost use Rattle.sv_status.specs.StatusByte.{StandsFor, ServiceRequested, Status
 use std::marker::Model;
 use sv_errors::Layer;
 
-/// Bit 6, which isn't a summary bit: it shows the request for service, or the master summary.
+/// Bit 6, which isn't a summary bit. It shows the request for service or the master summary.
 const REQUEST: u8 = 1 << 6;
 
 /// An act of the status byte.
@@ -15,7 +15,7 @@ const REQUEST: u8 = 1 << 6;
 pub enum StatusAct {
     /// Summary bits and service request enable are set.
     Update {
-        /// The summary bits. Bit 6 is ignored; the caller keeps bits 1 and 0 at 0.
+        /// The summary bits. Bit 6 is ignored. The caller always passes 0 in bits 1 and 0.
         bits: u8,
         /// The service request enable; bit 6 is ignored.
         enable: u8,
@@ -27,7 +27,7 @@ pub enum StatusAct {
 /// The answer to an act of the status byte.
 #[derive(Clone, Copy, Debug, PartialEq, Eq)]
 pub enum StatusAnswer {
-    /// Whether a request for service is raised.
+    /// Whether the update raises a request for service.
     Raised(bool),
     /// The status byte as it was before it was polled.
     Status(u8),
@@ -50,7 +50,8 @@ impl Model for StatusByte {
 }
 
 impl StatusByte {
-    /// The status byte as at power on: no bit is set, none is enabled, and no request is pending.
+    /// The status byte as it is at power on: no bit is set, no bit is enabled, and no request is
+    /// pending.
     pub fn new() -> StatusByte
         ensures { StandsFor result [] }
     {
@@ -61,8 +62,9 @@ impl StatusByte {
         }
     }
 
-    /// Sets summary bits and service request enable, and returns whether this raises a request for
-    /// service: some bit is set and enabled that wasn't both before, and no request was pending.
+    /// Sets the summary bits and the service request enable, and returns whether this raises a
+    /// request for service. It does if no request was pending, and some summary bit is now both set
+    /// and enabled that wasn't both before.
     pub fn update(&mut self, bits: u8, enable: u8) -> bool
         ensures stands { (acts : List StatusAct) → StandsFor self.old acts
             → StandsFor self.new (StatusAct.Update bits enable ∷ acts) }
@@ -79,7 +81,7 @@ impl StatusByte {
         raised
     }
 
-    /// The status byte with the request for service in bit 6. The poll ends the request (IEEE
+    /// Returns the status byte with the request for service in bit 6, and ends the request (IEEE
     /// 488.2, 11.2.2.1).
     pub fn poll(&mut self) -> u8
         ensures stands { (acts : List StatusAct) → StandsFor self.old acts
@@ -92,7 +94,7 @@ impl StatusByte {
         status
     }
 
-    /// The status byte with the master summary in bit 6, as `*STB?` gives it (IEEE 488.2,
+    /// The status byte as `*STB?` returns it, with the master summary in bit 6 (IEEE 488.2,
     /// 11.2.2.2). Nothing changes.
     pub fn status(&self) -> u8
         ensures { (acts : List StatusAct) → StandsFor self.now acts → (k : ℕ)
@@ -101,14 +103,14 @@ impl StatusByte {
         with_bit_6(self.bits, self.mss())
     }
 
-    /// The service request enable, with bit 6 as it was set.
+    /// The service request enable, as last set. It includes bit 6.
     pub fn enable(&self) -> u8
         ensures { (acts : List StatusAct) → StandsFor self.now acts → result ≡ enable_of acts }
     {
         self.enable
     }
 
-    /// The master summary: whether some bit but bit 6 is set and enabled.
+    /// The master summary: whether some summary bit (bit 6 isn't one) is set and enabled.
     pub fn mss(&self) -> bool
         ensures { (acts : List StatusAct) → StandsFor self.now acts
             → (result ≡ true) ↔ Master acts }
@@ -125,14 +127,14 @@ impl StatusByte {
     }
 }
 
-/// The summary bits that are set and enabled.
+/// The summary bits that are both set and enabled.
 fn asking(bits: u8, enable: u8) -> u8
     ensures { (k : ℕ) → (bit_at result k ≡ 1) ↔ ServiceRequested k bits enable }
 {
     bits & enable & !REQUEST
 }
 
-/// These bits, with bit 6 set if `stands` is true, else cleared.
+/// `bits`, with bit 6 set if `stands` is true, and cleared if not.
 fn with_bit_6(bits: u8, stands: bool) -> u8
     ensures { (k : ℕ) → (bit_at result k ≡ 1)
         ↔ (((k ≢ 6) × (bit_at bits k ≡ 1)) ⊎ ((k ≡ 6) × (stands ≡ true))) }

@@ -10,22 +10,22 @@ pub enum Lead {
     Common,
     /// A colon: the header starts at the root.
     Root,
-    /// Nothing: the header continues the path.
+    /// Neither: the header continues the path of the header before it.
     Onward,
 }
 
-/// A header in its parts. All bytes have these parts, even if they aren't a header.
+/// A header, split into its parts. Any bytes can be split so, even if they aren't a header.
 #[derive(Clone, Copy, Debug)]
 pub struct Header<'a> {
     /// What the header begins with.
     pub lead: Lead,
     /// The mnemonics and the colons between them.
     pub body: &'a [u8],
-    /// Whether a question mark ends it.
+    /// Whether a question mark ends the header.
     pub query: bool,
 }
 
-/// Takes a header apart.
+/// Splits a header into its parts.
 pub fn header_parts(header: &[u8]) -> Header<'_>
     ensures lead { result.lead ≡ lead_of header.now }
     ensures body { result.body.now ≡ body header.now }

@@ -5,8 +5,8 @@ ghost use Rattle.sv_text.specs.Cut.{cut_at};
 
 use crate::place::place_of;
 
-/// The part before the first separator, and the bytes after it; without a separator, all bytes and
-/// `None`.
+/// The part before the first separator, and the bytes after this separator. If there is no
+/// separator: all bytes, and `None`.
 pub fn first_part(bytes: &[u8], separator: u8) -> (&[u8], Option<&[u8]>)
     ensures parts { MatchOption result.1 (cut_at separator bytes.now ≡ result.0.now ∷ [])
         (λ behind. cut_at separator bytes.now ≡ result.0.now ∷ cut_at separator behind.now) }

@@ -7,7 +7,7 @@ use Rattle.std.specs.Str.Parse.{digits_value}
 use Rattle.sv_errors.specs.declared.code.Code.{Code}
 use Rattle.sv_errors.specs.declared.code.Code.TheVariants.{SyntaxError, InvalidCharacterInNumber}
 
--- the base of H (16), Q (8) or B (2), in either case
+-- the base that a letter names, in upper or lower case: 16 for H, 8 for Q, 2 for B
 abbrev pub base_of : ℕ → Option ℕ
 base_of letter =
     if letter == 72 || letter == 104 then Some 16 else if letter == 81 || letter == 113 then Some 8 else if letter == 66 || letter == 98
@@ -25,8 +25,8 @@ read_digits (Some base) digits =
     else if not (list_all (λ b. is_digit b base) digits) then Err InvalidCharacterInNumber
     else Ok (pos (digits_value base digits))
 
--- the value of a number sign, a letter for the base, and digits; or the first error: the letter names no base or no digit follows it
--- (-102), a later byte isn't a digit of the base (-121)
+-- the value of `#`, a letter for the base, and digits; or the first error that applies: -102 if the letter names no base or no digit of the
+-- base follows it; -121 if a later byte isn't a digit of the base
 abbrev pub read_based : List ℕ → Result ℤ Code
 read_based (sign ∷ letter ∷ digits) = read_digits (base_of letter) digits
 read_based _ = Err SyntaxError

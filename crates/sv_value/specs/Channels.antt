@@ -50,8 +50,8 @@ abbrev pub channel_range : ℕ → ℕ → List ℕ
 channel_range first last = if nat_le first last then range_with_len first (last - first + 1) else reverse
     (range_with_len last (first - last + 1))
 
--- The channels so far, then those of the next item and of the items after it. Or the first error: an end that isn't a channel (-222), then
--- more channels so far than a list may have (-223). Texts that aren't items (-171) are found by `read_items` before.
+-- The channels so far, then those of the next item and of the items after it. Or the first error: -222 if an end of the item isn't a
+-- channel; then -223 if the list is longer with this item than a list may be. Items of the wrong form (-171) were found by `read_items`.
 abbrev pub next : Option Span → List ℕ → (List ℕ → Result (List ℕ) Code) → Result (List ℕ) Code
 next None before others = Err InvalidExpression
 next (Some ends) before others =
@@ -64,7 +64,7 @@ abbrev pub list_channels : List ℕ → List (List ℕ) → Result (List ℕ) Co
 list_channels before [] = Ok before
 list_channels before (item ∷ items) = next (span item) before (λ so_far. list_channels so_far items)
 
--- the channels of the items between the parentheses, or the first error; -171 if one of them isn't an item
+-- the channels of all items between the parentheses, or the first error; -171 if a text between commas isn't an item
 abbrev pub read_items : List ℕ → Result (List ℕ) Code
 read_items text = if list_all (λ item. is_some (span item)) (cut_at 44 text) then list_channels []
     (cut_at 44 text) else Err InvalidExpression

@@ -23,12 +23,12 @@ abbrev pub behind_sign : List ℕ → List ℕ
 behind_sign [] = []
 behind_sign (b ∷ text) = if b == 43 || b == 45 then text else b ∷ text
 
--- the digits after a point at the front of the text
+-- the digits after a leading point; none if the text doesn't begin with a point
 abbrev pub fraction_in : List ℕ → List ℕ
 fraction_in [] = []
 fraction_in (b ∷ text) = if b == 46 then digits_in text else []
 
--- the text after a point at its front and the digits that follow it; without a point, the whole text
+-- the text after a leading point and the digits that follow the point; the whole text if it doesn't begin with a point
 abbrev pub behind_fraction : List ℕ → List ℕ
 behind_fraction [] = []
 behind_fraction (b ∷ text) = if b == 46 then behind_digits text else b ∷ text
@@ -71,7 +71,7 @@ behind_whole text = behind_digits (behind_sign text)
 abbrev pub behind_mantissa : List ℕ → List ℕ
 behind_mantissa text = behind_fraction (behind_whole text)
 
--- the parts of a text as a number
+-- the parts of a text when it is read as a number
 abbrev pub number_parts : List ℕ → Parts
 number_parts text = record {
   negative = has_minus text;

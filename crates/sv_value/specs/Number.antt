@@ -1,4 +1,4 @@
--- The value of a decimal number: a fraction of two whole numbers, rounded to the nearest, half away from zero.
+-- The value of a decimal number: the quotient of two whole numbers, rounded to the nearest whole number, half away from zero.
 use Rattle.std.specs.Prelude.{ℕ, ◌+◌, ◌-◌, ◌*◌, ◌/◌, ◌^◌, ℤ, pos, neg_ℤ, ◌==◌, Bool, List, ◌++◌, length, nat_lt, not, Option, Some, None, Result, Ok, Err, if◌then◌else◌}
 use Rattle.std.specs.List.{position_or_len}
 use Rattle.std.specs.Str.Parse.{digits_value}
@@ -18,7 +18,7 @@ right number = if number.down then 0 else digits_value 10 number.exponent
 abbrev pub left : Parts → ℕ
 left number = if number.down then digits_value 10 number.exponent else 0
 
--- the magnitude of a number, rounded, in a unit that is smaller by this power of ten
+-- the magnitude of a number times this power of ten, rounded to a whole number
 abbrev pub magnitude : ℕ → Parts → ℕ
 magnitude power number = nearest (digits_value 10 (number.whole ++ number.fraction) * 10 ^ (power + right number))
     (10 ^ (length number.fraction + left number))
@@ -31,8 +31,9 @@ signed negative n = if negative then neg_ℤ (pos n) else pos n
 abbrev pub significant_digits : List ℕ → ℕ
 significant_digits digits = length digits - position_or_len (λ b. not (b == 48)) digits
 
--- The value of a number, given the power of ten of its suffix, which is `None` if the suffix isn't allowed. Or the first error: it isn't a
--- number (-121), the suffix isn't allowed (`suffix_code`), more than 255 significant digits (-124), an exponent above 32000 (-123).
+-- The value of a number. The first argument is the power of ten of its suffix, or `None` if the suffix isn't allowed. Or the first error
+-- that applies: -121 if it isn't a number; `suffix_code` if the suffix isn't allowed; -124 for more than 255 significant digits; -123 for
+-- an exponent above 32000 in magnitude.
 abbrev pub read_with : Option ℕ → Code → Parts → Result ℤ Code
 read_with None suffix_code number = if not (is_spelled number) then Err InvalidCharacterInNumber else Err suffix_code
 read_with (Some power) suffix_code number =

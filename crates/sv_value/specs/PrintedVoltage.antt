@@ -3,7 +3,7 @@ use Rattle.std.specs.Prelude.{◌≡◌, ℕ, ◌-◌, ◌/◌, ◌%◌, ◌≤�
 use Rattle.sv_lexer.specs.Token.{kind_of}
 use Rattle.sv_value.specs.Value.{read_voltage}
 
--- the sign; 0 has a plus
+-- the sign of a voltage: 0 has a plus
 abbrev pub sign : ℤ → ℕ
 sign (pos n) = 43
 sign (negsuc n) = 45

@@ -7,7 +7,7 @@ use Rattle.sv_errors.specs.declared.code.Code.{Code}
 use Rattle.sv_errors.specs.declared.source.Source.{Source}
 use Rattle.sv_errors.specs.declared.source.Source.TheVariants.{Immediate, Bus, External}
 
--- an overload, below the range or above it: 9.9E37 (SCPI-1999, volume 1, 7.2.1.5)
+-- an overload: -9.9E+37 below the range, +9.9E+37 above it (SCPI-1999, volume 1, 7.2.1.5)
 abbrev pub overload_text : Bool → List ℕ
 overload_text below = if below then codes "-9.9E+37" else codes "+9.9E+37"
 

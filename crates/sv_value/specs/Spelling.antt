@@ -40,7 +40,7 @@ IsTail text number = ((exponent behind : List ℕ) × (text ≡ exponent ++ behi
     × IsSuffix behind number.suffix)
     ⊎ (NoExponent text × (number.down ≡ false) × (number.exponent ≡ []) × IsSuffix text number.suffix)
 
--- The text is a number with these parts: a sign or none, digits, a point and digits; then an exponent or none, and a suffix or none. The
+-- The text is a number with these parts: a sign or none; digits; a point with digits or none; an exponent or none; a suffix or none. The
 -- mantissa has at least one digit.
 abbrev pub Spells : List ℕ → Parts → Type 0
 Spells text number = (sign fraction tail : List ℕ) × (text ≡ sign ++ (number.whole ++ (fraction ++ tail))) × IsSign sign number.negative

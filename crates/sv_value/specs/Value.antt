@@ -13,7 +13,7 @@ use Rattle.std.specs.Str.{str_eq_ignore_ascii_case as is_same}
 use Rattle.sv_value.specs.Choice.{read_switch, read_keyword}
 use Rattle.sv_value.specs.Channels.{read_list}
 
--- the power of ten of a suffix's unit in microvolts; no suffix means volts; `None` for a suffix that isn't allowed
+-- the power of ten that turns a suffix's unit into microvolts; no suffix means volts; `None` for a suffix that isn't allowed
 abbrev pub power_of_volts : List ℕ → Option ℕ
 power_of_volts suffix =
     if is_empty suffix || is_same suffix (codes "V") then Some 6
@@ -52,13 +52,13 @@ read_whole low high Number text = within low high (read_decimal power_of_none Su
 read_whole low high Base text = within low high (read_based text)
 read_whole low high kind text = Err (wrong_kind kind)
 
--- whether a number is on: 0 is off, all others are on
+-- a number as a boolean: 0 is off, every other number is on
 abbrev pub is_on : Result ℤ Code → Result Bool Code
 is_on (Err code) = Err code
 is_on (Ok (negsuc n)) = Ok true
 is_on (Ok (pos n)) = Ok (if n == 0 then false else true)
 
--- a boolean, from a number, ON or OFF; or the first error
+-- a boolean, given as a number, ON or OFF; or the first error
 abbrev pub read_boolean : Kind → List ℕ → Result Bool Code
 read_boolean Number text = is_on (read_decimal power_of_none SuffixNotAllowed text)
 read_boolean Base text = is_on (read_based text)

@@ -13,10 +13,10 @@ use crate::digits::value_after;
 use crate::number::magnitude;
 use sv_errors::{Code, MOST_MICROVOLTS};
 
-/// The most digits of a mantissa, without the zeros in front.
+/// The most digits that a mantissa may have, not counting leading zeros.
 const MOST_DIGITS: usize = 255;
 
-/// The largest magnitude of an exponent.
+/// The largest magnitude that an exponent may have.
 const MOST_EXPONENT: u64 = 32_000;
 
 /// A whole number, whose magnitude is capped at a bound beyond the range of every parameter.
@@ -29,8 +29,8 @@ pub(crate) struct Amount {
 }
 
 impl Amount {
-    /// A decimal number times 10 to the power `power`, rounded to a whole number; or its error.
-    /// Without a power the suffix is wrong: the error is `suffix_code`.
+    /// Returns a decimal number times 10 to the power `power`, rounded to a whole number; or its
+    /// error. `power` is `None` if the suffix isn't allowed: then the error is `suffix_code`.
     pub(crate) fn of(
         number: &Decimal<'_>,
         power: Option<u64>,
@@ -61,7 +61,7 @@ impl Amount {
         })
     }
 
-    /// The voltage, in microvolts, if it is within 1,000 V.
+    /// Returns the voltage in microvolts, if its magnitude is at most 1,000 V; else the error.
     pub(crate) fn in_volts(self) -> Result<i64, Code>
         ensures value { (answer : Result ℤ ErrorCode) → StandsFor self answer
             → result ≡ within_volts answer }
@@ -74,7 +74,7 @@ impl Amount {
         Ok(if self.negative { -value } else { value })
     }
 
-    /// The number, if it is from `low` to `high`.
+    /// Returns the number, if it is from `low` to `high`; else the error.
     pub(crate) fn in_range(self, low: u16, high: u16) -> Result<u16, Code>
         ensures value { (answer : Result ℤ ErrorCode) → StandsFor self answer
             → result ≡ within low high answer }
@@ -87,7 +87,7 @@ impl Amount {
         Ok(self.magnitude as u16)
     }
 
-    /// Whether the number isn\'t 0.
+    /// Whether the number isn't 0.
     pub(crate) fn is_some(self) -> bool
         ensures { (answer : Result ℤ ErrorCode) → StandsFor self answer → is_on answer ≡ Ok result }
     {

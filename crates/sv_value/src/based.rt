@@ -10,7 +10,8 @@ use crate::amount::Amount;
 use crate::digits::{value_after, value_of};
 use sv_errors::Code;
 
-/// Reads a number sign, a letter for the base and digits, such as `#H1F`; or gives the error.
+/// Reads a number in another base: `#`, a letter for the base, and digits, such as `#H1F`. Returns
+/// the number or its error.
 pub(crate) fn based(text: &[u8]) -> Result<Amount, Code>
     ensures { MatchResult result (λ amount. StandsFor amount (read_based text.now))
         (λ code. read_based text.now ≡ Err code) }
@@ -37,7 +38,7 @@ fn base_of(letter: u8) -> Option<u8>
     }
 }
 
-/// The number that digits of a base give, or the error.
+/// Returns the value of digits in this base, or the error.
 fn in_base(base: u8, digits: &[u8]) -> Result<Amount, Code>
     requires low { 2 ≤ base }
     requires high { base ≤ 16 }

@@ -21,7 +21,7 @@ struct Span {
     last: u64,
 }
 
-/// Reads a channel list, or gives its error.
+/// Reads a channel list, and returns its channels or its error.
 pub(crate) fn channels_of(text: &[u8]) -> Result<ArrayVec<u8, LONGEST_LIST>, Code>
     ensures { MatchResult result (λ list. read_list text.now ≡ Ok list.items)
         (λ code. read_list text.now ≡ Err code) }
@@ -72,7 +72,7 @@ fn listed(items: &[u8]) -> Result<ArrayVec<u8, LONGEST_LIST>, Code>
     Ok(list)
 }
 
-/// Adds the channels of an item, or gives its error.
+/// Adds the channels of an item to the list, or returns the error of the item.
 fn add(list: &mut ArrayVec<u8, LONGEST_LIST>, item: &[u8]) -> Result<(), Code>
     ensures { MatchResult result
         (λ done. (others : List ℕ → Result (List ℕ) ErrorCode)
@@ -111,7 +111,7 @@ fn push_run(list: &mut ArrayVec<u8, LONGEST_LIST>, first: u8, last: u8)
     list.push(channel);
 }
 
-/// The two ends of an item; `None` if it doesn't have the form of one.
+/// Returns the two ends of an item; `None` if the text doesn't have the form of an item.
 fn ends_of(item: &[u8]) -> Option<Span>
     ensures { result ≡ ends_up_to (ends item.now) }
 {
@@ -124,7 +124,7 @@ fn ends_of(item: &[u8]) -> Option<Span>
     }
 }
 
-/// The two ends of an item with a colon between them.
+/// Returns the two ends of an item, given the texts in front of its first colon and behind it.
 fn two_ends(front: &[u8], back: &[u8]) -> Option<Span>
     ensures { result ≡ ends_up_to (span_of (front.now ∷ cut_at 58 back.now)) }
 {
@@ -138,7 +138,7 @@ fn two_ends(front: &[u8], back: &[u8]) -> Option<Span>
     }
 }
 
-/// The number that digits, perhaps with white space around them, give; `None` for other text.
+/// Returns the value of digits, with or without white space around them; `None` for any other text.
 fn number(text: &[u8]) -> Option<u64>
     ensures { result ≡ number_up_to text.now }
 {

@@ -8,7 +8,7 @@ ghost use Rattle.sv_value.specs.Choice.{read_keyword, read_switch};
 
 use sv_errors::{Code, Source};
 
-/// The source of triggers that a word names, or the error.
+/// Returns the source of triggers that a word names, or the error.
 pub(crate) fn keyword_of(text: &[u8]) -> Result<Source, Code>
     ensures { result ≡ read_keyword text.now }
 {
@@ -27,7 +27,7 @@ pub(crate) fn keyword_of(text: &[u8]) -> Result<Source, Code>
     Err(Code::IllegalParameterValue)
 }
 
-/// Whether a word is ON or OFF, or the error.
+/// Returns `true` for ON and `false` for OFF, or the error.
 pub(crate) fn switch_of(text: &[u8]) -> Result<bool, Code>
     ensures { result ≡ read_switch text.now }
 {

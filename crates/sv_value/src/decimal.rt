@@ -1,4 +1,4 @@
-//! Decimal numbers in their parts.
+//! Decimal numbers, split into their parts.
 
 ghost use Rattle.std.specs.Prelude.{◌≡◌, true};
 ghost use Rattle.sv_text.specs.Front.{has_minus};
@@ -10,7 +10,7 @@ ghost use Rattle.sv_value.specs.Plain.{plain};
 use crate::digits::digits;
 use sv_text::without_start;
 
-/// A decimal number in its parts.
+/// A decimal number, split into its parts.
 #[derive(Clone, Copy, Debug)]
 pub(crate) struct Decimal<'a> {
     /// Whether the number begins with a minus.
@@ -49,7 +49,7 @@ impl<'a> Decimal<'a> {
         }
     }
 
-    /// Whether it is a number: it has a digit, and the text after the number, if any, begins with a
+    /// Whether this is a number: the mantissa has a digit, and the suffix is empty or begins with a
     /// letter.
     pub(crate) fn is_spelled(&self) -> bool
         ensures { result ≡ is_spelled_number (plain self.now) }
@@ -69,7 +69,8 @@ fn begins_well(suffix: &[u8]) -> bool
     }
 }
 
-/// Whether a text begins with a minus, and the text after its sign, if it has one.
+/// Returns whether a text begins with a minus, and the text after its sign: the whole text if it
+/// has no sign.
 fn signed(text: &[u8]) -> (bool, &[u8])
     ensures minus { result.0 ≡ has_minus text.now }
     ensures behind { result.1.now ≡ behind_sign text.now }
@@ -109,7 +110,8 @@ fn exponent(text: &[u8]) -> (bool, &[u8], &[u8])
     }
 }
 
-/// The text after a leading `E` and the white space around it; empty if there is no `E`.
+/// Returns the text after a leading `E` and the white space around the `E`; empty if there is no
+/// `E`.
 fn behind_mark(text: &[u8]) -> &[u8]
     ensures { result.now ≡ mark_behind text.now }
 {

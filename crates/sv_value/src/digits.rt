@@ -6,11 +6,11 @@ ghost use Rattle.std.specs.List.{list_all};
 ghost use Rattle.std.specs.Str.Parse.{digits_value_after};
 ghost use Rattle.sv_value.specs.Decimal.{behind_digits, digits_in, digits_size};
 
-/// The bound at which values are capped. It is beyond every range.
+/// The bound at which values are capped. It is beyond the range of every parameter.
 pub(crate) const MOST: u64 = 1_000_000_000_000_000_000;
 
-/// The value of a number that continues with these digits after its front part, whose value is
-/// `front`; or [`MOST`] if it is more.
+/// Returns the value of a number that begins with digits of the value `front` and continues with
+/// `digits`; or [`MOST`] if the value is larger.
 pub(crate) fn value_after(base: u8, front: u64, digits: &[u8]) -> u64
     requires base { base ≤ 16 }
     requires some { 1 ≤ base }
@@ -27,7 +27,7 @@ pub(crate) fn value_after(base: u8, front: u64, digits: &[u8]) -> u64
     value
 }
 
-/// The value of a digit or a letter; 36 for any other byte.
+/// The value of a byte as a digit or a letter; 36 for any other byte.
 pub(crate) fn value_of(byte: u8) -> u8
     ensures value { result ≡ digit_value byte }
     ensures most { result ≤ 36 }

@@ -1,4 +1,5 @@
-//! The value of a decimal number in 64 bits, at most [`MOST`], which is beyond every range.
+//! The value of a decimal number in 64 bits, capped at [`MOST`], which is beyond the range of every
+//! parameter.
 
 ghost use Rattle.std.specs.Prelude.{◌≡◌, ◌≤◌, ◌<◌, ◌*◌, ◌^◌, ◌+◌, ◌++◌, true, min, length, take, slice_index_or, nat_le, if◌then◌else◌};
 ghost use Rattle.std.specs.Char.{digit_value, is_ascii_digit};
@@ -30,7 +31,7 @@ pub(crate) fn magnitude(number: &Decimal<'_>, power: u64) -> u64
     }
 }
 
-/// How far the exponent moves the point to the right, and to the left.
+/// Returns by how many places the exponent moves the point to the right, and to the left.
 fn moved(number: &Decimal<'_>) -> (u64, u64)
     requires { digits_value 10 number.now.exponent.now ≤ 32000 }
     ensures right { result.0 ≡ right (plain number.now) }
@@ -59,8 +60,8 @@ fn shifted(value: u64, tens: u64) -> u64
     MOST.min(value.saturating_mul(10_u64.pow(tens as u32)))
 }
 
-/// The value of all digits but the last `left_out`, rounded by these, half up; or [`MOST`] if it is
-/// more.
+/// Returns the value of all digits but the last `left_out`, rounded half up by the digits left out;
+/// or [`MOST`] if the value is larger.
 fn rounded(whole: &[u8], fraction: &[u8], left_out: u64) -> u64
     requires some { 1 ≤ left_out }
     requires whole { list_all is_ascii_digit whole.now ≡ true }
@@ -76,7 +77,8 @@ fn rounded(whole: &[u8], fraction: &[u8], left_out: u64) -> u64
     MOST.min(front + carry(next))
 }
 
-/// What rounding adds if this is the first digit left out: 1 from 5 on.
+/// Returns what rounding adds if this is the first digit that is left out: 1 for 5 and above, else
+/// 0.
 fn carry(digit: u8) -> u64
     ensures { result ≡ (if nat_le 5 digit then 1 else 0) }
 {

@@ -1,4 +1,5 @@
-//! Printing response data (IEEE 488.2, 8.7). Each function appends to a vector that has room.
+//! Printing response data (IEEE 488.2, 8.7). Each function appends to a vector, which must have
+//! room for the text.
 
 ghost use Rattle.std.specs.Prelude.{◌≡◌, ◌≤◌, ◌+◌, ◌*◌, ◌++◌, codes, decimal, length, unsigned_abs, vec_capacity, vec_len};
 ghost use Rattle.std.specs.Fmt.{signed_decimal};
@@ -13,8 +14,8 @@ use std::alloc::Allocator;
 use sv_bytes::append;
 use sv_errors::{Code, Source};
 
-/// Appends a voltage in microvolts, up to 1,000 V in magnitude, to bytes that have room for 12
-/// more: a sign (`+` for 0), whole volts, a point and six digits.
+/// Appends a voltage in microvolts, up to 1,000 V in magnitude: a sign (`+` for 0), whole volts, a
+/// point and six digits. `out` must have room for 12 more bytes.
 pub fn put_voltage<A: Allocator>(out: &mut Vec<u8, A>, microvolts: i64)
     requires room { vec_len out.old + 12 ≤ vec_capacity out.old }
     requires small { unsigned_abs microvolts ≤ 1000000000 }
@@ -27,8 +28,8 @@ pub fn put_voltage<A: Allocator>(out: &mut Vec<u8, A>, microvolts: i64)
     append(out, &buffer[..size]);
 }
 
-/// Appends an overload to bytes that have room for 8 more: `-9.9E+37` for a voltage below the
-/// range, else `+9.9E+37` (SCPI-1999, volume 1, 7.2.1.5).
+/// Appends an overload: `-9.9E+37` for a voltage below the range, else `+9.9E+37` (SCPI-1999,
+/// volume 1, 7.2.1.5). `out` must have room for 8 more bytes.
 pub fn put_overload<A: Allocator>(out: &mut Vec<u8, A>, below: bool)
     requires room { vec_len out.old + 8 ≤ vec_capacity out.old }
     ensures text { out.new.items ≡ out.old.items ++ overload_text below }
@@ -38,8 +39,8 @@ pub fn put_overload<A: Allocator>(out: &mut Vec<u8, A>, below: bool)
     append(out, if below { b"-9.9E+37" } else { b"+9.9E+37" });
 }
 
-/// Appends a whole number to bytes that have room for 10 more: its digits, without a sign or
-/// leading zeros.
+/// Appends a whole number: its digits, without a sign or leading zeros. `out` must have room for 10
+/// more bytes.
 pub fn put_whole<A: Allocator>(out: &mut Vec<u8, A>, number: u32)
     requires room { vec_len out.old + 10 ≤ vec_capacity out.old }
     ensures text { out.new.items ≡ out.old.items ++ whole_text number }
@@ -49,8 +50,8 @@ pub fn put_whole<A: Allocator>(out: &mut Vec<u8, A>, number: u32)
     append(out, Buffer::new().format(number).as_bytes());
 }
 
-/// Appends a channel list, such as `(@5,4,3,3)`, to bytes that have room for 3 more, and 4 for each
-/// channel.
+/// Appends a channel list, such as `(@5,4,3,3)`. `out` must have room for 3 more bytes, and 4 for
+/// each channel.
 pub fn put_channels<A: Allocator>(out: &mut Vec<u8, A>, channels: &[u8])
     requires room { vec_len out.old + (3 + 4 * length channels.now) ≤ vec_capacity out.old }
     ensures text { out.new.items ≡ out.old.items ++ channels_text channels.now }
@@ -62,9 +63,9 @@ pub fn put_channels<A: Allocator>(out: &mut Vec<u8, A>, channels: &[u8])
     append(out, b")");
 }
 
-/// Appends an entry of the error queue, such as `-113,"Undefined header"`, to bytes that have room
-/// for 40 more: its number, a comma, and its text in double quotes (SCPI-1999, volume 2, section
-/// 21.8).
+/// Appends an entry of the error queue, such as `-113,"Undefined header"`: its number, a comma, and
+/// its text in double quotes (SCPI-1999, volume 2, section 21.8). `out` must have room for 40 more
+/// bytes.
 pub fn put_error<A: Allocator>(out: &mut Vec<u8, A>, code: Code)
     requires room { vec_len out.old + 40 ≤ vec_capacity out.old }
     ensures text { out.new.items ≡ out.old.items ++ error_text code }
@@ -77,7 +78,7 @@ pub fn put_error<A: Allocator>(out: &mut Vec<u8, A>, code: Code)
     append(out, b"\"");
 }
 
-/// Appends a boolean to bytes that have room for 1 more: `1` for on, `0` for off.
+/// Appends a boolean: `1` for on, `0` for off. `out` must have room for 1 more byte.
 pub fn put_switch<A: Allocator>(out: &mut Vec<u8, A>, on: bool)
     requires room { vec_len out.old + 1 ≤ vec_capacity out.old }
     ensures text { out.new.items ≡ out.old.items ++ switch_text on }
@@ -87,8 +88,8 @@ pub fn put_switch<A: Allocator>(out: &mut Vec<u8, A>, on: bool)
     append(out, if on { b"1" } else { b"0" });
 }
 
-/// Appends the short form of a source of triggers, `IMM`, `BUS` or `EXT`, to bytes that have room
-/// for 3 more.
+/// Appends the short form of a source of triggers: `IMM`, `BUS` or `EXT`. `out` must have room for
+/// 3 more bytes.
 pub fn put_source<A: Allocator>(out: &mut Vec<u8, A>, source: Source)
     requires room { vec_len out.old + 3 ≤ vec_capacity out.old }
     ensures text { out.new.items ≡ out.old.items ++ source_text source }

@@ -26,7 +26,7 @@ pub(crate) fn volts(suffix: &[u8]) -> Option<u64>
     }
 }
 
-/// The power of ten of a number without a unit, 0; `None` if there is a suffix.
+/// Returns the power of ten of a number that has no unit: 0; or `None` if there is a suffix.
 pub(crate) fn none(suffix: &[u8]) -> Option<u64>
     ensures { result ≡ power_of_none suffix.now }
 {

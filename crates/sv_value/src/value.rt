@@ -18,14 +18,15 @@ use arrayvec::ArrayVec;
 use sv_errors::{Code, LONGEST_LIST, Source};
 use sv_lexer::{Kind, Token};
 
-/// A voltage, in microvolts, up to 1,000 V in magnitude: a decimal number with the suffix `V`,
-/// `KV`, `MV` (a thousandth of a volt) or `UV`, or volts without a suffix. It is rounded to the
-/// nearest microvolt, half away from zero.
+/// Reads a voltage of up to 1,000 V in magnitude, and returns it in microvolts. It is a decimal
+/// number with the suffix `V`, `KV`, `MV` (a thousandth of a volt) or `UV`, or volts without a
+/// suffix. It is rounded to the nearest microvolt, half away from zero.
 ///
 /// # Errors
-/// For data that aren't a number [`Code::SyntaxError`] or [`Code::DataTypeError`]. For a number the
-/// first that applies of [`Code::InvalidCharacterInNumber`], [`Code::InvalidSuffix`],
-/// [`Code::TooManyDigits`], [`Code::ExponentTooLarge`], [`Code::DataOutOfRange`].
+/// For data that aren't a number [`Code::SyntaxError`] if they are of no kind, else
+/// [`Code::DataTypeError`]. For a number the first of these that applies:
+/// [`Code::InvalidCharacterInNumber`], [`Code::InvalidSuffix`], [`Code::TooManyDigits`],
+/// [`Code::ExponentTooLarge`], [`Code::DataOutOfRange`].
 pub fn microvolts(token: &Token<'_>) -> Result<i64, Code>
     ensures value { result ≡ read_voltage token.now.kind token.now.text.now }
     ensures range { IfOk result (λ voltage. unsigned_abs voltage ≤ 1000000000) }
@@ -36,15 +37,16 @@ pub fn microvolts(token: &Token<'_>) -> Result<i64, Code>
     }
 }
 
-/// A whole number from `low` to `high`: a decimal number, rounded to the nearest, half away from
-/// zero; or digits in another base.
+/// Reads a whole number from `low` to `high`: a decimal number, rounded to the nearest whole
+/// number, half away from zero; or digits in another base.
 ///
 /// # Errors
-/// For data that aren't a number [`Code::SyntaxError`] or [`Code::DataTypeError`]. For a decimal
-/// number the first that applies of [`Code::InvalidCharacterInNumber`], [`Code::SuffixNotAllowed`],
-/// [`Code::TooManyDigits`], [`Code::ExponentTooLarge`], [`Code::DataOutOfRange`]. In another base
-/// [`Code::SyntaxError`] if the letter of a base or a digit after it is missing, then
-/// [`Code::InvalidCharacterInNumber`], [`Code::DataOutOfRange`].
+/// For data that aren't a number [`Code::SyntaxError`] if they are of no kind, else
+/// [`Code::DataTypeError`]. For a decimal number the first of these that applies:
+/// [`Code::InvalidCharacterInNumber`], [`Code::SuffixNotAllowed`], [`Code::TooManyDigits`],
+/// [`Code::ExponentTooLarge`], [`Code::DataOutOfRange`]. For a number in another base the first of
+/// these that applies: [`Code::SyntaxError`] if the letter of a base or a digit after it is
+/// missing, [`Code::InvalidCharacterInNumber`], [`Code::DataOutOfRange`].
 pub fn whole(token: &Token<'_>, low: u16, high: u16) -> Result<u16, Code>
     ensures value { result ≡ read_whole low high token.now.kind token.now.text.now }
     ensures range { IfOk result (λ number. (low ≤ number) × (number ≤ high)) }
@@ -60,13 +62,14 @@ pub fn whole(token: &Token<'_>, low: u16, high: u16) -> Result<u16, Code>
     }
 }
 
-/// A boolean: `ON` or `OFF` in any case, or a number of any size, rounded: 0 is off, all others are
-/// on.
+/// Reads a boolean: `ON` or `OFF` in upper or lower case; or a number of any size, rounded, where 0
+/// is off and every other number is on.
 ///
 /// # Errors
 /// For a number the errors of [`whole`], except [`Code::DataOutOfRange`]. For character data
-/// [`Code::InvalidCharacterData`], then [`Code::IllegalParameterValue`]. For other data
-/// [`Code::SyntaxError`] or [`Code::DataTypeError`].
+/// [`Code::InvalidCharacterData`] if a byte isn't a letter, digit or underscore, else
+/// [`Code::IllegalParameterValue`]. For other data [`Code::SyntaxError`] if they are of no kind,
+/// else [`Code::DataTypeError`].
 pub fn boolean(token: &Token<'_>) -> Result<bool, Code>
     ensures { result ≡ read_boolean token.now.kind token.now.text.now }
 {
@@ -82,12 +85,13 @@ pub fn boolean(token: &Token<'_>) -> Result<bool, Code>
     }
 }
 
-/// A source of triggers: `IMMediate`, `BUS` or `EXTernal`, in short or long form and in any case.
+/// Reads a source of triggers: `IMMediate`, `BUS` or `EXTernal`, in short or long form, in upper or
+/// lower case.
 ///
 /// # Errors
 /// For character data [`Code::InvalidCharacterData`] if a byte isn't a letter, digit or underscore,
-/// then [`Code::IllegalParameterValue`] for another word. For other data [`Code::SyntaxError`] or
-/// [`Code::DataTypeError`].
+/// else [`Code::IllegalParameterValue`] for a word that names no source. For other data
+/// [`Code::SyntaxError`] if they are of no kind, else [`Code::DataTypeError`].
 pub fn keyword(token: &Token<'_>) -> Result<Source, Code>
     ensures { result ≡ read_source token.now.kind token.now.text.now }
 {
@@ -97,14 +101,14 @@ pub fn keyword(token: &Token<'_>) -> Result<Source, Code>
     }
 }
 
-/// A channel list, such as `(@1,5:3)`: its channels in order, at most
+/// Reads a channel list, such as `(@1,5:3)`, and returns its channels in order, at most
 /// [`LONGEST_LIST`](sv_errors::LONGEST_LIST).
 ///
 /// # Errors
-/// [`Code::InvalidExpression`] if the expression doesn't have the form of a channel list. Then,
-/// from the left, [`Code::DataOutOfRange`] if an end of an item isn't a channel, or
-/// [`Code::TooMuchData`] if there are too many channels so far. For other data
-/// [`Code::SyntaxError`] or [`Code::DataTypeError`].
+/// [`Code::InvalidExpression`] if the expression doesn't have the form of a channel list. Else the
+/// error of the first faulty item from the left: [`Code::DataOutOfRange`] if one of its ends isn't
+/// a channel, or [`Code::TooMuchData`] if the list gets too long with it. For other data than an
+/// expression [`Code::SyntaxError`] if they are of no kind, else [`Code::DataTypeError`].
 pub fn channel_list(token: &Token<'_>) -> Result<ArrayVec<u8, LONGEST_LIST>, Code>
     ensures value { MatchResult result (λ list. read_channels token.now.kind token.now.text.now
         ≡ Ok list.items) (λ code. read_channels token.now.kind token.now.text.now ≡ Err code) }
@@ -138,7 +142,7 @@ fn unitless(text: &[u8]) -> Result<Amount, Code>
     Amount::of(&number, suffix::none(number.suffix), Code::SuffixNotAllowed)
 }
 
-/// The error for data of a kind that the parameter doesn't take.
+/// Returns the error for data of a kind that the parameter can't have.
 fn wrong(kind: Kind) -> Code
     ensures { result ≡ wrong_kind kind }
 {

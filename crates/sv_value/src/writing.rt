@@ -9,8 +9,8 @@ use itoa::Buffer;
 const VOLT: u64 = 1_000_000;
 
 /// Prints a voltage in microvolts, up to 1,000 V in magnitude: a sign (`+` for 0), whole volts, a
-/// point and six digits. It is written to the front of `out`, which has at least 16 bytes. Returns
-/// the length of the text, at most 12.
+/// point and six digits. Writes the text to the front of `out`, which must have at least 16 bytes.
+/// Returns the length of the text, at most 12.
 #[tactic(auto, using(crate::proofs::Printed::volts_short))]
 pub fn write_microvolts(value: i64, out: &mut [u8]) -> usize
     requires room { 16 ≤ length out.old }
@@ -26,14 +26,14 @@ pub fn write_microvolts(value: i64, out: &mut [u8]) -> usize
     put_six(out, size, magnitude % VOLT)
 }
 
-/// The sign of a voltage: a plus for 0 too.
+/// Returns the sign of a voltage; 0 has a plus.
 fn sign_of(value: i64) -> u8
     ensures { result ≡ sign value }
 {
     if value < 0 { b'-' } else { b'+' }
 }
 
-/// Puts a number as six digits at a place, and returns the place after them.
+/// Writes a number as six digits to `out` at `place`, and returns the place after them.
 #[tactic(auto, using(crate::proofs::Printed::six_short))]
 fn put_six(out: &mut [u8], place: usize, number: u64) -> usize
     requires small { number < 1000000 }
@@ -49,7 +49,7 @@ fn put_six(out: &mut [u8], place: usize, number: u64) -> usize
     put(out, behind, digits)
 }
 
-/// Puts bytes at a place, and returns the place after them.
+/// Writes bytes to `out` at `place`, and returns the place after them.
 fn put(out: &mut [u8], place: usize, bytes: &[u8]) -> usize
     requires { place + length bytes.now ≤ length out.old }
     ensures place { result ≡ place + length bytes.now }

@@ -9,7 +9,8 @@ use Rattle.sv_xdr.specs.declared.garbage.Garbage.{Garbage}
 use Rattle.sv_xdr.specs.Spelling.{Field, Unsigned, Signed, Boolean, Opaque, BeginsAll}
 pub use Rattle.sv_vxi.specs.Limits.{max_handle}
 
--- the arguments of a call on a link, after the link, as plain data. Timeouts are in milliseconds. Five calls have Device_GenericParms.
+-- the arguments of a call on a link, without the link itself, as plain data. Timeouts are in milliseconds. `Generic` has the arguments of
+-- five calls, Device_GenericParms.
 pub data LinkCall : Type 0 where
   DeviceAbort : LinkCall
   DeviceWrite : (io_timeout lock_timeout flags : ℕ) (bytes : List ℕ) → LinkCall
@@ -21,7 +22,7 @@ pub data LinkCall : Type 0 where
   DeviceDocmd : (flags io_timeout lock_timeout : ℕ) (cmd : ℤ) (network_order : Bool) (datasize : ℤ) (bytes : List ℕ) → LinkCall
   DestroyLink : LinkCall
 
--- the arguments of each call
+-- the arguments of a call, as plain data
 pub data Arguments : Type 0 where
   CreateLink : (client_id : ℤ) (lock_device : Bool) (lock_timeout : ℕ) (device : List ℕ) → Arguments
   OnLink : (lid : ℤ) (call : LinkCall) → Arguments
@@ -55,11 +56,11 @@ core_calls = 10 ∷ 11 ∷ 12 ∷ 13 ∷ 14 ∷ 15 ∷ 16 ∷ 17 ∷ 18 ∷ 19 �
 abbrev pub abort_calls : List ℕ
 abort_calls = 1 ∷ []
 
--- whether the number of a call is one of these
+-- whether the call with number `proc` is one of these
 abbrev pub is_one_of : List ℕ → ℕ → Bool
 is_one_of calls proc = list_any (λ call. proc == call) calls
 
--- the fields of a call on a link, after the link
+-- the fields of the arguments of a call on a link, without the field of the link
 abbrev pub call_fields : LinkCall → List Field
 call_fields (DeviceWrite io_timeout lock_timeout flags bytes) =
     Unsigned io_timeout ∷ Unsigned lock_timeout ∷ Unsigned flags ∷ Opaque bytes ∷ []
@@ -97,12 +98,13 @@ ArgumentsAre proc bytes (Ok arguments) = (procedure_of arguments ≡ proc) × (a
 ArgumentsAre proc bytes (Err garbage) = (arguments : Arguments) (after : List ℕ) → procedure_of arguments ≡ proc
     → BeginsWith bytes arguments after → ⊥
 
--- the link that a call names; `None` if it names none
+-- the link that a call names; `None` if the call has no link among its arguments
 abbrev pub link : Arguments → Option ℤ
 link (OnLink lid call) = Some lid
 link _ = None
 
--- what flags and a timeout in milliseconds say about the lock: the call waits for it if bit 0, waitlock, is set
+-- what the flags of a call and its lock timeout (in milliseconds) say about the lock: the call waits for the lock if bit 0 (waitlock) of
+-- the flags is set
 abbrev pub lock_wait_of : ℕ → ℕ → Option LockWait
 lock_wait_of flags timeout = Some (record { waits = bit_at flags 0 == 1; timeout = timeout })
 

@@ -19,6 +19,6 @@ error_number InvalidAddress = 21
 error_number Abort = 23
 error_number AlreadyEstablished = 29
 
--- the value of a field of a result, or 0 or empty if there is an error
+-- a field of a result: `value`, or `nothing` (0 or empty) if there is an error
 abbrev pub unless_error : {A : Type 0} → ErrorCode → A → A → A
 unless_error error value nothing = if error_number error == 0 then value else nothing

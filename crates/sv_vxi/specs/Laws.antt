@@ -5,13 +5,13 @@ use Rattle.sv_vxi.specs.Arguments.{Arguments, procedure_of, BeginsWith, Argument
 use Rattle.sv_vxi.specs.Reading.{arguments_at}
 use Rattle.sv_vxi.specs.Results.{Outcome, result_fields, SameShape}
 
--- For a call of the core channel or device_abort, `arguments_at` returns what the bytes are as its arguments.
+-- For each call of the core channel and for device_abort, the result of `arguments_at` is the one that `ArgumentsAre` requires.
 abbrev pub ArgumentsAsSpelled : Type 0
 ArgumentsAsSpelled = (proc : ℕ) (bytes : List ℕ) → All (λ byte. byte < 256) bytes → is_one_of (core_calls ++ abort_calls) proc ≡ true
     → ArgumentsAre proc bytes (arguments_at proc bytes)
 
--- If bytes begin with two lists of arguments of one call, the arguments are equal, and so are the bytes after them. So no encoded arguments
--- are a proper prefix of others.
+-- If bytes begin with the encoded arguments x and y of the same call, x and y are equal, and so are the bytes after them. So for one call,
+-- no encoding of arguments is a proper prefix of another encoding.
 abbrev pub ArgumentsPrefixFree : Type 0
 ArgumentsPrefixFree = (x y : Arguments) (bytes after behind : List ℕ) → procedure_of x ≡ procedure_of y → BeginsWith bytes x after
     → BeginsWith bytes y behind

@@ -21,7 +21,7 @@ pub data Kind : Type 0 where
 abbrev pub any : Kind
 any = opaque 4294967295
 
--- a function from the values of fields of these kinds
+-- the type of a function that takes the values of fields of these kinds, in order, and returns an A
 abbrev pub Makes : List Kind → Type 0 → Type 0
 Makes [] A = A
 Makes (signed ∷ kinds) A = ℤ → Makes kinds A
@@ -29,7 +29,7 @@ Makes (unsigned ∷ kinds) A = ℕ → Makes kinds A
 Makes (boolean ∷ kinds) A = Bool → Makes kinds A
 Makes (opaque most ∷ kinds) A = List ℕ → Makes kinds A
 
--- a value made from fields of these kinds, which are read in order; bytes after the last field are ignored
+-- the value that a function makes from fields of these kinds, which are read in order; bytes after the last field are ignored
 abbrev pub read : {A : Type 0} → (kinds : List Kind) → Makes kinds A → List ℕ → Result A Garbage
 read [] value bytes = Ok value
 read (signed ∷ kinds) makes bytes = signed_at bytes >>= λ x. read kinds (makes x.0) x.1
@@ -37,7 +37,7 @@ read (unsigned ∷ kinds) makes bytes = unsigned_at bytes >>= λ x. read kinds (
 read (boolean ∷ kinds) makes bytes = boolean_at bytes >>= λ x. read kinds (makes x.0) x.1
 read (opaque most ∷ kinds) makes bytes = opaque_at most bytes >>= λ x. read kinds (makes x.0) x.1
 
--- a link, and after it the fields of a call on it
+-- the arguments of a call on a link: the link is read first, then the fields of these kinds
 abbrev pub read_on_link : (kinds : List Kind) → Makes kinds LinkCall → List ℕ → Result Arguments Garbage
 read_on_link kinds makes bytes = signed_at bytes >>= λ x. result_map_both (OnLink x.0) (λ garbage. garbage) (read kinds makes x.1)
 

@@ -8,7 +8,7 @@ use Rattle.sv_vxi.specs.declared.results.VxiResult.TheVariants as results
 use Rattle.sv_vxi.specs.ErrorCode.{error_number, unless_error}
 use Rattle.sv_vxi.specs.Reason.{reason_number}
 
--- a result as plain data, a variant for each form
+-- the result of a call as plain data, with a variant for each form of result
 pub data Outcome : Type 0 where
   Link : (error : ErrorCode) (lid : ℤ) (abort_port max_recv_size : ℕ) → Outcome
   Size : (error : ErrorCode) (size : ℕ) → Outcome
@@ -17,7 +17,7 @@ pub data Outcome : Type 0 where
   Plain : (error : ErrorCode) → Outcome
   Data : (error : ErrorCode) (bytes : List ℕ) → Outcome
 
--- the field of an error
+-- the first field of a result: the number of its error
 abbrev pub error_field : ErrorCode → Field
 error_field error = Signed (pos (error_number error))
 

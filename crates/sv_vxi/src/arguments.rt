@@ -1,5 +1,5 @@
-//! The arguments of calls (VXI-11 revision 1.0, sections B.5 and B.6), and questions that the
-//! server has about them.
+//! The arguments of calls (VXI-11 revision 1.0, sections B.5 and B.6), and what they say about the
+//! lock and the link of a call.
 
 ghost use Rattle.std.specs.Prelude.{◌≡◌};
 ghost use Rattle.sv_vxi.specs.Arguments.{link as link_by, lock_wait as lock_wait_by, lock_wait_of as flagged_by, is_create_link as makes_link};
@@ -16,7 +16,7 @@ pub struct LockWait {
     pub timeout: u32,
 }
 
-/// The calls with Device_GenericParms.
+/// The calls whose arguments are Device_GenericParms.
 #[derive(Clone, Copy, Debug, PartialEq, Eq)]
 pub enum GenericCall {
     /// device_readstb.
@@ -31,10 +31,10 @@ pub enum GenericCall {
     Local,
 }
 
-/// The arguments of a call on a link, after the link. Timeouts are in milliseconds.
+/// The arguments of a call on a link, without the link itself. Timeouts are in milliseconds.
 #[derive(Clone, Copy)]
 pub enum LinkCall<'a> {
-    /// The arguments of device_abort: none. The call of the link is aborted.
+    /// The arguments of device_abort: none. It aborts the call that is in progress on the link.
     DeviceAbort,
     /// The arguments of device_write.
     DeviceWrite {
@@ -42,7 +42,7 @@ pub enum LinkCall<'a> {
         io_timeout: u32,
         /// How long to wait for the lock.
         lock_timeout: u32,
-        /// Whether the call waits for the lock, and whether END comes with the last byte.
+        /// Whether the call waits for the lock, and whether the last byte has END.
         flags: Flags,
         /// The bytes for the device.
         bytes: &'a [u8],
@@ -61,7 +61,7 @@ pub enum LinkCall<'a> {
         /// The termination character, in the low eight bits.
         term_char: u32,
     },
-    /// The arguments of five calls: Device_GenericParms.
+    /// The arguments of the five calls with Device_GenericParms.
     Generic {
         /// Which of the five calls it is.
         call: GenericCall,
@@ -85,7 +85,7 @@ pub enum LinkCall<'a> {
     DeviceEnableSrq {
         /// Whether service requests are enabled.
         enable: bool,
-        /// The handle that requests carry, at most 40 bytes.
+        /// The handle that each service request carries, at most 40 bytes.
         handle: &'a [u8],
     },
     /// The arguments of device_docmd.
@@ -98,7 +98,7 @@ pub enum LinkCall<'a> {
         lock_timeout: u32,
         /// The command.
         cmd: i32,
-        /// Whether the data are in the order of the network.
+        /// Whether the data are in network byte order.
         network_order: bool,
         /// The size of an element of the data, in bytes.
         datasize: i32,
@@ -114,9 +114,9 @@ pub enum LinkCall<'a> {
 pub enum Args<'a> {
     /// The arguments of create_link.
     CreateLink {
-        /// What the client calls itself.
+        /// The number by which the client identifies itself.
         client_id: i32,
-        /// Whether the link is to hold the lock when it is made.
+        /// Whether the link takes the lock when it is created.
         lock_device: bool,
         /// How long to wait for the lock.
         lock_timeout: u32,
@@ -132,11 +132,11 @@ pub enum Args<'a> {
     },
     /// The arguments of create_intr_chan.
     CreateIntrChan {
-        /// The address to call back, as a 32-bit number.
+        /// The address that the server connects to, as a 32-bit number.
         host_addr: u32,
-        /// The port to call back. Reading accepts numbers above 65,535 too.
+        /// The port that the server connects to. Reading accepts numbers above 65,535 too.
         host_port: u32,
-        /// The program to call.
+        /// The RPC program to which the server sends service requests.
         prog_num: u32,
         /// The version of the program.
         prog_vers: u32,
@@ -183,7 +183,7 @@ impl LinkCall<'_> {
 }
 
 impl Args<'_> {
-    /// The link that the call names; `None` if it names none.
+    /// The link that the call names; `None` if the call has no link among its arguments.
     pub fn link(&self) -> Option<i32>
         ensures { result ≡ link_by (plain_arguments self.now) }
     {
@@ -201,7 +201,8 @@ impl Args<'_> {
     }
 }
 
-/// Whether a call waits for the lock, and how long, by its flags and timeout.
+/// What the flags and the lock timeout of a call say: whether the call waits for the lock, and how
+/// long.
 fn flagged(flags: Flags, timeout: u32) -> Option<LockWait>
     ensures { result ≡ flagged_by flags.0 timeout }
 {

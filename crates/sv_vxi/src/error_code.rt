@@ -10,7 +10,7 @@ pub enum ErrorCode {
     NoError = 0,
     /// There is no device of that name.
     NotAccessible = 3,
-    /// There is no such link, or another connection made it.
+    /// There is no such link, or it was created on another connection.
     InvalidLink = 4,
     /// A parameter is refused, such as a write of more than 4,096 bytes.
     ParameterError = 5,
@@ -18,7 +18,7 @@ pub enum ErrorCode {
     NotEstablished = 6,
     /// The operation isn't supported.
     NotSupported = 8,
-    /// There are 32 links, no number is left for a link, or memory is refused.
+    /// There are 32 links already, no number remains for a further link, or memory is refused.
     OutOfResources = 9,
     /// Another link holds the lock.
     Locked = 11,
@@ -26,7 +26,7 @@ pub enum ErrorCode {
     NoLock = 12,
     /// The call timed out.
     IoTimeout = 15,
-    /// The address or the port isn't one that may be called back.
+    /// The server isn't allowed to connect to the address or the port.
     InvalidAddress = 21,
     /// The call was aborted.
     Abort = 23,

@@ -3,7 +3,7 @@
 ghost use Rattle.std.specs.Prelude.{◌≡◌, ◌==◌};
 ghost use Rattle.std.specs.Int.{bit_at};
 
-/// The flags of a call, any 32-bit number. Bits that no function here asks for are ignored.
+/// The flags of a call, any 32-bit number. Bits that no function here tests are ignored.
 #[derive(Clone, Copy, Debug, PartialEq, Eq)]
 pub struct Flags(pub u32);
 
@@ -15,8 +15,8 @@ impl Flags {
         self.0 % 2 == 1
     }
 
-    /// Whether END comes with a write: the last byte, or an empty write itself, ends the message
-    /// (bit 3).
+    /// Whether a write has END (bit 3): its last byte ends the message; if it has no bytes, the
+    /// write itself does.
     pub fn has_end(self) -> bool
         ensures { result ≡ (bit_at self.0 3 == 1) }
     {

@@ -1,5 +1,5 @@
-//! The calls of VXI-11 (revision 1.0, sections B.5 and B.6), of the core and the abort channel:
-//! reading their arguments and writing their results.
+//! Reading the arguments and writing the results of VXI-11 calls (revision 1.0, sections B.5 and
+//! B.6), for the core and the abort channel.
 //!
 //! Nothing allocates.
 #![tactic(auto)]

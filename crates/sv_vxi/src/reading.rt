@@ -18,17 +18,18 @@ use sv_xdr::{Garbage, Reader};
 /// device_enable_srq).
 const MAX_HANDLE: u32 = 40;
 
-/// Reads the arguments of a call; bytes after the last field are ignored. `proc` must be a call of
-/// the core channel or device_abort.
+/// Reads the arguments of the call with number `proc`, which must be a call of the core channel or
+/// device_abort. Bytes after the last field are ignored.
 ///
 /// # Errors
 /// [`Garbage`] if the bytes don't begin with an encoding of the arguments: a field is missing, a
-/// boolean is neither 0 nor 1, a byte of padding isn't 0, or a handle is above 40 bytes.
+/// boolean is neither 0 nor 1, a byte of padding isn't 0, or a handle is longer than 40 bytes.
 pub fn read_args(proc: u32, bytes: &[u8]) -> Result<Args<'_>, Garbage>
     requires { is_one_of (core_calls ++ abort_calls) proc ≡ true }
-    // The result is what the bytes encode; garbage only if they encode no arguments.
+    // The bytes encode the result. It is `Garbage` only if they don't encode arguments of this
+    // call.
     ensures found { ArgumentsAre proc bytes.now (plain_reading result) }
-    // The bytes can't be read in another way.
+    // The bytes encode nothing else.
     ensures only { (outcome : Result Arguments Garbage) → ArgumentsAre proc bytes.now outcome
         → plain_reading result ≡ outcome }
     ensures exact { plain_reading result ≡ arguments_at proc bytes.now }
@@ -102,7 +103,7 @@ fn device_read(bytes: &[u8]) -> Result<Args<'_>, Garbage>
     })
 }
 
-/// Reads Device_GenericParms, for one of the five calls that have it.
+/// Reads Device_GenericParms for `call`, one of the five calls with these arguments.
 fn generic(bytes: &[u8], call: GenericCall) -> Result<Args<'_>, Garbage>
     ensures { plain_reading result
         ≡ read_on_link (unsigned ∷ unsigned ∷ unsigned ∷ []) (Generic call) bytes.now }
@@ -176,7 +177,7 @@ fn create_intr_chan(bytes: &[u8]) -> Result<Args<'_>, Garbage>
     })
 }
 
-/// Reads the link of a call that has no other arguments.
+/// Reads the arguments of a call that has no argument but the link.
 fn alone<'a>(bytes: &[u8], call: LinkCall<'a>) -> Result<Args<'a>, Garbage>
     ensures { plain_reading result ≡ read_on_link [] (plain_call call.entry) bytes.now }
 {

@@ -3,10 +3,10 @@
 ghost use Rattle.std.specs.Prelude.{◌≡◌, pos};
 ghost use Rattle.sv_vxi.specs.Reason.{reason_number};
 
-/// Why a read ended; several reasons may hold at once.
+/// Why a read ended. Several reasons may apply to the same read.
 #[derive(Clone, Copy, Debug, PartialEq, Eq)]
 pub struct Reason {
-    /// As many bytes were read as were asked for (REQCNT).
+    /// As many bytes were read as the call requested (REQCNT).
     pub request_count: bool,
     /// The last byte is the termination character (CHR).
     pub character: bool,
@@ -15,7 +15,8 @@ pub struct Reason {
 }
 
 impl Reason {
-    /// The reasons as a number: the sum of REQCNT (1), CHR (2) and END (4), for those that hold.
+    /// The reasons as a number: the sum of REQCNT (1), CHR (2) and END (4), each added if this
+    /// reason applies.
     pub fn number(self) -> i32
         ensures { result ≡ pos (reason_number self) }
     {

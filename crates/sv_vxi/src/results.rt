@@ -22,14 +22,14 @@ pub enum VxiResult<'a> {
         lid: i32,
         /// The port of the abort channel.
         abort_port: u16,
-        /// The most bytes of a write.
+        /// The most bytes that one device_write may have.
         max_recv_size: u32,
     },
     /// The result of device_write.
     Size {
         /// Why the call failed, if it did.
         error: ErrorCode,
-        /// How many bytes were taken.
+        /// How many bytes of the write the device accepted.
         size: u32,
     },
     /// The result of device_read.
@@ -48,7 +48,7 @@ pub enum VxiResult<'a> {
         /// The status byte (IEEE 488.2, 11.2).
         stb: u8,
     },
-    /// The result of the calls that return an error alone.
+    /// The result of the calls that return nothing but an error.
     Plain {
         /// Why the call failed, if it did.
         error: ErrorCode,
@@ -79,7 +79,7 @@ impl<'a> VxiResult<'a> {
     }
 }
 
-/// The data of a result; none if there is an error.
+/// The data of a result; empty if there is an error.
 fn data_unless_error(error: ErrorCode, bytes: &[u8]) -> &[u8]
     ensures { result.now ≡ unless_failed error bytes.now [] }
 {
@@ -93,8 +93,9 @@ fn data_unless_error(error: ErrorCode, bytes: &[u8]) -> &[u8]
 /// Writes a result.
 ///
 /// # Errors
-/// `TooLong` for data longer than a length field can express, 4,294,967,295 bytes; then nothing is
-/// written. Else `NoRoom` at the first field that doesn't fit; the fields before it stay written.
+/// `TooLong` if the data are longer than the 4,294,967,295 bytes that a length field can express;
+/// nothing is written then. Else `NoRoom` at the first field that doesn't fit; the fields before it
+/// are written.
 pub fn write_result(writer: &mut Writer<'_>, outcome: &VxiResult<'_>) -> Result<(), XdrFault>
     ensures same_buffer { writer.new.out.ghost_name ≡ writer.old.out.ghost_name }
     ensures writes { length (data_of (plain_result outcome.now)) < 2 ^ 32
@@ -125,7 +126,7 @@ pub fn write_result(writer: &mut Writer<'_>, outcome: &VxiResult<'_>) -> Result<
     }
 }
 
-/// The value of a result's field: this one, or 0 or empty if there is an error.
+/// The field of a result: `value`, or `nothing` (0 or empty) if there is an error.
 fn unless_error<T: Copy>(error: ErrorCode, value: T, nothing: T) -> T
     ensures { result ≡ unless_failed error value nothing }
 {
@@ -154,7 +155,7 @@ fn write_link(
     writer.u32(unless_error(error, max_recv_size, 0))
 }
 
-/// Writes a result that is an error and a number.
+/// Writes a result that consists of an error and a number.
 #[tactic(auto, using(sv_xdr::proofs::Appended::each_piece))]
 fn write_number(writer: &mut Writer<'_>, error: ErrorCode, number: u32) -> Result<(), XdrFault>
     ensures same_buffer { writer.new.out.ghost_name ≡ writer.old.out.ghost_name }
@@ -183,7 +184,7 @@ fn write_read(
     writer.opaque(data_unless_error(error, bytes))
 }
 
-/// Writes a result that is an error alone.
+/// Writes a result that consists of an error.
 #[tactic(auto, using(sv_xdr::proofs::Appended::each_piece))]
 fn write_error(writer: &mut Writer<'_>, error: ErrorCode) -> Result<(), XdrFault>
     ensures same_buffer { writer.new.out.ghost_name ≡ writer.old.out.ghost_name }

@@ -15,7 +15,7 @@ status (Run Output) = 3
 status (Run Memory) = 3
 status Socket = 3
 
--- the fault of the program if a scenario can't be read
+-- the fault of the program when a scenario can't be read
 abbrev pub scenario_fault : ScenarioFault → ProgramFault
 scenario_fault (scenario.BadLine n) = Run (BadLine n)
 scenario_fault scenario.Memory = Run Memory

@@ -1,4 +1,4 @@
--- What the words of the command line ask for.
+-- What the words of the command line tell the program to do.
 use Rattle.std.specs.Prelude.{◌≡◌, ◌≤◌, ◌⊎◌, ℕ, true, List, [], ◌∷◌, length, codes, Option, Some, None, Result, Ok, Err}
 use Rattle.clap.specs.Words.{App, Rule, Text, fault_of, first_of, matches_of, new_app, new_rule, with_rule}
 use Rattle.clap.specs.declared.builder.action.ArgAction.TheVariants.{Set}
@@ -27,12 +27,12 @@ serve_command =
     with_rule (with_rule (with_rule (with_rule (with_rule (new_app (codes "serve"))
     (option (codes "core"))) (option (codes "abort"))) (option (codes "portmap"))) (option (codes "scenario"))) (option (codes "sweeps"))
 
--- There is a value, and `P` holds of it.
+-- There is a text, and `P` holds of it.
 abbrev pub IfGiven : Option Text → (Text → Type 0) → Type 0
 IfGiven (Some text) P = P text
 IfGiven None P = ⊥
 
--- The values of the five options, by name, say what to serve.
+-- The values of the five options, each found by its name, say what to serve.
 abbrev pub ServesBy : (Text → Option Text) → Serve → Type 0
 ServesBy value serve = IfGiven (value (codes "core")) (λ text. IsCount 65535 text serve.core)
     × IfGiven (value (codes "abort")) (λ text. IsCount 65535 text serve.abort)
@@ -40,29 +40,29 @@ ServesBy value serve = IfGiven (value (codes "core")) (λ text. IsCount 65535 te
     × IfGiven (value (codes "scenario")) (λ text. serve.scenario.now ≡ text)
     × IfGiven (value (codes "sweeps")) (λ text. IsCount 4294967295 text serve.sweeps)
 
--- No word is `--`, clap's command finds no fault in the words, and the values that it matches say what to serve.
+-- No word is `--`; clap's command finds no fault in the words; and the values that it finds for the options say what to serve.
 abbrev pub Serves : List Text → Serve → Type 0
 Serves words serve = (Contains words (codes "--") → ⊥) × (fault_of serve_command words ≡ [])
     × ServesBy (λ name. first_of name (matches_of serve_command words)) serve
 
--- The words are the one word `replay`; or `serve`, with its options after it.
+-- The words are the single word `replay`; or they are `serve` and its options.
 abbrev pub AsksFor : List Text → Words → Type 0
 AsksFor words Replay = words ≡ codes "replay" ∷ []
 AsksFor [] (Server serve) = ⊥
 AsksFor (word ∷ words) (Server serve) = (word ≡ codes "serve") × Serves (word ∷ words) serve
 
--- What reading the words returns: what they ask for; or `BadWords`, if they ask for nothing; or out of memory.
+-- What reading the words returns: what they tell the program to do; `BadWords`, if they don't tell it anything; or that memory was refused.
 abbrev pub ReadsWords : {A : Type 0} → (A → Type 0) → Result A ProgramFault → Type 0
 ReadsWords P (Ok asked) = P asked
 ReadsWords {A} P (Err BadWords) = (asked : A) → P asked → ⊥
 ReadsWords P (Err (Run fault)) = fault ≡ Memory
 ReadsWords P (Err Socket) = ⊥
 
--- What was found: something of which `P` holds; or `None`, if `P` holds of nothing.
+-- The result of a search: something of which `P` holds; or `None`, if `P` holds of nothing.
 abbrev pub Finds : {A : Type 0} → (A → Type 0) → Option A → Type 0
 Finds P (Some found) = P found
 Finds {A} P None = (other : A) → P other → ⊥
 
--- Words that the command refuses are bad words, unless memory was refused.
+-- If clap's command refuses the words, the fault is that the words are bad, unless memory was refused.
 abbrev pub IsUsageFault : ErrorKind → ProgramFault → Type 0
 IsUsageFault kind fault = ((kind ≡ OutOfMemory) × (fault ≡ Run Memory)) ⊎ ((kind ≡ OutOfMemory → ⊥) × (fault ≡ BadWords))

@@ -9,13 +9,14 @@ use thiserror::Error;
 /// Why the program stopped.
 #[derive(Clone, Copy, Debug, PartialEq, Eq, Error)]
 pub enum ProgramFault {
-    /// The words of the command line aren't ones that the program knows.
+    /// The program doesn't know the words of the command line.
     #[error("bad words")]
     BadWords,
-    /// A script or a scenario can't be run, or the input, the output or memory failed.
+    /// A script or a scenario can't be run; input or output failed; or memory was refused.
     #[error("{0}")]
     Run(#[from] RunFault),
-    /// A port can't be listened on, or the system's wait or clock fails.
+    /// A port can't be listened on, a wait for the sockets failed, or the system's clock can't be
+    /// read.
     #[error("socket")]
     Socket,
 }
@@ -23,8 +24,8 @@ pub enum ProgramFault {
 impl ProgramFault {
     ghost use Rattle.sv_words.specs.Program.{status};
 
-    /// The exit status of the fault: 2 for bad words and bad lines, 3 for input, output, memory and
-    /// sockets.
+    /// Returns the exit status of the fault: 2 for bad words and bad lines; 3 for input, output,
+    /// memory and sockets.
     pub fn status(self) -> u8
         ensures { result ≡ status self }
     {

@@ -1,4 +1,4 @@
-//! What the words of the command line ask of the program scanvolt, and why it stops.
+//! What the words of the command line tell the program scanvolt to do, and why the program stops.
 #![tactic(auto)]
 
 mod fault;

@@ -10,7 +10,7 @@ use crate::words::Serve;
 use clap::{Arg, ArgAction, ArgMatches, Command};
 use std::alloc::{AllocError, Global};
 
-/// A required option with a value.
+/// Returns a required option that has one value.
 fn option<'a>(alloc: Global, name: &'a str) -> Arg<'a>
     ensures rule { rule_of result ≡ option name.now }
     ensures local { result.global ≡ false }
@@ -40,7 +40,7 @@ fn has_plus(word: &str) -> bool
     matches!(word.as_bytes(), [b'+', ..])
 }
 
-/// The value of 1 to 10 digits, if it is from 1 to `most`.
+/// Returns the value of 1 to 10 digits, if it is from 1 to `most`; else `None`.
 fn count(word: &str, most: u32) -> Option<u32>
     ensures { Finds (IsCount most word.now) result }
 {
@@ -56,7 +56,7 @@ fn count(word: &str, most: u32) -> Option<u32>
     }
 }
 
-/// This number, if it is from 1 to `most`.
+/// Returns this number, if it is from 1 to `most`; else `None`.
 fn within(number: u32, most: u32) -> Option<u32>
     ensures { Finds (λ n. (n ≡ number) × (1 ≤ n) × (n ≤ most)) result }
 {
@@ -67,7 +67,7 @@ fn within(number: u32, most: u32) -> Option<u32>
     }
 }
 
-/// The number in an option's value, from 1 to `most`.
+/// Returns the number in an option's value, if it is from 1 to `most`; else `None`.
 fn count_of(matches: &ArgMatches<'_>, name: &str, most: u32) -> Option<u32>
     ensures { Finds (λ n. IfGiven (first_value (found_of matches.now) name.now)
         (λ text. IsCount most text n)) result }
@@ -78,7 +78,7 @@ fn count_of(matches: &ArgMatches<'_>, name: &str, most: u32) -> Option<u32>
     }
 }
 
-/// What to serve, by the values of the options.
+/// Returns what to serve, as the values of the options say; `None` if a value isn't valid.
 pub(crate) fn told<'a>(matches: &ArgMatches<'a>) -> Option<Serve<'a>>
     ensures { Finds (ServesBy (λ name. first_value (found_of matches.now) name)) result }
 {

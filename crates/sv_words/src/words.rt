@@ -13,12 +13,12 @@ use std::alloc::Global;
 use std::convert::AsStr;
 use sv_replay::RunFault;
 
-/// What the words ask for.
+/// What the words tell the program to do.
 #[derive(Clone, Copy, Debug, PartialEq, Eq)]
 pub enum Words<'a> {
-    /// The replay of the standard input.
+    /// Replay the standard input.
     Replay,
-    /// A server.
+    /// Run a server.
     Server(Serve<'a>),
 }
 
@@ -37,13 +37,14 @@ pub struct Serve<'a> {
     pub sweeps: u32,
 }
 
-/// Reads the words after the program's name: the one word `replay`; or `serve` and five options in
-/// any order, each once and with its value. These are `--core`, `--abort` and `--portmap` with a
-/// port of 1 to 65535, `--scenario` with a path, `--sweeps` with 1 to 4,294,967,295. A number has 1
-/// to 10 decimal digits. There is no other word, and no `--`.
+/// Reads the words after the program's name. They are the single word `replay`; or `serve` and five
+/// options in any order, each exactly one time and with its value. The options are `--core`,
+/// `--abort` and `--portmap` with a port of 1 to 65535, `--scenario` with a path, and `--sweeps`
+/// with 1 to 4,294,967,295. A number has 1 to 10 decimal digits. No further word is allowed, and no
+/// `--`.
 ///
 /// # Errors
-/// `Run(Memory)` if memory is refused, `BadWords` for all other words.
+/// `Run(Memory)` if memory is refused; `BadWords` if the words are anything else.
 pub fn read_words<'a, S: AsStr>(alloc: Global, words: &'a [S]) -> Result<Words<'a>, ProgramFault>
     ensures { ReadsWords (AsksFor (map S.text words.now)) result }
 {
@@ -83,14 +84,14 @@ fn read_serve<'a, S: AsStr>(alloc: Global, words: &'a [S]) -> Result<Serve<'a>, 
     }
 }
 
-/// Whether there is a word `--`. For clap it ends the options, and may follow them.
+/// Whether some word is `--`. To clap it ends the options, and it may come after them.
 fn has_end_of_options<S: AsStr>(words: &[S]) -> bool
     ensures { Decides result (Contains (map S.text words.now) (codes "--")) }
 {
     words.iter().any(|word| word.as_str() == "--")
 }
 
-/// The fault of words that clap refused.
+/// Returns the fault of words that clap refused.
 fn refused(error: &Error) -> ProgramFault
     ensures { IsUsageFault (kind_of error.now) result }
 {

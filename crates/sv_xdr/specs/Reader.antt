@@ -1,4 +1,4 @@
--- A field read from the front of some bytes: its value and the bytes after it, or the first fault.
+-- How a field is read from the front of bytes. The result is the field's value and the bytes after it, or the first fault.
 use Rattle.std.specs.Prelude.{◌≡◌, ℕ, ◌+◌, ℤ, Bool, true, false, List, length, take, drop, Result, Ok, Err, nat_lt, ◌==◌, if◌then◌else◌}
 use Rattle.std.specs.List.{list_all}
 use Rattle.std.specs.Int.{w32, from_be_bytes, cast_signed}
@@ -6,13 +6,14 @@ use Rattle.sv_xdr.specs.declared.fault.XdrFault.{XdrFault}
 use Rattle.sv_xdr.specs.declared.fault.XdrFault.TheVariants.{Short, BadPad, BadBool, TooLong}
 use Rattle.sv_xdr.specs.Spelling.{pad_len}
 
--- a field that was read, and what is read after it; or the first fault
+-- the next step of a reading: `f` applied to what was read; the fault if it can't be read
 infixl 10 ◌>>=◌
 abbrev pub ◌>>=◌ : {A B : Type 0} → Result A XdrFault → (A → Result B XdrFault) → Result B XdrFault
 (Ok x) >>= f = f x
 (Err fault) >>= f = Err fault
 
--- What a read of the code returned, and the bytes left after it, are what the function gives. After a fault all bytes are left.
+-- The code's result and the bytes that remain after it (`new`) are what a function of this file returned (`read`). `view` turns a value of
+-- the code into one of the specification. After a fault all bytes remain.
 abbrev pub IsRead : {X Y : Type 0} → (X → Y) → Result X XdrFault → List ℕ → List ℕ → Result (Y × List ℕ) XdrFault → Type 0
 IsRead view (Ok x) old new read = read ≡ Ok (view x, new)
 IsRead view (Err fault) old new read = (read ≡ Err fault) × (new ≡ old)
@@ -33,7 +34,7 @@ boolean_at bytes = do
   n ← unsigned_at bytes
   if n.0 == 0 then Ok (false, n.1) else (if n.0 == 1 then Ok (true, n.1) else Err BadBool)
 
--- data of this length, and the bytes after them and their padding
+-- the first n bytes as data, and the bytes after the data and its padding
 unfoldable pub padded_at : ℕ → List ℕ → Result (List ℕ × List ℕ) XdrFault
 padded_at n bytes =
     if nat_lt (length bytes) (n + pad_len n) then Err Short
@@ -42,7 +43,7 @@ padded_at n bytes =
       drop (n + pad_len n) bytes,
     ) else Err BadPad)
 
--- opaque data of at most `max` bytes at the front of bytes, and the bytes after them and their padding
+-- opaque data of at most `max` bytes at the front of bytes, and the bytes after the data and its padding
 unfoldable pub opaque_at : ℕ → List ℕ → Result (List ℕ × List ℕ) XdrFault
 opaque_at max bytes = do
   n ← unsigned_at bytes

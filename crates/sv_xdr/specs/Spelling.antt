@@ -15,12 +15,12 @@ abbrev pub IsWord : List ℕ → ℕ → Type 0
 IsWord (a ∷ b ∷ c ∷ d ∷ []) n = (a < 256) × (b < 256) × (c < 256) × (d < 256) × (n ≡ ((a * 256 + b) * 256 + c) * 256 + d)
 IsWord _ n = ⊥
 
--- The word encodes this signed integer in two's complement (4.1): a word of 2 ^ 31 or more is the integer plus 2 ^ 32.
+-- The word n encodes this signed integer in two's complement (4.1): n is the integer itself, or the integer plus 2 ^ 32 if it is negative.
 abbrev pub IsTwosComplement : ℕ → ℤ → Type 0
 IsTwosComplement n (pos k) = (k < 2 ^ 31) × (n ≡ k)
 IsTwosComplement n (negsuc k) = (k < 2 ^ 31) × (n + (k + 1) ≡ 2 ^ 32)
 
--- This is the padding after n bytes: 0 to 3 zero bytes, up to a multiple of four (3 and 4.10).
+-- `pad` is the padding after n bytes of data: 0 to 3 zero bytes, which fill up to a multiple of four bytes (3 and 4.10).
 abbrev pub IsPad : ℕ → List ℕ → Type 0
 IsPad n pad = (length pad < 4) × ((n + length pad) % 4 ≡ 0) × AllByRecursion (λ byte. byte ≡ 0) pad
 
@@ -40,7 +40,7 @@ abbrev pub BeginsAll : List ℕ → List Field → List ℕ → Type 0
 BeginsAll bytes [] after = bytes ≡ after
 BeginsAll bytes (field ∷ fields) after = (middle : List ℕ) × Begins bytes field middle × BeginsAll middle fields after
 
--- how many bytes of padding n bytes have
+-- how many bytes of padding follow n bytes of data
 abbrev pub pad_len : ℕ → ℕ
 pad_len n = (4 - n % 4) % 4
 

@@ -1,4 +1,4 @@
--- What a writer has written, and what a write changes.
+-- What a writer has written so far, and what one write changes.
 use Rattle.std.specs.Prelude.{◌≡◌, ℕ, ◌<◌, ◌≤◌, List, ◌∷◌, ◌++◌, length, take, drop, Result, Ok, Err}
 use Rattle.std.specs.List.{concat}
 use Rattle.sv_xdr.specs.declared.fault.XdrFault.{XdrFault}
@@ -6,21 +6,21 @@ use Rattle.sv_xdr.specs.declared.fault.XdrFault.TheVariants.{NoRoom}
 use Rattle.sv_xdr.specs.declared.writer.Writer.{Writer}
 use Rattle.sv_xdr.specs.Spelling.{Field, Spells}
 
--- the bytes that were written, from the front of the buffer
+-- the bytes that were written: the front of the buffer
 abbrev pub text_of : Writer → List ℕ
 text_of writer = take writer.written writer.out.now
 
--- the rest of the buffer: the room that is left
+-- the rest of the buffer: the room for later writes
 abbrev pub rest_of : Writer → List ℕ
 rest_of writer = drop writer.written writer.out.now
 
--- These bytes follow what was written before; the rest of the buffer is unchanged.
+-- The write appended these bytes to what was written before. The buffer behind them is unchanged.
 pub record Appends (bytes : List ℕ) (old new : Writer) : Type 0 where
   pub text : text_of new ≡ text_of old ++ bytes
   pub rest : rest_of old ≡ take (length bytes) (rest_of old) ++ rest_of new
   pub fits : length bytes ≤ length (rest_of old)
 
--- The encoded field follows what was written before; the rest of the buffer is unchanged.
+-- The write appended the encoding of this field to what was written before. The buffer behind it is unchanged.
 abbrev pub AppendsField : Field → Writer → Writer → Type 0
 AppendsField field old new = (bytes : List ℕ) × Spells bytes field × Appends bytes old new
 
@@ -29,12 +29,12 @@ pub record Stays (old new : Writer) : Type 0 where
   pub text : text_of new ≡ text_of old
   pub rest : rest_of new ≡ rest_of old
 
--- The bytes are written exactly if they fit; else the fault is `NoRoom`, and nothing is written.
+-- The bytes are written exactly if they fit. Else the result is the fault `NoRoom`, and nothing is written.
 abbrev pub Writes : List ℕ → Result Unit XdrFault → Writer → Writer → Type 0
 Writes bytes (Ok done) old new = Appends bytes old new
 Writes bytes (Err fault) old new = (fault ≡ NoRoom) × (length (rest_of old) < length bytes) × Stays old new
 
--- The pieces are written in order. If one doesn't fit, the pieces before it are written, and nothing else.
+-- The pieces are written in order. If a piece doesn't fit, only the pieces before it are written.
 abbrev pub WritesEach : List (List ℕ) → Result Unit XdrFault → Writer → Writer → Type 0
 WritesEach pieces (Ok done) old new = Appends (concat pieces) old new
 WritesEach pieces (Err fault) old new = (fault ≡ NoRoom) × (front behind : List (List ℕ)) × (piece : List ℕ)

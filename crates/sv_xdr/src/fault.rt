@@ -14,11 +14,11 @@ pub enum XdrFault {
     /// A boolean is neither 0 nor 1 (RFC 4506, section 4.4).
     #[error("a boolean is neither 0 nor 1")]
     BadBool = 3,
-    /// Opaque data are longer than the field may be: than the maximum that the reader was given,
-    /// or, for a writer, than the 4,294,967,295 bytes that a length field can express.
+    /// Opaque data are too long. For a reader: longer than the maximum that its caller passed. For
+    /// a writer: longer than the 4,294,967,295 bytes that a length field can express.
     #[error("the opaque data are too long")]
     TooLong = 4,
-    /// The field is longer than the room that is left.
+    /// The encoded field is longer than the room that remains in the buffer.
     #[error("there is no room for the field")]
     NoRoom = 5,
 }

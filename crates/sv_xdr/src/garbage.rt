@@ -3,8 +3,8 @@
 use crate::fault::XdrFault;
 use thiserror::Error;
 
-/// The bytes don't begin with an encoding of the required fields: a call's arguments can't be read
-/// (RFC 5531, section 9, GARBAGE_ARGS). The fault doesn't say which field is wrong.
+/// The bytes don't begin with an encoding of the required fields, so the arguments of an RPC call
+/// can't be read (RFC 5531, section 9, GARBAGE_ARGS). The fault doesn't say which field is wrong.
 #[derive(Clone, Copy, Debug, PartialEq, Eq, Error)]
 #[error("the arguments can't be read")]
 pub struct Garbage;

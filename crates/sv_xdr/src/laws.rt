@@ -1,4 +1,4 @@
-//! Laws of the encoding. Each is the contract of a function that does nothing.
+//! Laws of the encoding. Each law is the contract of a function with an empty body.
 
 ghost use Rattle.sv_xdr.specs.Laws.{PrefixFree, OneSpelling};
 
@@ -8,7 +8,7 @@ pub fn prefix_free()
     ensures { PrefixFree }
 {}
 
-/// A field has one encoding.
+/// A field has at most one encoding.
 pub fn one_spelling()
     ensures { OneSpelling }
 {}

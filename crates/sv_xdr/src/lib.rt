@@ -1,8 +1,8 @@
-//! The fields of XDR, the external data representation (RFC 4506), read from a slice and written
-//! into one: unsigned and signed integers, booleans and variable-length opaque data.
+//! Reads the fields of XDR, the external data representation (RFC 4506), from a slice, and writes
+//! them into a slice: unsigned and signed integers, booleans and variable-length opaque data.
 //!
 //! Nothing allocates. A read succeeds exactly if the field's encoding comes next, and a write
-//! appends that encoding. A fault changes nothing.
+//! appends that encoding. A read or write that fails changes nothing.
 #![tactic(auto)]
 
 mod fault;

@@ -43,9 +43,9 @@ impl<'a> Reader<'a> {
     /// # Errors
     /// `Short` if fewer than 4 bytes are left. The reader then doesn't move.
     pub fn u32(&mut self) -> Result<u32, XdrFault>
-        // The field that is read is encoded in the bytes.
+        // The bytes begin with the encoding of the field that is read.
         ensures found { IfOk result (λ n. Begins self.old (Unsigned n) self.new) }
-        // A field whose encoding comes next is read.
+        // If the encoding of a field comes next, this field is read.
         ensures only { (n : ℕ) (after : List ℕ) → Begins self.old (Unsigned n) after
             → (result ≡ Ok n) × (self.new ≡ after) }
         // The result as a function of the bytes. At a fault the reader doesn't move.
@@ -123,7 +123,7 @@ impl<'a> Reader<'a> {
         Ok(text)
     }
 
-    /// Reads data of a known length and their padding.
+    /// Reads `size` bytes of data and the padding after them.
     #[tactic(auto, unfolding(crate::specs::Reader::padded_at))]
     fn padded(&mut self, size: usize) -> Result<&'a [u8], XdrFault>
         requires { size < 2 ^ 32 }

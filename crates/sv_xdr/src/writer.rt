@@ -5,8 +5,8 @@ ghost use Rattle.std.specs.Prelude.{◌≡◌, ◌<◌, ◌≤◌, ◌^◌, [], 
 use crate::fault::XdrFault;
 use crate::reader::pad_len;
 
-/// A caller's buffer, into which fields are written in order. Contracts see what was written, and
-/// the rest of the buffer.
+/// A caller's buffer, into which fields are written in order. Contracts see the bytes written so
+/// far, and the rest of the buffer.
 #[derive(Debug, Drop)]
 pub struct Writer<'b> {
     out: &'b mut [u8],
@@ -51,8 +51,8 @@ impl<'b> Writer<'b> {
     pub fn u32(&mut self, number: u32) -> Result<(), XdrFault>
         ensures same_buffer { self.new.out.ghost_name ≡ self.old.out.ghost_name }
         ensures spelled { OnOk result (AppendsField (Unsigned number) self.old self.new) }
-        // Either there was room, and this encoding was appended; or there was none, and nothing
-        // changed.
+        // Either there was room, and this encoding was appended; or there was too little room, and
+        // nothing changed.
         ensures exact { Writes (spelling (Unsigned number)) result self.old self.new }
     {
         self.bytes(&number.to_be_bytes())
@@ -85,8 +85,9 @@ impl<'b> Writer<'b> {
     /// Writes variable-length opaque data (RFC 4506, section 4.10).
     ///
     /// # Errors
-    /// `TooLong` for data longer than a length field can express, 4,294,967,295 bytes; then
-    /// `NoRoom` if length, data and padding don't all fit. Nothing is written.
+    /// The first that applies: `TooLong` if the data are longer than the 4,294,967,295 bytes that a
+    /// length field can express; `NoRoom` if length, data and padding don't all fit. Nothing is
+    /// written.
     pub fn opaque(&mut self, text: &[u8]) -> Result<(), XdrFault>
         ensures same_buffer { self.new.out.ghost_name ≡ self.old.out.ghost_name }
         ensures spelled { OnOk result (AppendsField (Opaque text.now) self.old self.new) }

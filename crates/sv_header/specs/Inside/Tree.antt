@@ -1,4 +1,4 @@
--- The tree of nodes, which the code stores as a list: each node comes before the nodes below it, and these before its next sibling.
+-- The tree of nodes. The code stores it as a list: a node, then all nodes below it, then the next sibling of the node.
 use Rattle.std.specs.Prelude.{◌≡◌, ℕ, zero, suc, ◌≤◌, Bool, true, false, length, List, [], ◌∷◌, ◌++◌, map, take, drop, Option, Some, None}
 use Rattle.sv_header.specs.declared.command.CommandId.{CommandId}
 use Rattle.sv_header.specs.declared.branch.Branch.{Branch}
@@ -6,7 +6,7 @@ use Rattle.sv_header.specs.Pattern.{Part, Row, row}
 use Rattle.sv_header.specs.Plain.{part}
 use Rattle.sv_header.specs.Table.{common_commands, other_commands}
 
--- the command of the headers that end at a node, with the question mark or without it
+-- the command that a header names if it ends at this node: for `true` with a question mark, for `false` without one
 abbrev pub command_of : Bool → Branch → Option CommandId
 command_of false branch = branch.plain
 command_of true branch = branch.query
@@ -17,7 +17,7 @@ IsParted [] branch children siblings = ⊥
 IsParted (first ∷ behind) branch children siblings =
     (branch ≡ first) × (children ≡ take first.below behind) × (siblings ≡ drop first.below behind)
 
--- the row that ends at a node, with the question mark or without it; none if no command ends there
+-- a list with the row that ends at a node, for a header with a question mark or without one; empty if no command ends there
 abbrev pub ending_row : Bool → Bool → Option CommandId → List Row
 ending_row common query None = []
 ending_row common query (Some command) = row common query [] command ∷ []
@@ -25,7 +25,7 @@ ending_row common query (Some command) = row common query [] command ∷ []
 abbrev pub ending_rows : Bool → Branch → List Row
 ending_rows common branch = ending_row common false branch.plain ++ ending_row common true branch.query
 
--- a row with a node in front
+-- a row with this node in front of its own nodes
 abbrev pub below : Part → Row → Row
 below part row = record row { parts = part ∷ row.parts }
 
@@ -40,16 +40,17 @@ rows_of (suc fuel) common (branch ∷ behind) =
 abbrev pub tree_rows : Bool → List Branch → List Row
 tree_rows common branches = rows_of (length branches) common branches
 
--- the rows of common commands, or those of the other commands
+-- rows of the table: for `true` those of the common commands, for `false` those of all other commands
 abbrev pub rows_with : Bool → List Row
 rows_with true = common_commands
 rows_with false = other_commands
 
--- how many nodes belong to common commands; they come before the others
+-- how many nodes belong to common commands: these nodes come first in the list
 abbrev pub common_nodes : ℕ
 common_nodes = 11
 
--- The nodes have the rows of the table: the first nodes those of common commands, the others those of the other commands.
+-- The nodes give the rows of the table: the first `common_nodes` nodes those of the common commands, the remaining nodes those of all other
+-- commands.
 pub record IsTree (branches : List Branch) : Type 0 where
   pub size : common_nodes ≤ length branches
   pub common : tree_rows true (take common_nodes branches) ≡ rows_with true

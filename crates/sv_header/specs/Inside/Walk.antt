@@ -1,4 +1,4 @@
--- Where mnemonics lead in the tree.
+-- The command that the mnemonics of a header lead to in the tree.
 use Rattle.std.specs.Prelude.{◌≡◌, ◌⊎◌, ℕ, zero, suc, Bool, true, false, List, [], ◌∷◌, take, drop, Option, Some, None}
 use Rattle.sv_header.specs.declared.command.CommandId.{CommandId}
 use Rattle.sv_header.specs.declared.left.Mnemonics.{Mnemonics}
@@ -12,19 +12,20 @@ abbrev pub Takes : List (List ℕ) → Part → List (List ℕ) → Type 0
 Takes [] part others = ⊥
 Takes (first ∷ behind) part others = IsForm first part × (others ≡ behind)
 
--- No mnemonic is left, and the command that ends here is this one.
+-- No mnemonic remains, and a header that ends here names this command.
 abbrev pub Ends : List (List ℕ) → Option CommandId → CommandId → Type 0
 Ends left ending command = (left ≡ []) × (ending ≡ Some command)
 
--- The mnemonics left after a node lead to its own command, or to a command below it.
+-- The mnemonics that remain after a node lead to the node's own command, or to a command below the node.
 abbrev pub LeadsBelow : Bool → Branch → (List (List ℕ) → Type 0) → List (List ℕ) → CommandId → Type 0
 LeadsBelow query branch Below left command = Ends left (command_of query branch) command ⊎ Below left
 
--- A mnemonic of the node is there, or the node is optional and absent. `Behind` holds of the mnemonics left after it.
+-- The first mnemonic is a form of the node, or the node is optional and left out. `Behind` holds of the mnemonics that remain after the
+-- node.
 abbrev pub Passes : Part → (List (List ℕ) → Type 0) → List (List ℕ) → Type 0
 Passes part Behind left = ((others : List (List ℕ)) × Takes left part others × Behind others) ⊎ ((part.optional ≡ true) × Behind left)
 
--- Mnemonics lead to a command through the first of siblings, or through those after it.
+-- Mnemonics lead to a command through the first of these siblings, or through a later sibling.
 abbrev pub Leads : ℕ → Bool → List Branch → List (List ℕ) → CommandId → Type 0
 Leads zero query branches left command = ⊥
 Leads (suc fuel) query [] left command = ⊥
@@ -33,22 +34,22 @@ Leads (suc fuel) query (branch ∷ behind) left command =
     (λ others. LeadsBelow query branch (λ rest. Leads fuel query (take branch.below behind) rest command) others command) left
     ⊎ Leads fuel query (drop branch.below behind) left command
 
--- What the code found: a command for which `P` holds; or `None`, if `P` holds for no command.
+-- The result of a search by the code: a command for which `P` holds; or `None`, if `P` holds for no command.
 abbrev pub IsFound : Option CommandId → (CommandId → Type 0) → Type 0
 IsFound None P = (command : CommandId) → P command → ⊥
 IsFound (Some command) P = P command
 
--- Some mnemonics are left, and `P` holds of them.
+-- The code returned remaining mnemonics, not `None`, and `P` holds of them.
 abbrev pub OnLeft : Option Mnemonics → (List (List ℕ) → Type 0) → Type 0
 OnLeft None P = ⊥
 OnLeft (Some left) P = P (left_of left)
 
--- The mnemonics left after the first one, if that is a form of the node; else `None`.
+-- The code returned the mnemonics after the first one, if the first one is a form of the node; else `None`.
 abbrev pub IsBehind : List (List ℕ) → Part → Option Mnemonics → Type 0
 IsBehind left part None = (others : List (List ℕ)) → Takes left part others → ⊥
 IsBehind left part (Some others) = Takes left part (left_of others)
 
--- All mnemonics that are left, if the node is optional; else `None`.
+-- The code returned all remaining mnemonics, if the node is optional; else `None`.
 abbrev pub IsAllOf : List (List ℕ) → Part → Option Mnemonics → Type 0
 IsAllOf left part None = part.optional ≡ false
 IsAllOf left part (Some others) = (part.optional ≡ true) × (left_of others ≡ left)

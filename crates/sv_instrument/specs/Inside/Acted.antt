@@ -14,14 +14,14 @@ use Rattle.sv_instrument.specs.RequestCount.{Raises}
 use Rattle.sv_instrument.specs.Step.{Does, Starts, IsStep}
 use Rattle.sv_instrument.specs.Representation.{Kept, StandsFor, one_if_unheld, instrument_measure, IsHeldRight}
 
--- The layers stand for the log, and have counted the requests for service that were raised since the log `start`.
+-- The layers stand for the log. Their counter has the number of requests for service that were raised since the log `start`.
 pub record Counts (start : List Act) (layers : LayerState) (log : List Act) : Type 0 where
   pub stands : Layers layers log
   pub raised : ℕ
   pub raises : Raises start log raised
   pub count : layers.requests ≡ min raised max_count
 
--- At most 255 acts came since the log `start`, so that each request can be counted.
+-- At most 255 acts came since the log `start`, so that the counter can hold the requests that they raise.
 abbrev pub IsCountable : List Act → List Act → Type 0
 IsCountable start log = length log ≤ length start + max_count
 
@@ -31,7 +31,7 @@ pub record Runs (start : List Act) (kept : Kept) (log : List Act) : Type 0 where
   pub held : kept.held ≡ held_unit log
   pub path : IsPath log kept.path
 
--- No act of message exchange came between the two logs.
+-- No act of message exchange came between `log` and `new`.
 abbrev pub IsApart : List Act → List Act → Type 0
 IsApart log new = exchange_acts new ≡ exchange_acts log
 
@@ -40,8 +40,8 @@ pub record BeginsOne (log new : List Act) : Type 0 where
   pub message : message (exchange_acts new) ≡ message (exchange_acts log)
   pub begun : units_begun new ≡ units_done (current (exchange_acts log)) + 1
 
--- A unit led from `log` to a log for which `Makes` holds, and one more unit began. The requests since the log `start` are counted.
--- `awaited` is what the unit will answer, if it is held.
+-- A unit led from `log` to a log for which `Makes` holds, and it is one more unit that began. The counter has the requests that were raised
+-- since the log `start`. `awaited` is what the unit will answer, if the unit is held.
 pub record Behaves (Makes : List Act → Type 0) (start : List Act) (layers : LayerState) (awaited : Option Awaited) (log : List Act)
     : Type 0 where
   pub new : List Act
@@ -50,11 +50,11 @@ pub record Behaves (Makes : List Act → Type 0) (start : List Act) (layers : La
   pub held : awaited ≡ held_unit new
   pub begins : BeginsOne log new
 
--- A unit that was read with the path `front` leaves the path `behind`, and leads from `log` to `new`.
+-- A unit that is read with the path `front` before it leads from `log` to `new`, and `behind` is the path for the next unit.
 abbrev pub Follows : List ℕ → List (List ℕ) → List (List ℕ) → List Act → List Act → Type 0
 Follows unit front behind log new = (outcome : Result Order Code) × IsReadAs front unit outcome behind × Does outcome log new
 
--- Less is left to do than before. If a unit is held, it is the one that is due.
+-- The measure of the steps that remain is smaller than before. If a unit is held, it is the unit that is due.
 pub record Advances (before after : LayerState) (held_unit : Option Awaited) : Type 0 where
   pub less : 2 * exchange_measure after.exchange + one_if_unheld held_unit < 2 * exchange_measure before.exchange + 1
   pub right : IsHeldRight held_unit after
@@ -67,7 +67,7 @@ pub record StartsUnit (start log : List Act) (kept : Kept) : Type 0 where
   pub starts : Starts unit log new
   pub runs : Runs start kept new
 
--- The step that is due was taken, and less is left to do than before; or no step is due, and nothing changed.
+-- The step that is due was taken, and the measure of the remaining steps is smaller than before; or no step is due, and nothing changed.
 abbrev pub Steps : Bool → Kept → Kept → Type 0
 Steps true before after = ((log : List Act) → StandsFor before log → (new : List Act) × IsStep log new × Runs log after new)
     × (instrument_measure after < instrument_measure before)

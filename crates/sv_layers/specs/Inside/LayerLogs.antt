@@ -1,6 +1,6 @@
--- The log of each layer, from the instrument's acts. An act begins in its own layer. Then it ends, in one register after the other: first
--- the register gets its condition, whose changes pass the filters as they are; then the act changes the register itself. So the summary of
--- a nested register is known before the register above it gets its condition.
+-- The log of each layer, from the instrument's acts. An act begins with its effect on its own layer. Then it ends, in one register after
+-- the next: first the register gets its new condition, and the transitions pass the filters as they were before; then the act changes the
+-- register itself. In this order the summary of a nested register is known before the register above it gets its condition.
 use Rattle.std.specs.Prelude.{◌≡◌, ℕ, Bool, true, false, not, ◌&&◌, List, [], ◌∷◌, if◌then◌else◌}
 use Rattle.sv_errors.specs.Code.{standard_event_of}
 use Rattle.sv_errors.specs.ErrorQueue.{is_full}
@@ -36,7 +36,7 @@ abbrev pub resets : ScanAct → Bool
 resets scan.Reset = true
 resets _ = false
 
--- the standard events after a report: that of the error's class, and bit 3 if the queue overflows
+-- the log of the standard events after a report: the event of the error's class, and bit 3 if the queue overflows
 abbrev pub report_bits : Code → Bool → List StandardAct → List StandardAct
 report_bits code overflow acts = standard.Occur (bit 3 overflow) ∷ standard.Occur (standard_event_of code) ∷ acts
 
@@ -66,11 +66,11 @@ after_complete at = record at {
   waits = at.waits && not (idles at);
 }
 
--- the acts of a register, with one more if the register is the one that is named
+-- the acts of a register, with `act` in front if `name` and `other` are the same register
 abbrev pub where_same : RegisterName → RegisterName → RegisterAct → List RegisterAct → List RegisterAct
 where_same name other act acts = if is_same name other then act ∷ acts else acts
 
--- what an act does to a register itself
+-- the acts of a register, with what an act does directly to the register in front; a change of its condition isn't part of that
 abbrev pub own : RegisterName → Act → List RegisterAct → List RegisterAct
 own name Cleared acts = register.Clear ∷ acts
 own name Preset acts = register.Preset ∷ acts
@@ -80,19 +80,19 @@ own name (RiseSet other mask) acts = where_same name other (register.SetFilter m
 own name (FallSet other mask) acts = where_same name other (register.SetFilter (rise acts) mask) acts
 own name _ acts = acts
 
--- what an act does to the standard events themselves
+-- the acts of the standard events, with what an act does directly to them in front
 abbrev pub own_standard : Act → List StandardAct → List StandardAct
 own_standard Cleared acts = standard.Clear ∷ acts
 own_standard StandardRead acts = standard.Read ∷ acts
 own_standard (StandardEnabled mask) acts = standard.SetEnable mask ∷ acts
 own_standard _ acts = acts
 
--- Both acts do the same to the registers themselves and to the standard events themselves.
+-- Both acts do the same to the registers directly, and the same to the standard events directly.
 abbrev pub EndsAs : Act → Act → Type 0
 EndsAs other act = ((name : RegisterName) (acts : List RegisterAct) → own name other acts ≡ own name act acts)
     × ((acts : List StandardAct) → own_standard other acts ≡ own_standard act acts)
 
--- the logs after an act ends: each register gets its condition, and then what the act does to the register itself
+-- the logs after an act ends: each register gets its condition, then what the act does directly to the register
 abbrev pub after_end : Act → List Act → LayerLogs → LayerLogs
 after_end act log at = record (after_complete at) {
   registers = λ name. own name act (register.Condition (condition name (act ∷ log)) ∷ at.registers name);
@@ -115,7 +115,7 @@ layer_logs [] = record {
 }
 layer_logs (act ∷ log) = after_end act log (after_begin act (layer_logs log))
 
--- whether an act does nothing to a register itself
+-- whether an act does nothing to a register directly
 abbrev pub is_plain : Act → Bool
 is_plain Cleared = false
 is_plain Preset = false

@@ -42,7 +42,7 @@ pub record LayerState : Type 0 where
   pub waits : Bool
   pub requests : ℕ
 
--- The word has the summary bits that these logs of the layers determine.
+-- The number has the summary bits that these logs of the layers determine.
 pub record IsSummary (word : ℕ) (at : LayerLogs) : Type 0 where
   pub operates : Bool
   pub happened : Bool
@@ -53,18 +53,18 @@ pub record IsSummary (word : ℕ) (at : LayerLogs) : Type 0 where
   pub word_is : word ≡ bit 7 operates + bit 5 happened + bit 4 (is_something (response at.exchange)) + bit 3 questioned
       + bit 2 (is_something (entries at.errors))
 
--- the acts of the status byte, with a poll if this act is one; the summary bits are updated after that
+-- the acts of the status byte, with a poll in front if this act is one; the summary bits are updated afterwards
 abbrev pub own_status : Act → List StatusAct → List StatusAct
 own_status Polled acts = Poll ∷ acts
 own_status _ acts = acts
 
--- These are the acts of the status byte: after each act of the instrument it gets the summary bits and the enable.
+-- These are the acts of the status byte: after each act of the instrument the status byte gets the summary bits and the enable.
 abbrev pub IsStatus : List Act → List StatusAct → Type 0
 IsStatus [] acts = acts ≡ []
 IsStatus (act ∷ log) acts = (word : ℕ) × (before : List StatusAct) × IsSummary word (layer_logs (act ∷ log)) × IsStatus log before
     × (acts ≡ Update word (layer_logs (act ∷ log)).service ∷ own_status act before)
 
--- By the acts of the status byte, a request is raised at the newest act.
+-- A request for service is raised at the newest act, as the acts of the status byte determine.
 abbrev pub RaisedAt : List Act → Type 0
 RaisedAt log = (acts : List StatusAct) × IsStatus log acts × IsRaisedAsTold acts
 
@@ -85,29 +85,29 @@ pub record StandsFor (layered : LayerState) (log : List Act) : Type 0 where
   pub are : IsStatus log status_log
   pub joined : Represents layered (layer_logs log) status_log
 
--- The act that follows the log has changed its own layer, and if it is a poll, the status byte; but nothing else yet.
+-- `act`, which follows the log, has changed its own layer and, if it is a poll, the status byte. The other layers aren't changed yet.
 pub record Begun (layered : LayerState) (act : Act) (log : List Act) : Type 0 where
   pub status_log : List StatusAct
   pub are : IsStatus log status_log
   pub joined : Represents layered (after_begin act (layer_logs log)) (own_status act status_log)
 
--- The state of the layers stands for the log, and no counted request is left to be read.
+-- The state of the layers stands for the log, and the counter of requests for service was read and is 0.
 pub record AllRead (layered : LayerState) (log : List Act) : Type 0 where
   pub stands : StandsFor layered log
   pub none : layered.requests ≡ 0
 
--- the highest count of requests; it doesn't rise above that
+-- the highest count of requests for service: the counter stops there
 abbrev pub max_count : ℕ
 max_count = 255
 
--- The state of the layers stands for the log. If a request was raised at its newest act, it is counted besides the `before` earlier ones,
--- up to the highest count.
+-- The state of the layers stands for the log. The count of requests for service was `before`. It is one higher if a request was raised at
+-- the newest act, but at most the highest count.
 pub record IsApplied (before : ℕ) (layered : LayerState) (log : List Act) : Type 0 where
   pub stands : StandsFor layered log
   pub raised : Bool
   pub requests : (raised ≡ true) ↔ IsRaised log
   pub count : layered.requests ≡ min (before + bit 0 raised) max_count
 
--- the state of the trigger system, by the state of the layers
+-- the state of the trigger system, given the state of the layers
 abbrev pub state_by : LayerState → State
 state_by layered = run_state layered.scanner.run (length layered.scanner.readings)

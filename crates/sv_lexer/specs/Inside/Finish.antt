@@ -1,4 +1,4 @@
--- The error of a unit that ends here, and where its parts are.
+-- The error of a unit that ends after the bytes read so far, and where its parts are.
 use Rattle.std.specs.Prelude.{◌≡◌, ℕ, ◌+◌, max, List, length, Option, Some, None, nat_le, if◌then◌else◌}
 use Rattle.sv_errors.specs.declared.code.Code.{Code}
 use Rattle.sv_errors.specs.declared.code.Code.TheVariants.{InvalidCharacter, SyntaxError, ProgramMnemonicTooLong}
@@ -7,8 +7,8 @@ use Rattle.sv_lexer.specs.declared.stage.Stage.{Stage}
 use Rattle.sv_lexer.specs.declared.stage.Stage.TheVariants.{CommonMnemonic, Mnemonic, QuerySign, HeaderSeparator, ProgramData, DataSpace, Illegal}
 use Rattle.sv_lexer.specs.Partial.{Progress}
 
--- the error of a unit that ends here: a mnemonic of more than 12 characters, an illegal byte, or a header that isn't complete or is
--- misspelled; `None` if there is none
+-- The error of a unit that ends after the bytes read so far; `None` if it has no error. `length_fault_of`: a mnemonic has more than 12
+-- characters. `fault_of`: this error, an illegal byte, or a header that isn't complete or is misspelled.
 abbrev pub length_fault_of : Progress → Option Code
 length_fault_of p = if nat_le (max p.longest p.mnemonic) 12 then None else Some ProgramMnemonicTooLong
 
@@ -22,13 +22,13 @@ fault_of DataSpace p = length_fault_of p
 fault_of Illegal p = Some InvalidCharacter
 fault_of _ p = Some SyntaxError
 
--- where the program data of a unit that ends at this stage begin or end; if it has none, the place after its header
+-- where the program data of a unit that ends at this stage begin (or end); if it has no program data, the place after its header
 abbrev pub data_of : Stage → (behind_header in_data : ℕ) → ℕ
 data_of ProgramData behind_header in_data = in_data
 data_of DataSpace behind_header in_data = in_data
 data_of _ behind_header in_data = behind_header
 
--- At these places of a unit its header and the text of its parameters begin and end.
+-- At these places of a unit its header begins and ends, and the text of its parameters begins and ends.
 pub record IsCut (unit : List ℕ) (header_start header_end data_start data_end : ℕ) : Type 0 where
   pub header_begins : header_start ≡ header_place unit
   pub header_ends : header_end ≡ header_place unit + length (header unit)

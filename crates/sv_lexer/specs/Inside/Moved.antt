@@ -4,11 +4,12 @@ use Rattle.sv_lexer.specs.declared.stage.Stage.{Stage}
 use Rattle.sv_lexer.specs.declared.stage.Stage.TheVariants.{WhiteSpace, Asterisk, Colon, CommonMnemonic, Mnemonic, QuerySign, HeaderSeparator, ProgramData}
 use Rattle.sv_lexer.specs.Partial.{Progress}
 
--- one more, but at most 2 ^ 64 - 1
+-- n + 1, but at most 2 ^ 64 - 1
 abbrev pub one_more : ℕ → ℕ
 one_more n = min (n + 1) (2 ^ 64 - 1)
 
--- for each field of `Progress` that changes: its new value, from the stage at which the unit now ends, the new size, and the old value
+-- For each field of `Progress` that changes, a function gives its new value. Its arguments are the stage that the byte leads to, the new
+-- size of the unit, and the old value of the field.
 abbrev pub header_start_in : Stage → ℕ → ℕ → ℕ
 header_start_in WhiteSpace size before = size
 header_start_in _ size before = before
@@ -39,7 +40,7 @@ abbrev pub data_end_in : Stage → ℕ → ℕ → ℕ
 data_end_in ProgramData size before = size
 data_end_in _ size before = before
 
--- the progress after one more byte, with which the unit ends at this stage
+-- the progress after one more byte, which leads to this stage
 abbrev pub progress_to : Stage → Progress → Progress
 progress_to stage p = record {
   stage = stage;
