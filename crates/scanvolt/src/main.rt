@@ -21,7 +21,7 @@ fn main(rt: HostRuntime) -> ExitCode {
     }
 }
 
-/// Reads the words of the command line, and runs what they ask for.
+/// Reads the words of the command line, and replays or serves as they say.
 fn program(rt: &HostRuntime) -> Result<(), ProgramFault> {
     let words = own_words(rt)?;
     match read_words(rt.alloc(), words.get(1..).unwrap_or(&[]))? {

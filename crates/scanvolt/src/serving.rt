@@ -9,7 +9,7 @@ use sv_serve::Driver;
 use sv_server::{Config, Server};
 use sv_words::{ProgramFault, Serve};
 
-/// The fault of an error of the system: out of memory, or else `other`.
+/// The program's fault for an error of the system: out of memory if it is that, else `other`.
 fn fault_or(error: &Error, other: ProgramFault) -> ProgramFault {
     match error.kind() {
         ErrorKind::OutOfMemory => ProgramFault::Run(RunFault::Memory),

@@ -13,6 +13,6 @@ OneLine = (line : List ℕ) (a b : Line) → Says line a → Says line b → a �
 abbrev pub OneScenario : Type 0
 OneScenario = (text : List ℕ) (a b : List Entry) → Tells 0 (parts text) a → Tells 0 (parts text) b → a ≡ b
 
--- The entries of a text are a scenario: the server accepts each of them, and the ticks never fall.
+-- The entries of a text are a scenario: the server accepts each entry, and no tick is lower than the one before it.
 abbrev pub ToldInOrder : Type 0
 ToldInOrder = (text : List ℕ) (entries : List Entry) → Tells 0 (parts text) entries → IsScenario 0 entries

@@ -1,11 +1,11 @@
--- How many times a reader was read, and what each read gave.
+-- How many times a reader was read, and what each read returned.
 use Rattle.std.specs.Prelude.{◌≡◌, ◌⊎◌, ℕ, ◌≤◌, List, [], ◌∷◌, length, Option, Bool, Result, Ok, Err, ⊤}
 use Rattle.sv_replay.specs.declared.fault.RunFault.{RunFault}
 use Rattle.sv_replay.specs.declared.fault.RunFault.TheVariants.{Input}
 use Rattle.sv_replay.specs.declared.input.InputFault.{InputFault}
 use Rattle.sv_replay.specs.Stage.{WhileGoing}
 
--- what a read gave: a number of bytes; `None` at the reader's end; or a fault
+-- what a read returned: a number of bytes; `None` at the reader's end; or a fault
 abbrev pub Gave : Type 0
 Gave = Result (Option ℕ) InputFault
 
@@ -26,25 +26,26 @@ Made gives first reads last = Reads gives first reads last × (length reads ≤ 
 abbrev pub HasFailed : List Gave → Type 0
 HasFailed = elim [ Err fault ∷ reads ↦ ⊤ | _ ↦ ⊥ ]
 
--- No read may follow: the newest one failed, or there were as many as allowed.
+-- No further read is allowed: the newest read failed, or there were as many reads as allowed.
 abbrev pub IsLast : List Gave → Type 0
 IsLast reads = HasFailed reads ⊎ (length reads ≡ most_reads)
 
--- Without a fault, the reader was read `count` times. A fault comes only if no read may follow.
+-- If the result is no fault, the reader was read `count` times. If it is a fault, no further read is allowed.
 abbrev pub IsReadOn : {S : Type 0} → (S → Gave → S → Type 0) → S → S → ℕ → Result Bool InputFault → Type 0
 IsReadOn gives first last count (Ok more) = (reads : List Gave) × Made gives first reads last × (length reads ≡ count)
 IsReadOn gives first last count (Err fault) = (reads : List Gave) × Made gives first reads last × IsLast reads
 
--- `fact` holds if the result is the input's fault.
+-- If the result is the fault of the input, `fact` holds.
 abbrev pub OnInput : {A : Type 0} → Result A RunFault → Type 0 → Type 0
 OnInput (Err Input) fact = fact
 OnInput answer fact = ⊤
 
--- If the run goes on after this step, the reader was read `count` times. The input's fault comes only if no read may follow.
+-- If the run goes on after this step, the reader was read `count` times. If the result is the fault of the input, no further read is
+-- allowed.
 abbrev pub IsTurned : {S : Type 0} → (S → Gave → S → Type 0) → S → S → ℕ → Result Bool RunFault → Type 0
 IsTurned gives first last count result = (reads : List Gave) × Made gives first reads last × WhileGoing result (length reads ≡ count)
     × OnInput result (IsLast reads)
 
--- In a run the reader was read no more often than allowed. If the result is the input's fault, no further read was allowed.
+-- In a run the reader was read no more often than allowed. If the result is the fault of the input, no further read is allowed.
 abbrev pub IsReadOut : {S : Type 0} → (S → Gave → S → Type 0) → S → S → Result ⊤ RunFault → Type 0
 IsReadOut gives first last result = (reads : List Gave) × Made gives first reads last × OnInput result (IsLast reads)

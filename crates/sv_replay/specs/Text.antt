@@ -17,7 +17,7 @@ nothing_held = record { text = []; reads = 0 }
 abbrev pub first_end : List ℕ → Option ℕ
 first_end text = position (λ b. b == 10) text
 
--- At the reader's end, and after a fault, a read gave nothing; at its end the reader has nothing left.
+-- A read at the reader's end, or with a fault, gave no bytes. At its end the reader has no bytes left.
 abbrev pub IsGiven : List ℕ → Option (List ℕ) → Result Bool InputFault → Type 0
 IsGiven more rest (Ok true) = Unit {0}
 IsGiven more rest (Ok false) = (more ≡ []) × IsAtEnd rest
@@ -27,7 +27,7 @@ IsGiven more rest (Err fault) = more ≡ []
 abbrev pub Filled : Option (List ℕ) → Option (List ℕ) → List ℕ → List ℕ → Result Bool InputFault → Type 0
 Filled before rest old new result = (more : List ℕ) × Consumes before rest more × (new ≡ old ++ more) × IsGiven more rest result
 
--- What one read put at the front of a buffer's free part: `count` bytes; or none, at the reader's end or after a fault.
+-- What one read put at the front of a buffer's free part: `count` bytes; or no bytes, at the reader's end or if the read failed.
 abbrev pub IsBehind : Option (List ℕ) → Option (List ℕ) → List ℕ → Result (Option ℕ) InputFault → Type 0
 IsBehind before rest free (Ok (Some count)) = (count ≤ length free) × Consumes before rest (take count free)
 IsBehind before rest free (Ok None) = Consumes before rest [] × IsAtEnd rest
@@ -37,11 +37,11 @@ IsBehind before rest free (Err fault) = Consumes before rest []
 abbrev pub held_of : List ℕ → ℕ → ℕ → ℕ → Held
 held_of buffer start end reads = record { text = slice_range buffer start end; reads = reads }
 
--- how many bytes come before the first new line; all if there is none
+-- how many bytes come before the first new line; the length of the text if it has no new line
 abbrev pub line_size : List ℕ → ℕ
 line_size text = position_or_len (λ b. b == 10) text
 
--- The fields are in order, the buffer has its size, and there is no new line before `clean`.
+-- The positions are in order, the buffer has its full size, and the text has no new line before `clean`.
 pub record IsKept (buffer : List ℕ) (start clean end reads : ℕ) : Type 0 where
   pub order : (start ≤ clean) × (clean ≤ end) × (end ≤ 131072)
   pub size : length buffer ≡ 131072

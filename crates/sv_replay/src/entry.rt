@@ -77,7 +77,7 @@ fn entry_of(line: &[u8]) -> Option<Entry>
     Some(Entry { tick, stimulus })
 }
 
-/// Reads a stimulus. It is cut at its first space into a word and a text.
+/// Reads a stimulus. The text is cut at its first space, into a word and the text after it.
 #[tactic(auto, unfolding(crate::specs::EntryReading::stimulus_at))]
 fn stimulus_of(text: &[u8]) -> Option<Stimulus>
     ensures { result ≡ stimulus_at text.now }
@@ -110,7 +110,7 @@ fn worded(word: &[u8], text: &[u8]) -> Option<Stimulus>
     }
 }
 
-/// Reads the channel and the voltage of an `input`, if the server accepts them.
+/// Reads the channel and the voltage of an `input`; `None` if the server doesn't accept them.
 #[tactic(auto, unfolding(crate::specs::EntryReading::accepted_at))]
 fn accepted(text: &[u8]) -> Option<Stimulus>
     ensures { result ≡ accepted_at text.now }

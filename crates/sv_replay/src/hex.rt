@@ -17,7 +17,7 @@ fn hex_digit(digit: u8) -> Option<u8>
     }
 }
 
-/// The byte with these two hexadecimal digits.
+/// The byte that these two hexadecimal digits are.
 #[tactic(auto, unfolding(crate::specs::Reading::pair_at))]
 fn pair(high: u8, low: u8) -> Option<u8>
     ensures { result ≡ pair_at high low }

@@ -12,7 +12,8 @@ pub fn one_scenario()
     ensures { OneScenario }
 {}
 
-/// What is read from a text is a scenario: the server accepts each entry, and the ticks never fall.
+/// The entries that are read from a text are a scenario: the server accepts each entry, and no tick
+/// is lower than the one before it.
 pub fn told_in_order()
     ensures { ToldInOrder }
 {}

@@ -21,19 +21,19 @@ pub enum Line<'a> {
     Ticks(u32),
 }
 
-/// Reads a line, without its new line; `None` if it isn't one that a replay knows. The bytes of a
-/// `bytes` line are put into `buffer`, which must be at least as long as the line.
+/// Reads a line that has no new line at its end; `None` if it isn't a line of a replay. The bytes
+/// of a `bytes` line are put into `buffer`, which must be at least as long as the line.
 pub fn read_line<'a>(line: &[u8], buffer: &'a mut [u8]) -> Option<Line<'a>>
     requires { length line.now ≤ length buffer.old }
-    // The result is a meaning of the line.
+    // If there is a result, it is a meaning of the line.
     ensures found { IfSome result (λ l. Says line.now (plain_line l)) }
-    // A meaning of the line is the result.
+    // If the line has a meaning, this is the result.
     ensures only { (l : Said) → Says line.now l → IsSomeAnd result (λ f. plain_line f ≡ l) }
 {
     line_of(line, buffer)
 }
 
-/// Reads a line. It is cut at its first space into a word and a text.
+/// Reads a line. The line is cut at its first space, into a word and the text after it.
 #[tactic(auto, unfolding(crate::specs::Reading::line_at))]
 fn line_of<'a>(line: &[u8], buffer: &'a mut [u8]) -> Option<Line<'a>>
     requires { length line.now ≤ length buffer.old }
@@ -80,7 +80,7 @@ fn words<'a>(word: &[u8], text: &[u8], buffer: &'a mut [u8]) -> Option<Line<'a>>
     }
 }
 
-/// Reads an event of a connection. `word` is the first word of its line.
+/// Reads an event of a connection. `word` is the first word of its line, `text` the text after it.
 #[tactic(auto, unfolding(crate::specs::Reading::event_at))]
 fn event<'a>(word: &[u8], text: &[u8], buffer: &'a mut [u8]) -> Option<Event<'a>>
     requires { length text.now ≤ length buffer.old }

@@ -39,14 +39,14 @@ struct Run<A: Allocator> {
 }
 
 /// Replays a script, which is read line by line, and prints to the writer. The writer is flushed
-/// before each read, so that a peer that waits for an answer before it sends more gets the answer;
-/// and at the end, whatever stopped the run.
+/// before each read, so that a peer which waits for an answer before it sends more gets the answer.
+/// It is also flushed at the end, whatever stopped the run.
 ///
 /// # Errors
-/// The first of these that happens. `Memory`: memory was refused at the start or to an event.
-/// `Input`: the reader failed, or was read 4,294,967,294 times. `BadLine`: a line isn't one that a
-/// replay knows. `Output`: the writer failed; this also replaces another fault if the text printed
-/// before that fault can't be flushed.
+/// The first of these that happens. `Memory`: memory was refused at the start or for an event.
+/// `Input`: the reader failed, or was read 4,294,967,294 times. `BadLine`: a line isn't a line of a
+/// replay, or has more than 65,536 bytes. `Output`: the writer failed. If what was printed before a
+/// fault can't be flushed, `Output` is returned in place of that fault.
 pub fn run_replay<A: Allocator + Copy, R: Source, W: Write + Drop, B: Allocator>(
     alloc: A,
     reader: &mut R,
@@ -59,7 +59,7 @@ pub fn run_replay<A: Allocator + Copy, R: Source, W: Write + Drop, B: Allocator>
         × Runs read (R.remaining reader.new) result text }
     ensures end { OnOk result (IsAtEnd (R.remaining reader.new)) }
     // The reader is read 4,294,967,294 times at most. An input fault means that the last read
-    // failed, or that there were as many reads.
+    // failed, or that the reader was read that many times.
     ensures reads { IsReadOut R.gives reader.old reader.new result }
     // Unless the output failed, nothing that was printed is left in the buffer.
     ensures flushed { result ≢ Err RunFault.Output → writer_buffer writer.new ≡ [] }
@@ -68,7 +68,7 @@ pub fn run_replay<A: Allocator + Copy, R: Source, W: Write + Drop, B: Allocator>
     pass_on(writer, answer)
 }
 
-/// Flushes the writer, and returns `answer`; if flushing fails, the output's fault instead.
+/// Flushes the writer, and returns `answer`, or the fault of the output if flushing fails.
 fn pass_on<W: Write + Drop, B: Allocator>(
     writer: &mut BufWriter<W, B>,
     answer: Result<(), RunFault>,
@@ -84,7 +84,7 @@ fn pass_on<W: Write + Drop, B: Allocator>(
     }
 }
 
-/// Runs the replay, without flushing what it printed last.
+/// Runs the replay, but doesn't flush what it printed last.
 fn run_lines<A: Allocator + Copy, R: Source, W: Write>(
     alloc: A,
     reader: &mut R,
@@ -159,7 +159,8 @@ fn do_line<A: Allocator, W: Write>(
 }
 
 impl<A: Allocator> Run<A> {
-    /// Executes the next line, or reads on if no line is complete. Returns false at the end.
+    /// Executes the next line, or reads more if no line is complete. Returns false at the end of
+    /// the script.
     fn turn<R: Source, W: Write>(
         &mut self,
         reader: &mut R,
@@ -197,7 +198,7 @@ impl<A: Allocator> Run<A> {
         }
     }
 
-    /// Reads on; at the reader's end, executes the last line. Returns false at the end.
+    /// Reads more. At the reader's end, executes the last line and returns false.
     fn read_on<R: Source, W: Write>(
         &mut self,
         reader: &mut R,

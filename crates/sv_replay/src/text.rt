@@ -11,7 +11,7 @@ use std::marker::Model;
 
 /// How many bytes a line may have, without its new line.
 pub const LONGEST_LINE: usize = 65_536;
-/// How many bytes of text are stored: a line with its new line, and the text read after it.
+/// The size of the buffer in bytes: room for a line with its new line, and for text read after it.
 const SIZE: usize = 131_072;
 /// How many times a reader may be read; a further read is an input fault.
 const MOST_READS: u32 = 4_294_967_294;
@@ -23,7 +23,7 @@ pub struct Text<A: Allocator = Global> {
     buffer: Vec<u8, A>,
     /// Where the text begins.
     start: usize,
-    /// Up to here the text is known to have no new line.
+    /// The text has no new line before this position.
     clean: usize,
     /// Where the text ends.
     end: usize,
@@ -72,7 +72,7 @@ impl<A: Allocator> Text<A> {
         self.end - self.start
     }
 
-    /// The length of the first line, without its new line; `None` if its new line wasn't read yet.
+    /// The length of the first line, without its new line; `None` if that new line wasn't read yet.
     pub fn whole_line(&mut self) -> Option<usize>
         ensures same { self.new ≡ self.old }
         ensures value { result ≡ first_end self.old.text }
@@ -106,9 +106,9 @@ impl<A: Allocator> Text<A> {
         self.clean = self.clean.max(self.start);
     }
 
-    /// Reads once, and appends to the text. Returns whether more may come: false at the reader's
-    /// end; true also after an interrupted read, which gives no bytes. If too little of the buffer
-    /// is free after the text, the text is first moved to the front.
+    /// Reads once, and appends the bytes to the text. Returns false at the reader's end, else true,
+    /// also after an interrupted read, which gives no bytes. If too little of the buffer is free
+    /// after the text, the text is first moved to the front.
     pub fn fill<R: Source>(&mut self, reader: &mut R) -> Result<bool, InputFault>
         requires { length self.old.text ≤ 65536 }
         ensures took { Filled (R.remaining reader.old)
@@ -139,8 +139,8 @@ impl<A: Allocator> Text<A> {
     }
 }
 
-/// Moves a part of a buffer to the buffer's front, if too little is free after it. Returns by how
-/// many bytes it was moved.
+/// Moves the part of a buffer that is in use to the front, if too little is free after it. Returns
+/// by how many bytes the part was moved.
 fn make_room(buffer: &mut [u8], start: usize, end: usize) -> usize
     requires order { (start ≤ end) × (end ≤ 131072) }
     requires size { length buffer.old ≡ 131072 }
@@ -156,8 +156,8 @@ fn make_room(buffer: &mut [u8], start: usize, end: usize) -> usize
     start
 }
 
-/// Reads once, into a buffer from place `at` on. Returns how many bytes came; `None` at the
-/// reader's end.
+/// Reads once, into the part of a buffer that begins at `at`. Returns how many bytes came; `None`
+/// at the reader's end.
 fn read_behind<R: Source>(
     reader: &mut R,
     buffer: &mut [u8],

@@ -1,5 +1,5 @@
-//! A connection: its bytes in and out, the meaning of its next record, and the replies as they are
-//! sent. It knows nothing of the device, nor of other connections.
+//! A connection: the bytes that come and those that are sent, what its next record asks for, and
+//! how replies are written. It knows neither the device nor other connections.
 
 ghost use Rattle.std.specs.Prelude.{◌≡◌, ◌≢◌, ◌+◌, ◌≤◌, ◌||◌, not, ◌&&◌, ℕ, List, [], ◌∷◌, length, IfOk, IsSome, Some, None, true, false, is_some, nat_lt, option_map, if◌then◌else◌};
 ghost use Rattle.sv_rpc.specs.RecordBuf.{StandsFor, room_of, no_records};
@@ -23,12 +23,12 @@ use sv_bytes::drop_front;
 use sv_history::Role;
 use sv_rpc::{RecordBuf, RpcFault};
 
-/// How many outgoing bytes may wait that the peer hasn't taken.
+/// The most outgoing bytes that may wait for the peer to take them.
 const MAX_OUTPUT: usize = 16384;
 
 /// A connection, open or not: its role, the bytes that came, and the bytes that wait to be sent. A
-/// call that was taken stays in the input until it is answered; room for the longest reply is kept
-/// free for it.
+/// call that was taken stays among the bytes that came until it is answered. Until then there is
+/// always room for the longest reply.
 #[derive(Drop)]
 pub struct Connection<A: Allocator> {
     role: Option<Role>,
@@ -160,7 +160,7 @@ impl<A: Allocator> Connection<A> {
         self.input.push(piece);
     }
 
-    /// Drops the first `count` bytes that wait: the peer took them.
+    /// Drops the first `count` of the bytes that wait, since the peer took them.
     pub fn took(&mut self, count: usize)
         requires { count ≤ length self.old.output }
         ensures { (acts : List ConnAct) → IsConnection self.old acts
@@ -169,8 +169,8 @@ impl<A: Allocator> Connection<A> {
         drop_front(&mut self.output, count);
     }
 
-    /// Whether a record was taken that isn't a call, or a record is too long and all records before
-    /// it are done.
+    /// Whether a record was taken that isn't a call, or a record that is too long came and all
+    /// records before that are finished.
     pub fn is_faulted(&self) -> bool
         ensures { (acts : List ConnAct) → IsConnection self.now acts → result ≡ is_faulted acts }
     {
@@ -203,7 +203,8 @@ impl<A: Allocator> Connection<A> {
         self.next_call().is_none()
     }
 
-    /// The first record, unless it was taken already, or a record wasn't a call.
+    /// The first record; `None` if it was taken already, or if a record was taken that isn't a
+    /// call.
     fn first_call(&self) -> Option<&[u8]>
         ensures { option_map (λ call. call.now) result ≡ kept_next self.now }
     {

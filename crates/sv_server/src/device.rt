@@ -1,6 +1,6 @@
-//! The device is what all connections share: links, the lock, suspended calls, interrupt channels,
-//! the instrument and the clock. Here is what each call does to them. Of a connection the device
-//! knows only the number, and of a call only the arguments.
+//! The device: links, the lock, suspended calls, interrupt channels, the instrument and the clock,
+//! which all connections share. Its parts execute calls. The device gets only the number of a
+//! connection and the arguments of a call.
 
 ghost use Rattle.std.specs.Prelude.{◌≡◌, ◌↔◌, ◌+◌, ◌<◌, ◌≤◌, ℕ, List, [], ◌∷◌, ◌++◌, length, map, option_map, Some, None, is_some, IfOk, IfSome, IsTrue, ◌==◌, true, false};
 ghost use Rattle.sv_links.specs.Links.{closing};
@@ -73,7 +73,8 @@ impl<A: Allocator> Model for Device<A> {
 }
 
 impl<A: Allocator + Copy> Device<A> {
-    /// No link, no suspended call, no interrupt channel, no text, and the clock at its start.
+    /// A device with no link, no suspended call, no interrupt channel and no text, whose clock is
+    /// at its start.
     pub fn new(alloc: A, config: Config) -> Result<Device<A>, AllocError>
         requires { config.clock ≤ 9223372036854775807 }
         ensures stands { IfOk result (λ device. IsDevice device config []) }

@@ -1,5 +1,5 @@
-//! The replay of an event: the event is applied, and the bytes that then wait are printed, and
-//! count as taken by the peers. It uses only what every caller of the server may use.
+//! The replay of an event: the event is applied, the bytes that then wait are printed, and the
+//! peers count as having taken them. The replay uses only what every caller of the server may use.
 
 ghost use Rattle.std.specs.Prelude.{◌≡◌, ℕ, List};
 ghost use Rattle.std.specs.Io.KnownBytes.{Appends};
@@ -25,7 +25,7 @@ use thiserror::Error;
 /// Why a replay stopped.
 #[derive(Clone, Copy, Debug, PartialEq, Eq, Error)]
 pub enum ReplayFault {
-    /// Memory was refused to an event.
+    /// There was no memory for an event.
     #[error("no memory was left")]
     NoMemory,
     /// The writer failed.
@@ -45,13 +45,13 @@ impl From<WriteFault> for ReplayFault {
 }
 
 impl<A: Allocator> Server<A> {
-    /// Applies an event and writes what follows from it: `refused` and the number of the refusal,
-    /// if it was refused; then, for each port on which bytes wait, a line with these bytes, which
-    /// count as taken by the peer.
+    /// Applies an event and writes its results: `refused` and the number of the refusal, if the
+    /// event was refused; then, for each port on which bytes wait, a line with these bytes. Bytes
+    /// that were written count as taken by the peer.
     ///
     /// # Errors
     /// `NoMemory` if there was no memory for the event; then only `refused 1` is written. `Write`
-    /// if the writer failed; then no bytes count as taken that weren't written.
+    /// if the writer failed; then the peer counts as having taken only bytes that were written.
     pub fn replay<W: Write>(&mut self, event: Event<'_>, writer: &mut W) -> Result<(), ReplayFault>
         ensures { (config : Config) (history : List PlainEvent) → StandsFor self.old config history
             → (text : List ℕ) × (after : List PlainEvent)
@@ -112,8 +112,8 @@ fn is_no_memory(refused: Refused) -> bool
     matches!(refused, Refused::NoMemory)
 }
 
-/// The port whose line is of this number: connections come first, and then their interrupt
-/// channels.
+/// The port whose line has this number. The lines of connections come first, and then those of
+/// their interrupt channels.
 fn port_of(number: u8) -> Port
     ensures { result ≡ port_of number }
 {

@@ -130,8 +130,7 @@ impl<A: Allocator> Server<A> {
         }
     }
 
-    /// Whether a connection or an interrupt channel is open. None with a number above 15 is ever
-    /// open.
+    /// Whether a connection or an interrupt channel is open. A number above 15 is never open.
     pub fn is_open(&self, port: Port) -> bool
         ensures { (config : Config) (history : List PlainEvent) → StandsFor self.now config history
             → Answered (λ log. not (is_port_shut port log)) config history result }
@@ -153,8 +152,8 @@ impl<A: Allocator> Server<A> {
         }
     }
 
-    /// Whether there is a call for a Turn to take. The Turn is still refused if there may be no
-    /// room for its reply.
+    /// Whether there is a call for a Turn to take. The Turn is refused nevertheless if there may be
+    /// no room for the reply.
     pub fn ready(&self, conn: u8) -> bool
         ensures { (config : Config) (history : List PlainEvent) → StandsFor self.now config history
             → Answered (λ log. not (is_idle (of conn log))) config history result }
@@ -166,7 +165,7 @@ impl<A: Allocator> Server<A> {
     }
 
     /// Whether the connection can only be closed: a record was taken that isn't a call, or a record
-    /// that is too long came and all records before it are done.
+    /// that is too long came and all records before it are finished.
     pub fn faulted(&self, conn: u8) -> bool
         ensures { (config : Config) (history : List PlainEvent) → StandsFor self.now config history
             → Answered (λ log. is_faulted (of conn log)) config history result }
@@ -177,8 +176,8 @@ impl<A: Allocator> Server<A> {
         }
     }
 
-    /// Whether a record that is too long came on the connection. Nothing after it is taken in, so
-    /// there is no room any more. Complete records before it are still executed.
+    /// Whether a record that is too long came on the connection. From then on there is no room for
+    /// bytes. Complete records before it are still executed.
     pub fn overlong(&self, conn: u8) -> bool
         ensures { (config : Config) (history : List PlainEvent) → StandsFor self.now config history
             → Answered (λ log. is_overlong (of conn log)) config history result }
@@ -208,7 +207,7 @@ impl<A: Allocator> Server<A> {
         self.device.is_still(ticks)
     }
 
-    /// The connection of this number; `None` above 15, for which nothing is ever recorded.
+    /// The connection of this number; `None` above 15. No history has acts of such a number.
     pub(crate) fn connection(&self, conn: u8) -> Option<&Connection<A>>
         ensures { (config : Config) (log : List Act) → Represents self.now config log
             → MatchOption result (of conn log ≡ [])
@@ -254,7 +253,7 @@ impl<A: Allocator> Server<A> {
         Ok(Did::Done)
     }
 
-    /// Takes in bytes of a connection.
+    /// Takes in bytes that came on a connection.
     fn bytes(&mut self, conn: u8, piece: &[u8]) -> Result<Did, Refused>
         ensures within { IsEvent (Bytes conn piece.now) }
         ensures acts { (config : Config) (log : List Act) → Represents self.old config log
@@ -270,7 +269,7 @@ impl<A: Allocator> Server<A> {
         Ok(Did::Done)
     }
 
-    /// Drops bytes that the peer took.
+    /// Drops the first `count` bytes that wait on a connection, since the peer took them.
     fn took(&mut self, conn: u8, count: u32) -> Result<Did, Refused>
         ensures acts { (config : Config) (log : List Act) → Represents self.old config log
             → Acts config (Took (Port.Conn conn) count) log result self.new }
@@ -369,7 +368,7 @@ impl<A: Allocator> Server<A> {
         }
     }
 
-    /// Ends the suspended call of this connection by device_abort; no call if there is no number.
+    /// Ends the suspended call of this connection by device_abort; does nothing for `None`.
     fn abort(&mut self, aborts: Option<u8>)
         ensures { (config : Config) (log : List Act) → Represents self.old config log
             → ((conn : ℕ) → aborts ≡ Some conn → waits conn (wait_acts (device_acts log)) ≡ None
@@ -435,7 +434,7 @@ impl<A: Allocator> Server<A> {
     /// Applies an event, or refuses it; a refused event changes nothing.
     ///
     /// # Errors
-    /// The first check that fails gives the error. `NoConn` comes first: an Open has a number above
+    /// The first check that fails decides. `NoConn` comes first: an Open has a number above
     /// 15, or another event names a connection or an interrupt channel that isn't open. Then an
     /// Open may fail with `ConnInUse`, Bytes with `NoRoom`, a Took with `NotSent`, a Dialed with
     /// `NoDial`. A Turn that finds a call fails with `NoRoom` if there is room for fewer than 8,232

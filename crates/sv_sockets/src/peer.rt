@@ -13,7 +13,7 @@ fn local(port: u16) -> SocketAddr {
     SocketAddr::V4(SocketAddrV4::new(Ipv4Addr::LOCALHOST, port))
 }
 
-/// Whether a call failed only because it would block.
+/// Whether a read or a write failed only because it would block.
 fn would_wait(kind: ErrorKind) -> bool {
     matches!(
         kind,
@@ -65,7 +65,7 @@ impl Peer {
         Ok(peer)
     }
 
-    /// Accepts a connection, if one comes to the peer's port. Returns whether the peer has a
+    /// Accepts a connection, if one has come to the peer's port. Returns whether the peer now has a
     /// stream.
     pub(crate) fn accept(&mut self) -> io::Result<bool> {
         let Some(listener) = &self.listener else {
@@ -104,7 +104,7 @@ impl Peer {
         }
     }
 
-    /// Handles a call that failed: a stream that was reset has ended too.
+    /// Handles a failed read or write: a reset counts as the end of the stream, like a close.
     fn fault(&mut self, error: io::Error) -> io::Result<usize> {
         match error.kind() {
             ErrorKind::ConnectionReset | ErrorKind::BrokenPipe => {

@@ -13,26 +13,26 @@ use sv_server::{Config, Port, Server};
 pub(crate) const PORTS: [u16; 3] = [24196, 24197, 24198];
 /// How many seconds a peer waits at most.
 const PATIENCE: u64 = 10;
-/// How many times it tries to listen at most, one try every fiftieth of a second.
+/// How many times the program tries to listen at most, once every fiftieth of a second.
 const TRIES: u32 = 2_000;
-/// How many times it looks for bytes at most.
+/// How many times the program looks for bytes at most.
 const LOOKS: u32 = 10_000_000;
-/// How many sweeps are made between two looks for bytes. Time after the last one isn\'t counted.
+/// How many sweeps are made between two looks for bytes.
 const SWEEPS: u32 = 2;
-/// How many sweeps are made when times are compared, so that most of the time is counted.
+/// How many sweeps are made between two looks if it matters which peer gets its bytes first.
 const MORE_SWEEPS: u32 = 4;
 
-/// The fault of a row that can't be played.
+/// The error for a row that can't be played.
 pub(crate) fn bad() -> Error {
     Error::from(ErrorKind::InvalidData)
 }
 
-/// The fault of a peer that waited too long.
+/// The error for a peer that waited too long.
 fn late() -> Error {
     Error::from(ErrorKind::TimedOut)
 }
 
-/// Listens on the ports, once no other run of this program does.
+/// Listens on the ports. Waits as long as another run of this program has them.
 fn listen(rt: HostRuntime) -> io::Result<(Watch<Global>, Net<HostRuntime, Global>)> {
     for _ in 0..TRIES {
         match Watch::listen(rt, rt.alloc(), PORTS) {
@@ -58,7 +58,7 @@ pub(crate) struct Stage {
 }
 
 impl Stage {
-    /// A new server that has this scenario, without peers.
+    /// A new server with this scenario, and no peers.
     pub(crate) fn new(rt: HostRuntime, scenario: &str) -> io::Result<Stage> {
         let Ok(scenario) = read_scenario(rt.alloc(), scenario.as_bytes()) else {
             return Err(bad());
@@ -109,8 +109,8 @@ impl Stage {
         Ok(self.start.elapsed(&self.rt)?.as_millis())
     }
 
-    /// Lets a peer send and read what it can. Returns whether this many bytes came to it, or its
-    /// stream has ended.
+    /// Lets a peer send and read what it can. Returns true if at least this many bytes have come to
+    /// the peer, or if its stream has ended.
     fn has(&mut self, name: char, count: usize) -> io::Result<bool> {
         let peer = self.peer(name)?;
         peer.send()?;
@@ -161,8 +161,8 @@ impl Stage {
         Err(late())
     }
 
-    /// Serves until bytes have come to the second of two peers. Returns whether some have come to
-    /// the first one too, which is checked after the second one.
+    /// Serves until bytes have come to the second peer. Returns whether bytes have come to the
+    /// first peer by then; the second peer is looked at first.
     ///
     /// # Errors
     /// If that takes too long.

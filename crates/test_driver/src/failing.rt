@@ -1,4 +1,4 @@
-//! Rows of peers: what each gets, and what each gets if a call of the wire fails.
+//! Rows of peers: what each peer gets, and whether it still gets it if a call of the wire fails.
 
 use crate::peers::{Call, Peer, Peers};
 use crate::row::{bad, number};
@@ -73,7 +73,7 @@ fn show<W: Write + Drop>(
     writeln!(writer)
 }
 
-/// How the bytes that came to a peer compare with a run without a failure.
+/// The word for how a peer fared, compared with a run without a failure.
 fn outcome(peer: &Peer, whole: &Peer) -> &'static str {
     if peer.struck {
         "struck"
@@ -84,8 +84,8 @@ fn outcome(peer: &Peer, whole: &Peer) -> &'static str {
     }
 }
 
-/// Prints for each peer whether a call for it failed, or else whether it got every byte. Prints
-/// nothing if no call failed. Returns whether one did.
+/// Prints for each peer whether a call for it failed, and if none did, whether the peer got every
+/// byte. Prints nothing if no call failed at all. Returns whether a call failed.
 fn compare<W: Write + Drop>(
     peers: &Peers,
     whole: &Peers,
@@ -103,7 +103,7 @@ fn compare<W: Write + Drop>(
     Ok(true)
 }
 
-/// Plays a row with one call failing. Returns whether the row has that call.
+/// Plays a row in which one call of the wire fails. Returns whether that call was made.
 fn fail_once<W: Write + Drop>(
     alloc: Global,
     row: Row<'_>,
@@ -117,7 +117,7 @@ fn fail_once<W: Write + Drop>(
     compare(driver.wire(), whole, (word, left), writer)
 }
 
-/// Plays a row with each call of a kind failing in turn.
+/// Plays a row again and again; each time the next call of this kind fails.
 fn fail_each<W: Write + Drop>(
     alloc: Global,
     row: Row<'_>,
@@ -133,7 +133,7 @@ fn fail_each<W: Write + Drop>(
     Err(bad())
 }
 
-/// Plays a row with each call of each kind failing in turn.
+/// For each kind of call: plays a row again and again; each time the next call of that kind fails.
 fn fail_all<W: Write + Drop>(
     alloc: Global,
     row: Row<'_>,

@@ -25,7 +25,7 @@ pub(crate) struct Peer {
     read: usize,
     /// The number of its connection, as long as this is open.
     conn: Option<u8>,
-    /// Whether it has come.
+    /// Whether the peer has connected.
     came: bool,
     /// Whether a call for it failed.
     pub(crate) struck: bool,
@@ -35,7 +35,7 @@ pub(crate) struct Peer {
 }
 
 impl Peer {
-    /// A peer that is to come.
+    /// A peer that hasn't connected yet.
     pub(crate) fn new(alloc: Global, sends: Vec<u8>) -> Peer {
         Peer {
             sends,
@@ -77,12 +77,12 @@ impl Peer {
     }
 }
 
-/// A wire of peers, of which one call fails.
+/// A wire to peers. One of its calls fails.
 #[derive(Drop)]
 pub(crate) struct Peers {
     pub(crate) peers: Vec<Peer>,
     fails: Call,
-    /// How many calls of that kind are left, up to the one that fails and with it.
+    /// Counts down to the call of that kind that fails, which is made at 1; 0 once it was made.
     left: u64,
 }
 
@@ -95,7 +95,7 @@ fn number(port: Port) -> u8 {
 }
 
 impl Peers {
-    /// A wire of which one call fails: the one with this number among the calls of this kind.
+    /// A wire to these peers. Of the calls of this kind, the one with this number fails.
     pub(crate) fn new(peers: Vec<Peer>, fails: Call, left: u64) -> Peers {
         Peers { peers, fails, left }
     }
@@ -130,7 +130,7 @@ impl Peers {
         fails
     }
 
-    /// Lets the next peer come under this number. Returns whether one came.
+    /// Connects the next peer, as this number. Returns whether there was one.
     fn come(&mut self, conn: u8) -> bool {
         match self.peers.iter_mut().find(|peer| !peer.came) {
             Some(peer) => {

@@ -17,12 +17,12 @@ const MEMORY: &str = " memory ";
 /// The driver of a row.
 type Played<'a> = Driver<Recorder<Scripted>, &'a FailingAllocator<Global>>;
 
-/// The fault of a row that can't be played.
+/// The error for a row that can't be played.
 pub(crate) fn bad() -> Error {
     Error::from(ErrorKind::InvalidData)
 }
 
-/// A number.
+/// Reads a decimal number.
 pub(crate) fn number(text: &str) -> io::Result<u64> {
     match text.parse::<u64>() {
         Ok(number) => Ok(number),
@@ -30,8 +30,8 @@ pub(crate) fn number(text: &str) -> io::Result<u64> {
     }
 }
 
-/// The number in the first line, if that begins with `word`, and the lines after it; else 0, and
-/// all lines.
+/// If the first line begins with `word`: the number in it, and the lines after it. Else 0, and all
+/// lines.
 fn setting<'a>(word: &str, text: &'a str) -> io::Result<(u64, &'a str)> {
     match text.strip_prefix(word) {
         Some(rest) => {
@@ -42,8 +42,8 @@ fn setting<'a>(word: &str, text: &'a str) -> io::Result<(u64, &'a str)> {
     }
 }
 
-/// The first lines of a row, before its sweeps: the clock, which allocation fails, and the
-/// entries of the scenario.
+/// Reads the lines of a row before its sweeps: the clock, the number of the allocation that fails,
+/// and the entries of the scenario.
 fn front(row: &str) -> io::Result<(u64, u64, &str)> {
     let (front, _) = row.split_once("\nsweep ").unwrap_or((row, ""));
     let (_, settings) = front.split_once('\n').unwrap_or((front, ""));
@@ -156,7 +156,7 @@ fn sweep_each<W: Write + Drop>(
     Ok(())
 }
 
-/// Plays the sweeps of a row, or prints `memory` if there was none for its driver.
+/// Plays the sweeps of a row, or prints `memory` if there was no memory for its driver.
 fn play_sweeps<W: Write + Drop>(
     alloc: Global,
     row: &str,

@@ -1,4 +1,4 @@
-//! The errors by their numbers.
+//! Finding an error by its number.
 
 use crate::line::{Fault, put, value_of};
 use sv_errors::Code;

@@ -1,4 +1,4 @@
-//! Words of a line, and its answer.
+//! Reading the words of a line, and writing its answer.
 
 use std::alloc::{AllocError, Global};
 use std::fmt::Debug;

@@ -4,8 +4,8 @@ use crate::line::{Fault, bytes_of, cut, put, put_bytes, value_of};
 use std::alloc::Global;
 use sv_rpc::RecordBuf;
 
-/// Prints the answer of a buffer of records. An act that changes the buffer is answered with the
-/// room that is left.
+/// Prints the answer of a buffer of records. If an act changes the buffer, its answer is how many
+/// bytes of room are left.
 pub(crate) fn put_records(
     alloc: Global,
     out: &mut String,

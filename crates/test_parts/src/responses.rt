@@ -1,4 +1,4 @@
-//! Response data as they are printed.
+//! Printing values as response data.
 
 use crate::codes::code_of;
 use crate::line::{Fault, cut, put_text, value_of};

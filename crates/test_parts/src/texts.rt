@@ -1,4 +1,4 @@
-//! The cutting of text.
+//! Cutting text: white space, separators, the parts of a header.
 
 use crate::line::{Fault, cut, put, put_text};
 use bstr::ByteVec;
@@ -13,7 +13,7 @@ pub(crate) fn put_white(alloc: Global, out: &mut String, text: &str) -> Result<(
     Ok(())
 }
 
-/// Prints a text without white space at both ends, in front, and at the end.
+/// Prints a text three times: without white space at both ends, in front, and at the end.
 pub(crate) fn put_trimmed(alloc: Global, out: &mut String, text: &str) -> Result<(), Fault> {
     let bytes = Vec::unescape_bytes(alloc, text)?;
     put_text(out, trim(bytes.as_slice()))?;
@@ -21,7 +21,7 @@ pub(crate) fn put_trimmed(alloc: Global, out: &mut String, text: &str) -> Result
     put_text(out, without_end(bytes.as_slice()))
 }
 
-/// Prints the first place of a byte in a text, and the text before it and after.
+/// Prints the first place of a byte in a text, and the texts before and after it.
 pub(crate) fn put_cut(out: &mut String, text: &str) -> Result<(), Fault> {
     let (separator, text) = cut(text);
     let [separator] = separator.as_bytes() else {

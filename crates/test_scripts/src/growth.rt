@@ -1,5 +1,5 @@
-//! Scripts on a server, each of whose allocations is refused in turn. An event that finds no memory
-//! is tried again, or is refused by the caller and then sent again.
+//! Scripts that are played again and again on a new server; each time the server's next allocation
+//! is refused. An event that finds no memory is tried again, or its call is refused and sent again.
 
 use crate::turns::each;
 use crate::words::bad;
@@ -29,7 +29,7 @@ const SET_UP: Config = Config {
 #[derive(Drop)]
 struct Growing<'a> {
     alloc: Global,
-    /// Whether an event without memory is refused by the caller, and then sent again.
+    /// Whether a call that finds no memory is refused, and then sent again.
     refuses: bool,
     server: Played<'a>,
     told: String,
@@ -105,8 +105,8 @@ impl Growing<'_> {
         Ok(found_none)
     }
 
-    /// Goes on after an event that found no memory. `line` is the event's line, and `brought` the
-    /// line that brought the bytes of its call.
+    /// Goes on after an event that found no memory. `line` is the line of the event, and `brought`
+    /// the line with the bytes of the event's call.
     fn go_on(&mut self, brought: &str, line: &str) -> io::Result<()> {
         if self.refuses {
             let conn = line.strip_prefix("turn ").unwrap_or("");
@@ -120,7 +120,8 @@ impl Growing<'_> {
         Ok(())
     }
 
-    /// Executes a line. If it finds no memory, it must not have changed anything.
+    /// Executes a line. Appends `changed` if it finds no memory and yet changed the server's
+    /// answers.
     fn step(&mut self, brought: &str, line: &str) -> io::Result<()> {
         let before = self.asked()?;
         if !self.apply(line)? {
@@ -133,7 +134,8 @@ impl Growing<'_> {
     }
 }
 
-/// A play before its first line. If memory is refused to its server, the server is made again.
+/// The play of a script, before its first line. If memory is refused to its server, the server is
+/// made again.
 fn start<'a>(
     alloc: Global,
     heap: &'a FailingAllocator<Global>,

@@ -11,7 +11,7 @@ use sv_replay::{RunFault, run_replay};
 /// The most reads of a row.
 const MOST_READS: u64 = 1_000;
 
-/// The manner that these words describe.
+/// How the reader and the writer behave, according to these words of the first line.
 fn manner_of(words: &str) -> io::Result<Manner> {
     let ample = Manner::ample();
     if let Some(count) = words.strip_prefix("output takes ") {
@@ -102,7 +102,7 @@ fn read_out(
     Ok((told, source.reads))
 }
 
-/// Prints the outcome of a script in the manner of these words.
+/// Prints the outcome of a script whose reader and writer behave as these words say.
 pub(crate) fn play<W: Write + Drop>(
     alloc: Global,
     words: &str,
@@ -139,7 +139,7 @@ pub(crate) fn play_without<W: Write + Drop>(
     Ok(())
 }
 
-/// A script with a close of this connection after `place` lines.
+/// The script, with the line that closes this connection put in after the first `place` lines.
 fn closed(alloc: Global, script: &str, conn: u8, place: usize) -> io::Result<String> {
     let mut made = String::new(alloc);
     for (number, line) in script.lines().enumerate() {
@@ -153,7 +153,8 @@ fn closed(alloc: Global, script: &str, conn: u8, place: usize) -> io::Result<Str
     Ok(made)
 }
 
-/// Prints what a script prints with a close of this connection after each number of lines.
+/// For each n: plays the script with this connection closed after the first n lines, and prints
+/// what it prints.
 fn play_closes<W: Write + Drop>(
     alloc: Global,
     script: &str,
@@ -169,8 +170,8 @@ fn play_closes<W: Write + Drop>(
     Ok(())
 }
 
-/// Prints what a script prints with a close of each of three connections after each number of
-/// lines.
+/// For each of three connections and each n: plays the script with that connection closed after the
+/// first n lines, and prints what it prints.
 pub(crate) fn play_closed<W: Write + Drop>(
     alloc: Global,
     script: &str,
@@ -182,8 +183,8 @@ pub(crate) fn play_closed<W: Write + Drop>(
     Ok(())
 }
 
-/// Prints what a script prints if its first, second, .. read fails, each time after the number of
-/// its reads; at the end what it prints if no read fails.
+/// Plays a script again and again: first its first read fails, then its second, and so on; at last
+/// no read fails. Prints each time the number of reads and what the script prints.
 pub(crate) fn play_reads<W: Write + Drop>(
     alloc: Global,
     script: &str,

@@ -2,10 +2,10 @@
 
 use std::io::{Error, ErrorKind, Read, Result, Write};
 
-/// How a reader gives its bytes, and a writer takes them.
+/// How a reader gives bytes, and how a writer takes bytes.
 #[derive(Clone, Copy)]
 pub(crate) struct Manner {
-    /// Whether each byte comes and goes by itself, after an interruption.
+    /// Whether bytes are read and written one by one, each after an interruption.
     pub(crate) singly: bool,
     /// Whether the reader fails at its end.
     pub(crate) input_fails: bool,
@@ -13,12 +13,12 @@ pub(crate) struct Manner {
     pub(crate) fails_at: u64,
     /// How many bytes the writer takes.
     pub(crate) room: usize,
-    /// Whether the writer then takes no more bytes, but reports no fault.
+    /// Whether the full writer takes no bytes without a fault; else it fails.
     pub(crate) is_silent: bool,
 }
 
 impl Manner {
-    /// The manner in which all comes and goes at once, and without a fault.
+    /// All bytes are read and written at once, and nothing fails.
     pub(crate) fn ample() -> Manner {
         Manner {
             singly: false,
@@ -29,7 +29,7 @@ impl Manner {
         }
     }
 
-    /// How many bytes come or go at once.
+    /// The most bytes that one read gives, or one write takes.
     fn most(self) -> usize {
         if self.singly { 1 } else { usize::MAX }
     }

@@ -1,4 +1,4 @@
-//! Each part is made with each of its allocations refused in turn.
+//! Each part is made again and again; each time its next allocation is refused.
 
 use crate::same::same;
 use failing_alloc::FailingAllocator;
@@ -20,8 +20,9 @@ const CONFIG: Config = Config {
     clock: 0,
 };
 
-/// Makes something with each of its allocations refused in turn, which must fail, and then with all
-/// memory, which must succeed. Returns how many allocations there are.
+/// Calls `make` again and again: first its first allocation is refused, then its second, and so on.
+/// Each of these calls must fail; a last one, with all memory, must succeed. Returns how many
+/// allocations `make` makes.
 fn refusals<'a, T: Drop, F: Fn(&'a FailingAllocator<Global>) -> Result<T, AllocError>>(
     heap: &'a FailingAllocator<Global>,
     make: F,

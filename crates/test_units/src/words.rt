@@ -21,7 +21,7 @@ fn faults_have_their_texts_and_statuses(rt: HostRuntime) -> Result<(), Fail> {
     Ok(())
 }
 
-/// Fails unless the words of a text, which have a space between them, are read as wanted.
+/// Fails unless the words of a text, separated by one space, are read as wanted.
 fn are_read(
     alloc: Global,
     text: &'static str,

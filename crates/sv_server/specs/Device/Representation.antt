@@ -26,7 +26,7 @@ pub record Device : Type 0 where
   pub config : Config
   pub clock : ℕ
 
--- There are places, and there is memory, for the links of all suspended create_links.
+-- For the links of all suspended create_links there are places and there is memory.
 abbrev pub IsReserved : Device → List DeviceAct → Type 0
 IsReserved kept acts = (length (live (link_acts acts)) + creations kept.waiting ≤ max_links) × (creations kept.waiting ≤ kept.links.spare)
 
@@ -34,7 +34,7 @@ IsReserved kept acts = (length (live (link_acts acts)) + creations kept.waiting 
 abbrev pub HasPlace : Device → List DeviceAct → Type 0
 HasPlace kept acts = (length (live (link_acts acts)) + creations kept.waiting < max_links) × (creations kept.waiting < kept.links.spare)
 
--- Each link with service requests enabled exists, and its connection is the one that is stored with it.
+-- Each link with service requests enabled exists, and is owned by the connection that is stored with it.
 abbrev pub AreOwned : List Enabled → List LinkAct → Type 0
 AreOwned links acts = AllByRecursion (λ link. owner link.lid acts ≡ Some link.conn) links
 
@@ -47,8 +47,8 @@ AreTold kept acts = (channel_log : List ChannelAct) × HearsOf acts channel_log 
 abbrev pub AreReady : Channels → List WaitAct → Type 0
 AreReady kept acts = (c : ℕ) → is_dialing c acts ≡ true → IsReady kept c
 
--- The device has the state that its acts determine, under a configuration. Besides, the instrument has done the acts `adds`, which may have
--- raised service requests that weren't passed to the interrupt channels yet.
+-- The device has the state that its acts determine, under a configuration; but the instrument is ahead by the acts `adds`. These may have
+-- raised service requests that the interrupt channels haven't got yet.
 abbrev pub HasDone : List InstrumentAct → Device → Config → List DeviceAct → Type 0
 HasDone adds kept config acts = IsTable kept.links (link_acts acts) × StandsFor kept.instrument (adds ++ instrument_acts acts)
     × (kept.config ≡ config) × (kept.clock ≡ config.clock + ticks acts) × IsQueue kept.waiting (wait_acts acts) × IsReserved kept acts

@@ -21,7 +21,7 @@ pub record State : Type 0 where
   pub device : Device
   pub connections_used : ℕ
 
--- The call of a suspended entry was taken and has no reply; if it is create_link, it waits for the lock.
+-- The suspended call of this entry was taken and has no reply yet. If it is create_link, it waits for the lock.
 abbrev pub IsTaken : List Act → Entry → Type 0
 IsTaken log entry = (call : List ℕ) × (pending_call (of entry.conn log) ≡ Some call)
     × (creates_link (core_call call) ≡ true → creates entry ≡ true)

@@ -36,7 +36,7 @@ pub struct CoreCall<'a> {
 pub enum Request<'a> {
     /// Nothing: the record isn't a call.
     NoCall,
-    /// A reply that follows from the header or the arguments of the call alone.
+    /// A call whose reply follows from its header or its arguments, without the device.
     Decided {
         /// Its transaction.
         xid: u32,
@@ -190,8 +190,8 @@ fn decided<'a>(call: &Call<'a>, reply: Reply) -> Request<'a>
     }
 }
 
-/// What a call asks for. The first of these that applies decides the reply: another program,
-/// another version, the null procedure, an unknown procedure.
+/// What a call asks for. The first of these that applies decides the reply: a program other than
+/// that of the role; another version of the program; the null procedure; an unknown procedure.
 fn call_request<'a>(role: Role, call: &Call<'a>) -> Request<'a>
     ensures { plain_request result ≡ call_request_for role (plain_call call.now) }
 {

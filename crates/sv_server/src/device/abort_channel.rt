@@ -21,7 +21,8 @@ use sv_vxi::{ErrorCode, VxiResult};
 pub struct Aborted {
     /// Its result.
     pub result: VxiResult<'static>,
-    /// The connection whose suspended call device_abort ends. That call names the link.
+    /// The connection whose suspended call device_abort ends: a call on the same link; `None` if
+    /// there is no such call.
     pub conn: Option<u8>,
 }
 
@@ -36,7 +37,7 @@ fn is_this(lid: u32, named: Option<u32>) -> bool
 }
 
 impl<A: Allocator> Device<A> {
-    /// The outcome of device_abort of a link.
+    /// The outcome of a device_abort that names this link.
     pub fn abort(&self, lid: i32) -> Aborted
         ensures answer { (config : Config) (acts : List DeviceAct) → IsDevice self.now config acts
             → plain_result result.result ≡ result_of (lid_for (Some lid)) acts }
@@ -75,7 +76,7 @@ impl<A: Allocator> Device<A> {
         }
     }
 
-    /// The connection, if its call is suspended and names this link.
+    /// Returns `conn` if its call is suspended and names this link, else `None`.
     fn if_waiting(&self, conn: u8, lid: Option<u32>) -> Option<u8>
         ensures { (config : Config) (acts : List DeviceAct) → IsDevice self.now config acts
             → result ≡ where_waiting_with (Some conn) lid acts }
@@ -90,7 +91,8 @@ impl<A: Allocator> Device<A> {
         }
     }
 
-    /// The connection whose suspended call device_abort ends. That call names the link.
+    /// The connection whose suspended call device_abort ends: a call on this link; `None` if there
+    /// is no such call.
     fn aborted(&self, lid: Option<u32>) -> Option<u8>
         ensures { (config : Config) (acts : List DeviceAct) → IsDevice self.now config acts
             → result ≡ where_waiting_with (owner_for lid acts) lid acts }

@@ -27,7 +27,7 @@ use std::alloc::{AllocError, Allocator};
 use sv_links::{Entry, MAX_LINKS, Wait, is_locked_out};
 use sv_vxi::{Args, ErrorCode, LinkCall};
 
-/// How many links there may be at once, with those that suspended create_links will make.
+/// The most links at once, including those that suspended create_links will make.
 const MOST_LINKS: u8 = MAX_LINKS as u8;
 
 /// What stops a call.
@@ -62,8 +62,8 @@ fn lock_stop(call: &LinkCall<'_>) -> Option<Stop>
     }
 }
 
-/// What stops create_intr_chan. It fails if a channel is open, the protocol isn't TCP (0), or no
-/// peer can have the address; else it is suspended until its peer is connected.
+/// What stops create_intr_chan. The call fails if a channel is open, if the protocol isn't TCP (0),
+/// or if the address or the port isn't allowed. Else it is suspended until its peer is connected.
 fn channel_stop(there: bool, host_addr: u32, host_port: u32, prog_family: u32) -> Stop
     ensures { plain_stop result ≡ channel_stop_for there host_addr host_port prog_family }
 {
@@ -83,7 +83,7 @@ fn channel_stop(there: bool, host_addr: u32, host_port: u32, prog_family: u32) -
 }
 
 impl<A: Allocator> Device<A> {
-    /// Whether another link than this holds the lock, and the call has to wait for it.
+    /// Whether a link other than this holds the lock, and the call has to wait for the lock.
     fn is_kept_out(&self, lid: Option<u32>, call: &LinkCall<'_>) -> bool
         ensures { (config : Configured) (acts : List DeviceAct) → IsDevice self.now config acts
             → result ≡ (is_some (lock_wait (plain_call call.now))
@@ -229,7 +229,8 @@ impl<A: Allocator> Device<A> {
         }
     }
 
-    /// The clock at which a call times out that is suspended now; `None` without a timeout.
+    /// The value of the clock at which a call that is suspended now times out; `None` if it has no
+    /// timeout.
     pub(super) fn deadline(&self, timeout: Option<u32>) -> Option<u64>
         ensures { (config : Configured) (acts : List DeviceAct) → IsDevice self.now config acts
             → result ≡ deadline_for config timeout acts }
@@ -240,7 +241,7 @@ impl<A: Allocator> Device<A> {
         }
     }
 
-    /// Allocates the memory of a link that a call makes, if one more may be made.
+    /// If the call makes a link, and one more may be made, allocates its memory.
     fn reserve(&mut self, args: &Args<'_>) -> Result<(), AllocError>
         ensures ok { (config : Configured) (acts : List DeviceAct) → IsDevice self.old config acts
             → OnOk result (IsDevice self.new config acts

@@ -9,7 +9,7 @@ pub enum CallOutcome {
     Result(VxiResult<'static>),
     /// The call is a read, and is answered with bytes of the response.
     Reads {
-        /// The most bytes to give.
+        /// The most bytes to return.
         most: u32,
         /// The termination character, if its flag is set.
         term: Option<u8>,

@@ -158,8 +158,8 @@ impl<A: Allocator> Device<A> {
         CallOutcome::Result(written(ErrorCode::NoError, bytes.len() as u32))
     }
 
-    /// device_read: gives bytes of the response. Without a response the unfinished text is dropped,
-    /// and the result is a timeout.
+    /// device_read: the outcome is that bytes of the response are read. If there is no response,
+    /// the unfinished text is dropped, and the result is a timeout.
     fn device_read(&mut self, most: u32, term: Option<u8>) -> CallOutcome
         ensures ends { (config : Configured) (acts : List DeviceAct) → IsDevice self.old config acts
             → OutcomeIs result self.new config acts (device_read most term acts) }
@@ -177,7 +177,7 @@ impl<A: Allocator> Device<A> {
         CallOutcome::Result(nothing_read(ErrorCode::IoTimeout))
     }
 
-    /// The bytes of the response that a read gives, and why they end there.
+    /// The bytes of the response that a read returns, and why they end there.
     pub fn peek_response(&self, most: u32, term: Option<u8>) -> Read<'_>
         ensures within { length result.bytes.now
             ≤ length (shown_by self.now.instrument.layers.exchange) }
@@ -201,7 +201,7 @@ impl<A: Allocator> Device<A> {
         self.raise(raised);
     }
 
-    /// device_readstb: gives the status byte, and ends its request for service.
+    /// device_readstb: returns the status byte, and ends the request for service.
     fn device_readstb(&mut self) -> CallOutcome
         ensures ends { (config : Configured) (polled : ℕ) (acts : List DeviceAct)
             → IsDeviceAt self.old config polled acts
@@ -216,7 +216,7 @@ impl<A: Allocator> Device<A> {
         })
     }
 
-    /// device_trigger: a trigger from the controller.
+    /// device_trigger: the instrument gets a trigger from the controller.
     fn device_trigger(&mut self) -> CallOutcome
         ensures ends { (config : Configured) (acts : List DeviceAct) → IsDevice self.old config acts
             → OutcomeIs result self.new config acts

@@ -64,7 +64,7 @@ pub fn written(error: ErrorCode, size: u32) -> VxiResult<'static>
     VxiResult::Size { error, size }
 }
 
-/// The result of a device_read that gives no bytes.
+/// The result of a device_read that returns no bytes.
 pub fn nothing_read(error: ErrorCode) -> VxiResult<'static>
     ensures result_is { plain_result result ≡ no_bytes error }
     ensures short { data_of (plain_result result) ≡ [] }

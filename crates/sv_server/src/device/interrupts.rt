@@ -196,8 +196,8 @@ impl<A: Allocator> Device<A> {
         self.intr.waiting(conn.number)
     }
 
-    /// Drops the first `count` bytes that wait on the open interrupt channel of a connection: the
-    /// peer took them.
+    /// Drops the first `count` of the bytes that wait on the open interrupt channel of a
+    /// connection, since the peer took them.
     pub fn channel_took(&mut self, conn: Conn, count: usize)
         requires { count ≤ length (bytes_of self.old.intr conn.number) }
         ensures stands { (config : Configured) (acts : List DeviceAct)

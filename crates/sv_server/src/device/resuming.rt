@@ -26,7 +26,7 @@ use sv_vxi::{Args, ErrorCode};
 /// Why a suspended call continues or ends.
 #[derive(Clone, Copy)]
 pub enum Cause {
-    /// The call can resume: it needn't wait for this any longer.
+    /// The call can resume, since it needn't wait for this any longer.
     Able(Wait),
     /// The attempt to connect its peer succeeded or failed.
     Dialed(bool),

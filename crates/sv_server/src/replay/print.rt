@@ -12,7 +12,7 @@ use sv_history::{Port, Refused};
 /// How many bytes are written in hexadecimal at once.
 const PIECE: usize = 256;
 
-/// The writer failed, or takes nothing more.
+/// The writer failed, or took no byte.
 #[derive(Clone, Copy, Debug, PartialEq, Eq)]
 pub struct WriteFault;
 

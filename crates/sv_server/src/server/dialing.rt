@@ -1,5 +1,5 @@
-//! Interrupt channels of the server: which are to be connected, and what is sent on those that are
-//! open.
+//! Interrupt channels of the server: which the server's user has to connect, and what is sent on
+//! those that are open.
 
 ghost use Rattle.std.specs.Prelude.{◌≡◌, ◌≤◌, not, List, length, MatchResult, IfOk, OnErr, Some, None, nat_lt, true, false, if◌then◌else◌};
 ghost use Rattle.sv_vxi.specs.Reading.{plain_arguments};
@@ -24,7 +24,8 @@ use std::alloc::Allocator;
 use sv_history::{Dial, Did, Refused};
 use sv_vxi::Args;
 
-/// Where a create_intr_chan asks to connect; `None` for another call, or for a port above 65535.
+/// The address and the port to which a create_intr_chan wants to be connected; `None` for another
+/// call, or for a port above 65535.
 fn dial_by(args: &Args<'_>) -> Option<Dial>
     ensures { result ≡ called_by (plain_arguments args.now) }
 {
@@ -106,7 +107,7 @@ impl<A: Allocator> Server<A> {
         }
     }
 
-    /// Applies the result of connecting an interrupt channel.
+    /// Applies a Dialed event: connecting an interrupt channel succeeded or failed.
     pub(crate) fn dialed(&mut self, conn: u8, ok: bool) -> Result<Did, Refused>
         ensures acts { (config : Config) (log : List Act) → Represents self.old config log
             → Acts config (Dialed conn ok) log result self.new }

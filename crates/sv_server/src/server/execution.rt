@@ -1,4 +1,4 @@
-//! What a record that was taken does.
+//! Executing a record that was taken.
 
 ghost use Rattle.std.specs.Prelude.{◌≡◌, ℕ};
 ghost use Rattle.sv_rpc.specs.Ports.{port_at};
@@ -52,7 +52,7 @@ fn port_answer(ports: Ports, args: &[u8]) -> Answer<'static>
     }
 }
 
-/// Executes a record, without sending its reply, or ending the call that a device_abort ends.
+/// Executes a record. It neither sends the reply, nor ends the call that a device_abort ends.
 pub fn execute<A: Allocator>(
     device: &mut Device<A>,
     conn: Conn,

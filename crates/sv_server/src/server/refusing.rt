@@ -25,7 +25,8 @@ fn takes_memory(args: &Args<'_>) -> bool
     matches!(*args, Args::CreateLink { .. } | Args::CreateIntrChan { .. })
 }
 
-/// A call that may be refused: its header passes its checks, and it may allocate memory.
+/// Reads a record as a call that may be refused: one of the core channel that may allocate memory.
+/// `None` if the record isn't such a call.
 fn refusable(role: Role, bytes: &[u8]) -> Option<CoreCall<'_>>
     ensures { option_map plain_core_call result
         ≡ refusable_call (Some (request_for role (call_at bytes.now))) }

@@ -39,7 +39,7 @@ enum Stepped {
     Call,
 }
 
-/// Whether an event makes no step due: a connection opens, or bytes come or go.
+/// Whether no step is due after this event: a connection opens, bytes come, or a peer takes bytes.
 pub(crate) fn is_quiet(event: Event<'_>) -> bool
     ensures { result ≡ is_quiet (plain event.entry) }
 {
@@ -50,7 +50,7 @@ pub(crate) fn is_quiet(event: Event<'_>) -> bool
     }
 }
 
-/// The error of a call that times out.
+/// The error of a call that times out while it waits for this.
 fn late(wait: Wait) -> ErrorCode
     ensures { result ≡ late_error wait }
 {
@@ -180,8 +180,8 @@ impl<A: Allocator> Server<A> {
         Stepped::Nothing
     }
 
-    /// Takes the steps that are due, up to the first in which a call resumes or times out. Returns
-    /// whether there was such a step.
+    /// Takes the steps that are due, up to and including the first in which a call resumes or times
+    /// out. Returns whether there was such a step.
     fn settle_to_call(&mut self) -> bool
         ensures goes { (config : Config) (log : List Act) → Represents self.old config log
             → GoesTo config log (λ mid. result ≡ false → IsSettled config mid) self.new }

@@ -69,8 +69,8 @@ pub fn turn<A: Allocator>(
     })
 }
 
-/// Ends the record that was taken, unless its call is suspended: sends the reply, or drops a record
-/// that isn't a call.
+/// Finishes the record that was taken, unless its call is suspended: sends the reply, or drops the
+/// record if it isn't a call.
 fn conclude<A: Allocator>(
     xid: u32,
     executed: Executed,

@@ -1,4 +1,4 @@
--- The next call of a connection, by the state of the connection.
+-- The next call of a connection, as its state gives it.
 use Rattle.std.specs.Prelude.{◌||◌, ℕ, List, Option, None, slice_get, if◌then◌else◌}
 use Rattle.sv_server.specs.Connection.Representation.{Connection}
 

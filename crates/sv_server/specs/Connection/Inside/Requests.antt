@@ -1,4 +1,4 @@
--- What a record asks for, by the types of the code.
+-- What a record asks for, in terms of the code's types.
 use Rattle.std.specs.Prelude.{ℕ}
 use Rattle.sv_vxi.specs.Reading.{plain_arguments}
 use Rattle.sv_history.specs.CoreCall.{CoreCall}

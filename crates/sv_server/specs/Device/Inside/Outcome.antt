@@ -1,4 +1,4 @@
--- The outcome of a call that begins, or of one that was suspended, by the types of the code.
+-- The outcome of a call that begins, or of one that was suspended, in terms of the code's types.
 use Rattle.std.specs.Prelude.{◌≡◌, ◌⊎◌, ℕ, ◌+◌, ◌<◌, ◌≤◌, List, [], ◌∷◌, ◌++◌, map, Bool, true, false, Option, Some, None, Result, IfOk, OnErr, ⊤}
 use Rattle.sv_vxi.specs.Arguments.{Arguments, CreateLink, is_create_link}
 use Rattle.sv_vxi.specs.Results.{Outcome as VxiOutcome, plain_result, data_of}
@@ -48,8 +48,8 @@ abbrev pub IsResult : Option VxiOutcome → VxiOutcome → Type 0
 IsResult (Some encoded) result = encoded ≡ result
 IsResult None result = ⊥
 
--- The outcome in the code is this outcome of a call, and the device has the acts that it adds. If the call reads the response, this is
--- still to be read.
+-- The code's `Outcome` means the same as `what`, and the device has the acts that `what` adds. If the call reads the response, the response
+-- isn't taken yet.
 abbrev pub OutcomeIs : Outcome → Device → Config → List DeviceAct → CallOutcome → Type 0
 OutcomeIs (outcomes.Result given) device config acts what = IsResult what.result (plain_result given)
     × IsDevice device config (what.adds ++ acts)
@@ -74,7 +74,7 @@ IsBehind c makes old new =
 abbrev pub MayWait : Type 0 → ℕ → Bool → List Entry → List Entry → Type 0
 MayWait IsSuspended c makes old new = (new ≡ old) ⊎ (IsSuspended × IsBehind c makes old new)
 
--- The result is an outcome for which `IsSo` and `IsShort` hold. Or it is out of memory: `Wants` holds, and nothing changed.
+-- The result is an outcome for which `IsSo` and `IsShort` hold. Or memory was refused: then `Wants` holds, and nothing changed.
 pub record Does {O : Type 0} (IsSo : Config → ℕ → List DeviceAct → O → Type 0) (Wants : Config → ℕ → List DeviceAct → Type 0)
     (IsShort : O → Type 0) {E : Type 0} (result : Result O E) (old new : Device) : Type 0 where
   pub does : (config : Config) (polled : ℕ) (acts : List DeviceAct) → IsDeviceAt old config polled acts
@@ -84,7 +84,8 @@ pub record Does {O : Type 0} (IsSo : Config → ℕ → List DeviceAct → O →
   pub brief : IfOk result (λ outcome. IsShort outcome)
   pub err : OnErr result (new ≡ old)
 
--- The call begins, after acts for which `IsAt` holds: any acts (`Admits`), or those after which `stop` is what stops the call (`AdmitsAt`).
+-- The call begins after acts for which `IsAt` holds. For `Admits` these are any acts; for `AdmitsAt` they are acts after which `stop` is
+-- what stops the call.
 abbrev pub Begins : (List DeviceAct → Type 0) → {E : Type 0} → Result Outcome E → ℕ → Arguments → Device → Device → Type 0
 Begins IsAt result c arguments old new =
     Does (λ config polled acts outcome. IsAt acts
@@ -114,24 +115,24 @@ ResumedAs (Some wait) outcome device config polled c arguments acts =
 ResumedAs None outcome device config polled c arguments acts =
     OutcomeIs outcome device config (Waited (Left c) ∷ acts) (own_call config polled c arguments (Waited (Left c) ∷ acts))
 
--- The call leaves the queue; or `IsSuspended` holds, and the call waits again at its place in the queue, and makes no link.
+-- The call leaves the queue. Or `IsSuspended` holds: the call waits again at its place in the queue, and isn't a create_link.
 abbrev pub MayWaitAnew : Type 0 → ℕ → Bool → List Entry → List Entry → Type 0
 MayWaitAnew IsSuspended c makes old new = (new ≡ without c old)
     ⊎ (IsSuspended × (wait : Wait) × (deadline : Option ℕ) × (new ≡ map (anew c wait deadline) old) × (makes ≡ false))
 
--- whether a suspended call resumes because it needn't wait any longer; otherwise its peer was called, or it fails
+-- whether the cause is that the suspended call needn't wait any longer
 abbrev pub is_able : Cause → Bool
 is_able (causes.Able wait) = true
 is_able _ = false
 
--- If a suspended call resumes because it needn't wait any longer, its measure and that of the other calls are at most the measure of the
--- queue.
+-- If a suspended call resumes because it needn't wait any longer, the measure of its wait and the measure of all other calls add up to at
+-- most the measure of the queue.
 abbrev pub IsNearer : Cause → ℕ → List Entry → Type 0
 IsNearer (causes.Able wait) c old = queue_measure (without c old) + wait_measure wait ≤ queue_measure old
 IsNearer _ c old = ⊤
 
--- A call may resume for this cause. If it needn't wait any longer, it is suspended, and `HasPlaceOfLink` holds. If its peer was called, it
--- waits for that. If it fails, nothing is needed.
+-- What has to hold before a call continues for this cause. If the call needn't wait any longer: it is suspended, and `HasPlaceOfLink`
+-- holds. If its peer was dialed: the call waits for this. If the call fails: nothing.
 abbrev pub MayResume : Cause → ℕ → Type 0 → List DeviceAct → Type 0
 MayResume (causes.Able wait) c HasPlaceOfLink acts = (waits c (wait_acts acts) ≡ None → ⊥) × HasPlaceOfLink
 MayResume (causes.Dialed ok) c HasPlaceOfLink acts = is_dialing c (wait_acts acts) ≡ true
@@ -147,7 +148,7 @@ GoesOnAs (causes.Failed error) outcome device config polled c arguments acts =
 
 -- ---- a step of the instrument
 
--- A step for which `IsSuch` holds is taken; or, if the flag is false, there is no such step, and nothing changes.
+-- If the flag is true, a step for which `IsSuch` holds is taken. If it is false, there is no such step, and nothing changes.
 abbrev pub InstrumentSteps : (List InstrumentAct → List InstrumentAct → Type 0) → Bool → Config → List DeviceAct → Device → Device → Type 0
 InstrumentSteps IsSuch true config acts old new = (adds : List InstrumentAct)
     × IsSuch (instrument_acts acts) (adds ++ instrument_acts acts) × IsDevice new config (map Applied adds ++ acts)

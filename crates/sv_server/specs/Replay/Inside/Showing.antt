@@ -31,8 +31,8 @@ told_with_took port [] channel_log = channel_log
 told_with_took (Conn c) (byte ∷ bytes) channel_log = channel_log
 told_with_took (Intr c) (byte ∷ bytes) channel_log = ChannelTaken c (length (byte ∷ bytes)) ∷ channel_log
 
--- The line of a port was written, and then the peer took the bytes that it shows. Or the writer failed: a prefix of the line was written,
--- and nothing was taken.
+-- The line of a port was written, and then the peer took the bytes that the line shows. Or the writer failed: a prefix of the line was
+-- written, and the peer took nothing.
 abbrev pub ShowsPort : Port → Config → List PlainEvent → List ChannelAct → List Act → Result ⊤ WriteFault → State → List ℕ → Type 0
 ShowsPort port config history channel_log log (Ok all) new text = let bytes = waiting_on channel_log port log in
     (text ≡ port_line port bytes)
@@ -40,8 +40,8 @@ ShowsPort port config history channel_log log (Ok all) new text = let bytes = wa
 ShowsPort port config history channel_log log (Err fault) new text =
     IsFront text (port_line port (waiting_on channel_log port log)) × StandsBy new config history channel_log log
 
--- All lines were written, and the bytes that they show were taken. Or the writer failed: the lines of some first ports were written and
--- their bytes were taken, and a prefix of the other lines was written.
+-- All lines were written, and the peers took the bytes that the lines show. Or the writer failed: the lines of the first few ports were
+-- written, and their peers took the bytes; of the other lines a prefix was written, and their peers took nothing.
 abbrev pub ShowsAll : Config → List PlainEvent → List ChannelAct → List Act → Result ⊤ WriteFault → State → List ℕ → Type 0
 ShowsAll config history channel_log log (Ok all) new text = (text ≡ lines_of channel_log ports log) × (after : List ChannelAct)
     × (now : List Act)

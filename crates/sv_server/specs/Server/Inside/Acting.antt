@@ -1,4 +1,4 @@
--- What a private function that executes an event leaves.
+-- The state in which a private function that executes an event leaves the server.
 use Rattle.std.specs.Prelude.{◌≡◌, ℕ, ℤ, true, Bool, false, List, [], ◌∷◌, ◌++◌, Some, None, Result, Ok, Err, Option, ⊤}
 use Rattle.sv_errors.specs.Limits.{is_channel}
 use Rattle.sv_links.specs.declared.waiting.Entry.{Entry}
@@ -30,12 +30,12 @@ use Rattle.sv_server.specs.Device.Inside.Outcome.{MayWait}
 use Rattle.sv_server.specs.Server.State.{State, Represents}
 use Rattle.sv_server.specs.Server.Inside.Ending.{Concludes}
 
--- This is the refusal of an event; `None` if the event isn't refused.
+-- `what` is the refusal of the event; `None` if the event isn't refused.
 abbrev pub IsRefusal : Config → PlainEvent → List Act → Option Refused → Type 0
 IsRefusal config event log what = (channel_log : List ChannelAct) → HearsOf (device_acts log) channel_log
     → refusal config channel_log event log ≡ what
 
--- An event adds its own acts; or memory that it needs was refused; or the event is refused.
+-- The event adds its own acts. Or it is refused; or memory that it needs was refused.
 abbrev pub Acts : Config → PlainEvent → List Act → Result Did Refused → State → Type 0
 Acts config event log (Ok what) new = IsRefusal config event log None × (what ≡ did event log)
     × ((polled : ℕ) → IsPolled polled (device_acts log) → Represents new config (own_acts config polled event log ++ log))
@@ -43,14 +43,14 @@ Acts config event log (Err NoMemory) new = IsRefusal config event log None
     × ((polled : ℕ) → IsPolled polled (device_acts log) → wants_memory (device_acts (own_acts config polled event log)) ≡ true)
 Acts config event log (Err refused) new = IsRefusal config event log (Some refused)
 
--- whether an event is an Open, Bytes or a Took, which make no step due
+-- whether an event is an Open, Bytes or a Took; after these no step is due
 abbrev pub is_quiet : PlainEvent → Bool
 is_quiet (Open c role) = true
 is_quiet (Bytes c piece) = true
 is_quiet (Took port count) = true
 is_quiet _ = false
 
--- A Turn takes the next call of an open connection, if there is one, and `IsSo` holds of its effect.
+-- The next call of an open connection is `call`, which asks for `request`, and `IsSo` holds of the effect that a Turn has with it.
 abbrev pub TakesCall : Config → ℕ → List Act → List ℕ → Request → (Effect → Type 0) → Type 0
 TakesCall config c log call request IsSo = (next_call (of c log) ≡ Some call) × (next_request (of c log) ≡ Some request)
     × ((polled : ℕ) → IsPolled polled (device_acts log) → IsSo (request_effect config polled c request (device_acts log)))
@@ -73,23 +73,23 @@ Refuses acts (Ok done) connection = (refuse_refusal acts ≡ None) × (bytes : L
     × IsConnection connection (Replied (refused_reply call) ∷ CallTaken bytes ∷ acts)
 Refuses acts (Err refused) connection = refuse_refusal acts ≡ Some refused
 
--- The input is possible, or this is its refusal.
+-- The input isn't refused, or the result is its refusal.
 abbrev pub IsInput : ℕ → ℤ → Result Did Refused → Type 0
 IsInput channel microvolts (Ok what) = (what ≡ DidSo) × (is_channel channel ≡ true) × (is_beyond microvolts ≡ false)
 IsInput channel microvolts (Err refused) = Some refused ≡ input_refusal channel microvolts
 
--- A step for which `IsStep` holds is taken; or, if the flag is false, there is no such step, and nothing changes.
+-- If the flag is true, a step for which `IsStep` holds is taken. If it is false, there is no such step, and nothing changes.
 abbrev pub TakesStep : (Config → List Act → List Act → Type 0) → Bool → Config → List Act → State → State → Type 0
 TakesStep IsStep true config log old new = (next : List Act) × IsStep config log next × Represents new config next
 TakesStep IsStep false config log old new = ((next : List Act) → IsStep config log next → ⊥) × (new ≡ old)
 
--- The step that is due is taken; or none is due, and the log is unchanged.
+-- The step that is due is taken. Or no step is due, and the log is unchanged.
 abbrev pub Steps : Stepped → Config → List Act → State → Type 0
 Steps Nothing config log new = IsSettled config log × Represents new config log
 Steps Instrument config log new = (next : List Act) × IsNext config log next × Represents new config next
 Steps Call config log new = (next : List Act) × IsNext config log next × Represents new config next
 
--- Whatever log the steps from `mid` settle to, the steps from `log` settle to it, too.
+-- Each log in which the steps from `mid` end is one in which the steps from `log` end.
 abbrev pub Reaches : Config → List Act → List Act → Type 0
 Reaches config log mid = (n : ℕ) (new : List Act) → SettlesIn n config mid new → (m : ℕ) × SettlesIn m config log new
 

@@ -33,7 +33,7 @@ use Rattle.sv_server.specs.Device.Inside.Outcome.{IsBrief, MayWait, MayWaitAnew,
 
 -- ---- how a call or a record ends
 
--- A call with this outcome in the code has this effect. If it reads the response, this is still to be read.
+-- A call for which the code returns this `Outcome` has this effect. If the call reads the response, the response isn't taken yet.
 abbrev pub CallEndsAs : Outcome → ℕ → Device → Config → List DeviceAct → Effect → Type 0
 CallEndsAs (outcomes.Result given) xid device config acts effect = (effect.own ≡ Replied (answer_bytes xid (Told given)) ∷ [])
     × IsDevice device config (effect.adds ++ acts)
@@ -41,7 +41,7 @@ CallEndsAs (outcomes.Reads most term) xid device config acts effect =
     (effect ≡ call_effect xid (reads (response (exchange_acts acts)) most term)) × IsDevice device config acts
 CallEndsAs outcomes.Suspended xid device config acts effect = (effect.own ≡ []) × IsDevice device config (effect.adds ++ acts)
 
--- A record that the code executed, with this outcome, has this effect.
+-- A record for which the code returns this `Executed` has this effect.
 abbrev pub EndsAs : Executed → ℕ → Device → Config → List DeviceAct → Effect → Type 0
 EndsAs executions.NoCall xid device config acts effect = (effect.own ≡ Faulted ∷ []) × IsDevice device config (effect.adds ++ acts)
 EndsAs (executions.Answered answer) xid device config acts effect = (effect.own ≡ Replied (answer_bytes xid answer) ∷ [])
@@ -50,7 +50,7 @@ EndsAs (executions.Aborts aborted) xid device config acts effect =
     (effect.own ≡ Replied (answer_bytes xid (Told aborted.result)) ∷ []) × IsDevice device config (effect.adds ++ acts)
 EndsAs (executions.Call outcome) xid device config acts effect = CallEndsAs outcome xid device config acts effect
 
--- The answer to the record has room in a reply.
+-- The answer to the record fits in one reply.
 abbrev pub IsBriefly : Executed → Type 0
 IsBriefly executions.NoCall = ⊤
 IsBriefly (executions.Answered answer) = IsShort answer
@@ -78,7 +78,7 @@ asks_for_link _ = false
 abbrev pub IsSuspended : Executed → Request → Type 0
 IsSuspended executed request = (executed ≡ executions.Call outcomes.Suspended) × (call : CoreCall) × (request ≡ CoreRequest call)
 
--- What a record asks for is executed, or memory that it needs was refused.
+-- The code executes what a record asks for, or memory that this needs was refused.
 abbrev pub Executes : Request → {E : Type 0} → Result Executed E → ℕ → Device → Device → Type 0
 Executes request result c old new =
     Does (λ config polled acts executed. EndsAs executed (xid_of request) new config acts (request_effect config polled c request acts)
@@ -93,7 +93,7 @@ abbrev pub HasPlaceOfLink : Option CoreCall → ℕ → Device → List DeviceAc
 HasPlaceOfLink call c kept acts = creates_link call ≡ true
     → (creations (without c kept.waiting) < creations kept.waiting) × (is_locked_out (holder (link_acts acts)) None ≡ false)
 
--- The effect of a suspended call that resumes for this cause.
+-- the effect of a suspended call that continues for this cause
 abbrev pub taken_up : Cause → Config → ℕ → ℕ → Option CoreCall → List DeviceAct → Effect
 taken_up (causes.Able wait) config polled c call acts = resume_effect config polled c wait call acts
 taken_up (causes.Dialed ok) config polled c call acts = connect_effect c ok call
