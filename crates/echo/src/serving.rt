@@ -115,8 +115,8 @@ pub(crate) fn serve(rt: &HostRuntime, port: u16, looks: u32) -> io::Result<()> {
     Ok(())
 }
 
-/// How long the server may sleep if `left` more polls follow: without a limit, except before the
-/// last few polls.
+/// How long the next poll may sleep if `left` polls remain: without a limit (`None`), except before
+/// the last few polls.
 fn sleep_time(pace: &Pace, now: u64, left: u32) -> Option<Duration> {
     if left > FEW {
         return None;

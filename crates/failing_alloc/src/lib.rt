@@ -8,16 +8,16 @@
 //! for number in 1..100 {
 //!     heap.refuse(number);
 //!     let outcome = code_under_test(&heap);
-//!     // If no refusal was met, the code makes fewer allocations than `number`, and `outcome` is
-//!     // its answer with all of them.
+//!     // If no allocation was refused, the code makes fewer allocations than `number`, and
+//!     // `outcome` is its answer with all memory.
 //!     if heap.is_armed() { .. }
 //! }
 //! ```
 //!
-//! A contract cannot describe the contents of a cell, so `refuse` and `is_armed` have no contract,
-//! and the tests show what they do. It is proved that memory is used safely: each block comes from
-//! the inner allocator for the requested layout, and goes back to it with that layout and at most
-//! once. No contract says that a block ever goes back.
+//! A contract cannot describe the contents of a cell, so `refuse` and `is_armed` have no contract;
+//! the tests show what they do. It is proved that memory is used safely: each block comes from the
+//! inner allocator for the requested layout, and goes back to it with that layout and at most once.
+//! But no contract says that a block is ever given back.
 #![tactic(auto)]
 
 use std::alloc::{AllocError, Allocator};
@@ -36,7 +36,7 @@ mod tests;
 /// resize it. So each growth counts as one allocation, and may be the one that is refused.
 pub struct FailingAllocator<B: Allocator> {
     inner: B,
-    // Counts down to the allocation that is refused, which is made at 1; 0 if none is to be
+    // The number of the allocation that is refused, counted from the next one; 0 if none is to be
     // refused.
     left: Cell<u64>,
 }
@@ -50,15 +50,15 @@ impl<B: Allocator> FailingAllocator<B> {
         }
     }
 
-    /// Refuses one allocation: of those made from now on, the one with this number, counted from 1.
-    /// All others are passed on. With 0 none is refused.
+    /// Refuses one allocation: of the allocations made from now on, the one with this number,
+    /// counted from 1. All other allocations are passed on. With 0 no allocation is refused.
     ///
     /// A second call replaces the number of the first.
     pub fn refuse(&self, number: u64) {
         self.left.set(number);
     }
 
-    /// Whether the allocation to refuse is still to come.
+    /// Whether the allocation to refuse hasn't been made yet.
     pub fn is_armed(&self) -> bool {
         self.left.get() != 0
     }
@@ -81,7 +81,8 @@ fn take_turn(left: &Cell<u64>) -> bool {
 }
 
 unsafe impl<B: Allocator> Allocator for FailingAllocator<B> {
-    // A block is the inner allocator's, and so is the right to free it.
+    // A block belongs to the inner allocator, and the right to free it is the inner allocator's
+    // too.
     ghost dealloc_token = { λ heap ty ptr. B.dealloc_token heap.inner ty ptr };
 
     fn allocate(&self, size: usize, align: usize) -> Result<*mut u8, AllocError> {

@@ -12,7 +12,7 @@ use Rattle.sv_replay.specs.Script.{parts, events_of, IsScript, IsBad, Prints, St
 use Rattle.sv_replay.specs.Text.{Held}
 use Rattle.sv_replay.specs.Run.{set_up, Runs}
 
--- Of the text that was read, the first `number` lines are done: what they print was written. `left` is the rest of the text that was read.
+-- The first `number` lines of the text that was read are done, and their print was written. `left` is the text after these lines.
 abbrev pub IsStage : State → List ℕ → ℕ → List ℕ → List ℕ → Type 0
 IsStage server left number read text = (lines : List (List ℕ)) × (events history : List PlainEvent) × (parts read ≡ lines ++ parts left)
     × (number ≡ length lines) × IsScript lines events
@@ -23,7 +23,7 @@ abbrev pub StopsAt : List ℕ → List PlainEvent → ReplayFault → List ℕ �
 StopsAt line history fault text after = (said : Line) × (length line ≤ 65536) × Says line said
     × Stops set_up history (events_of said) fault text after
 
--- What the line with this number does after a history, and what is printed for it.
+-- What the line with this number does after a history, and what the replay prints for it.
 abbrev pub LineRuns : List ℕ → ℕ → List PlainEvent → Result ⊤ RunFault → List ℕ → List PlainEvent → Type 0
 LineRuns line number history (Ok all) text after =
     (said : Line) × (length line ≤ 65536) × Says line said × Prints set_up history (events_of said) text after
@@ -43,8 +43,8 @@ abbrev pub WhileGoing : {E : Type 0} → Result Bool E → Type 0 → Type 0
 WhileGoing (Ok true) fact = fact
 WhileGoing answer fact = Unit {0}
 
--- The progress of a step after which the run goes on: one more line is done, or one more read was made. The lines done and the bytes stored
--- are together at most 131,072 for each read. The reader isn't read more often than allowed.
+-- The progress of a step after which the run goes on. Either one more line is done, or one more read was made. If the lines done plus the
+-- bytes stored are at most 131,072 for each read, they stay so. If the reads aren't more than allowed, they stay so.
 pub record Progress (lines : ℕ) (held : Held) (done : ℕ) (left : Held) : Type 0 where
   pub counted : done + left.reads ≡ lines + held.reads + 1
   pub bounded : lines + length held.text ≤ 131072 * held.reads → done + length left.text ≤ 131072 * left.reads

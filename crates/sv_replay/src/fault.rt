@@ -14,7 +14,7 @@ pub enum RunFault {
     /// replay.
     #[error("bad line {0}")]
     BadLine(u64),
-    /// The input failed, or was read 4,294,967,294 times.
+    /// The input failed, or had been read 4,294,967,294 times, which is as often as allowed.
     #[error("input")]
     Input,
     /// The output failed.

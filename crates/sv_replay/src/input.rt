@@ -9,18 +9,18 @@ use std::io::{ErrorKind, Read};
 #[derive(Clone, Copy, Debug, PartialEq, Eq)]
 pub struct InputFault;
 
-/// A reader whose reads can be named in contracts. Every reader is a `Source`. Of the system's
-/// readers it isn't known what their reads return.
+/// A reader whose reads can be named in contracts. Every reader is a `Source`. A reader of the
+/// system promises nothing about what its reads return.
 pub trait Source: Read {
     ghost use Rattle.std.specs.Prelude.{⊤};
     ghost use Rattle.sv_replay.specs.Reads.{Gave};
 
-    /// How a read changes the reader, depending on what the read returned: a number of bytes; none,
-    /// at the reader's end; or a fault.
+    /// How a read changes the reader. The change may depend on what the read returned: a number of
+    /// bytes; `None` at the reader's end; or a fault.
     ghost gives: { Self → Gave → Self → Type 0 } = { λ before gave after. ⊤ };
 
-    /// Reads once, into a buffer with room. Returns the number of bytes; `None` at the reader's
-    /// end. An interrupted read gives no bytes, but the next read may.
+    /// Makes one read, into a buffer with room. Returns the number of bytes that came; `None` at
+    /// the reader's end. A read that a signal interrupts gives no bytes, but a later read may.
     ///
     /// # Errors
     /// If the reader fails.

@@ -12,8 +12,8 @@ pub fn one_scenario()
     ensures { OneScenario }
 {}
 
-/// The entries that are read from a text are a scenario: the server accepts each entry, and no tick
-/// is lower than the one before it.
+/// If a text is read as a list of entries, the list is a scenario: the server accepts each entry,
+/// and no tick is lower than the tick before it.
 pub fn told_in_order()
     ensures { ToldInOrder }
 {}

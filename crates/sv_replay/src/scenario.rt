@@ -1,4 +1,4 @@
-//! Reading a scenario: each line of a text is empty or an entry.
+//! Reads a scenario. Each line of a scenario is an entry or empty.
 
 ghost use Rattle.std.specs.Prelude.{◌≡◌, List, [], ◌++◌, ◌∷◌, MatchResult, Ok, Err};
 ghost use Rattle.sv_replay.specs.Scenario.{Reads};
@@ -12,8 +12,8 @@ use thiserror::Error;
 /// Why a scenario can't be read.
 #[derive(Clone, Copy, Debug, PartialEq, Eq, Error)]
 pub enum ScenarioFault {
-    /// The line with this number, counted from 1, has more than 65,536 bytes, isn't an entry, or is
-    /// earlier than the entry before it.
+    /// The line with this number, counted from 1, has more than 65,536 bytes, or isn't an entry, or
+    /// its entry is earlier than the entry before it.
     #[error("bad line {0}")]
     BadLine(u64),
     /// Memory was refused.
@@ -21,12 +21,12 @@ pub enum ScenarioFault {
     Memory,
 }
 
-/// Reads a scenario: each line is empty or an entry, and no entry is earlier than the entry before
+/// Reads a scenario. Each line is an entry or empty, and no entry is earlier than the entry before
 /// it.
 ///
 /// # Errors
-/// The first line with a fault decides. `BadLine`: it has more than 65,536 bytes, isn't an entry,
-/// or is too early. `Memory`: there was no memory for its entry.
+/// The first line with a fault decides. `BadLine`: the line has more than 65,536 bytes, isn't an
+/// entry, or is too early. `Memory`: there was no memory for the entry of the line.
 pub fn read_scenario<A: Allocator + Copy>(
     alloc: A,
     text: &[u8],

@@ -1,5 +1,5 @@
-//! The number of a connection. It is checked where an event or a query names a connection; from
-//! then on it is known to be below 16.
+//! The number of a connection. It is checked at the place where an event or a query names a
+//! connection. After the check it is known to be below 16.
 
 ghost use Rattle.std.specs.Prelude.{◌≡◌, ◌≤◌, ◌<◌, MatchOption};
 

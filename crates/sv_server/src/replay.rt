@@ -1,5 +1,5 @@
-//! The replay of an event: the event is applied, the bytes that then wait are printed, and the
-//! peers count as having taken them. The replay uses only what every caller of the server may use.
+//! The replay of an event: applies the event, prints the bytes that then wait to be sent, and
+//! counts them as taken by the peers. The replay uses only the public functions of the server.
 
 ghost use Rattle.std.specs.Prelude.{◌≡◌, ℕ, List};
 ghost use Rattle.std.specs.Io.KnownBytes.{Appends};
@@ -75,7 +75,7 @@ impl<A: Allocator> Server<A> {
         }
     }
 
-    /// Writes the lines of all ports, and drops the bytes that they show.
+    /// Writes the lines of all ports, and drops the bytes that the lines show.
     fn show_all<W: Write>(&mut self, writer: &mut W) -> Result<(), WriteFault>
         ensures { (config : Config) (history : List PlainEvent) (channel_log : List ChannelAct)
             (log : List Act) → StandsBy self.old config history channel_log log
@@ -88,7 +88,7 @@ impl<A: Allocator> Server<A> {
         Ok(())
     }
 
-    /// Writes the line of a port, and drops the bytes that it shows.
+    /// Writes the line of a port, and drops the bytes that the line shows.
     fn show<W: Write>(&mut self, port: Port, writer: &mut W) -> Result<(), WriteFault>
         ensures { (config : Config) (history : List PlainEvent) (channel_log : List ChannelAct)
             (log : List Act) → StandsBy self.old config history channel_log log
@@ -105,15 +105,15 @@ impl<A: Allocator> Server<A> {
     }
 }
 
-/// Whether an event was refused for lack of memory.
+/// Whether an event was refused because there was no memory.
 fn is_no_memory(refused: Refused) -> bool
     ensures { result ≡ is_no_memory refused }
 {
     matches!(refused, Refused::NoMemory)
 }
 
-/// The port whose line has this number. The lines of connections come first, and then those of
-/// their interrupt channels.
+/// The port whose line is printed at this place, counted from 0. The lines of connections come
+/// first, and then those of their interrupt channels.
 fn port_of(number: u8) -> Port
     ensures { result ≡ port_of number }
 {

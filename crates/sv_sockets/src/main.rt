@@ -1,9 +1,9 @@
-//! Plays the rows of the standard input, each with a new server over real sockets of 127.0.0.1 and
-//! with peers in the same process. Prints the title of each row, and then what the peers get.
+//! Plays the rows of the standard input. Each row gets a new server over real sockets of 127.0.0.1,
+//! and peers in the same process. Prints the title of each row, and then what the peers get.
 //!
-//! The server makes some sweeps between two looks at a peer. What is printed doesn't depend on the
-//! speed of the machine, since only lower bounds of times are checked. If nothing comes to a peer
-//! for ten seconds, the program ends with a fault.
+//! The server makes some sweeps between two looks at a peer. The output doesn't depend on the speed
+//! of the machine, since only lower bounds of times are checked. If nothing comes to a peer for ten
+//! seconds, the program ends with a fault.
 //!
 //! A row has these lines. A letter such as `a` or `i` names a peer:
 //!
@@ -19,9 +19,9 @@
 //! | `a silent` | prints whether for a while nothing comes to the peer, not even an end |
 //! | `a closes` | the peer closes its stream |
 //! | `i listens PORT` | the peer listens on a port of 127.0.0.1 |
-//! | `i accepts` | a connection comes to that port, and is the peer's stream from then on |
+//! | `i accepts` | the peer accepts a connection on that port, which is its stream from then on |
 //! | `a pours N 8000..` | the peer sends these calls N times, or until the sockets are full |
-//! | `a drains` | the peer sends what is left of the N times, and compares the replies to all |
+//! | `a drains N SIZE` | the peer sends the rest; prints if N replies of SIZE bytes are in order |
 //! | `start` | a time measurement starts |
 //! | `passed MILLISECONDS` | prints whether this time has passed since `start` |
 //! | `sleep SWEEPS` | the server makes this many sweeps |

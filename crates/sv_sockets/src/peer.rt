@@ -5,7 +5,7 @@ use std::alloc::Global;
 use std::io::{self, ErrorKind, Read, Write};
 use std::net::{Ipv4Addr, SocketAddr, SocketAddrV4};
 
-/// How many bytes a peer reads at once.
+/// The most bytes that a peer reads at once.
 const PIECE: usize = 65_536;
 
 /// The address of a port of 127.0.0.1.
@@ -28,9 +28,9 @@ pub(crate) struct Peer {
     pub(crate) name: char,
     listener: Option<TcpListener>,
     stream: Option<TcpStream>,
-    /// The bytes still to be sent.
+    /// The bytes that the peer still has to send.
     pub(crate) unsent: Vec<u8>,
-    /// The bytes that came and weren't printed yet.
+    /// The bytes that came to the peer and haven't been printed yet.
     pub(crate) came: Vec<u8>,
     /// Whether the peer's stream has ended.
     pub(crate) ended: bool,
@@ -115,7 +115,7 @@ impl Peer {
         }
     }
 
-    /// Reads the bytes that are waiting.
+    /// Reads the bytes that have come to the socket.
     pub(crate) fn hear(&mut self) -> io::Result<()> {
         let Some(stream) = &mut self.stream else {
             return Ok(());

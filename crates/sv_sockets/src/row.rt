@@ -6,9 +6,9 @@ use crate::stage::{PORTS, Stage, bad};
 use std::alloc::Global;
 use std::io::{self, BufWriter, Write};
 
-/// How many sweeps are made while a peer must receive nothing.
+/// For how many sweeps nothing may come to a peer that has to be silent.
 const SILENCE: u32 = 20;
-/// How many bytes are printed of the first reply, if there are many.
+/// How many bytes of the first reply are printed when a peer drains many replies.
 const SHOWN: usize = 64;
 
 /// Reads a decimal number.
@@ -129,7 +129,7 @@ fn send(stage: &mut Stage, name: char, text: &str) -> io::Result<()> {
     Ok(())
 }
 
-/// Prints what comes to a peer.
+/// Executes a line of a peer that prints a result.
 fn show_of<W: Write + Drop>(
     stage: &mut Stage,
     name: char,
@@ -190,15 +190,16 @@ fn is_silent(stage: &mut Stage, name: char) -> io::Result<bool> {
     Ok(!peer.ended && peer.came.is_empty())
 }
 
-/// Lets a peer send calls many times, or until the sockets are full. Returns whether they got full.
+/// Lets a peer send calls many times, or until the sockets are full. Returns whether the sockets
+/// got full.
 fn pours(stage: &mut Stage, name: char, text: &str) -> io::Result<bool> {
     let (count, calls) = text.split_once(' ').unwrap_or((text, ""));
     let calls = bytes(stage.rt.alloc(), calls)?;
     pour(stage, name, &calls, number(count)?)
 }
 
-/// Lets a peer read a number of replies of equal length. Prints how the first reply begins, and
-/// whether all came in the order of their calls.
+/// Receives a number of replies of equal length on a peer's stream. Prints how the first reply
+/// begins, and whether all replies came in the order of their calls.
 fn drain<W: Write + Drop>(
     stage: &mut Stage,
     name: char,

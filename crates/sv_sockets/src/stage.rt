@@ -13,13 +13,14 @@ use sv_server::{Config, Port, Server};
 pub(crate) const PORTS: [u16; 3] = [24196, 24197, 24198];
 /// How many seconds a peer waits at most.
 const PATIENCE: u64 = 10;
-/// How many times the program tries to listen at most, once every fiftieth of a second.
+/// The most tries to listen. The program sleeps 20 milliseconds after each try.
 const TRIES: u32 = 2_000;
-/// How many times the program looks for bytes at most.
+/// The most times that the program looks for bytes or a connection during one wait.
 const LOOKS: u32 = 10_000_000;
-/// How many sweeps are made between two looks for bytes.
+/// How many sweeps the server makes between two looks for bytes.
 const SWEEPS: u32 = 2;
-/// How many sweeps are made between two looks if it matters which peer gets its bytes first.
+/// How many sweeps the server makes between two looks if it matters which peer gets its bytes
+/// first.
 const MORE_SWEEPS: u32 = 4;
 
 /// The error for a row that can't be played.
@@ -32,7 +33,7 @@ fn late() -> Error {
     Error::from(ErrorKind::TimedOut)
 }
 
-/// Listens on the ports. Waits as long as another run of this program has them.
+/// Listens on the ports. Waits while another run of this program uses them.
 fn listen(rt: HostRuntime) -> io::Result<(Watch<Global>, Net<HostRuntime, Global>)> {
     for _ in 0..TRIES {
         match Watch::listen(rt, rt.alloc(), PORTS) {
@@ -53,7 +54,7 @@ pub(crate) struct Stage {
     watch: Watch<Global>,
     driver: Driver<Net<HostRuntime, Global>, Global>,
     pub(crate) peers: Vec<Peer>,
-    /// The start of a time measurement.
+    /// When the last time measurement started.
     start: Instant,
 }
 
@@ -92,7 +93,8 @@ impl Stage {
         serve(&self.rt, &mut self.watch, &mut self.driver, sweeps)
     }
 
-    /// Whether bytes wait in the server that the sockets don't take.
+    /// Whether bytes wait in the server to be sent on any connection, since the socket doesn't take
+    /// them.
     pub(crate) fn waits(&self) -> bool {
         let server = self.driver.server();
         (0..16).any(|conn| !server.waiting(Port::Conn(conn)).is_empty())
@@ -118,7 +120,7 @@ impl Stage {
         Ok(peer.ended || peer.came.len() >= count)
     }
 
-    /// Makes this number of sweeps, unless a peer that began to wait at `begun` has waited too
+    /// Makes this number of sweeps. Fails if a peer that began to wait at `begun` has waited too
     /// long.
     fn serve_on(&mut self, begun: Instant, sweeps: u32) -> io::Result<()> {
         if begun.elapsed(&self.rt)?.as_secs() >= PATIENCE {
@@ -127,7 +129,7 @@ impl Stage {
         self.serve(sweeps)
     }
 
-    /// Serves until this many bytes have come to a peer, or its stream has ended.
+    /// Serves until this many bytes have come to a peer, or until its stream has ended.
     ///
     /// # Errors
     /// If nothing comes for too long.
@@ -162,7 +164,8 @@ impl Stage {
     }
 
     /// Serves until bytes have come to the second peer. Returns whether bytes have come to the
-    /// first peer by then; the second peer is looked at first.
+    /// first peer by then. Each time, the program looks at the second peer before it looks at the
+    /// first one.
     ///
     /// # Errors
     /// If that takes too long.

@@ -1,6 +1,6 @@
-//! Plays the rows of the standard input, each with a new driver over a wire whose answers are
-//! lines. Prints the title of each row, and then the calls of the wire that a recorder recorded:
-//! this is the trace that the laws of `sv_serve` speak of (`sv_recording`).
+//! Plays the rows of the standard input. Each row gets a new driver over a wire whose answers are
+//! lines. Prints the title of each row, and then the calls of the wire that a recorder recorded.
+//! They are the trace of which the laws of `sv_serve` speak (`sv_recording`).
 //!
 //! A row has these lines:
 //!
@@ -8,27 +8,28 @@
 //! |---|---|
 //! | `= WORDS` | the title, which is the row's first line |
 //! | `clock MILLISECONDS` | the clock at the beginning; 0 without this line |
-//! | `memory N` | the Nth allocation of making the driver fails |
+//! | `memory N` | the Nth allocation that is made to create the driver fails |
 //! | `0 input 1 250000` | an entry of a scenario; all entries come before the sweeps |
 //! | `sweep TICKS` | a sweep in which this many milliseconds pass |
-//! | `sweep TICKS memory N` | such a sweep; the Nth allocation from its beginning on fails |
+//! | `sweep TICKS memory N` | the same; the Nth allocation from the sweep's beginning on fails |
 //! | `CALL: ANSWER` | below a sweep: the wire's answer to this call in the sweep |
 //! | `still N` | below a sweep: prints whether nothing becomes due within N milliseconds |
 //! | `played` | below a sweep: prints whether the scenario is at its end |
 //!
 //! A row whose first line is `peers N` makes N sweeps. It has a line of hexadecimal for each peer,
 //! which sends these bytes on the core channel. The row prints what each peer gets on its
-//! connection and on its interrupt channel, as `c0 80..` and `i0 80..`. Then it is played again and
-//! again; each time one call of the wire fails: the first accept, the second, and so on, and
-//! likewise for `read`, `write`, `dial` and `dialed`. Each time the row prints of each peer
-//! `struck` if a call for the peer failed, else `whole` if the peer got every byte.
+//! connection and on its interrupt channel, as `c0 80..` and `i0 80..`. Then the row is played once
+//! for each call of the wire, and that call fails: the first accept, the second accept, and so on;
+//! and likewise for `read`, `write`, `dial` and `dialed`. Each time, the row prints for each peer:
+//! `struck` if a call for the peer failed; else `whole` if the peer got every byte; else `lacks
+//! bytes`.
 //!
-//! A row whose first line is `pace` asks for the decisions of a loop of sweeps. Times are in
-//! nanoseconds since its beginning. `ticks NOW`: how many milliseconds pass. `sleep_time NOW
+//! A row whose first line is `pace` queries the decisions of a loop of sweeps. Times are in
+//! nanoseconds since the loop began. `ticks NOW`: how many milliseconds pass. `sleep_time NOW
 //! TICKS`: how long the loop may sleep. `work NOW`: something is reported. `eager NOW`: whether the
-//! loop polls again without sleeping. `found N` and `nothing N`: a wait ends after N polls, with or
-//! without a report. `vain N`: N runs of polls find nothing, each begun as soon as the loop may
-//! poll again; prints how many times the loop sleeps before each run.
+//! loop polls again without sleeping. `found N` and `nothing N`: a wait ends after N polls, with a
+//! report or without one. `vain N`: N runs of polls find nothing. Each run begins as soon as the
+//! loop may poll again, and the row prints how many times the loop sleeps before the run.
 //!
 //! Each call is printed as a line: `core 0` accepts a connection as number 0, and `core -` accepts
 //! one that is dropped; `read 0`; `probe 0`, with ` drops` if bytes that come are dropped; `write

@@ -11,7 +11,7 @@ use sv_replay::{Entry, read_scenario};
 use sv_serve::Driver;
 use sv_server::{Config, Server};
 
-/// The text after a sweep's number, if memory is refused in it.
+/// The text between the milliseconds of a sweep and the number of the allocation that it refuses.
 const MEMORY: &str = " memory ";
 
 /// The driver of a row.
@@ -30,8 +30,8 @@ pub(crate) fn number(text: &str) -> io::Result<u64> {
     }
 }
 
-/// If the first line begins with `word`: the number in it, and the lines after it. Else 0, and all
-/// lines.
+/// If the first line begins with `word`: the number in this line, and the lines after it. Else 0,
+/// and all lines.
 fn setting<'a>(word: &str, text: &'a str) -> io::Result<(u64, &'a str)> {
     match text.strip_prefix(word) {
         Some(rest) => {
@@ -63,7 +63,7 @@ fn scenario<'a>(
     }
 }
 
-/// The driver of a row; the row may limit its memory.
+/// The driver of a row. The row may say which allocation for the driver is refused.
 fn made<'a>(
     alloc: Global,
     heap: &'a FailingAllocator<Global>,
@@ -186,7 +186,7 @@ pub(crate) fn play<W: Write + Drop>(
     play_sweeps(alloc, row, writer)
 }
 
-/// Prints that memory was refused; any other fault is passed on.
+/// Prints `memory` if the fault is that memory was refused. Returns any other fault.
 fn told<W: Write + Drop>(fault: Error, writer: &mut BufWriter<W>) -> io::Result<()> {
     match fault.kind() {
         ErrorKind::OutOfMemory => writeln!(writer, "memory"),

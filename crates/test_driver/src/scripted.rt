@@ -16,7 +16,7 @@ pub(crate) struct Scripted {
     alloc: Global,
     /// The text of a row. Each of its sweeps begins with a line `sweep ..`.
     row: String,
-    /// Which sweep is under way, from 1.
+    /// The number of the sweep that is under way, counted from 1.
     pub(crate) sweep: Cell<usize>,
     /// The call that is made now, as a line of the row writes it before its answer.
     asked: String,
@@ -45,7 +45,7 @@ fn takes(answer: Option<&str>, most: usize) -> Answer<usize>
     }
 }
 
-/// Puts bytes at the front of a buffer, as many as it has room for.
+/// Copies bytes to the front of a buffer, as many as the buffer has room for.
 fn put(bytes: &[u8], buffer: &mut [u8]) -> Answer<usize>
     ensures { IsWithin result (length buffer.old) }
 {

@@ -4,9 +4,9 @@
 //!
 //! | Line | Answer |
 //! |---|---|
-//! | `new` | none; acts are performed on new parts from here on |
+//! | `new` | none; acts after this line are performed on new parts |
 //! | `times N LINE` | the answers of the line, which is executed N times |
-//! | `white TEXT` | of each byte, whether it is white space |
+//! | `white TEXT` | for each byte, whether it is white space |
 //! | `trim TEXT` | three texts, without white space: at both ends, in front, at the end |
 //! | `cut BYTE TEXT` | the first place of the byte, and the texts before and after it |
 //! | `parts TEXT` | the parts of a header |
@@ -18,15 +18,15 @@
 //! | `whole LOW HIGH UNIT` | a unit's first parameter, as a whole number |
 //! | `print MICROVOLTS` | the voltage, printed as response data |
 //! | `response voltage UNIT` | the unit's first parameter, printed as response data |
-//! | `response channels UNIT`, `response source UNIT` | a channel list or a source, so printed |
-//! | `response overload BELOW`, `response switch ON` | for `true` or `false`: so printed |
-//! | `response whole NUMBER`, `response error NUMBER` | a number or an error, so printed |
+//! | `response channels UNIT`, `response source UNIT` | a channel list or a source, the same way |
+//! | `response overload BELOW`, `response switch ON` | `true` or `false`, the same way |
+//! | `response whole NUMBER`, `response error NUMBER` | a number or an error, the same way |
 //! | `code NUMBER` | the name and the text of an error |
 //! | `queue ACT`, `register ACT`, `standard ACT`, `status ACT` | the answer to an act |
 //! | `scan ACT` | the scanner's answer to an act |
 //! | `session ACT` | the whole instrument's answer; `+1` if it raised one request for service |
 //! | `records ACT` | the answer of a buffer of records |
-//! | `read KIND HEX` | the field that is read from these bytes, and how many bytes are left |
+//! | `read KIND HEX` | the field that is read from these bytes, and how many bytes remain |
 //! | `write KIND VALUE` | the bytes of the field |
 //! | `call HEX` | the header of a call |
 //!
@@ -54,7 +54,7 @@ use parts::Parts;
 use std::io;
 use std::process::ExitCode;
 
-/// Answers all lines, up to the first bad one, which is reported with exit status 2.
+/// Answers all lines up to the first bad line. A bad line is reported, with exit status 2.
 fn main(rt: HostRuntime) -> ExitCode {
     match answer_each(&rt) {
         Ok(()) => ExitCode::SUCCESS,

@@ -45,7 +45,7 @@ fn put_setting(out: &mut String, setting: &Setting) -> Result<(), Fault> {
     Ok(())
 }
 
-/// Prints an order that may have a list of channels.
+/// Prints an order that may have a list of channels; `word` names the order.
 fn put_list(out: &mut String, word: &str, list: &Option<ScanList>) -> Result<(), Fault> {
     match list {
         Some(list) => write!(out, " Ok({word}(Some({:?})))", list.channels())?,

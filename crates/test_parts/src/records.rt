@@ -4,8 +4,8 @@ use crate::line::{Fault, bytes_of, cut, put, put_bytes, value_of};
 use std::alloc::Global;
 use sv_rpc::RecordBuf;
 
-/// Prints the answer of a buffer of records. If an act changes the buffer, its answer is how many
-/// bytes of room are left.
+/// Prints the answer of a buffer of records to an act. If the act changes the buffer, the answer is
+/// for how many bytes the buffer then has room.
 pub(crate) fn put_records(
     alloc: Global,
     out: &mut String,

@@ -10,7 +10,7 @@ use sv_value::printing::{
 };
 use sv_value::{channel_list, keyword, microvolts};
 
-/// Room for any response: the longest list of channels, each of three digits.
+/// The most bytes of a response: the longest list of channels, with three digits for each channel.
 const MOST: usize = 3 + 4 * LONGEST_LIST;
 
 /// Prints a value as response data.

@@ -4,7 +4,7 @@
 //! |---|---|
 //! | `tell TEXT` | none; writes the text with END; `waits` if the write has to wait |
 //! | `say TEXT` | none; writes the text without END; `waits` if the write has to wait |
-//! | `read` | up to 256 bytes of the response; `waits`, or `unterminated` if there is none |
+//! | `read` | up to 256 bytes of the response, or `unterminated`; `waits` if the read has to wait |
 //! | `read N` | up to N bytes of the response, and the reasons why they end there |
 //! | `poll` | the status byte |
 //! | `ticks N` | none; N milliseconds pass |
@@ -19,7 +19,7 @@ use std::alloc::Global;
 use sv_exchange::Read;
 use sv_instrument::Instrument;
 
-/// How many bytes are written at once, at most.
+/// The most bytes that one write sends.
 const MOST_WRITTEN: usize = 4096;
 /// The most bytes of a `read` without a number.
 const MOST_READ: u32 = 256;
@@ -51,8 +51,8 @@ pub(crate) fn put_session(
     Ok(())
 }
 
-/// Takes the steps that are due, until none is. Returns how many requests for service were raised,
-/// like all functions below that return a number.
+/// Takes the steps that are due, until none is. Returns how many requests for service were raised.
+/// Each function below that returns a number returns this number for what it does.
 fn settle(instrument: &mut Instrument) -> u64 {
     let mut sum = 0u64;
     while let Some(raised) = step(instrument) {
@@ -61,7 +61,8 @@ fn settle(instrument: &mut Instrument) -> u64 {
     sum
 }
 
-/// Takes the step that is due, if there is one. A trigger comes before a step of message exchange.
+/// Takes the step that is due, if there is one. An immediate trigger comes before a step of message
+/// exchange.
 fn step(instrument: &mut Instrument) -> Option<u8>
     ensures { OnSome result (instrument_measure instrument.new
         < instrument_measure instrument.old) }
@@ -72,7 +73,8 @@ fn step(instrument: &mut Instrument) -> Option<u8>
     }
 }
 
-/// Writes a text, with END after its last byte or without; or prints that the write has to wait.
+/// Writes a text, with or without END after its last byte. If the write has to wait, prints
+/// `waits`.
 fn tell(
     alloc: Global,
     out: &mut String,
@@ -92,8 +94,8 @@ fn tell(
     }
 }
 
-/// Reads at most `most` bytes, and prints them and the reasons why they end there. For `None` reads
-/// at most 256 bytes and prints no reasons. If the read has to wait, prints `waits`.
+/// Reads at most `most` bytes. Prints these bytes and the reasons why they end there. For `None`,
+/// reads at most 256 bytes and prints no reasons. If the read has to wait, prints `waits`.
 fn read(out: &mut String, instrument: &mut Instrument, most: Option<u32>) -> Result<u64, Fault> {
     if !instrument.can_read() {
         out.push_str(" waits")?;

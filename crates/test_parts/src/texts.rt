@@ -5,7 +5,7 @@ use bstr::ByteVec;
 use std::alloc::Global;
 use sv_text::{first_part, header_parts, is_space, place_of, trim, without_end, without_start};
 
-/// Prints of each byte whether it is white space.
+/// For each byte of a text: prints whether the byte is white space.
 pub(crate) fn put_white(alloc: Global, out: &mut String, text: &str) -> Result<(), Fault> {
     for byte in Vec::unescape_bytes(alloc, text)?.as_slice() {
         put(out, is_space(*byte))?;
@@ -13,7 +13,8 @@ pub(crate) fn put_white(alloc: Global, out: &mut String, text: &str) -> Result<(
     Ok(())
 }
 
-/// Prints a text three times: without white space at both ends, in front, and at the end.
+/// Prints a text three times: without the white space at both ends, without that in front, and
+/// without that at the end.
 pub(crate) fn put_trimmed(alloc: Global, out: &mut String, text: &str) -> Result<(), Fault> {
     let bytes = Vec::unescape_bytes(alloc, text)?;
     put_text(out, trim(bytes.as_slice()))?;

@@ -7,7 +7,7 @@ use sv_value::{boolean, channel_list, keyword, microvolts, whole, write_microvol
 /// The greatest magnitude of a voltage that can be printed, in microvolts.
 const MOST: u64 = 1_000_000_000;
 
-/// Prints the value of a parameter, or a voltage as it is printed.
+/// Prints the value of a unit's first parameter. For `print`, prints a voltage as response data.
 pub(crate) fn put_value(out: &mut String, word: &str, text: &str) -> Result<(), Fault> {
     match word {
         "voltage" => put(out, microvolts(&parameter(text)?)),

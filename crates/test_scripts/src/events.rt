@@ -1,4 +1,4 @@
-//! Events at a server, and questions whose answers a replay doesn't print. A text has these lines:
+//! Events at a server, and queries whose answers a replay doesn't print. A text has these lines:
 //!
 //! | Line | What it says |
 //! |---|---|
@@ -6,14 +6,14 @@
 //! | a line of a replay, other than `tick N` | this event happens |
 //! | `took c0 44` | the peer takes 44 bytes of a port |
 //! | `memory N` | the Nth allocation after this line is refused |
-//! | `memory ?` | prints whether that allocation was made |
+//! | `memory ?` | prints whether that Nth allocation was made |
 //! | `times N` | the lines up to the next `times` are executed N times |
 //! | `ask 0` | prints the server's answers about a connection |
 //! | `show c0` | prints the bytes that wait on a port |
 //! | `used` | prints one more than the highest number of a connection that was used |
 //!
-//! For an event that was refused, the number of the refusal is printed; for a Turn without a call,
-//! `idle`; for any other event, nothing.
+//! For an event that was refused, the number of the refusal is printed. For a Turn that found no
+//! call, `idle` is printed. For any other event nothing is printed.
 
 use crate::words::{bad, number};
 use failing_alloc::FailingAllocator;
@@ -25,7 +25,7 @@ use sv_server::{Config, Did, Event, Port, Server};
 /// The longest line.
 const LONGEST: usize = 32_800;
 
-/// The server of a row, whose memory the row may refuse.
+/// The server of a row. The row may refuse memory to this server.
 type Played<'a> = Server<&'a FailingAllocator<Global>>;
 
 /// Reads the number of a connection.
@@ -57,7 +57,7 @@ fn apply<W: Write + Drop>(
     }
 }
 
-/// Applies the event of a replay's line.
+/// Applies the event that a line of a replay describes.
 fn replayed<W: Write + Drop>(
     server: &mut Played<'_>,
     line: &str,
@@ -111,7 +111,7 @@ fn show<W: Write + Drop>(
     writeln!(writer)
 }
 
-/// Refuses an allocation; for `?` prints whether the allocation to refuse was made.
+/// Chooses the allocation that is refused. For `?`, prints whether the chosen allocation was made.
 fn ration<W: Write + Drop>(
     heap: &FailingAllocator<Global>,
     text: &str,
@@ -163,7 +163,7 @@ fn steps<W: Write + Drop>(
     Ok(())
 }
 
-/// Executes lines repeatedly. The first line says how many times.
+/// Executes the lines of a section repeatedly. The first line of the section says how many times.
 fn repeat<W: Write + Drop>(
     heap: &FailingAllocator<Global>,
     server: &mut Played<'_>,

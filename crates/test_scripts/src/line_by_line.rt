@@ -1,5 +1,5 @@
-//! A replay whose input gives one line at each read. The replies to a line have to come before the
-//! next line is read.
+//! A replay whose input gives one line at each read. The replies to a line have to be printed
+//! before the next line is read.
 
 use crate::words::bad;
 use failing_alloc::FailingAllocator;
@@ -19,7 +19,7 @@ fn note(noted: &RefCell<Vec<u8>>, bytes: &[u8]) -> io::Result<()> {
     }
 }
 
-/// A reader that gives a line at each read, and notes it.
+/// A reader that gives one line at each read, and notes the line.
 #[derive(Drop)]
 struct Lines<'a> {
     rest: &'a [u8],
@@ -61,7 +61,7 @@ impl Write for Answers<'_> {
 }
 
 /// Prints the lines that the input gave, each after `> `, and the bytes that the output took, in
-/// the order in which this happened.
+/// the order in which they were given and taken.
 pub(crate) fn play<W: Write + Drop>(
     alloc: Global,
     script: &str,

@@ -1,42 +1,46 @@
-//! Plays the rows of the standard input, each with parts of its own. Prints the title of each row,
-//! and then its results.
+//! Plays the rows of the standard input. Each row gets parts of its own. Prints the title of each
+//! row, and then its results.
 //!
-//! A title is a line `= WORDS`. The text after it reaches to the next title, without the new line
-//! before that title. So an empty line before the next title means that the text ends in a new
-//! line; without it the text ends in the middle of a line. The first line of a text may begin with
-//! `! `, and then says what the text is and what is printed:
+//! A title is a line `= WORDS`. The text of a row begins after its title and ends before the next
+//! title. The new line right before that title doesn't belong to the text. So an empty line before
+//! the next title means that the text ends in a new line; without it the text ends in the middle of
+//! a line. The first line of a text may begin with `! `. It then says what the text is and what is
+//! printed:
 //!
-//! - no such line: a script; prints what its replay prints, and the fault of the replay if it has
+//! - no such line: a script; prints what its replay prints, and the fault of the replay if there is
 //!   one;
-//! - `! line by line`: a script whose lines come one at each read; prints the lines, each after `>
-//!   `, and the bytes that the output took, in the order in which they were given and taken;
-//! - `! singly`: a script whose bytes are read and written one by one, each after an interruption;
-//!   prints the same as without this line;
+//! - `! line by line`: a script whose lines come one at each read; prints these lines, with a `>`
+//!   and a space before each, and the bytes that the output took, in the order in which they were
+//!   given and taken;
+//! - `! singly`: a script whose bytes are read and written one by one, and an interrupted read or
+//!   write comes before each byte; prints the same as without this line;
 //! - `! reads`: a script as for `! singly`, played again and again: first its first read fails,
-//!   then its second, and so on; prints each time how many times the input was read, what the
-//!   output took, and the fault; then the same without a failing read;
+//!   then its second, and so on; for each run, prints how many times the input was read, what the
+//!   output took, and the fault; at last prints the same for a run in which no read fails;
 //! - `! input fails`: a script at whose end the input fails; prints what the output took, and the
 //!   fault, on a line of its own;
 //! - `! output takes N`: a script whose output takes N bytes and then fails; prints how many bytes
 //!   it took, and then as for `! input fails`;
-//! - `! output stops at N`: the same, but the output then takes no more bytes and reports no fault;
+//! - `! output stops at N`: as for `! output takes N`, but after N bytes the output takes no more
+//!   bytes and reports no fault;
 //! - `! without TEXT`: a script; prints the lines of its replay that don't end in this text;
-//! - `! closed`: a script of three connections; prints what its replay prints if one connection is
-//!   closed after the first n lines, for each connection and each n;
-//! - `! memory`, `! memory, output takes N`: a script, played again and again; each time the next
-//!   allocation of its replay is refused; prints each outcome that differs from the one before it,
-//!   `again` if an outcome came more than once in a row, and after `all` the outcome with all
-//!   memory;
-//! - `! growth`: a script on a server, played again and again; each time the server's next
-//!   allocation is refused, and the event that finds no memory is tried again; prints each outcome
-//!   as for `! memory`, with `no server` if a server had to be made again, `changed` if a refusal
-//!   changed the server's answers, and `twice` if the second try found no memory either;
+//! - `! closed`: a script of three connections; for each connection and each n, prints what the
+//!   replay prints if that connection is closed after the first n lines;
+//! - `! memory`, `! memory, output takes N`: a script, played again and again: first the first
+//!   allocation of its replay is refused, then the second, and so on; prints each outcome that
+//!   differs from the outcome before it, `again` if an outcome came more than once in a row, and
+//!   after `all` the outcome with all memory;
+//! - `! growth`: a script on a server, played again and again: first the server's first allocation
+//!   is refused, then its second, and so on; the event that finds no memory is tried again; prints
+//!   each outcome as for `! memory`, with `no server` if a server had to be made again, `changed`
+//!   if a refusal changed the server's answers, and `twice` if the second try found no memory
+//!   either;
 //! - `! growth, refused`: as for `! growth`, but a call that finds no memory is refused, and then
 //!   sent again;
-//! - `! events`: events and questions, a line each (`events.rt`); prints the result of each;
+//! - `! events`: events and queries, a line each (`events.rt`); prints the result of each;
 //! - `! scenario`: a scenario; prints its entries, or its fault;
-//! - `! scenario, memory`: a scenario, read again and again; each time the next allocation is
-//!   refused; prints as for `! memory`.
+//! - `! scenario, memory`: a scenario, read again and again: first the first allocation is refused,
+//!   then the second, and so on; prints as for `! memory`.
 #![tactic(auto)]
 
 mod events;

@@ -1,4 +1,5 @@
-//! Replays whose reader or writer gives little, takes little or fails, or whose memory is refused.
+//! Replays whose reader gives few bytes or fails, whose writer takes few bytes or fails, or whose
+//! memory is refused.
 
 use crate::streams::{Manner, Sink, Source};
 use crate::turns::each;
@@ -67,7 +68,7 @@ fn told(
     Ok(outcome)
 }
 
-/// The print of a replay, and its fault, if it has one.
+/// What a replay prints, and its fault, if it has one.
 fn outcome(
     alloc: Global,
     heap: &FailingAllocator<Global>,
@@ -77,7 +78,7 @@ fn outcome(
     Ok(read_out(alloc, heap, manner, script)?.0)
 }
 
-/// The print of a replay, and its fault, if it has one; and how many times the reader was read.
+/// What a replay prints, its fault, if it has one, and how many times the reader was read.
 fn read_out(
     alloc: Global,
     heap: &FailingAllocator<Global>,
@@ -139,7 +140,7 @@ pub(crate) fn play_without<W: Write + Drop>(
     Ok(())
 }
 
-/// The script, with the line that closes this connection put in after the first `place` lines.
+/// The script with one more line after its first `place` lines: this line closes connection `conn`.
 fn closed(alloc: Global, script: &str, conn: u8, place: usize) -> io::Result<String> {
     let mut made = String::new(alloc);
     for (number, line) in script.lines().enumerate() {
@@ -153,8 +154,8 @@ fn closed(alloc: Global, script: &str, conn: u8, place: usize) -> io::Result<Str
     Ok(made)
 }
 
-/// For each n: plays the script with this connection closed after the first n lines, and prints
-/// what it prints.
+/// For each n: plays the script with this connection closed after the first n lines, and prints the
+/// output.
 fn play_closes<W: Write + Drop>(
     alloc: Global,
     script: &str,
@@ -171,7 +172,7 @@ fn play_closes<W: Write + Drop>(
 }
 
 /// For each of three connections and each n: plays the script with that connection closed after the
-/// first n lines, and prints what it prints.
+/// first n lines, and prints the output.
 pub(crate) fn play_closed<W: Write + Drop>(
     alloc: Global,
     script: &str,
@@ -184,7 +185,7 @@ pub(crate) fn play_closed<W: Write + Drop>(
 }
 
 /// Plays a script again and again: first its first read fails, then its second, and so on; at last
-/// no read fails. Prints each time the number of reads and what the script prints.
+/// no read fails. For each run, prints the number of reads and the output.
 pub(crate) fn play_reads<W: Write + Drop>(
     alloc: Global,
     script: &str,

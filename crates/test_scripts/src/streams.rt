@@ -1,19 +1,20 @@
-//! Readers and writers that give little, take little or fail.
+//! Readers that give few bytes or fail, and writers that take few bytes or fail.
 
 use std::io::{Error, ErrorKind, Read, Result, Write};
 
 /// How a reader gives bytes, and how a writer takes bytes.
 #[derive(Clone, Copy)]
 pub(crate) struct Manner {
-    /// Whether bytes are read and written one by one, each after an interruption.
+    /// Whether bytes are read and written one by one, with an interrupted read or write before each
+    /// byte.
     pub(crate) singly: bool,
     /// Whether the reader fails at its end.
     pub(crate) input_fails: bool,
     /// The number of the read that fails; 0 if none fails.
     pub(crate) fails_at: u64,
-    /// How many bytes the writer takes.
+    /// How many bytes the writer takes before it is full.
     pub(crate) room: usize,
-    /// Whether the full writer takes no bytes without a fault; else it fails.
+    /// Whether a full writer reports no fault and takes no bytes. If false, a full writer fails.
     pub(crate) is_silent: bool,
 }
 
@@ -41,7 +42,7 @@ pub(crate) struct Source<'a> {
     pub(crate) rest: &'a [u8],
     pub(crate) manner: Manner,
     pub(crate) was_interrupted: bool,
-    /// How many times it was read.
+    /// How many times the reader was read.
     pub(crate) reads: u64,
 }
 

@@ -2,7 +2,8 @@
 
 use sv_vxi::VxiResult;
 
-/// The outcome of a call of the core channel, as it begins or after it was suspended.
+/// The outcome of a call of the core channel, when it begins or when it continues after a
+/// suspension.
 #[derive(Clone, Copy)]
 pub enum CallOutcome {
     /// The call has this result.

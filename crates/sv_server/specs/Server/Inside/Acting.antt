@@ -1,4 +1,4 @@
--- The state in which a private function that executes an event leaves the server.
+-- In which state a private function leaves the server after it executed an event.
 use Rattle.std.specs.Prelude.{◌≡◌, ℕ, ℤ, true, Bool, false, List, [], ◌∷◌, ◌++◌, Some, None, Result, Ok, Err, Option, ⊤}
 use Rattle.sv_errors.specs.Limits.{is_channel}
 use Rattle.sv_links.specs.declared.waiting.Entry.{Entry}
@@ -35,7 +35,7 @@ abbrev pub IsRefusal : Config → PlainEvent → List Act → Option Refused →
 IsRefusal config event log what = (channel_log : List ChannelAct) → HearsOf (device_acts log) channel_log
     → refusal config channel_log event log ≡ what
 
--- The event adds its own acts. Or it is refused; or memory that it needs was refused.
+-- The event adds its own acts to the log. Or the event is refused. Or memory that the event needs was refused.
 abbrev pub Acts : Config → PlainEvent → List Act → Result Did Refused → State → Type 0
 Acts config event log (Ok what) new = IsRefusal config event log None × (what ≡ did event log)
     × ((polled : ℕ) → IsPolled polled (device_acts log) → Represents new config (own_acts config polled event log ++ log))
@@ -50,7 +50,8 @@ is_quiet (Bytes c piece) = true
 is_quiet (Took port count) = true
 is_quiet _ = false
 
--- The next call of an open connection is `call`, which asks for `request`, and `IsSo` holds of the effect that a Turn has with it.
+-- The next call of an open connection is `call`, which asks for `request`. `IsSo` holds of the effect that a Turn has when it takes this
+-- call.
 abbrev pub TakesCall : Config → ℕ → List Act → List ℕ → Request → (Effect → Type 0) → Type 0
 TakesCall config c log call request IsSo = (next_call (of c log) ≡ Some call) × (next_request (of c log) ≡ Some request)
     × ((polled : ℕ) → IsPolled polled (device_acts log) → IsSo (request_effect config polled c request (device_acts log)))
@@ -66,19 +67,19 @@ Turns config c log old (Err NoMemory) connection device = (turn_refusal (of c lo
     × TakesCall config c log call request (λ effect. wants_memory effect.adds ≡ true)
 Turns config c log old (Err refused) connection device = turn_refusal (of c log) ≡ Some refused
 
--- A Refuse of an open connection takes and answers its next call, or is refused.
+-- A Refuse of an open connection either takes the next call and answers it, or is refused.
 abbrev pub Refuses : List ConnAct → Result ⊤ Refused → Connection → Type 0
 Refuses acts (Ok done) connection = (refuse_refusal acts ≡ None) × (bytes : List ℕ) × (call : CoreCall)
     × (next_call acts ≡ Some bytes) × (refusable acts ≡ Some call)
     × IsConnection connection (Replied (refused_reply call) ∷ CallTaken bytes ∷ acts)
 Refuses acts (Err refused) connection = refuse_refusal acts ≡ Some refused
 
--- The input isn't refused, or the result is its refusal.
+-- The Input isn't refused. Or it is refused, and the result is the refusal.
 abbrev pub IsInput : ℕ → ℤ → Result Did Refused → Type 0
 IsInput channel microvolts (Ok what) = (what ≡ DidSo) × (is_channel channel ≡ true) × (is_beyond microvolts ≡ false)
 IsInput channel microvolts (Err refused) = Some refused ≡ input_refusal channel microvolts
 
--- If the flag is true, a step for which `IsStep` holds is taken. If it is false, there is no such step, and nothing changes.
+-- If the flag is true, a step was taken for which `IsStep` holds. If it is false, there is no such step, and nothing changed.
 abbrev pub TakesStep : (Config → List Act → List Act → Type 0) → Bool → Config → List Act → State → State → Type 0
 TakesStep IsStep true config log old new = (next : List Act) × IsStep config log next × Represents new config next
 TakesStep IsStep false config log old new = ((next : List Act) → IsStep config log next → ⊥) × (new ≡ old)
@@ -89,14 +90,14 @@ Steps Nothing config log new = IsSettled config log × Represents new config log
 Steps Instrument config log new = (next : List Act) × IsNext config log next × Represents new config next
 Steps Call config log new = (next : List Act) × IsNext config log next × Represents new config next
 
--- Each log in which the steps from `mid` end is one in which the steps from `log` end.
+-- Wherever the steps from `mid` end, the steps from `log` can end.
 abbrev pub Reaches : Config → List Act → List Act → Type 0
 Reaches config log mid = (n : ℕ) (new : List Act) → SettlesIn n config mid new → (m : ℕ) × SettlesIn m config log new
 
--- Some steps that are due are taken, up to a log for which `IsEnd` holds.
+-- Some of the steps that are due were taken. They lead to a log for which `IsEnd` holds.
 abbrev pub GoesTo : Config → List Act → (List Act → Type 0) → State → Type 0
 GoesTo config log IsEnd new = (mid : List Act) × Reaches config log mid × IsEnd mid × Represents new config mid
 
--- All steps that were due are taken.
+-- All steps that are due were taken.
 abbrev pub Settled : Config → List Act → State → Type 0
 Settled config log new = (last : List Act) × Settles config log last × Represents new config last

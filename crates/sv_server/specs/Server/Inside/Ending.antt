@@ -1,4 +1,4 @@
--- How a record that was taken, or a call that was suspended, changes its connection and the device.
+-- How a connection and the device change when a record that was taken is finished, or when a suspended call continues.
 use Rattle.std.specs.Prelude.{◌≡◌, ◌⊎◌, ℕ, ◌<◌, List, [], ◌∷◌, ◌++◌, map, Bool, true, false, Option, None, Result, ⊤}
 use Rattle.sv_vxi.specs.Arguments.{is_create_link}
 use Rattle.sv_vxi.specs.Results.{plain_result, data_of}
@@ -33,7 +33,8 @@ use Rattle.sv_server.specs.Device.Inside.Outcome.{IsBrief, MayWait, MayWaitAnew,
 
 -- ---- how a call or a record ends
 
--- A call for which the code returns this `Outcome` has this effect. If the call reads the response, the response isn't taken yet.
+-- A call for which the code returns this `Outcome` has this effect. But if the call reads the response, the device still has the whole
+-- response.
 abbrev pub CallEndsAs : Outcome → ℕ → Device → Config → List DeviceAct → Effect → Type 0
 CallEndsAs (outcomes.Result given) xid device config acts effect = (effect.own ≡ Replied (answer_bytes xid (Told given)) ∷ [])
     × IsDevice device config (effect.adds ++ acts)
@@ -62,7 +63,7 @@ abbrev pub aborted_by : Executed → Option ℕ
 aborted_by (executions.Aborts aborted) = aborted.conn
 aborted_by _ = None
 
--- The call that was taken has this effect: it adds acts of the connection and acts of the device.
+-- The call that was taken had this effect: the effect's acts were added to the acts of the connection and of the device.
 abbrev pub Concludes : Effect → Config → List ConnAct → List DeviceAct → Connection → Device → Type 0
 Concludes effect config acts before connection device =
     IsConnection connection (effect.own ++ acts) × IsDevice device config (effect.adds ++ before)
@@ -78,7 +79,7 @@ asks_for_link _ = false
 abbrev pub IsSuspended : Executed → Request → Type 0
 IsSuspended executed request = (executed ≡ executions.Call outcomes.Suspended) × (call : CoreCall) × (request ≡ CoreRequest call)
 
--- The code executes what a record asks for, or memory that this needs was refused.
+-- The code executes what a record asks for. Or memory that the execution needs was refused.
 abbrev pub Executes : Request → {E : Type 0} → Result Executed E → ℕ → Device → Device → Type 0
 Executes request result c old new =
     Does (λ config polled acts executed. EndsAs executed (xid_of request) new config acts (request_effect config polled c request acts)
@@ -99,7 +100,7 @@ taken_up (causes.Able wait) config polled c call acts = resume_effect config pol
 taken_up (causes.Dialed ok) config polled c call acts = connect_effect c ok call
 taken_up (causes.Failed error) config polled c call acts = failure_effect error c call
 
--- A suspended call that resumed has this effect: it ends, or waits again.
+-- A suspended call that resumed has had this effect. Either the call left the queue, or it waits again.
 abbrev pub ConcludesResumed : Effect → ℕ → Option CoreCall → Config → List ConnAct → List DeviceAct → List Entry → Connection → Device
     → Type 0
 ConcludesResumed effect c call config acts before old connection device =
