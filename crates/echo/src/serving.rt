@@ -12,7 +12,7 @@ use sv_pace::{FEW, Pace, STILL};
 /// How many connections there may be.
 const CONNECTIONS: usize = 16;
 
-/// Accepts connections, while there is a place.
+/// Accepts connections, as long as there is a free place.
 fn accept(
     listener: &TcpListener,
     poll: &Poll,
@@ -77,8 +77,8 @@ impl Served {
         })
     }
 
-    /// Waits until bytes come, at most for `limit`, if there is one, and sends them back. Returns
-    /// whether any came.
+    /// Waits until bytes come, and sends them back; with a `limit`, waits at most that long.
+    /// Returns whether any bytes came.
     fn spin(&mut self, limit: Option<Duration>) -> io::Result<bool> {
         self.poll.poll(&mut self.events, limit)?;
         for event in self.events.iter() {
@@ -115,7 +115,8 @@ pub(crate) fn serve(rt: &HostRuntime, port: u16, looks: u32) -> io::Result<()> {
     Ok(())
 }
 
-/// How long it may sleep, with `left` polls left: without a limit, except before the last polls.
+/// How long the next poll may sleep if `left` polls remain: without a limit (`None`), except before
+/// the last few polls.
 fn sleep_time(pace: &Pace, now: u64, left: u32) -> Option<Duration> {
     if left > FEW {
         return None;

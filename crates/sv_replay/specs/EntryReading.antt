@@ -1,4 +1,5 @@
--- The function that reads a line of a scenario from left to right.
+-- The function that reads a line of a scenario from left to right. The comment over each of its parts says what the part reads. For any
+-- other text the part returns `None`.
 use Rattle.std.specs.Prelude.{ℕ, List, length, codes, Option, Some, None, is_none, nat_lt, if◌then◌else◌}
 use Rattle.std.specs.Str.{bytes_eq}
 use Rattle.sv_history.specs.History.{input_refusal}
@@ -14,15 +15,15 @@ accepted_at text = do
   microvolts ← voltage_at x.1
   if is_none (input_refusal x.0 microvolts) then Some (Input x.0 microvolts) else None
 
--- a stimulus of one word
+-- a stimulus that has one word
 unfoldable pub lone_stimulus_at : List ℕ → Option Stimulus
 lone_stimulus_at word = if bytes_eq word (codes "external") then Some External else None
 
--- a stimulus with this first word and this text after it
+-- a stimulus whose first word is this, and whose text after the first word is this
 unfoldable pub worded_stimulus_at : List ℕ → List ℕ → Option Stimulus
 worded_stimulus_at word text = if bytes_eq word (codes "input") then accepted_at text else None
 
--- a stimulus, from its text and from its two parts around the first space
+-- a stimulus, read from its text; the second argument is the two parts of the text around its first space, or `None` without a space
 abbrev pub cut_stimulus_at : List ℕ → Option (List ℕ × List ℕ) → Option Stimulus
 cut_stimulus_at text None = lone_stimulus_at text
 cut_stimulus_at text (Some cut) = worded_stimulus_at cut.0 cut.1
@@ -39,7 +40,7 @@ entry_at line = do
   stimulus ← stimulus_at cut.1
   Some (record { tick = tick; stimulus = stimulus })
 
--- an entry at the tick `least` or later, if the line isn't too long
+-- an entry at the tick `least` or later, from a line that isn't too long
 unfoldable pub entry_from : ℕ → List ℕ → Option Entry
 entry_from least line =
     if nat_lt 65536 (length line) then None

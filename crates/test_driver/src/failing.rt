@@ -1,4 +1,5 @@
-//! Rows of peers: what each gets, and what each gets if a call of the wire fails.
+//! Rows of peers: what each peer gets, and whether it still gets everything if a call of the wire
+//! fails.
 
 use crate::peers::{Call, Peer, Peers};
 use crate::row::{bad, number};
@@ -7,10 +8,10 @@ use std::io::{self, BufWriter, Write};
 use sv_serve::Driver;
 use sv_server::{Config, Server};
 
-/// The most calls of a row.
+/// A row makes fewer calls of one kind than this.
 const MOST: u64 = 1_000;
 
-/// The number of sweeps, and the peers, a line of hexadecimal each.
+/// A row: the number of its sweeps, and a line of hexadecimal for each of its peers.
 #[derive(Clone, Copy)]
 struct Row<'a> {
     sweeps: u64,
@@ -20,7 +21,7 @@ struct Row<'a> {
 /// The driver of a row.
 type Played = Driver<Peers, Global>;
 
-/// The calls that fail in turn, each with its word.
+/// The kinds of calls that fail, each with the word for it.
 const CALLS: [(Call, &str); 5] = [
     (Call::Accept, "accept"),
     (Call::Read, "read"),
@@ -73,7 +74,7 @@ fn show<W: Write + Drop>(
     writeln!(writer)
 }
 
-/// How the bytes that came to a peer compare with a run without a failure.
+/// The word for what a peer got in a run with a failure, compared with the run without a failure.
 fn outcome(peer: &Peer, whole: &Peer) -> &'static str {
     if peer.struck {
         "struck"
@@ -84,8 +85,8 @@ fn outcome(peer: &Peer, whole: &Peer) -> &'static str {
     }
 }
 
-/// Prints for each peer whether a call for it failed, or else whether it got every byte. Prints
-/// nothing if no call failed. Returns whether one did.
+/// For each peer: prints whether a call for it failed and, if none did, whether the peer got every
+/// byte. If no call failed at all, prints nothing. Returns whether a call failed.
 fn compare<W: Write + Drop>(
     peers: &Peers,
     whole: &Peers,
@@ -103,7 +104,7 @@ fn compare<W: Write + Drop>(
     Ok(true)
 }
 
-/// Plays a row with one call failing. Returns whether the row has that call.
+/// Plays a row in which one call of the wire fails. Returns whether that call was made.
 fn fail_once<W: Write + Drop>(
     alloc: Global,
     row: Row<'_>,
@@ -117,7 +118,7 @@ fn fail_once<W: Write + Drop>(
     compare(driver.wire(), whole, (word, left), writer)
 }
 
-/// Plays a row with each call of a kind failing in turn.
+/// For each call of this kind: plays a row in which that call fails.
 fn fail_each<W: Write + Drop>(
     alloc: Global,
     row: Row<'_>,
@@ -133,7 +134,7 @@ fn fail_each<W: Write + Drop>(
     Err(bad())
 }
 
-/// Plays a row with each call of each kind failing in turn.
+/// For each kind of call, and for each call of that kind: plays a row in which that call fails.
 fn fail_all<W: Write + Drop>(
     alloc: Global,
     row: Row<'_>,
@@ -155,8 +156,8 @@ fn show_each<W: Write + Drop>(peers: &Peers, writer: &mut BufWriter<W>) -> io::R
     Ok(())
 }
 
-/// Plays a row, whose first line is the number of sweeps. Prints what each peer gets, and then the
-/// result of each failure of the wire.
+/// Plays a row, whose first line is the number of sweeps. Prints what each peer gets, and then, for
+/// each call of the wire, the result of a run in which that call fails.
 pub(crate) fn play<W: Write + Drop>(
     alloc: Global,
     text: &str,
@@ -172,7 +173,8 @@ pub(crate) fn play<W: Write + Drop>(
     report(alloc, row, whole.wire(), writer)
 }
 
-/// Prints what each peer gets, and then the result of each failure of the wire.
+/// Prints what each peer gets, and then, for each call of the wire, the result of a run in which
+/// that call fails.
 fn report<W: Write + Drop>(
     alloc: Global,
     row: Row<'_>,

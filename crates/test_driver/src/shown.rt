@@ -21,7 +21,7 @@ pub(crate) fn name(port: Port) -> (char, u8) {
     }
 }
 
-/// Prints a port and the bytes that the wire was given for it.
+/// Prints a port, and the bytes that the driver gave to the wire for this port.
 fn show_written<W: Write + Drop>(
     port: Port,
     bytes: &[u8],

@@ -5,8 +5,8 @@ use std::alloc::Global;
 use sv_rpc::read_call;
 use sv_xdr::{Reader, Writer};
 
-/// Reads a field, and prints it and how many bytes are left. A kind that is a number means opaque
-/// data of at most that many bytes.
+/// Reads a field. Prints the field, and how many bytes remain after it. A kind that is a number
+/// means opaque data of at most that many bytes.
 pub(crate) fn put_read(alloc: Global, out: &mut String, text: &str) -> Result<(), Fault> {
     let (kind, digits) = cut(text);
     let bytes = bytes_of(alloc, digits)?;

@@ -1,4 +1,4 @@
-//! The lines, and the parts on which acts are performed.
+//! Answering lines, with the parts on which their acts are performed.
 
 use crate::codes::put_code;
 use crate::fields::{put_call, put_read, put_written};
