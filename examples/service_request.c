@@ -161,7 +161,7 @@ int main(int count, char **words)
     printf("status byte before: %d\n", poll_status());
     tell("INIT;*OPC");
     wait_for_request();
-    printf("status byte behind: %d, and once more: ", poll_status());
+    printf("status byte afterwards: %d, and once more: ", poll_status());
     printf("%d\n", poll_status());
     ask("*ESR?");
     ask("FETC?");

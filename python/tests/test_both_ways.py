@@ -74,7 +74,7 @@ def service_request(carrier: Carrier, pause: Pause) -> List[str]:
     link.write("INIT;*OPC\n")
     request: ServiceRequest = requests.wait(PATIENCE)
     told.append("service request of: " + request.handle.decode())
-    told.append("status byte behind: %d, and once more: %d" % (link.readstb(), link.readstb()))
+    told.append("status byte afterwards: %d, and once more: %d" % (link.readstb(), link.readstb()))
     told += ["%s %s" % (query, link.query(query + "\n")) for query in ("*ESR?", "FETC?", "SYST:ERR?")]
     carrier.destroy_intr_chan()
     link.destroy()

@@ -135,7 +135,7 @@ def ways(canvas, places, start, others):
         canvas.way([(trunk, y + middle), (LEFT, y + middle)], "blue")
     canvas.box(20, TOP + 122, 112, 128, "plain")
     canvas.words(76, TOP + 148, "a call", "ink bold", 14, "middle")
-    said = wrapped("what it needs isn't there: no reply yet, and calls behind it wait", 100)
+    said = wrapped("what it needs isn't there: no reply yet, and later calls wait", 100)
     canvas.lines(76, TOP + 170, said, "soft", 12, "middle", 110)
     canvas.way([(132, TOP + 186), (trunk, TOP + 186)], "blue", "")
     for other in others:
