@@ -69,7 +69,7 @@ def aborted(sources, waits):
     if "CreateIntrChan" not in named:
         found["Dial"] = ""
     if "CreateLink" not in named:
-        found["Lock"] = whole + ", but for create_link"
+        found["Lock"] = whole + ", except create_link"
     return found
 
 
@@ -156,5 +156,5 @@ def draw(sources):
     ways(canvas, places, start, others)
     y = TOP + STEP * len(waits) + 26
     canvas.way([(LEFT - 22, y), (LEFT + 8, y)], "green")
-    canvas.words(LEFT + 16, y + 4, "past the lock it may wait anew, in its place of the order", "soft", 12)
+    canvas.words(LEFT + 16, y + 4, "after the lock it may wait again, at its place in the order", "soft", 12)
     return canvas.svg()
