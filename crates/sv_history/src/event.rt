@@ -4,7 +4,7 @@ ghost use Rattle.std.specs.Prelude.{◌≡◌};
 
 use thiserror::Error;
 
-/// What a connection is for.
+/// The program that a connection serves.
 #[derive(Clone, Copy, Debug, PartialEq, Eq)]
 pub enum Role {
     /// The core channel.
@@ -15,7 +15,7 @@ pub enum Role {
     Portmap,
 }
 
-/// Where bytes are sent to.
+/// Where the server sends bytes: a connection, or the interrupt channel of a connection.
 #[derive(Clone, Copy, Debug, PartialEq, Eq)]
 pub enum Port {
     /// The connection of this number.
@@ -27,9 +27,9 @@ pub enum Port {
 /// What happens to the server.
 #[derive(Clone, Copy, Debug, PartialEq, Eq)]
 pub enum Event<'a> {
-    /// A connection opens, of number 0 to 15.
+    /// A connection opens.
     Open {
-        /// The connection's number.
+        /// The connection's number, 0 to 15.
         conn: u8,
         /// The connection's role.
         role: Role,
@@ -53,14 +53,14 @@ pub enum Event<'a> {
     },
     /// The peer took bytes that waited to be sent.
     Took {
-        /// The port.
+        /// The port on which the bytes waited.
         port: Port,
         /// How many bytes the peer took.
         count: u32,
     },
     /// A connection or an interrupt channel closes.
     Close {
-        /// The port.
+        /// The port that closes.
         port: Port,
     },
     /// An attempt to connect an interrupt channel to its peer has ended.
@@ -99,14 +99,15 @@ pub struct Config {
     pub core: u16,
     /// The port of the abort channel.
     pub abort: u16,
-    /// The clock at the start, in milliseconds, at most 9,223,372,036,854,775,807.
+    /// What the clock shows when the server starts, in milliseconds, at most
+    /// 9,223,372,036,854,775,807.
     pub clock: u64,
 }
 
-/// Where to connect an interrupt channel.
+/// Where to connect an interrupt channel to: its peer's address and port.
 #[derive(Clone, Copy, Debug, PartialEq, Eq)]
 pub struct Dial {
-    /// The address, most significant byte first.
+    /// The IPv4 address as a number, with its first byte as the most significant one.
     pub addr: u32,
     /// The port.
     pub port: u16,
@@ -121,7 +122,7 @@ pub enum Refused {
     /// The connection's number is in use.
     #[error("the connection is open already")]
     ConnInUse = 2,
-    /// The number is above 15, or nothing of that number is open.
+    /// The number is above 15, or no connection or interrupt channel of this number is open.
     #[error("there is no such connection")]
     NoConn = 3,
     /// A Bytes event has more bytes than the connection has room for; or, at a Turn or a Refuse,
@@ -151,7 +152,7 @@ pub enum Refused {
 impl Refused {
     ghost use Rattle.sv_history.specs.Print.{number};
 
-    /// The number of a refusal, from 1 to 10, as a replay prints it.
+    /// Returns the number of a refusal, from 1 to 10, as a replay prints it.
     pub fn number(self) -> u8
         ensures { result ≡ number self }
     {
