@@ -11,7 +11,7 @@ pub(crate) struct Connection {
 }
 
 impl Connection {
-    /// A connection for this stream. The system reports what happens on it under this token.
+    /// Makes a connection of this stream. The system reports events of the stream under this token.
     pub(crate) fn new(
         mut stream: TcpStream,
         registry: &Registry,

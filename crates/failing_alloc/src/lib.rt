@@ -42,7 +42,8 @@ pub struct FailingAllocator<B: Allocator> {
 }
 
 impl<B: Allocator> FailingAllocator<B> {
-    /// Passes every call on to `inner`, until `refuse` says otherwise.
+    /// Makes an allocator that passes every call on to `inner`, until `refuse` chooses an
+    /// allocation that is refused.
     pub fn new(inner: B) -> FailingAllocator<B> {
         FailingAllocator {
             inner,
@@ -81,8 +82,8 @@ fn take_turn(left: &Cell<u64>) -> bool {
 }
 
 unsafe impl<B: Allocator> Allocator for FailingAllocator<B> {
-    // A block belongs to the inner allocator, and the right to free it is the inner allocator's
-    // too.
+    // A block belongs to the inner allocator. So the right to free it is the inner allocator's
+    // `dealloc_token`.
     ghost dealloc_token = { λ heap ty ptr. B.dealloc_token heap.inner ty ptr };
 
     fn allocate(&self, size: usize, align: usize) -> Result<*mut u8, AllocError> {

@@ -36,7 +36,7 @@ fn own_words(rt: &HostRuntime) -> Result<Vec<String<Global>, Global>, ProgramFau
     Ok(words.collect(rt.alloc())?)
 }
 
-/// The fault when the command line can't be read: out of memory, or that a word isn't text.
+/// The fault if the command line can't be read: memory was refused, or a word isn't text.
 fn words_fault(error: &Error) -> ProgramFault {
     match error.kind() {
         ErrorKind::OutOfMemory => ProgramFault::Run(RunFault::Memory),

@@ -9,8 +9,8 @@ use sv_serve::Driver;
 use sv_server::{Config, Server};
 use sv_words::{ProgramFault, Serve};
 
-/// The program's fault for an error of the system: out of memory if the error is out of memory,
-/// else `other`.
+/// The program's fault for an error of the system: `Memory` if the error is that memory was
+/// refused, else `other`.
 fn fault_or(error: &Error, other: ProgramFault) -> ProgramFault {
     match error.kind() {
         ErrorKind::OutOfMemory => ProgramFault::Run(RunFault::Memory),
@@ -18,7 +18,7 @@ fn fault_or(error: &Error, other: ProgramFault) -> ProgramFault {
     }
 }
 
-/// Reads the whole scenario.
+/// Reads the scenario from the file at `path`.
 fn scenario(rt: &HostRuntime, path: &str) -> Result<Vec<Entry, Global>, ProgramFault> {
     let text = fs::read(rt, path).map_err(|error| fault_or(
         &error,

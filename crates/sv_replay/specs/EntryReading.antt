@@ -8,18 +8,18 @@ use Rattle.sv_replay.specs.declared.entry.Stimulus.{Stimulus}
 use Rattle.sv_replay.specs.declared.entry.Stimulus.TheVariants.{Input, External}
 use Rattle.sv_replay.specs.Reading.{◌>>=◌, cut_at, numbered_at, short_at, voltage_at}
 
--- a voltage at a channel, if the server accepts it
+-- an `input`, read from the text after this word: a channel and a voltage, if the server accepts them
 unfoldable pub accepted_at : List ℕ → Option Stimulus
 accepted_at text = do
   x ← numbered_at text
   microvolts ← voltage_at x.1
   if is_none (input_refusal x.0 microvolts) then Some (Input x.0 microvolts) else None
 
--- a stimulus that has one word
+-- a stimulus of one word
 unfoldable pub lone_stimulus_at : List ℕ → Option Stimulus
 lone_stimulus_at word = if bytes_eq word (codes "external") then Some External else None
 
--- a stimulus whose first word is this, and whose text after the first word is this
+-- a stimulus of several words, read from its first word and the text after this word
 unfoldable pub worded_stimulus_at : List ℕ → List ℕ → Option Stimulus
 worded_stimulus_at word text = if bytes_eq word (codes "input") then accepted_at text else None
 
@@ -28,11 +28,11 @@ abbrev pub cut_stimulus_at : List ℕ → Option (List ℕ × List ℕ) → Opti
 cut_stimulus_at text None = lone_stimulus_at text
 cut_stimulus_at text (Some cut) = worded_stimulus_at cut.0 cut.1
 
--- a stimulus
+-- a stimulus, read from its text
 unfoldable pub stimulus_at : List ℕ → Option Stimulus
 stimulus_at text = cut_stimulus_at text (cut_at text)
 
--- a tick, a space, and a stimulus
+-- an entry, read from its line: a tick, a space, and a stimulus
 unfoldable pub entry_at : List ℕ → Option Entry
 entry_at line = do
   cut ← cut_at line

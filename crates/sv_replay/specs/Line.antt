@@ -61,7 +61,7 @@ abbrev pub ok_word : Bool → List ℕ
 ok_word true = codes "ok"
 ok_word false = codes "failed"
 
--- The line means this event. Two words of a line have one space between them.
+-- The line describes this event. Between two words of a line there is one space.
 abbrev pub SaysEvent : List ℕ → PlainEvent → Type 0
 SaysEvent line (Open c role) = (number : List ℕ) × IsPlain 255 number c × (line ≡ codes "open " ++ (number ++ 32 ∷ role_word role))
 SaysEvent line (Bytes c piece) = (number hex : List ℕ) × IsPlain 255 number c × IsHex hex piece

@@ -11,12 +11,13 @@ use Rattle.sv_history.specs.declared.event.Port.TheVariants.{Conn, Intr}
 use Rattle.sv_history.specs.Event.{PlainEvent, Open, Bytes, Turn, Refuse, Close, Dialed, Input, External, Tick}
 use Rattle.sv_replay.specs.Line.{Line, Blank, One, Ticks}
 
--- reads a part, and then a part that depends on what was read; `None` if either can't be read
+-- reads a part of a line, and then a second part, which may depend on the value of the first part; `None` if either part can't be read
 infixl 10 ◌>>=◌
 abbrev pub ◌>>=◌ : {A B : Type 0} → Option A → (A → Option B) → Option B
 o >>= f = option_and_then f o
 
--- the number that has the decimal digits of `n` and then these; `None` if it is above `most`, or if one of these characters isn't a digit
+-- the number whose decimal digits are those of `n` and then these characters; `None` if it is above `most`, or if one of the characters
+-- isn't a digit
 unfoldable pub digits_onto : ℕ → ℕ → List ℕ → Option ℕ
 digits_onto most n [] = Some n
 digits_onto most n (digit ∷ digits) =
@@ -24,7 +25,7 @@ digits_onto most n (digit ∷ digits) =
     then (if nat_lt most (10 * n + (digit - 48)) then None else digits_onto most (10 * n + (digit - 48)) digits)
     else None
 
--- the value of one or more decimal digits, if it is at most `most`
+-- the value of a text of one or more decimal digits, if the value is at most `most`
 unfoldable pub number_at : ℕ → List ℕ → Option ℕ
 number_at most [] = None
 number_at most (digit ∷ digits) = digits_onto most 0 (digit ∷ digits)
@@ -139,28 +140,28 @@ input_at text = do
   microvolts ← voltage_at x.1
   Some (Input x.0 microvolts)
 
--- a Bytes, a Turn or a Refuse event, read from the first word and the text after it
+-- a Bytes, a Turn or a Refuse event, read from the first word of the line and the text after this word
 unfoldable pub traffic_at : List ℕ → List ℕ → Option PlainEvent
 traffic_at word text =
     if bytes_eq word (codes "bytes") then bytes_at text
     else (if bytes_eq word (codes "turn") then option_map Turn (plain_at 255 text)
     else (if bytes_eq word (codes "refuse") then option_map Refuse (plain_at 255 text) else None))
 
--- an event of a connection or an interrupt channel, read from the first word and the text after it
+-- an event of a connection or an interrupt channel, read from the first word of the line and the text after this word
 unfoldable pub event_at : List ℕ → List ℕ → Option PlainEvent
 event_at word text =
     if bytes_eq word (codes "open") then open_at text
     else (if bytes_eq word (codes "close") then option_map Close (port_at text)
     else (if bytes_eq word (codes "dialed") then dialed_at text else traffic_at word text))
 
--- a line of one word, or an empty one
+-- the meaning of a line that is empty or has one word
 unfoldable pub lone_at : List ℕ → Option Line
 lone_at word =
     if bytes_eq word [] then Some Blank
     else (if bytes_eq word (codes "external") then Some (One External)
     else (if bytes_eq word (codes "tick") then Some (One Tick) else None))
 
--- a line of several words, read from the first word and the text after it
+-- the meaning of a line of several words, read from the first word and the text after this word
 unfoldable pub words_at : List ℕ → List ℕ → Option Line
 words_at word text =
     if bytes_eq word (codes "tick") then ticks_at text

@@ -9,7 +9,7 @@ use Rattle.sv_replay.specs.Stage.{WhileGoing}
 abbrev pub Gave : Type 0
 Gave = Result (Option ℕ) InputFault
 
--- These reads, the newest first, led a reader from one state to another.
+-- These reads, the newest first, led a reader from the state `first` to the state `last`.
 abbrev pub Reads : {S : Type 0} → (S → Gave → S → Type 0) → S → List Gave → S → Type 0
 Reads gives first [] last = last ≡ first
 Reads gives first (gave ∷ reads) last = (between : _) × Reads gives first reads between × gives between gave last
@@ -18,7 +18,7 @@ Reads gives first (gave ∷ reads) last = (between : _) × Reads gives first rea
 abbrev pub most_reads : ℕ
 most_reads = 4294967294
 
--- These reads led a reader from one state to another, and they aren't more than the allowed number of reads.
+-- These reads led a reader from the state `first` to the state `last`, and there are at most as many reads as allowed.
 abbrev pub Made : {S : Type 0} → (S → Gave → S → Type 0) → S → List Gave → S → Type 0
 Made gives first reads last = Reads gives first reads last × (length reads ≤ most_reads)
 

@@ -1,4 +1,4 @@
--- What a run prints of the text that it read, and what it returns.
+-- What a run of a script prints and returns, depending on the text that it read.
 use Rattle.std.specs.Prelude.{◌≡◌, ◌≢◌, ◌⊎◌, ℕ, ◌+◌, ◌<◌, List, [], ◌∷◌, ◌++◌, length, Option, Result, Ok, Err, ⊤}
 use Rattle.std.specs.Io.KnownBytes.{IsAtEnd}
 use Rattle.sv_history.specs.declared.event.Config.{Config}
@@ -18,12 +18,11 @@ run_fault Write = Output
 abbrev pub set_up : Config
 set_up = record { core = 4096; abort = 4097; clock = 0 }
 
--- The text is what a replay prints for the events of these lines, with a new server.
+-- The text is what a replay on a new server prints for the events of these lines.
 abbrev pub Printed : List (List ℕ) → List ℕ → Type 0
 Printed lines text = (events after : List PlainEvent) × IsScript lines events × Prints set_up [] events text after
 
--- The text is what a replay prints for the events of these lines, with a new server, up to an event at which the replay stops with this
--- fault.
+-- The text is what a replay on a new server prints for the events of these lines, up to an event at which the replay stops with this fault.
 abbrev pub PrintedUpTo : List (List ℕ) → ReplayFault → List ℕ → Type 0
 PrintedUpTo lines fault text = (events after : List PlainEvent) × IsScript lines events × Stops set_up [] events fault text after
 
@@ -31,9 +30,9 @@ PrintedUpTo lines fault text = (events after : List PlainEvent) × IsScript line
 abbrev pub IsWhole : List (List ℕ) → Option (List ℕ) → Type 0
 IsWhole behind rest = (behind ≢ []) ⊎ IsAtEnd rest
 
--- What a run prints for the text that it read. Success: the print of all lines. A bad line: the print of the lines before it. The input
--- failed: the print of all complete lines. Memory was refused, or the output failed (maybe while the run stopped for another fault): the
--- print of the first few lines; the print of the last of these lines may be incomplete.
+-- What a run prints for the text that it read. Success: the output for all lines. A bad line: the output for the lines before it. The
+-- reader failed: the output for all complete lines. Memory was refused, or the writer failed (maybe while the run stopped for another
+-- fault): the output for the first few lines, of which the part for the last line may be incomplete.
 abbrev pub Runs : List ℕ → Option (List ℕ) → Result ⊤ RunFault → List ℕ → Type 0
 Runs read rest (Ok all) text = Printed (parts read) text
 Runs read rest (Err (BadLine n)) text = (lines behind : List (List ℕ)) × (line : List ℕ) × (parts read ≡ lines ++ line ∷ behind)

@@ -1,4 +1,4 @@
--- How far a scenario was read, and what its next line adds.
+-- How far the reading of a scenario has come, and which entry the next line adds.
 use Rattle.std.specs.Prelude.{◌≡◌, ◌⊎◌, ℕ, List, [], ◌∷◌, ◌++◌, length, Result, Ok, Err}
 use Rattle.sv_replay.specs.declared.entry.Entry.{Entry}
 use Rattle.sv_replay.specs.declared.scenario.ScenarioFault.{ScenarioFault}

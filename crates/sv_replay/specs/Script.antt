@@ -1,4 +1,4 @@
--- The script of a text, which is the events that its lines mean. Also: what a replay prints for a list of events.
+-- The script of a text: the events that its lines describe. Also: what a replay prints for a list of events.
 use Rattle.std.specs.Prelude.{◌≡◌, ◌⊎◌, ℕ, ◌<◌, ◌≤◌, List, [], ◌∷◌, ◌++◌, length, replicate, Result, Ok, Err, ⊤}
 use Rattle.sv_text.specs.Cut.{cut_at}
 use Rattle.sv_history.specs.declared.event.Config.{Config}

@@ -12,7 +12,8 @@ use Rattle.sv_replay.specs.Script.{parts, events_of, IsScript, IsBad, Prints, St
 use Rattle.sv_replay.specs.Text.{Held}
 use Rattle.sv_replay.specs.Run.{set_up, Runs}
 
--- The first `number` lines of the text that was read are done, and their print was written. `left` is the text after these lines.
+-- The first `number` lines of the text that was read are executed, and all that they print was written. `left` is the text after these
+-- lines.
 abbrev pub IsStage : State → List ℕ → ℕ → List ℕ → List ℕ → Type 0
 IsStage server left number read text = (lines : List (List ℕ)) × (events history : List PlainEvent) × (parts read ≡ lines ++ parts left)
     × (number ≡ length lines) × IsScript lines events
@@ -43,8 +44,9 @@ abbrev pub WhileGoing : {E : Type 0} → Result Bool E → Type 0 → Type 0
 WhileGoing (Ok true) fact = fact
 WhileGoing answer fact = Unit {0}
 
--- The progress of a step after which the run goes on. Either one more line is done, or one more read was made. If the lines done plus the
--- bytes stored are at most 131,072 for each read, they stay so. If the reads aren't more than allowed, they stay so.
+-- The progress of a step after which the run goes on. The step executes one line, or makes one read. If the executed lines plus the stored
+-- bytes were at most 131,072 per read before the step, they are so after it. If no more reads than allowed were made before the step, this
+-- is so after it.
 pub record Progress (lines : ℕ) (held : Held) (done : ℕ) (left : Held) : Type 0 where
   pub counted : done + left.reads ≡ lines + held.reads + 1
   pub bounded : lines + length held.text ≤ 131072 * held.reads → done + length left.text ≤ 131072 * left.reads

@@ -9,11 +9,11 @@ pub record Held : Type 0 where
   pub text : List ℕ
   pub reads : ℕ
 
--- no text, and no read
+-- nothing stored, and no read made
 abbrev pub nothing_held : Held
 nothing_held = record { text = []; reads = 0 }
 
--- the position of the first new line; `None` if there is none
+-- the position of the first new line in a text; `None` if the text has no new line
 abbrev pub first_end : List ℕ → Option ℕ
 first_end text = position (λ b. b == 10) text
 
@@ -33,7 +33,7 @@ IsBehind before rest free (Ok (Some count)) = (count ≤ length free) × Consume
 IsBehind before rest free (Ok None) = Consumes before rest [] × IsAtEnd rest
 IsBehind before rest free (Err fault) = Consumes before rest []
 
--- the text and the number of reads for which the fields of the buffer stand
+-- the stored text and the number of reads, computed from the fields of the buffer
 abbrev pub held_of : List ℕ → ℕ → ℕ → ℕ → Held
 held_of buffer start end reads = record { text = slice_range buffer start end; reads = reads }
 

@@ -27,7 +27,7 @@ pub fn read_line<'a>(line: &[u8], buffer: &'a mut [u8]) -> Option<Line<'a>>
     requires { length line.now ≤ length buffer.old }
     // If there is a result, it is a meaning of the line.
     ensures found { IfSome result (λ l. Says line.now (plain_line l)) }
-    // If the line has a meaning, this is the result.
+    // If the line has a meaning, the result is that meaning.
     ensures only { (l : Said) → Says line.now l → IsSomeAnd result (λ f. plain_line f ≡ l) }
 {
     line_of(line, buffer)

@@ -84,7 +84,7 @@ fn pass_on<W: Write + Drop, B: Allocator>(
     }
 }
 
-/// Runs the replay, but doesn't flush the print of its last lines.
+/// Runs the replay, but doesn't flush the writer after the last lines.
 fn run_lines<A: Allocator + Copy, R: Source, W: Write>(
     alloc: A,
     reader: &mut R,

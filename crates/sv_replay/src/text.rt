@@ -45,14 +45,14 @@ impl<A: Allocator> Model for Text<A> {
 }
 
 impl<A: Allocator> Text<A> {
-    /// A buffer without text. It allocates all the memory that it ever uses.
+    /// Makes a buffer without text. Allocates all the memory that the buffer ever uses.
     pub fn new(alloc: A) -> Result<Text<A>, AllocError>
         ensures { IfOk result (λ text. text ≡ nothing_held) }
     {
         Ok(Text::over(vec![in alloc; 0; SIZE]?))
     }
 
-    /// A buffer without text. The memory of the buffer is allocated at its full length.
+    /// Makes an empty text over a buffer, which already has its full length.
     fn over(buffer: Vec<u8, A>) -> Text<A>
         requires { length buffer.items ≡ 131072 }
         ensures { result ≡ nothing_held }

@@ -27,8 +27,8 @@ use sv_rpc::{RecordBuf, RpcFault};
 const MAX_OUTPUT: usize = 16384;
 
 /// A connection, open or not: its role, the bytes that came, and the bytes that wait to be sent. A
-/// call that was taken stays among the bytes that came until it is answered, and until then the
-/// output has room for the longest reply.
+/// call that was taken stays among the bytes that came until it is answered. Until then the output
+/// has room for the longest reply.
 #[derive(Drop)]
 pub struct Connection<A: Allocator> {
     role: Option<Role>,
@@ -63,7 +63,7 @@ impl<A: Allocator> Model for Connection<A> {
 }
 
 impl<A: Allocator + Copy> Connection<A> {
-    /// A connection that isn't open. It allocates all the memory that it ever uses.
+    /// Makes a connection that isn't open. Allocates all the memory that the connection ever uses.
     pub fn new(alloc: A) -> Result<Connection<A>, AllocError>
         ensures { IfOk result (λ connection. IsConnection connection []) }
     {
@@ -140,7 +140,7 @@ impl<A: Allocator> Connection<A> {
         self.busy = false;
     }
 
-    /// How many bytes the connection has room for; 0 if it isn't open.
+    /// How many more incoming bytes the connection has room for; 0 if it isn't open.
     pub fn room(&self) -> usize
         ensures bounded { result ≤ room_of self.now.input }
         ensures answer { (acts : List ConnAct) → IsConnection self.now acts → result ≡ room acts }
@@ -151,7 +151,7 @@ impl<A: Allocator> Connection<A> {
         }
     }
 
-    /// Appends bytes that came to the input.
+    /// Appends `piece`, which came from the peer, to the input.
     pub fn push(&mut self, piece: &[u8])
         requires { length piece.now ≤ room_of self.old.input }
         ensures { (acts : List ConnAct) → IsConnection self.old acts
@@ -180,14 +180,15 @@ impl<A: Allocator> Connection<A> {
         }
     }
 
-    /// Whether a record came that is too long. The connection stores no bytes after it.
+    /// Whether a record that is too long came. The connection stores no bytes that come after that
+    /// record.
     pub fn is_overlong(&self) -> bool
         ensures { (acts : List ConnAct) → IsConnection self.now acts → result ≡ is_overlong acts }
     {
         self.input.is_overlong()
     }
 
-    /// The call to take next; `None` if there is none.
+    /// The call to take next; `None` if there is no call to take.
     pub fn next_call(&self) -> Option<&[u8]>
         ensures value { option_map (λ call. call.now) result ≡ kept_next self.now }
         ensures answer { (acts : List ConnAct) → IsConnection self.now acts
@@ -231,8 +232,8 @@ impl<A: Allocator> Connection<A> {
         }
     }
 
-    /// The call that was taken and isn't answered; `None` if it isn't one of the core channel. Its
-    /// record is read again, with the same result as when it was taken.
+    /// The call that was taken and isn't answered, if it is a call of the core channel; else
+    /// `None`. The call's record is read again, with the same result as when it was taken.
     pub fn taken_call(&self) -> Option<CoreCall<'_>>
         ensures { (acts : List ConnAct) → IsConnection self.now acts
             → option_map plain_core_call result ≡ core_call_in (pending_call acts) }
@@ -240,7 +241,7 @@ impl<A: Allocator> Connection<A> {
         core_call(self.taken()?)
     }
 
-    /// Whether there is room for the longest reply.
+    /// Whether the output has room for the longest reply.
     pub fn has_reply_room(&self) -> bool
         ensures value { result ≡ not (nat_lt max_output (length self.now.output + longest_reply)) }
         ensures answer { (acts : List ConnAct) → IsConnection self.now acts

@@ -1,6 +1,6 @@
 //! The device, which all connections share: links, the lock, suspended calls, interrupt channels,
-//! the instrument and the clock. The modules below execute calls. The device gets only the number
-//! of a connection and the arguments of a call.
+//! the instrument and the clock. The modules below execute calls. Of a call, the device gets only
+//! the number of its connection and its arguments.
 
 ghost use Rattle.std.specs.Prelude.{◌≡◌, ◌↔◌, ◌+◌, ◌<◌, ◌≤◌, ℕ, List, [], ◌∷◌, ◌++◌, length, map, option_map, Some, None, is_some, IfOk, IfSome, IsTrue, ◌==◌, true, false};
 ghost use Rattle.sv_links.specs.Links.{closing};
@@ -73,8 +73,8 @@ impl<A: Allocator> Model for Device<A> {
 }
 
 impl<A: Allocator + Copy> Device<A> {
-    /// A device with no link, no suspended call, no interrupt channel and no text, whose clock is
-    /// at its start.
+    /// Makes a device with no link, no suspended call, no interrupt channel and no bytes of a
+    /// message. Its clock begins at the configured value.
     pub fn new(alloc: A, config: Config) -> Result<Device<A>, AllocError>
         requires { config.clock ≤ 9223372036854775807 }
         ensures stands { IfOk result (λ device. IsDevice device config []) }
@@ -207,7 +207,7 @@ impl<A: Allocator> Device<A> {
         self.waiting.expired(self.clock)
     }
 
-    /// Ends the suspension of a connection's call.
+    /// Takes the suspended call of a connection out of the queue.
     pub fn end_wait(&mut self, conn: Conn)
         ensures stands { (config : Config) (acts : List DeviceAct) → IsDevice self.old config acts
             → IsDevice self.new config (Waited (Left conn.number) ∷ acts) }

@@ -112,7 +112,7 @@ fn is_no_memory(refused: Refused) -> bool
     matches!(refused, Refused::NoMemory)
 }
 
-/// The port whose line is printed at this place, counted from 0. The lines of connections come
+/// The port whose line is printed as line `number`, counted from 0. The lines of connections come
 /// first, and then those of their interrupt channels.
 fn port_of(number: u8) -> Port
     ensures { result ≡ port_of number }

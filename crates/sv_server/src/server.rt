@@ -76,8 +76,8 @@ fn connections<A: Allocator + Copy>(alloc: A) -> Result<Vec<Connection<A>, A>, A
 }
 
 impl<A: Allocator> Server<A> {
-    /// A server with an empty history. It allocates all the memory that it ever uses, except the
-    /// memory for links and interrupt channels.
+    /// Makes a server with an empty history. Allocates all the memory that the server ever uses,
+    /// except the memory for links and interrupt channels.
     ///
     /// # Errors
     /// If memory is refused.
@@ -119,7 +119,7 @@ impl<A: Allocator> Server<A> {
         }
     }
 
-    /// How many bytes a connection has room for; 0 if it isn't open.
+    /// How many more incoming bytes a connection has room for; 0 if it isn't open.
     pub fn room(&self, conn: u8) -> u32
         ensures { (config : Config) (history : List PlainEvent) → StandsFor self.now config history
             → Answered (λ log. room (of conn log)) config history result }
@@ -152,8 +152,8 @@ impl<A: Allocator> Server<A> {
         }
     }
 
-    /// Whether there is a call for a Turn to take. Even so, the Turn is refused if there is too
-    /// little room for the longest reply.
+    /// Whether a Turn of this connection would find a call to take. Even so, the Turn is refused if
+    /// the output has too little room for the longest reply.
     pub fn ready(&self, conn: u8) -> bool
         ensures { (config : Config) (history : List PlainEvent) → StandsFor self.now config history
             → Answered (λ log. not (is_idle (of conn log))) config history result }

@@ -1,9 +1,10 @@
-//! Plays the rows of the standard input. Each row gets a new server over real sockets of 127.0.0.1,
-//! and peers in the same process. Prints the title of each row, and then what the peers get.
+//! Plays the test cases, called rows, of the standard input. Each row gets a new server over real
+//! sockets of 127.0.0.1, and peers in the same process. Prints the title of each row, and then what
+//! the peers get.
 //!
-//! The server makes some sweeps between two looks at a peer. The output doesn't depend on the speed
-//! of the machine, since only lower bounds of times are checked. If nothing comes to a peer for ten
-//! seconds, the program ends with a fault.
+//! The server makes some sweeps between two checks of whether bytes have come to a peer. The output
+//! doesn't depend on the speed of the machine, since only lower bounds of times are checked. If
+//! nothing comes to a peer for ten seconds, the program ends with a fault.
 //!
 //! A row has these lines. A letter such as `a` or `i` names a peer:
 //!
@@ -21,7 +22,7 @@
 //! | `i listens PORT` | the peer listens on a port of 127.0.0.1 |
 //! | `i accepts` | the peer accepts a connection on that port, which is its stream from then on |
 //! | `a pours N 8000..` | the peer sends these calls N times, or until the sockets are full |
-//! | `a drains N SIZE` | the peer sends the rest; prints if N replies of SIZE bytes are in order |
+//! | `a drains N SIZE` | sends unsent calls; prints whether N replies of SIZE bytes are in order |
 //! | `start` | a time measurement starts |
 //! | `passed MILLISECONDS` | prints whether this time has passed since `start` |
 //! | `sleep SWEEPS` | the server makes this many sweeps |
@@ -34,7 +35,7 @@ mod stage;
 
 use std::io::{self, BufWriter, Error, ErrorKind, Write};
 
-/// Plays each row in its order.
+/// Plays the rows in their order.
 fn main(rt: HostRuntime) -> io::Result<()> {
     let text = io::read_to_string(rt.alloc(), rt.reader())?;
     let Some(rows) = text.strip_prefix("= ") else {

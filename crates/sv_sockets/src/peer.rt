@@ -38,7 +38,7 @@ pub(crate) struct Peer {
 }
 
 impl Peer {
-    /// A peer with neither stream nor port.
+    /// Makes a peer that has no stream and listens on no port.
     fn new(alloc: Global, name: char) -> io::Result<Peer> {
         Ok(Peer {
             name,
@@ -51,14 +51,14 @@ impl Peer {
         })
     }
 
-    /// A peer that connects to a port.
+    /// Makes a peer, and connects it to a port of the server.
     pub(crate) fn connect(rt: HostRuntime, name: char, port: u16) -> io::Result<Peer> {
         let mut peer = Peer::new(rt.alloc(), name)?;
         peer.stream = Some(TcpStream::connect(&rt, local(port))?);
         Ok(peer)
     }
 
-    /// A peer that listens on a port.
+    /// Makes a peer that listens on a port.
     pub(crate) fn listen(rt: HostRuntime, name: char, port: u16) -> io::Result<Peer> {
         let mut peer = Peer::new(rt.alloc(), name)?;
         peer.listener = Some(TcpListener::bind(&rt, local(port))?);

@@ -6,7 +6,7 @@ use std::io;
 
 /// The sockets count as full after this many tries to send in a row in which no byte was sent.
 const STILL: u32 = 20;
-/// The most tries to send in one row's `pours`.
+/// The most tries to send that one `pours` line makes.
 const TRIES: u32 = 100_000;
 
 /// Numbers calls or replies from 1 on. Each call or reply is a record of one fragment. Its number
@@ -30,7 +30,7 @@ fn number_records(records: &mut Vec<u8>) -> io::Result<()> {
     Ok(())
 }
 
-/// Some records, repeated `count` times and numbered.
+/// Repeats `records` `count` times, and numbers the copies from 1 on.
 fn repeated(alloc: Global, records: &[u8], count: u32) -> io::Result<Vec<u8>> {
     let mut all = Vec::new(alloc);
     for _ in 0..count {

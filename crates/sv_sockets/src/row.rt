@@ -39,7 +39,7 @@ fn letter(text: &str) -> io::Result<char> {
     }
 }
 
-/// `yes` or `no`.
+/// The word for a yes-or-no result: `yes` or `no`.
 fn word(so: bool) -> &'static str {
     if so { "yes" } else { "no" }
 }
@@ -68,7 +68,7 @@ pub(crate) fn play<W: Write + Drop>(
     Ok(())
 }
 
-/// Executes a line.
+/// Executes a line of the row.
 fn step<W: Write + Drop>(
     stage: &mut Stage,
     line: &str,
@@ -87,7 +87,7 @@ fn step<W: Write + Drop>(
     }
 }
 
-/// Executes a line of a peer.
+/// Executes a line that begins with the letter of a peer.
 fn do_as<W: Write + Drop>(
     stage: &mut Stage,
     name: char,

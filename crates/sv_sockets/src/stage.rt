@@ -11,16 +11,16 @@ use sv_server::{Config, Port, Server};
 
 /// The ports of the core channel, the abort channel and the port mapper.
 pub(crate) const PORTS: [u16; 3] = [24196, 24197, 24198];
-/// How many seconds a peer waits at most.
+/// How many seconds a peer waits at most for bytes or for a connection.
 const PATIENCE: u64 = 10;
 /// The most tries to listen. The program sleeps 20 milliseconds after each try.
 const TRIES: u32 = 2_000;
 /// The most times that the program looks for bytes or a connection during one wait.
 const LOOKS: u32 = 10_000_000;
-/// How many sweeps the server makes between two looks for bytes.
+/// How many sweeps the server makes between two checks of whether bytes have come to a peer.
 const SWEEPS: u32 = 2;
-/// How many sweeps the server makes between two looks if it matters which peer gets its bytes
-/// first.
+/// How many sweeps the server makes between two checks of two peers, if the row compares which of
+/// them gets its bytes first.
 const MORE_SWEEPS: u32 = 4;
 
 /// The error for a row that can't be played.
@@ -93,8 +93,7 @@ impl Stage {
         serve(&self.rt, &mut self.watch, &mut self.driver, sweeps)
     }
 
-    /// Whether bytes wait in the server to be sent on any connection, since the socket doesn't take
-    /// them.
+    /// Whether the server has bytes to send on a connection whose socket doesn't take them.
     pub(crate) fn waits(&self) -> bool {
         let server = self.driver.server();
         (0..16).any(|conn| !server.waiting(Port::Conn(conn)).is_empty())
@@ -129,7 +128,7 @@ impl Stage {
         self.serve(sweeps)
     }
 
-    /// Serves until this many bytes have come to a peer, or until its stream has ended.
+    /// Makes sweeps until this many bytes have come to a peer, or until its stream has ended.
     ///
     /// # Errors
     /// If nothing comes for too long.
@@ -148,7 +147,7 @@ impl Stage {
         Err(late())
     }
 
-    /// Serves until a connection has come to a peer's port.
+    /// Makes sweeps until a connection has come to the port on which a peer listens.
     ///
     /// # Errors
     /// If that takes too long.
@@ -163,9 +162,9 @@ impl Stage {
         Err(late())
     }
 
-    /// Serves until bytes have come to the second peer. Returns whether bytes have come to the
-    /// first peer by then. Each time, the program looks at the second peer before it looks at the
-    /// first one.
+    /// Makes sweeps until bytes have come to the second peer. Returns whether bytes have come to
+    /// the first peer by then. After each sweep, the program checks the second peer before it
+    /// checks the first one.
     ///
     /// # Errors
     /// If that takes too long.

@@ -8,7 +8,7 @@ use std::io::{self, BufWriter, Write};
 use sv_serve::Driver;
 use sv_server::{Config, Server};
 
-/// A row makes fewer calls of one kind than this.
+/// For each kind of call, a row makes fewer calls of the wire than this.
 const MOST: u64 = 1_000;
 
 /// A row: the number of its sweeps, and a line of hexadecimal for each of its peers.
@@ -21,7 +21,7 @@ struct Row<'a> {
 /// The driver of a row.
 type Played = Driver<Peers, Global>;
 
-/// The kinds of calls that fail, each with the word for it.
+/// The kinds of calls of the wire that are made to fail, each with the word for it.
 const CALLS: [(Call, &str); 5] = [
     (Call::Accept, "accept"),
     (Call::Read, "read"),
@@ -30,7 +30,7 @@ const CALLS: [(Call, &str); 5] = [
     (Call::Dialed, "dialed"),
 ];
 
-/// The peers of a row, a line of hexadecimal each.
+/// Makes the peers of a row. Each line has the bytes that one peer sends, in hexadecimal.
 fn peers(alloc: Global, lines: &str) -> io::Result<Vec<Peer>> {
     let mut peers = Vec::new(alloc);
     for line in lines.lines() {
@@ -42,7 +42,8 @@ fn peers(alloc: Global, lines: &str) -> io::Result<Vec<Peer>> {
     Ok(peers)
 }
 
-/// The driver after this number of sweeps, each of a millisecond.
+/// Makes a driver over this wire, and lets it make this number of sweeps. A millisecond passes in
+/// each sweep.
 fn played(alloc: Global, sweeps: u64, wire: Peers) -> io::Result<Played> {
     let config = Config {
         core: 4096,
@@ -104,7 +105,8 @@ fn compare<W: Write + Drop>(
     Ok(true)
 }
 
-/// Plays a row in which one call of the wire fails. Returns whether that call was made.
+/// Plays the row while one call of the wire fails. Prints the result for each peer. Returns whether
+/// the call that fails was made.
 fn fail_once<W: Write + Drop>(
     alloc: Global,
     row: Row<'_>,
@@ -118,7 +120,7 @@ fn fail_once<W: Write + Drop>(
     compare(driver.wire(), whole, (word, left), writer)
 }
 
-/// For each call of this kind: plays a row in which that call fails.
+/// For each call of this kind: plays the row while that call fails.
 fn fail_each<W: Write + Drop>(
     alloc: Global,
     row: Row<'_>,
@@ -134,7 +136,7 @@ fn fail_each<W: Write + Drop>(
     Err(bad())
 }
 
-/// For each kind of call, and for each call of that kind: plays a row in which that call fails.
+/// For each kind of call, and for each call of that kind: plays the row while that call fails.
 fn fail_all<W: Write + Drop>(
     alloc: Global,
     row: Row<'_>,

@@ -1,6 +1,7 @@
-//! Plays the rows of the standard input. Each row gets a new driver over a wire whose answers are
-//! lines. Prints the title of each row, and then the calls of the wire that a recorder recorded.
-//! They are the trace of which the laws of `sv_serve` speak (`sv_recording`).
+//! Plays the test cases, called rows, of the standard input. Each row gets a new driver over a wire
+//! whose answers are given by the lines of the row. Prints the title of each row, and then the
+//! driver's calls of the wire, which a recorder recorded. These calls are the trace of which the
+//! laws of `sv_serve` speak (`sv_recording`).
 //!
 //! A row has these lines:
 //!
@@ -25,20 +26,21 @@
 //! bytes`.
 //!
 //! A row whose first line is `pace` queries the decisions of a loop of sweeps. Times are in
-//! nanoseconds since the loop began. `ticks NOW`: how many milliseconds pass. `sleep_time NOW
-//! TICKS`: how long the loop may sleep. `work NOW`: something is reported. `eager NOW`: whether the
-//! loop polls again without sleeping. `found N` and `nothing N`: a wait ends after N polls, with a
-//! report or without one. `vain N`: N runs of polls find nothing. Each run begins as soon as the
-//! loop may poll again, and the row prints how many times the loop sleeps before the run.
+//! nanoseconds since the loop began. `ticks NOW` prints how many milliseconds pass. `sleep_time NOW
+//! TICKS` prints how long the loop may sleep. `eager NOW` prints whether the loop polls again
+//! without sleeping. Three lines print nothing: `work NOW` tells the loop that a poll at NOW
+//! reported something; `found N` and `nothing N` tell it that a wait ends after N polls, with a
+//! report or without one. `vain N` makes N runs of polls that find nothing. Each run begins as soon
+//! as the loop may poll again, and the row prints how many times the loop sleeps before the run.
 //!
-//! Each call is printed as a line: `core 0` accepts a connection as number 0, and `core -` accepts
-//! one that is dropped; `read 0`; `probe 0`, with ` drops` if bytes that come are dropped; `write
-//! c0 80..` with the bytes in hexadecimal, or `write i0 80..` for an interrupt channel; `dial 0
-//! 7f000001:4242`; `dialed 0`; `close c0`. In a line `CALL: ANSWER` the call ends after its number
-//! or port, and `core` has no number. The answer `yes` means that a connection comes, or that a
-//! peer answers; `fails` is a fault; `later` means that there is nothing yet; a number is how many
-//! bytes are taken; hexadecimal digits are bytes that come. A call without such a line is pending,
-//! except that a write takes all bytes.
+//! Each call of the wire is printed as a line: `core 0` accepts a connection as number 0, and
+//! `core -` accepts one that is dropped; `read 0`; `probe 0`, with ` drops` if bytes that come are
+//! dropped; `write c0 80..` with the bytes in hexadecimal, or `write i0 80..` for an interrupt
+//! channel; `dial 0 7f000001:4242`; `dialed 0`; `close c0`. A line `CALL: ANSWER` names the call in
+//! the same way, but without what follows its number or port; `core` has no number. The answer
+//! `yes` means that a connection comes, or that a peer answers; `fails` is a fault; `later` means
+//! that there is nothing yet; a number is how many bytes are taken; hexadecimal digits are bytes
+//! that come. A call without such a line is pending, except that a write takes all bytes.
 #![tactic(auto)]
 
 mod failing;
@@ -50,7 +52,7 @@ mod shown;
 
 use std::io::{self, BufWriter, Error, ErrorKind, Write};
 
-/// Plays each row in its order.
+/// Plays the rows in their order.
 fn main(rt: HostRuntime) -> io::Result<()> {
     let text = io::read_to_string(rt.alloc(), rt.reader())?;
     let Some(rows) = text.strip_prefix("= ") else {

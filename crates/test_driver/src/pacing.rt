@@ -55,7 +55,7 @@ fn step<W: Write + Drop>(pace: &mut Pace, line: &str, writer: &mut BufWriter<W>)
     }
 }
 
-/// Executes a line that prints nothing.
+/// Executes a line that prints nothing: `work`, `found` or `nothing`.
 fn keep(pace: &mut Pace, word: &str, number: u64) -> io::Result<()> {
     match word {
         "work" => pace.work(number),

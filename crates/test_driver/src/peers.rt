@@ -48,7 +48,7 @@ impl Peer {
         }
     }
 
-    /// Copies bytes that the peer sends into a buffer, as many as the buffer has room for.
+    /// Copies the next bytes that the peer sends into a buffer, as many as the buffer has room for.
     fn give(&mut self, buffer: &mut [u8]) -> Answer<usize>
         ensures { IsWithin result (length buffer.old) }
     {
@@ -62,7 +62,7 @@ impl Peer {
         Answer::Got(count)
     }
 
-    /// Takes the bytes that are sent to the peer.
+    /// Stores the bytes that the server sends to the peer on this port.
     fn take(&mut self, port: Port, bytes: &[u8]) -> Answer<usize>
         ensures { IsWithin result (length bytes.now) }
     {
@@ -82,8 +82,8 @@ impl Peer {
 pub(crate) struct Peers {
     pub(crate) peers: Vec<Peer>,
     fails: Call,
-    /// How many calls of the kind `fails` come up to and including the one that fails; 0 after that
-    /// one was made.
+    /// How many calls of the kind `fails` remain up to and including the one that fails; 0 after
+    /// that call was made.
     left: u64,
 }
 
@@ -96,7 +96,8 @@ fn number(port: Port) -> u8 {
 }
 
 impl Peers {
-    /// A wire to these peers. Of the calls of this kind, the one with this number fails.
+    /// Makes a wire to these peers. Of the calls of the kind `fails`, the one with the number
+    /// `left` fails, counted from 1.
     pub(crate) fn new(peers: Vec<Peer>, fails: Call, left: u64) -> Peers {
         Peers { peers, fails, left }
     }
@@ -106,7 +107,7 @@ impl Peers {
         self.left > 0
     }
 
-    /// Whether this call fails.
+    /// Counts a call of this kind, and returns whether it fails.
     fn strikes(&mut self, call: Call) -> bool {
         if call != self.fails || self.left == 0 {
             return false;
@@ -120,7 +121,8 @@ impl Peers {
         self.peers.iter_mut().find(|peer| peer.conn == Some(conn))
     }
 
-    /// Whether this call for a peer fails.
+    /// Counts a call for the peer of this connection, and returns whether the call fails. If it
+    /// fails, marks the peer as struck.
     fn strikes_at(&mut self, call: Call, conn: u8) -> bool {
         let fails = self.strikes(call);
         if fails {

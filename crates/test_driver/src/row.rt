@@ -63,7 +63,7 @@ fn scenario<'a>(
     }
 }
 
-/// The driver of a row. The row may say which allocation for the driver is refused.
+/// Makes the driver of a row. The row may say which allocation of the driver is refused.
 fn made<'a>(
     alloc: Global,
     heap: &'a FailingAllocator<Global>,
@@ -83,7 +83,7 @@ fn made<'a>(
     Ok(Driver::new(heap, server, wire, scenario)?)
 }
 
-/// Makes a sweep, and prints the calls of the wire in it.
+/// Makes a sweep, and prints the driver's calls of the wire in this sweep.
 fn sweep<W: Write + Drop>(
     heap: &FailingAllocator<Global>,
     driver: &mut Played<'_>,

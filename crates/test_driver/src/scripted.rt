@@ -1,4 +1,4 @@
-//! A wire whose answers are lines.
+//! A wire whose answers are given by the lines of a row.
 
 ghost use Rattle.std.specs.Prelude.{length};
 ghost use Rattle.sv_serve.specs.Heard.{IsWithin};
@@ -10,7 +10,7 @@ use std::fmt::Write;
 use sv_serve::{Answer, Wire};
 use sv_server::{Dial, Port, Role};
 
-/// A wire that gives the answers in the lines of a sweep.
+/// A wire whose answers in a sweep are given by the row's lines below that sweep.
 #[derive(Drop)]
 pub(crate) struct Scripted {
     alloc: Global,
@@ -22,7 +22,7 @@ pub(crate) struct Scripted {
     asked: String,
 }
 
-/// Whether something comes, according to the answer in a row.
+/// Whether a connection comes or a peer answers, according to the answer in the row.
 fn comes(answer: Option<&str>) -> Answer<()> {
     match answer {
         Some("yes") => Answer::Got(()),
@@ -31,7 +31,7 @@ fn comes(answer: Option<&str>) -> Answer<()> {
     }
 }
 
-/// How many of `most` bytes are taken, according to the answer in a row.
+/// How many of `most` bytes the wire takes, according to the answer in the row.
 fn takes(answer: Option<&str>, most: usize) -> Answer<usize>
     ensures { IsWithin result most }
 {
@@ -55,7 +55,7 @@ fn put(bytes: &[u8], buffer: &mut [u8]) -> Answer<usize>
 }
 
 impl Scripted {
-    /// A wire that gives the answers in a row.
+    /// Makes a wire that gives the answers in a row.
     pub(crate) fn new(alloc: Global, row: String) -> Scripted {
         Scripted {
             alloc,

@@ -36,7 +36,7 @@ fn put_order(out: &mut String, order: &Result<Order, Code>) -> Result<(), Fault>
     }
 }
 
-/// Prints a setting that is changed.
+/// Prints an order that changes a setting.
 fn put_setting(out: &mut String, setting: &Setting) -> Result<(), Fault> {
     match setting {
         Setting::List(list) => write!(out, " Ok(Set(List({:?})))", list.channels())?,

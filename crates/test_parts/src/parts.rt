@@ -67,7 +67,7 @@ impl Parts {
         Ok(())
     }
 
-    /// Appends the answer of a line that is executed once.
+    /// Executes a line one time, and appends its answer.
     fn put_one(&mut self, alloc: Global, out: &mut String, line: &str) -> Result<(), Fault> {
         let (word, text) = cut(line);
         match word {

@@ -52,7 +52,7 @@ pub(crate) fn put_session(
 }
 
 /// Takes the steps that are due, until none is. Returns how many requests for service were raised.
-/// Each function below that returns a number returns this number for what it does.
+/// Each function below that returns a number returns how many requests for service it raised.
 fn settle(instrument: &mut Instrument) -> u64 {
     let mut sum = 0u64;
     while let Some(raised) = step(instrument) {

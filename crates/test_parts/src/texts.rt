@@ -13,8 +13,8 @@ pub(crate) fn put_white(alloc: Global, out: &mut String, text: &str) -> Result<(
     Ok(())
 }
 
-/// Prints a text three times: without the white space at both ends, without that in front, and
-/// without that at the end.
+/// Prints a text three times: without the white space at both ends, without the white space in
+/// front, and without the white space at the end.
 pub(crate) fn put_trimmed(alloc: Global, out: &mut String, text: &str) -> Result<(), Fault> {
     let bytes = Vec::unescape_bytes(alloc, text)?;
     put_text(out, trim(bytes.as_slice()))?;

@@ -22,7 +22,7 @@ use std::io::{self, BufWriter, Write};
 use sv_replay::{Line, read_line};
 use sv_server::{Config, Did, Event, Port, Server};
 
-/// The longest line.
+/// The most bytes that a line may have.
 const LONGEST: usize = 32_800;
 
 /// The server of a row. The row may refuse memory to this server.
@@ -44,7 +44,7 @@ fn port_of(text: &str) -> io::Result<Port> {
     }
 }
 
-/// Applies an event, and prints its result, unless it is `Done`.
+/// Applies an event, and prints the result, unless the result is `Done`.
 fn apply<W: Write + Drop>(
     server: &mut Played<'_>,
     event: Event<'_>,

@@ -11,7 +11,7 @@ use std::io::{self, BufWriter, Write};
 use sv_replay::{Line, read_line};
 use sv_server::{Config, Event, Port, Refused, Server};
 
-/// The longest line.
+/// The most bytes that a line may have.
 const LONGEST: usize = 1_024;
 /// How many connections there may be.
 const CONNECTIONS: u8 = 16;
@@ -36,7 +36,7 @@ struct Growing<'a> {
     told: String,
 }
 
-/// Appends bytes to a text, as the line that a replay prints for them. Appends nothing if there are
+/// Appends bytes to `told`, as the line that a replay prints for them. Appends nothing if there are
 /// no bytes.
 fn tell(told: &mut String, letter: char, conn: u8, bytes: &[u8]) -> io::Result<()> {
     if bytes.is_empty() {
@@ -50,7 +50,7 @@ fn tell(told: &mut String, letter: char, conn: u8, bytes: &[u8]) -> io::Result<(
 }
 
 impl Growing<'_> {
-    /// The server's answers about all connections.
+    /// Asks the server about each connection, and returns the answers as text.
     fn asked(&self) -> io::Result<String> {
         let mut asked = String::new(self.alloc);
         for conn in 0..CONNECTIONS {
@@ -63,7 +63,7 @@ impl Growing<'_> {
         Ok(asked)
     }
 
-    /// Appends the bytes that wait on a port to the print, and lets the peer take them.
+    /// Appends the bytes that wait on a port to the output, and lets the peer take them.
     fn take(&mut self, letter: char, conn: u8, port: Port) -> io::Result<()> {
         let bytes = self.server.waiting(port);
         tell(&mut self.told, letter, conn, bytes)?;
@@ -72,7 +72,7 @@ impl Growing<'_> {
         Ok(())
     }
 
-    /// Appends the bytes that wait on each connection to the print, and lets the peers take them.
+    /// Appends the bytes that wait on each connection to the output, and lets the peers take them.
     fn take_connections(&mut self) -> io::Result<()> {
         for conn in 0..CONNECTIONS {
             self.take('c', conn, Port::Conn(conn))?;
@@ -80,7 +80,7 @@ impl Growing<'_> {
         Ok(())
     }
 
-    /// Appends the bytes that wait on each interrupt channel to the print, and lets the peers take
+    /// Appends the bytes that wait on each interrupt channel to the output, and lets the peers take
     /// them.
     fn take_channels(&mut self) -> io::Result<()> {
         for conn in 0..CONNECTIONS {
@@ -89,7 +89,7 @@ impl Growing<'_> {
         Ok(())
     }
 
-    /// Applies the event of a line, and appends its result to the print. Returns true if the event
+    /// Applies the event of a line, and appends its result to the output. Returns true if the event
     /// found no memory.
     fn apply(&mut self, line: &str) -> io::Result<bool> {
         let mut buffer = [0; LONGEST];
@@ -109,8 +109,9 @@ impl Growing<'_> {
         Ok(found_none)
     }
 
-    /// Goes on after an event that found no memory. `line` is the line of that event. `brought` is
-    /// the `bytes` line with which the call of that event came.
+    /// Handles an event that found no memory: tries the event again; or refuses its call, and sends
+    /// the call again. `line` is the line of the event. `brought` is the `bytes` line that brought
+    /// the call.
     fn go_on(&mut self, brought: &str, line: &str) -> io::Result<()> {
         if self.refuses {
             let conn = line.strip_prefix("turn ").unwrap_or("");
@@ -125,7 +126,7 @@ impl Growing<'_> {
     }
 
     /// Executes a line. If its event finds no memory and yet changed the server's answers, appends
-    /// `changed` to the print.
+    /// `changed` to the output.
     fn step(&mut self, brought: &str, line: &str) -> io::Result<()> {
         let before = self.asked()?;
         if !self.apply(line)? {
@@ -138,8 +139,8 @@ impl Growing<'_> {
     }
 }
 
-/// A play of a script that has executed no line yet. If the server can't be made because memory is
-/// refused, the server is made again.
+/// Begins a play of a script: makes a new server, and executes no line yet. If memory for the
+/// server is refused, makes the server again.
 fn start<'a>(
     alloc: Global,
     heap: &'a FailingAllocator<Global>,

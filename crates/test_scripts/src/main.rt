@@ -1,5 +1,5 @@
-//! Plays the rows of the standard input. Each row gets parts of its own. Prints the title of each
-//! row, and then its results.
+//! Plays the test cases, called rows, of the standard input. Each row gets parts of its own. Prints
+//! the title of each row, and then its results.
 //!
 //! A title is a line `= WORDS`. The text of a row begins after its title and ends before the next
 //! title. The new line right before that title doesn't belong to the text. So an empty line before
@@ -56,7 +56,7 @@ use std::alloc::Global;
 use std::io::{self, BufWriter, Error, ErrorKind, Write};
 use sv_replay::run_replay;
 
-/// Plays each row in its order.
+/// Plays the rows in their order.
 fn main(rt: HostRuntime) -> io::Result<()> {
     let text = io::read_to_string(rt.alloc(), rt.reader())?;
     let Some(rows) = text.strip_prefix("= ") else {
@@ -82,7 +82,7 @@ fn show<W: Write + Drop>(alloc: Global, row: &str, writer: &mut BufWriter<W>) ->
     }
 }
 
-/// Prints what the replay of a script prints. If the replay fails, its fault is printed.
+/// Replays a script. Prints the output of the replay, and its fault if the replay fails.
 fn replay<W: Write + Drop>(alloc: Global, text: &str, writer: &mut BufWriter<W>) -> io::Result<()> {
     match run_replay(alloc, &mut text.as_bytes(), writer) {
         Ok(()) => Ok(()),

@@ -9,7 +9,7 @@ use std::alloc::Global;
 use std::io::{self, BufWriter, Write};
 use sv_replay::{RunFault, run_replay};
 
-/// The most reads of a row.
+/// The reader of a `! reads` row is read fewer times than this.
 const MOST_READS: u64 = 1_000;
 
 /// How the reader and the writer behave, according to these words of the first line.
@@ -42,7 +42,8 @@ fn manner_of(words: &str) -> io::Result<Manner> {
     }
 }
 
-/// The bytes that the writer took, and the fault, if there is one, on a line of its own.
+/// What is printed for a replay: the bytes that the writer took, and the fault, if there is one, on
+/// a line of its own.
 fn told(
     alloc: Global,
     taken: &[u8],

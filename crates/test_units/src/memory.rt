@@ -44,10 +44,10 @@ fn refusals<'a, T: Drop, F: Fn(&'a FailingAllocator<Global>) -> Result<T, AllocE
     Err(Fail::new("each making was refused an allocation"))
 }
 
-/// The reasons for the numbers: the layers are a message exchange, an error queue and a scanner.
-/// The instrument also has the table of commands and the answer of a unit. The server has 16
-/// connections, each with a buffer for the bytes that come and a buffer for the bytes that are
-/// sent.
+/// Why the test expects these numbers of allocations: the layers are a message exchange, an error
+/// queue and a scanner. The instrument also has the table of commands and the answer of a unit. The
+/// server has 16 connections, each with a buffer for the bytes that come and a buffer for the bytes
+/// that are sent.
 #[test]
 fn each_part_is_made_once_memory_is_there(rt: HostRuntime) -> Result<(), Fail> {
     let heap = FailingAllocator::new(rt.alloc());

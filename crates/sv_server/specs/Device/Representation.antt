@@ -17,7 +17,8 @@ use Rattle.sv_history.specs.Act.{DeviceAct, link_acts, wait_acts, instrument_act
 use Rattle.sv_history.specs.Requests.{HearsOf}
 use Rattle.sv_history.specs.Interrupts.{is_dialing}
 
--- the state: the table of links, the queue of suspended calls, the interrupt channels, the instrument, the configuration, the clock
+-- the state of the device: the table of links, the queue of suspended calls, the interrupt channels, the instrument, the configuration, the
+-- clock
 pub record Device : Type 0 where
   pub links : Table
   pub waiting : List Entry
@@ -48,8 +49,8 @@ AreTold kept acts = (channel_log : List ChannelAct) × HearsOf acts channel_log 
 abbrev pub AreReady : Channels → List WaitAct → Type 0
 AreReady kept acts = (c : ℕ) → is_dialing c acts ≡ true → IsReady kept c
 
--- The device has the state that its acts determine, under a configuration; but the instrument has done the acts `adds` in addition. These
--- may have raised service requests that weren't sent on the interrupt channels yet.
+-- The device has the state that its acts `acts` determine, except that its instrument has also done the acts `adds`. The acts `adds` may
+-- have raised service requests that aren't sent on the interrupt channels yet.
 abbrev pub HasDone : List InstrumentAct → Device → Config → List DeviceAct → Type 0
 HasDone adds kept config acts = IsTable kept.links (link_acts acts) × StandsFor kept.instrument (adds ++ instrument_acts acts)
     × (kept.config ≡ config) × (kept.clock ≡ config.clock + ticks acts) × IsQueue kept.waiting (wait_acts acts) × IsReserved kept acts

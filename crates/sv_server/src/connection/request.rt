@@ -165,7 +165,8 @@ fn abort_request<'a>(call: &Call<'a>) -> Request<'a>
     }
 }
 
-/// What a call asks for. The program of the connection's role has its procedure.
+/// What a call asks for. The procedure of the call must be one of the program that this role
+/// serves.
 fn procedure_request<'a>(role: Role, call: &Call<'a>) -> Request<'a>
     requires { is_one_of (program_for role).2 call.now.proc ≡ true }
     ensures { plain_request result ≡ procedure_request_for role (plain_call call.now) }
@@ -192,7 +193,7 @@ fn decided<'a>(call: &Call<'a>, reply: Reply) -> Request<'a>
 
 /// What a call asks for. The first of these that applies decides the reply: not the role's program;
 /// not its version; the null procedure; an unknown procedure. If none applies, the procedure
-/// decides.
+/// decides what the call asks for.
 fn call_request<'a>(role: Role, call: &Call<'a>) -> Request<'a>
     ensures { plain_request result ≡ call_request_for role (plain_call call.now) }
 {

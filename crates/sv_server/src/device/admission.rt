@@ -85,7 +85,8 @@ fn channel_stop(there: bool, host_addr: u32, host_port: u32, prog_family: u32) -
 }
 
 impl<A: Allocator> Device<A> {
-    /// Whether the lock stops the call: another link than `lid` holds it, and the call needs it.
+    /// Whether the lock stops the call: a link other than `lid` holds the lock, and the call needs
+    /// it.
     fn is_kept_out(&self, lid: Option<u32>, call: &LinkCall<'_>) -> bool
         ensures { (config : Configured) (acts : List DeviceAct) → IsDevice self.now config acts
             → result ≡ (is_some (lock_wait (plain_call call.now))
@@ -98,7 +99,8 @@ impl<A: Allocator> Device<A> {
     }
 
     /// What a call waits for besides the lock, and its timeout in milliseconds. A write waits while
-    /// a message that has ended isn't finished. A read waits until it can be answered.
+    /// the instrument hasn't finished a message whose end has come. A read waits until it can be
+    /// answered.
     pub(super) fn device_wait(&self, call: &LinkCall<'_>) -> Option<(Wait, u32)>
         ensures answer { (config : Configured) (acts : List DeviceAct)
             → IsDevice self.now config acts

@@ -55,7 +55,7 @@ impl<A: Allocator> Device<A> {
         }
     }
 
-    /// Makes a link. A place and memory for the link are reserved.
+    /// Makes a link. A place and memory for it must already be reserved.
     fn make_free(&mut self, conn: Conn) -> CallOutcome
         ensures ends { (config : Configured) (acts : List DeviceAct) → IsDevice self.old config acts
             → HasPlace self.old acts
@@ -69,8 +69,8 @@ impl<A: Allocator> Device<A> {
         CallOutcome::Result(self.told_link(lid))
     }
 
-    /// Makes a link and gives it the lock, which no link holds. A place and memory for the link are
-    /// reserved.
+    /// Makes a link and gives it the lock, which no link holds. A place and memory for the link
+    /// must already be reserved.
     fn make_locked(&mut self, conn: Conn) -> CallOutcome
         ensures ends { (config : Configured) (acts : List DeviceAct) → IsDevice self.old config acts
             → HasPlace self.old acts → is_locked_out (holder (link_acts acts)) None ≡ false
@@ -114,7 +114,7 @@ impl<A: Allocator> Device<A> {
         CallOutcome::Result(plain(ErrorCode::NoError))
     }
 
-    /// device_lock: the link gets the lock, unless another has it.
+    /// device_lock: the link gets the lock, unless another link holds it.
     fn device_lock(&mut self, lid: u32) -> CallOutcome
         ensures ends { (config : Configured) (acts : List DeviceAct) → IsDevice self.old config acts
             → OutcomeIs result self.new config acts (device_lock lid acts) }
@@ -158,8 +158,9 @@ impl<A: Allocator> Device<A> {
         CallOutcome::Result(written(ErrorCode::NoError, bytes.len() as u32))
     }
 
-    /// device_read: if there is a response, the outcome is that bytes of it are read. If there is
-    /// none, the unfinished text is dropped, and the result is a timeout.
+    /// device_read: if the instrument has a response, the outcome is that bytes of the response are
+    /// read. If it has none, the bytes of the unfinished message are dropped, and the result is a
+    /// timeout.
     fn device_read(&mut self, most: u32, term: Option<u8>) -> CallOutcome
         ensures ends { (config : Configured) (acts : List DeviceAct) → IsDevice self.old config acts
             → OutcomeIs result self.new config acts (device_read most term acts) }
@@ -229,7 +230,8 @@ impl<A: Allocator> Device<A> {
         CallOutcome::Result(plain(ErrorCode::NoError))
     }
 
-    /// device_clear: drops the text, the held unit and the response.
+    /// device_clear: drops the bytes of messages that aren't executed yet, the held unit and the
+    /// response.
     fn device_clear(&mut self) -> CallOutcome
         ensures ends { (config : Configured) (acts : List DeviceAct) → IsDevice self.old config acts
             → OutcomeIs result self.new config acts

@@ -1,5 +1,5 @@
-//! The interrupt channels of the server: which of them the server's user has to connect, and which
-//! bytes wait to be sent on those that are open.
+//! The interrupt channels of the server: which channels the server's driver has to connect, and
+//! which bytes wait to be sent on the open channels.
 
 ghost use Rattle.std.specs.Prelude.{◌≡◌, ◌≤◌, not, List, length, MatchResult, IfOk, OnErr, Some, None, nat_lt, true, false, if◌then◌else◌};
 ghost use Rattle.sv_vxi.specs.Reading.{plain_arguments};
@@ -24,8 +24,8 @@ use std::alloc::Allocator;
 use sv_history::{Dial, Did, Refused};
 use sv_vxi::Args;
 
-/// The address and the port that a create_intr_chan asks to be connected to; `None` for any other
-/// call, or for a port above 65535.
+/// The address and the port to which a create_intr_chan wants its channel connected; `None` for any
+/// other call, or for a port above 65535.
 fn dial_by(args: &Args<'_>) -> Option<Dial>
     ensures { result ≡ called_by (plain_arguments args.now) }
 {

@@ -52,8 +52,8 @@ fn port_answer(ports: Ports, args: &[u8]) -> Answer<'static>
     }
 }
 
-/// Executes a record. It doesn't send the reply. For a device_abort, it doesn't end the suspended
-/// call that is aborted.
+/// Executes a record, but doesn't send the reply. For a device_abort, returns which suspended call
+/// is aborted, but doesn't end that call.
 pub fn execute<A: Allocator>(
     device: &mut Device<A>,
     conn: Conn,

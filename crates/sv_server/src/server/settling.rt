@@ -1,4 +1,4 @@
-//! The steps that follow an event.
+//! Settling: the steps that are taken after an event, until none is due.
 
 ghost use Rattle.std.specs.Prelude.{◌≡◌, ◌≢◌, ◌<◌, ◌≤◌, ◌++◌, ℕ, List, Some, None, true, false, IsTrue};
 ghost use Rattle.sv_links.specs.Waiting.{waits};
@@ -33,7 +33,7 @@ use sv_vxi::ErrorCode;
 enum Stepped {
     /// No step was due.
     Nothing,
-    /// The instrument did something.
+    /// The instrument took a step: an immediate trigger, or a step of message exchange.
     Instrument,
     /// A suspended call resumed or timed out.
     Call,

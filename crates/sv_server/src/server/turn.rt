@@ -115,7 +115,7 @@ pub fn conclude_call<A: Allocator>(
     }
 }
 
-/// Answers the call that was taken with bytes of the response. The call is a read.
+/// Answers the call that was taken, which is a read, with bytes of the response.
 fn answer_response<A: Allocator>(
     xid: u32,
     most: u32,

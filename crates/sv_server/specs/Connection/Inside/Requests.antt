@@ -7,7 +7,7 @@ use Rattle.sv_server.specs.declared.connection.request.CoreCall.{CoreCall as Tak
 use Rattle.sv_server.specs.declared.connection.request.Request.{Request as Asked}
 use Rattle.sv_server.specs.declared.connection.request.Request.TheVariants as requests
 
--- two values of the code as plain data: a call of the core channel, and what a record asks for
+-- two functions that turn a value of the code into plain data: a call of the core channel, and what a record asks for
 abbrev pub plain_core_call : TakenCall → CoreCall
 plain_core_call call = record { xid = call.xid; arguments = plain_arguments call.args }
 

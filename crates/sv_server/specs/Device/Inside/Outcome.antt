@@ -34,11 +34,11 @@ plain_stop (stops.Awaits wait timeout) = Awaits wait timeout
 
 -- ---- the outcome of a call
 
--- The device has the state that its acts determine, and a poll after these acts would return `polled`.
+-- The device has the state that its acts determine, and a serial poll (device_readstb) after these acts would return `polled`.
 abbrev pub IsDeviceAt : Device → Config → ℕ → List DeviceAct → Type 0
 IsDeviceAt kept config polled acts = IsDevice kept config acts × IsPolled polled acts
 
--- The outcome has no data of its own. Only reading the response gives data.
+-- If the outcome is a result, this result has no data bytes. Only an outcome that reads the response returns data bytes.
 abbrev pub IsBrief : Outcome → Type 0
 IsBrief (outcomes.Result given) = data_of (plain_result given) ≡ []
 IsBrief _ = ⊤
@@ -48,8 +48,8 @@ abbrev pub IsResult : Option VxiOutcome → VxiOutcome → Type 0
 IsResult (Some encoded) result = encoded ≡ result
 IsResult None result = ⊥
 
--- The code's `Outcome` means the same as `what`, and the device has the acts that `what` adds. But if the call reads the response, the
--- device still has the whole response: it doesn't have these acts yet.
+-- The code's `Outcome` means the same as `what`, and the acts that `what` adds have happened to the device. Except if the call reads the
+-- response: then these acts haven't happened yet, and the device still has the whole response.
 abbrev pub OutcomeIs : Outcome → Device → Config → List DeviceAct → CallOutcome → Type 0
 OutcomeIs (outcomes.Result given) device config acts what = IsResult what.result (plain_result given)
     × IsDevice device config (what.adds ++ acts)
@@ -57,7 +57,7 @@ OutcomeIs (outcomes.Reads most term) device config acts what = (what ≡ reads (
     × IsDevice device config acts
 OutcomeIs outcomes.Suspended device config acts what = (what.result ≡ None) × IsDevice device config (what.adds ++ acts)
 
--- If the call is create_link, there is a place for its link. If it asks for the lock as well, the lock is free.
+-- If the call is create_link, there are a place and memory for its link. If the create_link also requests the lock, no link holds the lock.
 abbrev pub IsGranted : Arguments → Device → List DeviceAct → Type 0
 IsGranted (CreateLink client_id lock_device lock_timeout device) kept acts =
     HasPlace kept acts × (lock_device ≡ true → is_locked_out (holder (link_acts acts)) None ≡ false)
@@ -65,12 +65,13 @@ IsGranted _ kept acts = ⊤
 
 -- ---- a call that begins
 
--- The call is suspended, at the end of the queue. If it is create_link, it waits for the lock.
+-- The call of connection `c` was suspended: its entry was appended to the queue. If the call is create_link, it waits for the lock.
 abbrev pub IsBehind : ℕ → Bool → List Entry → List Entry → Type 0
 IsBehind c makes old new =
     (entry : Entry) × (entry.conn ≡ c) × (new ≡ without c old ++ entry ∷ []) × (makes ≡ true → creates entry ≡ true)
 
--- The queue is unchanged; or `IsSuspended` holds, and the call is at the end of the queue.
+-- Either the queue of suspended calls is unchanged. Or `IsSuspended` holds, and the entry of connection `c`'s call was appended to the
+-- queue.
 abbrev pub MayWait : Type 0 → ℕ → Bool → List Entry → List Entry → Type 0
 MayWait IsSuspended c makes old new = (new ≡ old) ⊎ (IsSuspended × IsBehind c makes old new)
 
@@ -84,8 +85,8 @@ pub record Does {O : Type 0} (IsSo : Config → ℕ → List DeviceAct → O →
   pub brief : IfOk result (λ outcome. IsShort outcome)
   pub err : OnErr result (new ≡ old)
 
--- The call begins after acts for which `IsAt` holds. `Admits` allows any acts. `AdmitsAt` allows acts after which `stop` is what stops the
--- call.
+-- What a function does that begins a call after acts for which `IsAt` holds. `Admits` says this for any acts, and `AdmitsAt` for acts after
+-- which `stop` is what stops the call.
 abbrev pub Begins : (List DeviceAct → Type 0) → {E : Type 0} → Result Outcome E → ℕ → Arguments → Device → Device → Type 0
 Begins IsAt result c arguments old new =
     Does (λ config polled acts outcome. IsAt acts
@@ -108,7 +109,8 @@ MayMake (CreateLink client_id lock_device lock_timeout device) c kept acts =
     (creations (without c kept.waiting) < creations kept.waiting) × (is_locked_out (holder (link_acts acts)) None ≡ false)
 MayMake _ c kept acts = ⊤
 
--- If `next_wait` is `Some`, the resumed call is suspended again, for this wait. If it is `None`, the call leaves the queue and is executed.
+-- How a resumed call continues. If the first argument is `Some`, the call is suspended again, for this wait. If it is `None`, the call
+-- leaves the queue and is executed.
 abbrev pub ResumedAs : Option (Wait × ℕ) → Outcome → Device → Config → ℕ → ℕ → Arguments → List DeviceAct → Type 0
 ResumedAs (Some wait) outcome device config polled c arguments acts =
     OutcomeIs outcome device config acts (resume_outcome config polled c arguments (Some wait) acts)
@@ -125,14 +127,14 @@ abbrev pub is_able : Cause → Bool
 is_able (causes.Able wait) = true
 is_able _ = false
 
--- If a suspended call resumes because it got what it waits for, then the measure of its wait plus the measure of all other calls is at most
--- the measure of the queue.
+-- If the cause is that the call got what it waits for: the most steps that the call can still take, plus those that all other suspended
+-- calls can still take, are at most those of the whole queue.
 abbrev pub IsNearer : Cause → ℕ → List Entry → Type 0
 IsNearer (causes.Able wait) c old = queue_measure (without c old) + wait_measure wait ≤ queue_measure old
 IsNearer _ c old = ⊤
 
--- What has to hold before a call continues for this cause. For `Able`: the call is suspended, and `HasPlaceOfLink` holds. For `Dialed`: the
--- call waits until its peer is connected. For `Failed`: nothing.
+-- What has to hold before a suspended call continues for this cause. For `Able`: the call is suspended, and `HasPlaceOfLink` holds. For
+-- `Dialed`: the call waits until its peer is connected. For `Failed`: nothing.
 abbrev pub MayResume : Cause → ℕ → Type 0 → List DeviceAct → Type 0
 MayResume (causes.Able wait) c HasPlaceOfLink acts = (waits c (wait_acts acts) ≡ None → ⊥) × HasPlaceOfLink
 MayResume (causes.Dialed ok) c HasPlaceOfLink acts = is_dialing c (wait_acts acts) ≡ true

@@ -35,7 +35,8 @@ abbrev pub IsRefusal : Config → PlainEvent → List Act → Option Refused →
 IsRefusal config event log what = (channel_log : List ChannelAct) → HearsOf (device_acts log) channel_log
     → refusal config channel_log event log ≡ what
 
--- The event adds its own acts to the log. Or the event is refused. Or memory that the event needs was refused.
+-- Either the event adds its own acts to the log, without those of the steps that follow it. Or the event is refused. Or memory that the
+-- event needs was refused.
 abbrev pub Acts : Config → PlainEvent → List Act → Result Did Refused → State → Type 0
 Acts config event log (Ok what) new = IsRefusal config event log None × (what ≡ did event log)
     × ((polled : ℕ) → IsPolled polled (device_acts log) → Represents new config (own_acts config polled event log ++ log))
@@ -43,7 +44,7 @@ Acts config event log (Err NoMemory) new = IsRefusal config event log None
     × ((polled : ℕ) → IsPolled polled (device_acts log) → wants_memory (device_acts (own_acts config polled event log)) ≡ true)
 Acts config event log (Err refused) new = IsRefusal config event log (Some refused)
 
--- whether an event is an Open, Bytes or a Took; after these no step is due
+-- whether an event is an Open, Bytes or a Took; after such an event no step is due
 abbrev pub is_quiet : PlainEvent → Bool
 is_quiet (Open c role) = true
 is_quiet (Bytes c piece) = true
@@ -90,7 +91,7 @@ Steps Nothing config log new = IsSettled config log × Represents new config log
 Steps Instrument config log new = (next : List Act) × IsNext config log next × Represents new config next
 Steps Call config log new = (next : List Act) × IsNext config log next × Represents new config next
 
--- Wherever the steps from `mid` end, the steps from `log` can end.
+-- Every log in which the steps from `mid` can end is also a log in which the steps from `log` can end.
 abbrev pub Reaches : Config → List Act → List Act → Type 0
 Reaches config log mid = (n : ℕ) (new : List Act) → SettlesIn n config mid new → (m : ℕ) × SettlesIn m config log new
 
