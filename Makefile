@@ -1,14 +1,14 @@
-# What can be done here; the README says what each proves and how long it takes.
+# The goals of this repository. README.md says what each proves and how long it takes.
 RT ?= rt
 
-# The program that is measured and tried: the proved one, unless SERVER names another.
+# The program that is measured and tried: the proved one, unless SERVER names another program.
 GIVEN := $(SERVER)
 ifndef SERVER
 SERVER := crates/scanvolt/out/scanvolt
 PROOF := scanvolt
 endif
 
-# A program that is named is looked at before anything is proved, built or made for it.
+# If SERVER names a program, it is checked before anything is proved, built or made for it.
 TRIED := bench clients hostile soak python install dist packages
 ifdef GIVEN
 ifneq ($(filter $(TRIED),$(MAKECMDGOALS)),)
@@ -18,13 +18,13 @@ endif
 endif
 endif
 
-# Results are kept of the proved program alone.
+# Only results of the proved program are kept.
 KEPT := $(if $(GIVEN),,--results)
 
-# What the server is measured beside.
+# The server with which the program is compared.
 ECHO := crates/echo/out/echo
 
-# Where the program is installed; DESTDIR, if given, stands in front.
+# Where the program is installed. If DESTDIR is given, it comes before these paths.
 PREFIX ?= /usr/local
 BIN = $(DESTDIR)$(PREFIX)/bin
 MAN = $(DESTDIR)$(PREFIX)/share/man/man1
@@ -36,27 +36,27 @@ PICTURES := $(addprefix docs/,$(shell grep -oh 'pictures/[a-z-]*\.svg' $(DOC_FIL
 
 .PHONY: test lint rows check scanvolt run serve bench echo clients hostile soak python install uninstall dist packages
 
-# What a proof doesn't see (tools/lint); then proves what changed and the crates above it from nothing
-# (every crate and its tests by `rt ci --anew`), tries the must-fail edits in the same way, and runs
-# the programs and the tests. Last, the tests of the Python package that take the standard library alone,
-# over the proved program: they print nothing where they pass. Rows that differ are told by tools/row-diff.
+# Checks what a proof doesn't see (tools/lint). Then proves what changed and the crates above it from nothing
+# (every crate and its tests by `rt ci --anew`), tries the must-fail edits in the same way, and runs the programs
+# and the tests. Last come the tests of the Python package that need only the standard library, with the proved
+# program: they print nothing if they pass. If rows differ, tools/row-diff shows them.
 test: lint rows
 	@$(RT) ci || { status=$$?; tools/row-diff || :; exit $$status; }
 	@RT='$(RT)' python/proved
 
-# Tells what falls short in layout, length and edits; it takes seconds.
+# Prints faults of layout, length and edits; it takes seconds.
 lint:
 	@tools/lint
 
-# Makes stdin and stdout of the test crates from the text of their rows.
+# Writes stdin and stdout of the test crates from the text of their rows.
 rows:
 	@tools/rows
 
-# Proves every crate over what earlier checks kept, lowest first.
+# Proves every crate, lowest first, except what earlier checks have proved.
 check:
 	@$(RT) all check
 
-# Proves the program over what earlier checks kept, and leaves it at crates/scanvolt/out/scanvolt.
+# Proves the program, except what earlier checks have proved, and writes it to crates/scanvolt/out/scanvolt.
 scanvolt:
 	@cd crates/scanvolt && $(RT) run -- replay < ../../examples/identity.replay > /dev/null
 
@@ -66,19 +66,19 @@ run:
 
 # Serves an instrument until it is stopped, with the program built with run-time checks and no
 # proof. These may be set: CORE, ABORT and PORTMAP, the ports; SCENARIO, a file; PORT111=1, the port
-# mapper on port 111; PROVED=1, the proved program; SERVER, another. `tools/serve --help` tells all.
+# mapper on port 111; PROVED=1, the proved program; SERVER, another program. See `tools/serve --help`.
 serve:
 	@exec tools/serve 'CORE=$(CORE)' 'ABORT=$(ABORT)' 'PORTMAP=$(PORTMAP)' 'SCENARIO=$(SCENARIO)' \
 	    'PORT111=$(PORT111)' 'PROVED=$(PROVED)' 'SERVER=$(GIVEN)'
 
-# Proves the program as above and measures it: its speed and memory, and what they are to be.
-# Then the same of its server, beside one by rpcgen and beside a bare echo. What the proved program
-# makes is appended to bench/results; of a SERVER that is named nothing is.
+# Proves the program as above, measures its speed and memory, and prints them with their aims. Then compares
+# its server with one made by rpcgen and with a bare echo. Results of the proved program are appended to
+# bench/results; if SERVER names a program, nothing is.
 bench: $(PROOF) echo
 	@bench/run $(KEPT) '$(SERVER)'
 	@bench/serve $(KEPT) '$(SERVER)' $(ECHO)
 
-# Proves the bare echo, and has it look ten times.
+# Proves the bare echo, and lets it look for bytes ten times.
 echo:
 	@cd crates/echo && $(RT) run -- 0 10 > /dev/null
 
@@ -88,18 +88,18 @@ clients: $(PROOF)
 	@tools/clients '$(SERVER)'
 	@tools/documents '$(SERVER)'
 
-# Serves with the program, and sends it peers that drop, reset, half-close, send random bytes or
-# never read, beside one that must lose no reply.
+# Serves with the program, and attacks it with peers that drop, reset, half-close, send random bytes or never
+# read. Meanwhile another client must lose no reply.
 hostile: $(PROOF)
 	@tools/hostile $(KEPT) '$(SERVER)'
 
-# Serves under such peers for MINUTES (15 if not said), and a minute each with few file descriptors and
-# with memory that is used up; beside them no reply and no request for service may be lost.
+# Serves under such attacks for MINUTES (15 if not said), then for a minute with few file descriptors, and for a
+# minute with memory that is used up. Meanwhile no reply and no request for service may be lost.
 soak: $(PROOF)
 	@tools/soak $(KEPT) '$(SERVER)' $(MINUTES)
 
-# Checks the types of the Python package and runs its tests and those of the example of a driver, over the program that
-# `tools/serve BUILD=1` builds, or over SERVER. It needs some Debian packages, which it names.
+# Checks the types of the Python package and runs its tests and those of the example of a driver, with the program that
+# `tools/serve BUILD=1` builds, or with SERVER. It needs some Debian packages, and says which.
 python:
 	@python/check '$(GIVEN)'
 
@@ -124,7 +124,7 @@ uninstall:
 dist: $(PROOF)
 	@RT='$(RT)' tools/dist '$(SERVER)'
 
-# Packs as above, and tries the packages: they are installed, serve and replay. With ROOT, a clean
-# root as debootstrap makes one, dpkg installs in it; that wants root.
+# Packs as above, and tries the packages: they are installed, serve and replay. If ROOT is given, a clean root as
+# debootstrap makes one, dpkg installs them in it; that needs root.
 packages: dist
 	@tools/packages $(if $(ROOT),'$(ROOT)')

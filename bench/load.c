@@ -1,13 +1,13 @@
 /*
- * Clients in a closed loop, each with one call under way: load KIND PORT CONNECTIONS SECONDS
+ * Clients in a closed loop, each with one call in flight: load KIND PORT CONNECTIONS SECONDS
  *
  *     idn    a query is device_write of *IDN? and device_read
  *     lock   the same, between device_lock, which waits for the lock, and device_unlock
  *     stb    a query is device_readstb
- *     echo   no VXI-11: what idn sends, each call coming back as it is; a query is two of these
+ *     echo   no VXI-11: the bytes of idn's calls, which the server sends back; a query is two calls
  *
- * Every reply is compared. It prints the queries a second; one connection alone can do idn, since
- * without the lock clients interrupt each other's answers.
+ * Every reply is compared. It prints the queries per second. idn is for one connection only:
+ * without the lock, clients would interrupt each other's responses.
  */
 #include <arpa/inet.h>
 #include <netinet/in.h>
@@ -31,7 +31,7 @@ struct message {
     unsigned size;
 };
 
-/* A connection: its calls and their replies, which one is under way, what came of its reply. */
+/* A connection: its calls and their replies, the call in flight, and what has come of its reply. */
 static struct connection {
     int socket;
     struct message calls[STEPS], replies[STEPS];
@@ -75,7 +75,7 @@ static void add_opaque(struct message *message, const char *text)
     message->size += (size + 3) / 4 * 4;
 }
 
-/* Puts the length of a record, whose place was left, in front. */
+/* Writes the mark of a record into its first four bytes, which were left free for it. */
 static struct message whole(struct message message)
 {
     set_word(message.bytes, 0x80000000u | (message.size - 4));
@@ -96,7 +96,7 @@ static struct message call(uint32_t procedure, unsigned count, const uint32_t *w
     return whole(message);
 }
 
-/* A reply with error 0, then so many words, then a text. */
+/* A reply with error 0, then `count` words, then a text. */
 static struct message reply(unsigned count, const uint32_t *words, const char *text)
 {
     struct message message = { .size = 0 };
@@ -148,7 +148,7 @@ static void send_step(struct connection *of)
         fail("a call isn't sent");
 }
 
-/* Takes what came; behind a whole reply the next call goes out, but at the end no further query. */
+/* Takes bytes that came. After a whole reply sends the next call, but at the end no new query. */
 static void receive(struct connection *of)
 {
     const struct message *expected = &of->replies[of->step];
@@ -158,7 +158,7 @@ static void receive(struct connection *of)
     of->came += count;
     if (of->came < expected->size)
         return;
-    /* Of a status byte only that it is one is known. */
+    /* A status byte may have any value up to 255. */
     unsigned same = polls ? expected->size - 4 : expected->size;
     if (memcmp(of->reply, expected->bytes, same) != 0 || (polls && word_at(of->reply + same) > 255))
         fail("a reply differs");
@@ -199,7 +199,7 @@ static double now(void)
     return time.tv_sec + time.tv_nsec / 1e9;
 }
 
-/* Goes on for so many seconds, or to the end; the queries a second. */
+/* Runs for some seconds, or at the end until no query is in flight. Returns queries per second. */
 static double run(int count, double seconds)
 {
     struct pollfd polled[CONNECTIONS];

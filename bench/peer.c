@@ -1,8 +1,8 @@
 /*
- * A VXI-11 server as rpcgen and libtirpc make one, to be measured beside: peer PORT
+ * A VXI-11 server made by rpcgen and libtirpc, with which another server is compared: peer PORT
  *
  * It serves the core channel on 127.0.0.1 with links, the lock and calls that wait for it, the
- * status byte and *IDN?. Its other calls answer 8. It prints `ready PORT` when it listens.
+ * status byte and *IDN?. All other calls return error 8. It prints `ready PORT` when it listens.
  */
 #include <arpa/inet.h>
 #include <netinet/in.h>
@@ -18,11 +18,11 @@ enum { NOT_ACCESSIBLE = 3, INVALID_LINK = 4, PARAMETER = 5, NOT_SUPPORTED = 8, N
 
 static const char name[] = "SCANVOLT,SV32,0,1.0\n";
 
-/* By link, of which the first is 1: whether it lives, and whether its answer stands. */
+/* For each link, counted from 1: whether it exists, and whether its response is available. */
 static bool_t lives[LINKS + 1], stands[LINKS + 1];
 static Device_Link holder;
 
-/* The device_locks that wait, oldest first. */
+/* The device_locks that wait, the oldest first. */
 static struct { Device_Link link; SVCXPRT *transport; } waiting[LINKS];
 static int waiters;
 
@@ -33,7 +33,7 @@ static bool_t is_live(Device_Link link)
     return link >= 1 && link <= LINKS && lives[link];
 }
 
-/* What refuses a call that is subject to the lock, else 0. */
+/* The error that refuses a call that needs the lock, or 0. */
 static Device_ErrorCode refusal(Device_Link link)
 {
     if (!is_live(link))
@@ -41,7 +41,7 @@ static Device_ErrorCode refusal(Device_Link link)
     return holder != 0 && holder != link ? LOCKED : 0;
 }
 
-/* Frees the lock, and gives it to the oldest that waits for it. */
+/* Frees the lock, and gives it to the call that has waited longest. */
 static void pass_on(void)
 {
     static Device_Error done;
@@ -116,7 +116,7 @@ Device_ReadStbResp *device_readstb_1_svc(Device_GenericParms *parms, struct svc_
     return &answer;
 }
 
-/* Without an answer where the call waits: `pass_on` answers it. */
+/* Returns no answer if the call has to wait: `pass_on` sends it later. */
 Device_Error *device_lock_1_svc(Device_LockParms *parms, struct svc_req *request)
 {
     static Device_Error answer;
@@ -190,7 +190,7 @@ int main(int count, char **words)
         perror("peer");
         return 2;
     }
-    /* Protocol 0: no port mapper is told. */
+    /* Protocol 0: it isn't registered with a port mapper. */
     SVCXPRT *transport = svctcp_create(listener, 0, 0);
     if (transport == NULL ||
         !svc_register(transport, DEVICE_CORE, DEVICE_CORE_VERSION, device_core_1, 0)) {

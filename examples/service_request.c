@@ -1,7 +1,7 @@
 /*
- * A scan that an external trigger starts, and a service request when it is done, in C by rpcgen:
+ * A scan that an external trigger starts, and a service request when it is done, in C with rpcgen:
  *
- *     service_request [PORT]      the core port of an instrument at 127.0.0.1, else 4096
+ *     service_request [PORT]      the core port of an instrument at 127.0.0.1; 4096 if not said
  *
  * The program is a client of the core channel and the server of its interrupt channel: the
  * instrument connects to a port of this program and calls device_intr_srq there.
@@ -27,7 +27,7 @@ static void fail(const char *what)
     exit(1);
 }
 
-/* The result of a call, if it is there and its error, the first field of every result, is 0. */
+/* The result of a call. Exits if there is none, or if its first field, the error, isn't 0. */
 static void *done(const char *call, void *result)
 {
     if (result == NULL) {
@@ -93,7 +93,7 @@ static void serve(struct svc_req *request, SVCXPRT *transport)
     svc_freeargs(transport, (xdrproc_t)xdr_Device_SrqParms, (caddr_t)&parms);
 }
 
-/* Listens on a free port for the interrupt channel, without a port mapper; gives the port. */
+/* Listens for the interrupt channel on a free port, without a port mapper. Returns the port. */
 static int listen_here(void)
 {
     struct sockaddr_in address = here(0);
@@ -120,7 +120,7 @@ static void wait_for_request(void)
     }
 }
 
-/* Opens the interrupt channel, and has service requests come on it with a handle. */
+/* Opens the interrupt channel, and has service requests sent on it with a handle. */
 static void open_channel(void)
 {
     Device_RemoteFunc remote = {
@@ -136,7 +136,7 @@ static void open_channel(void)
 
 int main(int count, char **words)
 {
-    /* clnt_create would ask the port mapper by UDP; with a port in the address nobody is asked. */
+    /* clnt_create would ask the port mapper by UDP. With a port in the address, nothing is asked. */
     struct sockaddr_in address = here(count > 1 ? atoi(words[1]) : 4096);
     int channel = RPC_ANYSOCK;
     core = clnttcp_create(&address, DEVICE_CORE, DEVICE_CORE_VERSION, &channel, 0, 0);
@@ -148,7 +148,7 @@ int main(int count, char **words)
     Create_LinkResp *made = done("create_link", create_link_1(&wanted, core));
     meter = made->lid;
 
-    /* What others left: an unread answer, settings, events, and what they enabled. */
+    /* Clear what earlier users left: an unread answer, settings, events, and what they enabled. */
     Device_GenericParms plain = { .lid = meter, .io_timeout = MILLISECONDS };
     done("device_clear", device_clear_1(&plain, core));
     tell("*RST;*CLS;*ESE 0;*SRE 0");
@@ -156,12 +156,12 @@ int main(int count, char **words)
     open_channel();
     ask("*IDN?");
 
-    /* *OPC sets bit 0 of the standard events, when the scan is done; that requests service. */
+    /* *OPC sets bit 0 of the standard events when the scan is done. That requests service. */
     tell("CONF:VOLT (@1,4,2);:TRIG:SOUR EXT;*ESE 1;*SRE 32");
     printf("status byte before: %d\n", poll_status());
     tell("INIT;*OPC");
     wait_for_request();
-    printf("status byte behind: %d, and once more: ", poll_status());
+    printf("status byte afterwards: %d, and once more: ", poll_status());
     printf("%d\n", poll_status());
     ask("*ESR?");
     ask("FETC?");

@@ -1,17 +1,17 @@
-"""What the crates, their definitions and their contracts say, read from the sources: for the tools that count, list and draw."""
+"""Reads what the crates, their definitions and their contracts say from the sources, for the tools that count, list and draw."""
 import glob
 import os
 import re
 
 TOP = os.path.join(os.path.dirname(os.path.abspath(__file__)), "..", "crates")
 WORD = re.compile(r"[A-Za-z_◌][\w\-'◌]*")
-# What a contract ensures, and a law takes as its premise.
+# The word for what a contract ensures, and the one for what a law has as its premise.
 BOTH_SIDES = {"StandsFor", "State", "Sweeps", "Steps"}
 KEYWORDS = re.compile(r"^(?:(?:abbrev|unfoldable|pub|record|data|infix[lr]?(?: \d+)?) )+")
 
 
 def imports(text):
-    """The names that a file brings in: the module and the name there, by the local name."""
+    """The names that a file imports: the module and the name there, by the local name."""
     found = {}
     for line in text.split("\n"):
         line = re.sub(r"^(?:ghost |pub )", "", line.strip()).rstrip(";")
@@ -28,14 +28,14 @@ def imports(text):
 
 
 def sentence(text):
-    """The first sentence of a text, without the mark that ends it."""
+    """The first sentence of a text, without its full stop."""
     text = " ".join(text.split())
     found = re.match(r"(.*?[^.A-Z])\.(?: |$)", text)
     return (found.group(1) if found else text.rstrip(".")).strip()
 
 
 def head(path, mark):
-    """The prose at the head of a file, whose lines begin with this mark."""
+    """The prose at the head of a file, in lines that begin with this mark."""
     said = []
     with open(path, encoding="utf-8") as file:
         for line in file:
@@ -46,7 +46,7 @@ def head(path, mark):
 
 
 def above(text, at):
-    """What is said over a place of a file, in lines that begin with three strokes."""
+    """The comment above a place of a file, in lines that begin with `///`."""
     said = []
     for line in reversed(text[:at].split("\n")[:-1]):
         line = line.strip()
@@ -58,7 +58,7 @@ def above(text, at):
 
 
 def of_type(text, at):
-    """The type in whose `impl`, or the trait in which, a place of a file stands, with two colons behind it; and whether it is a trait."""
+    """The type or the trait whose block contains a place of a file, followed by `::`; and whether it is a trait."""
     impl, trait = text.rfind("\nimpl", 0, at), text.rfind("\npub trait", 0, at)
     start = max(impl, trait)
     line = text[start + 1:text.index("\n", start + 1)]
@@ -67,8 +67,8 @@ def of_type(text, at):
 
 
 def exported(crate, find):
-    """The functions of a crate that other crates may call, of those that `find` finds in the text of a file, with indent and name: the
-    path of the file, its text, what was found, and the name that is shown. Those of an open trait are among them."""
+    """The functions of a crate that other crates may call. `find` finds functions in the text of a file, with indent and name. Yields
+    the path of the file, its text, the match, and the name that is shown. The methods of an open trait are included."""
     with open("crates/%s/src/lib.rt" % crate, encoding="utf-8") as file:
         root = file.read()
     given = set(re.findall(r"\w+", " ".join(re.findall(r"^pub use ([^;]*);", root, flags=re.M))))
@@ -86,7 +86,7 @@ def exported(crate, find):
 
 
 def crates():
-    """The crates, lowest first, each with what it stands on."""
+    """The crates, lowest first, each with those that it depends on."""
     with open("crates.txt", encoding="utf-8") as file:
         for line in file:
             if not line.startswith("#") and ":" in line:
@@ -145,7 +145,7 @@ class Definitions:
         return self.constructors.get((module, name))
 
     def cited(self, module, text, brought):
-        """The definitions that a text cites, in a module that brings in these names."""
+        """The definitions that a text cites, in a module that imports these names."""
         for name in set(WORD.findall(text)):
             here = self.find(module, name)
             if here is None and name in brought and brought[name][1]:
@@ -160,8 +160,8 @@ class Definitions:
 
 
 def contracts(crate, is_exported):
-    """The contracts of the exported functions of a crate, each with its name and what its file
-    brings in: those of the files of which this holds."""
+    """The contracts of a crate's exported functions, each with its name and with what its file
+    imports, for the files for which `is_exported` holds."""
     for path in sorted(glob.glob(crate + "/src/**/*.rt", recursive=True)):
         with open(path, encoding="utf-8") as file:
             text = file.read()
@@ -171,7 +171,7 @@ def contracts(crate, is_exported):
 
 
 def laws(crate):
-    """The contracts of a crate's laws, with what their file brings in."""
+    """The contracts of a crate's laws, each with what its file imports."""
     with open("%s/src/laws.rt" % crate, encoding="utf-8") as file:
         text = file.read()
     for match in re.finditer(r"\n    ensures .*", text):
@@ -179,7 +179,7 @@ def laws(crate):
 
 
 def closure(all_of_them, start, left_out):
-    """What these definitions cite, over all crates, but for names that are left out."""
+    """What these definitions cite, over all crates, except names that are left out."""
     seen, open_ones = set(start), list(start)
     while open_ones:
         one = open_ones.pop()
@@ -198,7 +198,7 @@ def start_of(all_of_them, given):
 
 
 def believed(all_of_them):
-    """What the promises of the server rest on, what its laws rest on besides, and what all claims of the README do."""
+    """What the promises of the server rest on, what its laws rest on in addition, and what all claims of the README rest on."""
     history = "Rattle.sv_history.specs."
     server = list(contracts("sv_server", r"impl<A: Allocator(?: \+ Copy)?> Server<A>|pub fn input_refusal"))
     start = start_of(all_of_them, [one for one in server if one[0] != "replay"])

@@ -27,7 +27,7 @@ class Stand(NamedTuple):
 
 @contextlib.contextmanager
 def in_virtual_time(_request: pytest.FixtureRequest) -> Iterator[Stand]:
-    """Without ports. time.sleep and time.monotonic are those of the instrument."""
+    """An instrument without ports. time.sleep and time.monotonic use its virtual time."""
     manager = pyvisa.ResourceManager("%s@scanvolt" % SCENARIO)
     with contextlib.closing(manager), manager.visalib.meter("TCPIP::scanvolt::INSTR").keeping_time():
         yield Stand(manager, "TCPIP::scanvolt::INSTR", True)
@@ -35,7 +35,7 @@ def in_virtual_time(_request: pytest.FixtureRequest) -> Iterator[Stand]:
 
 @contextlib.contextmanager
 def on_sockets(request: pytest.FixtureRequest) -> Iterator[Stand]:
-    """By PyVISA-py, which would ask the port mapper at port 111."""
+    """An instrument on sockets, by PyVISA-py, which would otherwise ask the port mapper at port 111."""
     rpc = pytest.importorskip("pyvisa_py.protocols.rpc", reason="PyVISA-py isn't there")
     server = request.getfixturevalue("scanvolt_server")
     request.getfixturevalue("monkeypatch").setattr(rpc, "PMAP_PORT", server.port_mapper)

@@ -1,4 +1,4 @@
-"""A driver of the voltmeter, over a PyVISA resource of any backend. It is what the tests are about."""
+"""A driver for the voltmeter, over a PyVISA resource of any backend. The tests test this driver."""
 import contextlib
 import enum
 import time
@@ -20,7 +20,7 @@ class Limits(enum.IntFlag):
 
     BELOW = 1           # the last reading was below the lower limit
     ABOVE = 2           # the last reading was above the upper limit
-    OUTSIDE = 4         # the input of the monitored channel is outside of them, without a scan
+    OUTSIDE = 4         # the input of the monitored channel is outside the limits; this needs no scan
 
 
 class VoltmeterError(Exception):
@@ -33,21 +33,21 @@ class VoltmeterError(Exception):
 
 
 class Voltmeter:
-    """One link to the voltmeter. Others may have links to the same one: see `alone`."""
+    """One link to the voltmeter. Other links to the same voltmeter may exist: see `alone`."""
 
     def __init__(self, resource: MessageBasedResource) -> None:
         self.resource = resource
-        self.channels = 1       # of the list that is scanned
+        self.channels = 1       # how many channels the scan list has
         resource.read_termination = resource.write_termination = "\n"
         resource.chunk_size = WHOLE
         try:
             resource.enable_event(EventType.service_request, EventMechanism.queue)
             self.has_events = True
-        except (NotImplementedError, pyvisa.Error):     # as PyVISA-py
+        except (NotImplementedError, pyvisa.Error):     # PyVISA-py has no events
             self.has_events = False
 
     def reset(self) -> None:
-        """What others left goes: answers, settings, events, and what they enabled."""
+        """Clears what earlier users left: responses, settings, events, and what they enabled."""
         self.resource.clear()
         self.resource.write("*RST;*CLS;*ESE 0;*SRE 0;:STAT:PRES")
         self.channels = 1
@@ -55,7 +55,7 @@ class Voltmeter:
             self.resource.discard_events(EventType.service_request, EventMechanism.queue)
 
     def command(self, text: str) -> None:
-        """Writes a command, and raises the first error that it leads to; the others go."""
+        """Writes a command. Raises the first error that it causes, and discards the others."""
         self.resource.write(text)
         first = entry = self.resource.query("SYST:ERR?")
         while not entry.startswith("0,"):
@@ -64,7 +64,7 @@ class Voltmeter:
             raise VoltmeterError(first)
 
     def configure(self, channels: List[int], volts: float = 10, scans: int = 1) -> None:
-        """Which channels are scanned, in which order, at which range (1, 10 or 100 V), and how often."""
+        """Sets which channels are scanned, in which order, at which range (1, 10 or 100 V), and how often."""
         listed = ",".join(str(channel) for channel in channels)
         self.command("CONF:VOLT (@%s);:VOLT:RANG %g;:TRIG:COUN %d" % (listed, volts, scans))
         self.channels = len(channels)
@@ -77,8 +77,8 @@ class Voltmeter:
         return [found[start:start + self.channels] for start in range(0, len(found), self.channels)]
 
     def watch(self, channel: int, lower: float, upper: float) -> None:
-        """From now on there is an alarm once a reading, or the input of this channel, is outside the
-        limits.
+        """Enables the alarm: from now on it is raised when a reading, or the input of this channel, is outside
+        the limits.
         """
         self.command("CALC:LIM:STAT OFF;:STAT:QUES:ENAB 0;*CLS")
         self.command("ROUT:MON (@%d);:CALC:LIM:LOW %f;UPP %f" % (channel, lower, upper))
@@ -86,12 +86,12 @@ class Voltmeter:
         self.command("CALC:LIM:STAT ON")
 
     def limits(self) -> Limits:
-        """The events of the limits, which are then cleared, and with them the reason of an alarm."""
+        """Reads the events of the limits. That clears them, and with them the reason of an alarm."""
         _, limits = self.resource.query("STAT:QUES?;QUES:LIM?").split(";")
         return Limits(int(limits))
 
     def wait_for_alarm(self, seconds: float) -> int:
-        """Waits for a service request. Gives the status byte, whose bit 6 this clears."""
+        """Waits for a service request. Returns the status byte, and clears its bit 6."""
         if self.has_events:
             response = self.resource.wait_on_event(EventType.service_request, int(1000 * seconds), True)
             if not response.timed_out:
@@ -107,7 +107,7 @@ class Voltmeter:
 
     @contextlib.contextmanager
     def alone(self) -> Iterator["Voltmeter"]:
-        """Locks the instrument: no other link gets to it meanwhile."""
+        """Locks the instrument: no other link can use it meanwhile."""
         self.resource.lock_excl()
         try:
             yield self

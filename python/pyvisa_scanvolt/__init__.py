@@ -1,7 +1,8 @@
 """A backend of PyVISA: `pyvisa.ResourceManager("@scanvolt")` has simulated voltmeters in virtual time.
 
-`TCPIP::scanvolt::INSTR` is one, `TCPIP::scanvolt2::INSTR` another, and so each host name that begins so. They
-are on once they are named. `ResourceManager("FILE@scanvolt")` turns them on with this scenario.
+`TCPIP::scanvolt::INSTR` is one, `TCPIP::scanvolt2::INSTR` another, and so on for each host name that begins
+with `scanvolt`. One is turned on when it is first named. `ResourceManager("FILE@scanvolt")` gives them the
+scenario FILE.
 """
 from typing import TYPE_CHECKING
 
@@ -10,7 +11,7 @@ if TYPE_CHECKING:
 
 
 def __getattr__(name: str) -> "type[ScanvoltLibrary]":
-    """WRAPPER_CLASS, for which PyVISA asks. PyVISA is imported by that alone."""
+    """WRAPPER_CLASS, for which PyVISA asks. PyVISA is imported only then."""
     if name not in ("WRAPPER_CLASS", "ScanvoltLibrary"):
         raise AttributeError("module %s has no attribute %s" % (__name__, name))
     from .library import ScanvoltLibrary

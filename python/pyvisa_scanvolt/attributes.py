@@ -1,4 +1,4 @@
-"""The attributes of a session, by VISA's names: what they are at first, and what they may be set to."""
+"""The attributes of a session, by VISA's names: their initial states, and the states that may be set."""
 from typing import Any, Callable, Dict, NamedTuple, Optional
 
 from pyvisa import constants
@@ -10,11 +10,11 @@ from .statuses import Refusal
 LONGEST = 0xFFFFFFFF        # VI_TMO_INFINITE
 SPEC_VERSION = 0x00500800   # 5.8
 IMPL_VERSION = 0x00200000   # 2.0
-QUEUE_LENGTH = 50           # events that are kept at first
+QUEUE_LENGTH = 50           # events that a queue holds, unless the attribute is set
 
 
 class Kept(NamedTuple):
-    """An attribute: its state, and which it may be set to; none may where that isn't said."""
+    """An attribute: its state, and which states may be set. Without `accepts` it is read-only."""
 
     state: Any
     accepts: Optional[Callable[[Any], bool]] = None
@@ -33,7 +33,7 @@ def _only(*states: Any) -> Callable[[Any], bool]:
 
 
 def common() -> Dict[Name, Kept]:
-    """What each session has, that of the resource manager too."""
+    """The attributes of every session, also that of the resource manager."""
     return {
         Name.resource_manufacturer_name: Kept("scanvolt"),
         Name.resource_manufacturer_id: Kept(0),
@@ -45,7 +45,7 @@ def common() -> Dict[Name, Kept]:
 
 
 def of_instrument(name: str, host: str, device: str) -> Dict[Name, Kept]:
-    """What a session to an instrument of this resource name has."""
+    """The attributes of a session to the instrument with this resource name."""
     states = common()
     states.update({
         Name.resource_name: Kept(name),

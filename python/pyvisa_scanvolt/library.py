@@ -1,4 +1,4 @@
-"""The library that PyVISA calls: sessions by their numbers, and instruments by their names."""
+"""The library that PyVISA calls. It finds sessions by number, and instruments by host name."""
 import itertools
 import re
 from typing import Any, Callable, Dict, Iterable, List, Optional, Tuple, TypeVar, Union
@@ -15,7 +15,7 @@ from .statuses import FAULTS, Refusal, status_of
 
 Value = TypeVar("Value")
 HOST = re.compile(r"scanvolt[0-9a-z_.-]*", re.IGNORECASE)
-FIRST = "TCPIP0::scanvolt::inst0::INSTR"        # is listed always
+FIRST = "TCPIP0::scanvolt::inst0::INSTR"        # is always listed
 NONE = "no scenario"
 UNSUPPORTED = """
     assert_interrupt_signal assert_utility_signal get_buffer_from_id gpib_command gpib_control_atn
@@ -28,16 +28,16 @@ UNSUPPORTED = """
 
 
 class ScanvoltLibrary(highlevel.VisaLibraryBase):
-    """Instruments in virtual time. What they can't do raises VisaIOError with VISA's status."""
+    """Instruments in virtual time. An operation that isn't possible raises VisaIOError with VISA's status."""
 
     @staticmethod
     def get_library_paths() -> Iterable[LibraryPath]:
-        """One, for instruments without a scenario."""
+        """One path, for instruments without a scenario."""
         return (LibraryPath(NONE),)
 
     @staticmethod
     def get_debug_info() -> Dict[str, Any]:
-        """The program that is found."""
+        """The path of the program, or why none was found."""
         from scanvolt.program import ProgramError, find_program
         try:
             return {"Program": find_program()}
@@ -54,7 +54,7 @@ class ScanvoltLibrary(highlevel.VisaLibraryBase):
         self.common = attributes.common()
 
     def meter(self, resource: Any) -> Meter:
-        """The instrument of a resource, or of a resource's name. It is turned on by this, if it wasn't."""
+        """The instrument of a resource, or of a resource's name. It is turned on now if it wasn't on."""
         name = getattr(resource, "_resource_name", resource)
         return self._meter(self._parsed(str(name)).host_address)
 
@@ -64,7 +64,7 @@ class ScanvoltLibrary(highlevel.VisaLibraryBase):
         return self.meters[host.lower()]
 
     def _parsed(self, name: str) -> Any:
-        """The parts of a resource name; raises VisaIOError where it is none of an instrument here."""
+        """The parts of a resource name. Raises VisaIOError if no instrument here can have that name."""
         try:
             parsed = rname.ResourceName.from_string(name)
         except rname.InvalidResourceName:
@@ -76,7 +76,7 @@ class ScanvoltLibrary(highlevel.VisaLibraryBase):
         return parsed
 
     def _done(self, number: Any, action: Callable[[Session], Value]) -> Value:
-        """What a session does; a fault is raised as VisaIOError."""
+        """Does an action of a session, and returns its result. A fault is raised as VisaIOError."""
         session = self.sessions.get(number)
         status = StatusCode.error_invalid_object
         if session is not None:
@@ -88,29 +88,29 @@ class ScanvoltLibrary(highlevel.VisaLibraryBase):
         raise AssertionError("a status that is no error: %s" % status)
 
     def _told(self, number: Any, action: Callable[[Session], StatusCode]) -> StatusCode:
-        """What a session does, that gives a status."""
+        """Does an action of a session that returns a status."""
         return self.handle_return_value(number, self._done(number, action))
 
     def _plain(self, number: Any, action: Callable[[Session], object]) -> StatusCode:
-        """What a session does, that gives nothing, or nothing that is wanted."""
+        """Does an action of a session whose result isn't wanted."""
         self._done(number, action)
         return self.handle_return_value(number, StatusCode.success)
 
     def open_default_resource_manager(self) -> Tuple[Any, StatusCode]:
-        """The session of the resource manager (viOpenDefaultRM)."""
+        """Opens the session of the resource manager (viOpenDefaultRM)."""
         number: Any = next(self.numbers)
         self.manager = number
         return self.manager, self.handle_return_value(self.manager, StatusCode.success)
 
     def list_resources(self, session: Any, query: str = "?*::INSTR") -> Tuple[str, ...]:
-        """The instruments that are on, and one that always is there (viFindRsrc)."""
+        """The instruments that are on, and one that is always listed (viFindRsrc)."""
         names = {"TCPIP0::%s::inst0::INSTR" % host for host in self.meters} | {FIRST}
         return rname.filter(sorted(names), query)
 
     def open(self, session: Any, resource_name: str,
              access_mode: constants.AccessModes = constants.AccessModes.no_lock,
              open_timeout: int = constants.VI_TMO_IMMEDIATE) -> Tuple[Any, StatusCode]:
-        """A session to an instrument, with its lock if that is asked for (viOpen)."""
+        """Opens a session to an instrument, with its lock if access_mode asks for that (viOpen)."""
         if access_mode not in (constants.AccessModes.no_lock, constants.AccessModes.exclusive_lock):
             self.handle_return_value(session, StatusCode.error_invalid_access_mode)
         parsed = self._parsed(resource_name)
@@ -128,13 +128,13 @@ class ScanvoltLibrary(highlevel.VisaLibraryBase):
         return number, self.handle_return_value(number, StatusCode.success)
 
     def _new_context(self) -> int:
-        """The context of an event."""
+        """Makes the context of an event."""
         number = next(self.numbers)
         self.contexts[number] = constants.EventType.service_request
         return number
 
     def close(self, session: Any) -> StatusCode:
-        """Closes a session, an event, or the resource manager: then all instruments are turned off."""
+        """Closes a session, an event, or the resource manager, which turns off all instruments."""
         if session in self.contexts:
             del self.contexts[session]
         elif session == self.manager:
@@ -149,7 +149,7 @@ class ScanvoltLibrary(highlevel.VisaLibraryBase):
         return self.handle_return_value(None, StatusCode.success)
 
     def get_attribute(self, session: Any, attribute: Any) -> Tuple[Any, StatusCode]:
-        """The state of an attribute, of a session, an event or the resource manager (viGetAttribute)."""
+        """The state of an attribute of a session, an event or the resource manager (viGetAttribute)."""
         if session in self.contexts:
             if attribute == constants.EventAttribute.event_type:
                 return self.contexts[session], self.handle_return_value(session, StatusCode.success)
@@ -166,7 +166,7 @@ class ScanvoltLibrary(highlevel.VisaLibraryBase):
         return state, self.handle_return_value(session, StatusCode.success)
 
     def _lock_state(self, meter: Meter) -> constants.AccessModes:
-        """Whether a session to this instrument has its lock."""
+        """Whether any session to this instrument has its lock."""
         if any(one.locks for one in self.sessions.values() if one.meter is meter):
             return constants.AccessModes.exclusive_lock
         return constants.AccessModes.no_lock
@@ -176,12 +176,12 @@ class ScanvoltLibrary(highlevel.VisaLibraryBase):
         return self._plain(session, lambda one: one.put(attribute, attribute_state))
 
     def write(self, session: Any, data: bytes) -> Tuple[int, StatusCode]:
-        """Writes bytes; how many were taken (viWrite)."""
+        """Writes bytes. Returns how many were taken (viWrite)."""
         count = self._done(session, lambda one: one.write(bytes(data)))
         return count, self.handle_return_value(session, StatusCode.success)
 
     def read(self, session: Any, count: int) -> Tuple[bytes, StatusCode]:
-        """Reads at most so many bytes (viRead)."""
+        """Reads at most `count` bytes (viRead)."""
         data, status = self._done(session, lambda one: one.read(count))
         return data, self.handle_return_value(session, status)
 
@@ -198,25 +198,25 @@ class ScanvoltLibrary(highlevel.VisaLibraryBase):
         return self._plain(session, lambda one: None)
 
     def read_stb(self, session: Any) -> Tuple[int, StatusCode]:
-        """The status byte (viReadSTB)."""
+        """Reads the status byte (viReadSTB)."""
         status_byte = self._done(session, Session.read_stb)
         return status_byte, self.handle_return_value(session, StatusCode.success)
 
     def clear(self, session: Any) -> StatusCode:
-        """Device clear (viClear)."""
+        """Clears the device (viClear)."""
         return self._plain(session, Session.clear)
 
     def assert_trigger(self, session: Any, protocol: constants.TriggerProtocol) -> StatusCode:
-        """A trigger from the bus (viAssertTrigger)."""
+        """Triggers the instrument (viAssertTrigger)."""
         return self._plain(session, lambda one: one.trigger(protocol))
 
     def gpib_control_ren(self, session: Any, mode: constants.RENLineOperation) -> StatusCode:
-        """Remote or local operation (viGpibControlREN)."""
+        """Selects remote or local operation (viGpibControlREN)."""
         return self._plain(session, lambda one: one.control_ren(mode))
 
     def lock(self, session: Any, lock_type: constants.Lock, timeout: int,
              requested_key: Optional[str] = None) -> Tuple[str, StatusCode]:
-        """Takes the lock, for which it waits up to so many milliseconds (viLock)."""
+        """Takes the lock. Waits for it up to `timeout` milliseconds (viLock)."""
         return "", self._told(session, lambda one: one.lock(lock_type, int(timeout)))
 
     def unlock(self, session: Any) -> StatusCode:
@@ -225,28 +225,28 @@ class ScanvoltLibrary(highlevel.VisaLibraryBase):
 
     def enable_event(self, session: Any, event_type: constants.EventType, mechanism: constants.EventMechanism,
                      context: None = None) -> StatusCode:
-        """Service requests come from now on (viEnableEvent)."""
+        """Turns on service requests (viEnableEvent)."""
         return self._told(session, lambda one: one.enable(event_type, mechanism))
 
     def disable_event(self, session: Any, event_type: constants.EventType,
                       mechanism: constants.EventMechanism) -> StatusCode:
-        """Service requests do not come any more (viDisableEvent)."""
+        """Turns off service requests (viDisableEvent)."""
         return self._told(session, lambda one: one.disable(event_type, mechanism))
 
     def discard_events(self, session: Any, event_type: constants.EventType,
                        mechanism: constants.EventMechanism) -> StatusCode:
-        """Service requests that came go (viDiscardEvents)."""
+        """Discards service requests that came (viDiscardEvents)."""
         return self._told(session, lambda one: one.discard(event_type, mechanism))
 
     def wait_on_event(self, session: Any, in_event_type: constants.EventType,
                       timeout: Optional[int]) -> Tuple[constants.EventType, Any, StatusCode]:
-        """Waits for a service request, up to so many milliseconds (viWaitOnEvent)."""
+        """Waits for a service request, up to `timeout` milliseconds (viWaitOnEvent)."""
         status = self._told(session, lambda one: one.wait(in_event_type, timeout))
         return constants.EventType.service_request, self._new_context(), status
 
     def install_handler(self, session: Any, event_type: constants.EventType, handler: Any,
                         user_handle: Any) -> Tuple[Any, Any, Any, StatusCode]:
-        """A handler of service requests, which is called once they are enabled (viInstallHandler)."""
+        """Adds a handler of service requests. It is called while they are turned on (viInstallHandler)."""
         if event_type != constants.EventType.service_request:
             self.handle_return_value(session, StatusCode.error_invalid_event)
         status = self._plain(session, lambda one: one.handlers.append((handler, user_handle)))
@@ -254,7 +254,7 @@ class ScanvoltLibrary(highlevel.VisaLibraryBase):
 
     def uninstall_handler(self, session: Any, event_type: constants.EventType, handler: Any,
                           user_handle: Any = None) -> StatusCode:
-        """The handler goes (viUninstallHandler)."""
+        """Removes a handler (viUninstallHandler)."""
         def uninstall(one: Session) -> None:
             if (handler, user_handle) not in one.handlers:
                 raise Refusal(StatusCode.error_invalid_handler_reference)
@@ -269,7 +269,7 @@ class ScanvoltLibrary(highlevel.VisaLibraryBase):
         return words if isinstance(words, str) else words[-1], StatusCode.success
 
     def _unsupported(self, session: Any, *_rest: Any, **_named: Any) -> Any:
-        """An operation that this resource doesn't have."""
+        """Refuses an operation that these instruments don't have."""
         return self.handle_return_value(session, StatusCode.error_nonsupported_operation)
 
 

@@ -17,14 +17,14 @@ Handler = Callable[[int, EventType, int, Any], object]
 QUEUE, HANDLER, SUSPENDED = EventMechanism.queue, EventMechanism.handler, EventMechanism.suspend_handler
 LOCAL = (constants.RENLineOperation.deassert, constants.RENLineOperation.deassert_gtl,
          constants.RENLineOperation.address_gtl)
-LONGEST = 0xFFFFFFFF            # a timeout that doesn't end, VI_TMO_INFINITE
+LONGEST = 0xFFFFFFFF            # VI_TMO_INFINITE, no timeout
 
 
 class Session:
-    """What a program does with a resource. Each method raises Refusal, DeviceError or ConnectionError.
+    """The operations on a resource. Each method raises Refusal, DeviceError or ConnectionError.
 
-    Time passes by calls that wait alone, and service requests come as it passes: handlers are called within
-    them.
+    Time passes only in calls that wait. Service requests come as it passes: handlers are called during such
+    calls.
     """
 
     def __init__(self, meter: Meter, name: str, host: str, device: str, lock_timeout: Optional[int]) -> None:
@@ -36,17 +36,17 @@ class Session:
         except Exception:
             self.connection.close()
             raise
-        self.link.lock_timeout = 0                          # who is locked out is told so at once
+        self.link.lock_timeout = 0                          # a call that needs the lock of another link fails at once
         self.locks = 0 if lock_timeout is None else 1       # how often the lock was taken
         self.number = 0
-        self.mechanisms = 0                                 # by which events are enabled
+        self.mechanisms = 0                                 # the mechanisms for which events are enabled
         self.handlers: List[Tuple[Handler, Any]] = []
         self.queued: Deque[ServiceRequest] = collections.deque()
         self.suspended: Deque[ServiceRequest] = collections.deque()
         self.new_context: Callable[[], int] = lambda: 0
 
     def close(self) -> None:
-        """Ends the connection, and with it link, lock and requests."""
+        """Ends the connection, and with it the link, its lock and its service requests."""
         self.connection.close()
 
     def get(self, name: Name) -> Any:
@@ -58,17 +58,17 @@ class Session:
         attributes.put(self.states, name, state)
 
     def _timed(self) -> None:
-        """The link's timeout is the session's."""
+        """Sets the link's timeout to the session's."""
         self.link.io_timeout = self.get(Name.timeout_value)
 
     def write(self, data: bytes) -> int:
-        """Writes bytes, with END where that is enabled."""
+        """Writes bytes, with END if that is enabled."""
         self._timed()
         return self.link.write(data, bool(self.get(Name.send_end_enabled)))
 
     def read(self, count: int) -> Tuple[bytes, StatusCode]:
-        """Reads to END, to the termination character if that is enabled, or so many bytes: the first of
-        these tells the status, where several hold.
+        """Reads up to END, up to the termination character if it is enabled, or up to `count` bytes. If several of
+        these are true, the first decides the status.
         """
         self._timed()
         termination = self.get(Name.termchar) if self.get(Name.termchar_enabled) else None
@@ -83,24 +83,24 @@ class Session:
         return data, StatusCode.success_max_count_read
 
     def read_stb(self) -> int:
-        """The status byte."""
+        """Reads the status byte."""
         self._timed()
         return self.link.readstb()
 
     def clear(self) -> None:
-        """Device clear."""
+        """Clears the device."""
         self._timed()
         self.link.clear()
 
     def trigger(self, protocol: int) -> None:
-        """A trigger from the bus."""
+        """Triggers the instrument."""
         if protocol != constants.TriggerProtocol.default:
             raise Refusal(StatusCode.error_invalid_protocol)
         self._timed()
         self.link.trigger()
 
     def control_ren(self, mode: int) -> None:
-        """Remote or local operation."""
+        """Selects remote or local operation."""
         self._timed()
         if mode in LOCAL:
             self.link.local()
@@ -108,7 +108,7 @@ class Session:
             self.link.remote()
 
     def lock(self, kind: int, timeout: int) -> StatusCode:
-        """Takes the lock, for which it waits up to so many milliseconds."""
+        """Takes the lock. Waits for it up to `timeout` milliseconds."""
         if kind != constants.Lock.exclusive:
             raise Refusal(StatusCode.error_invalid_lock_type)
         try:
@@ -121,7 +121,7 @@ class Session:
         return StatusCode.success if self.locks == 1 else StatusCode.success_nested_exclusive
 
     def unlock(self) -> StatusCode:
-        """Frees the lock, where it was taken once more than freed."""
+        """Undoes one `lock`. The last one frees the lock."""
         if self.locks == 0:
             raise Refusal(StatusCode.error_session_not_locked)
         if self.locks == 1:
@@ -130,8 +130,8 @@ class Session:
         return StatusCode.success if self.locks == 0 else StatusCode.success_nested_exclusive
 
     def enable(self, kind: int, mechanism: int) -> StatusCode:
-        """Service requests come from now on, by a queue or by handlers. The first time, the interrupt
-        channel is made.
+        """Turns on service requests, by a queue or by handlers. The first time, this makes the interrupt
+        channel.
         """
         if kind not in (EventType.service_request, EventType.all_enabled):
             raise Refusal(StatusCode.error_invalid_event)
@@ -151,7 +151,7 @@ class Session:
         return StatusCode.success_event_already_enabled if already else StatusCode.success
 
     def disable(self, kind: int, mechanism: int) -> StatusCode:
-        """Service requests don't come any more by these."""
+        """Turns off service requests by these mechanisms."""
         if kind not in (EventType.service_request, EventType.all_enabled):
             raise Refusal(StatusCode.error_invalid_event)
         already = self.mechanisms & mechanism == 0
@@ -162,7 +162,7 @@ class Session:
         return StatusCode.success_event_already_disabled if already else StatusCode.success
 
     def discard(self, kind: int, mechanism: int) -> StatusCode:
-        """Service requests that came and weren't taken go."""
+        """Discards service requests that came and weren't taken."""
         if kind not in (EventType.service_request, EventType.all_enabled):
             raise Refusal(StatusCode.error_invalid_event)
         count = 0
@@ -173,7 +173,7 @@ class Session:
         return StatusCode.success if count else StatusCode.success_queue_already_empty
 
     def came(self, request: ServiceRequest) -> None:
-        """A service request: into the queue, to the handlers, or kept for them."""
+        """Handles a service request: puts it into the queue, hands it to the handlers, or keeps it for them."""
         most = self.get(Name.max_queue_length)
         if self.mechanisms & QUEUE and len(self.queued) < most:
             self.queued.append(request)
@@ -182,14 +182,14 @@ class Session:
         self._resume()
 
     def _resume(self) -> None:
-        """Hands on what is kept for the handlers, the last one first, if they are enabled."""
+        """Hands on what is kept for the handlers, if they are enabled. The handler added last is called first."""
         while self.mechanisms & HANDLER and self.suspended:
             self.suspended.popleft()
             for handler, user_handle in reversed(self.handlers):
                 handler(self.number, EventType.service_request, self.new_context(), user_handle)
 
     def wait(self, kind: int, timeout: Optional[int]) -> StatusCode:
-        """Waits for a service request of the queue; time passes up to so many milliseconds."""
+        """Waits for a service request in the queue. At most `timeout` milliseconds pass."""
         if kind not in (EventType.service_request, EventType.all_enabled):
             raise Refusal(StatusCode.error_invalid_event)
         if not self.mechanisms & QUEUE:

@@ -1,4 +1,4 @@
-"""VISA's statuses, of what the instrument and its connection answer."""
+"""VISA's statuses for what the instrument and its connection return."""
 from typing import Dict, Tuple, Type
 
 from pyvisa.constants import StatusCode
@@ -19,7 +19,7 @@ OF_DEVICE: Dict[int, StatusCode] = {
 
 
 class Refusal(Exception):
-    """An operation that a session doesn't do, with its status."""
+    """An operation that a session refuses, with its status."""
 
     def __init__(self, status: StatusCode) -> None:
         super().__init__(status)
@@ -30,7 +30,7 @@ FAULTS: Tuple[Type[Exception], ...] = (Refusal, DeviceError, RpcError, Connectio
 
 
 def status_of(fault: Exception) -> StatusCode:
-    """The status of an operation that ends so."""
+    """The status of an operation that ends with this exception."""
     if isinstance(fault, Refusal):
         return fault.status
     if isinstance(fault, ConnectionError):

@@ -1,14 +1,14 @@
-"""Registers an instrument's ports with the port mapper of this machine (rpcbind), until it is ended.
+"""Registers an instrument's ports with the port mapper of this machine (rpcbind), until this program is ended.
 
     scanvolt-portmap [--core PORT] [--abort PORT]
 
-Clients that ask port 111, as `lxi` and PyVISA-py, find the instrument then, whatever its ports are.
-rpcbind takes registrations over its socket /run/rpcbind.sock, or, begun with -i, from root over
-127.0.0.1. The line `ready` tells that the ports are registered. Ctrl-C and SIGTERM end it, and take
-them back.
+Clients that ask port 111, such as `lxi` and PyVISA-py, then find the instrument, whatever its ports are.
+rpcbind accepts registrations over its socket /run/rpcbind.sock. If it was started with -i, it also accepts
+them from root over 127.0.0.1. The line `ready` says that the ports are registered. Ctrl-C and SIGTERM end
+this program, which then unregisters them.
 
-Status: 0 it was ended; 1 a program has a port already, by somebody else; 2 it can't be done, as
-where no port mapper answers or it refuses. Standard error has the reason.
+Status: 0 it was ended; 1 somebody else has registered one of the programs; 2 it can't be done: no port
+mapper answers, say, or the port mapper refuses. Standard error has the reason.
 """
 import argparse
 import errno
@@ -23,14 +23,14 @@ from .vxi11.calls import ABORT, CORE, INTERRUPT, PORT
 
 NAME = "scanvolt-portmap"
 LOCAL = "/run/rpcbind.sock"
-PATIENCE = 10.0                         # seconds that the port mapper may take
-RESERVED = range(600, 1024)             # ports that root alone may call from
+PATIENCE = 10.0                         # seconds that the port mapper may take to answer
+RESERVED = range(600, 1024)             # ports that only root may bind
 ENDING = (signal.SIGINT, signal.SIGTERM, signal.SIGHUP)
 PROGRAMS = (("core", CORE, 4096), ("abort", ABORT, 4097), ("interrupt", INTERRUPT, None))
 
 
 class Fault(Exception):
-    """Why it can't be done, and the status of that."""
+    """Why it can't be done, and the command's status."""
 
     def __init__(self, text: str, status: int = 2) -> None:
         super().__init__(text)
@@ -45,13 +45,13 @@ def port_of(text: str) -> int:
 
 
 def words(given: Optional[List[str]]) -> argparse.Namespace:
-    """The words of the command line."""
+    """The arguments of the command line."""
     parser = argparse.ArgumentParser(
         prog=NAME, description=__doc__, formatter_class=argparse.RawDescriptionHelpFormatter)
     for name, _, usual in PROGRAMS:
         parser.add_argument("--" + name, type=port_of, default=usual, metavar="PORT",
-                            help="its port; %s without it" % (usual or "none is registered"))
-    parser.add_argument("--port", type=port_of, default=PORT, help="that of the port mapper; %d without it" % PORT)
+                            help="the port of the %s program; %s without it" % (name, usual or "none is registered"))
+    parser.add_argument("--port", type=port_of, default=PORT, help="the port of the port mapper; %d without it" % PORT)
     return parser.parse_args(given)
 
 
@@ -63,7 +63,7 @@ def mapper(port: int) -> Channel:
         try:
             local.connect(LOCAL)
             return Channel("", 0, PATIENCE, local)
-        except OSError:                 # one that ended left it
+        except OSError:                 # a port mapper that ended left the socket there
             local.close()
     try:
         return Channel("", 0, PATIENCE, loopback(port))
@@ -73,7 +73,7 @@ def mapper(port: int) -> Channel:
 
 
 def loopback(port: int) -> socket.socket:
-    """A socket to a port of 127.0.0.1, from a reserved port where that may be had."""
+    """A connection to a port of 127.0.0.1, from a reserved port if we may bind one."""
     for own in RESERVED:
         try:
             return socket.create_connection(("127.0.0.1", port), PATIENCE, ("127.0.0.1", own))
@@ -84,15 +84,15 @@ def loopback(port: int) -> socket.socket:
 
 
 def register(port: int, wanted: Dict[int, Tuple[str, int]]) -> List[int]:
-    """Registers programs with their ports; what was registered is taken back where not all can be."""
+    """Registers programs with their ports. If one fails, those already registered are unregistered."""
     made: List[int] = []
     try:
         with mapper(port) as channel:
             for program, (name, wish) in wanted.items():
                 known = channel.do(calls.getport(program, 1))
                 if known:
-                    raise Fault("the %s program, %d, has port %d already, by somebody else; `rpcinfo -d %d 1`, by "
-                                "whoever registered it, takes that back" % (name, program, known, program), 1)
+                    raise Fault("somebody else has registered the %s program, %d, at port %d; whoever did can unregister it by "
+                                "`rpcinfo -d %d 1`" % (name, program, known, program), 1)
                 if not channel.do(calls.set_port(program, 1, wish)):
                     raise Fault("the port mapper refuses port %d of the %s program: run this as root" % (wish, name))
                 made.append(program)
@@ -103,12 +103,12 @@ def register(port: int, wanted: Dict[int, Tuple[str, int]]) -> List[int]:
 
 
 def told(fault: Exception) -> Fault:
-    """What went wrong while the port mapper was asked."""
+    """The fault to raise if a call to the port mapper failed."""
     return Fault("the port mapper doesn't answer as one: %s" % fault)
 
 
 def take_back(port: int, made: List[int]) -> None:
-    """Takes the ports of programs back."""
+    """Unregisters programs."""
     if not made:
         return
     try:
@@ -121,10 +121,10 @@ def take_back(port: int, made: List[int]) -> None:
 
 
 def main(given_words: Optional[List[str]] = None) -> int:
-    """The command; its status."""
+    """Runs the command. Returns its status."""
     given = words(given_words)
     wanted = {program: (name, getattr(given, name)) for name, program, _ in PROGRAMS if getattr(given, name)}
-    signal.pthread_sigmask(signal.SIG_BLOCK, ENDING)        # they wait, from here on, until they are looked at
+    signal.pthread_sigmask(signal.SIG_BLOCK, ENDING)        # these signals wait until sigwait takes one
     try:
         made = register(given.port, wanted)
         print("ready: " + ", ".join("%s %d" % pair for pair in wanted.values()), flush=True)

@@ -1,4 +1,4 @@
-"""The program `scanvolt`: where it is, and servers of it on free ports."""
+"""The program `scanvolt`: finds it, and starts servers of it on free ports."""
 import os
 import pathlib
 import shutil
@@ -8,21 +8,21 @@ from typing import Iterable, List, Optional, Tuple, Type, TypeVar, Union
 
 Itself = TypeVar("Itself", bound="Server")
 BUILT = ("crates/scanvolt/out/scanvolt", "out/unproved/scanvolt")     # in a checkout
-SWEEPS = 10 ** 8        # a server ends after so many sweeps, an hour at least, if nobody ends it
-TRIES = 5               # free ports may be taken by others before the server listens on them
+SWEEPS = 10 ** 8        # a server that nobody ends ends after this many sweeps, which take an hour at least
+TRIES = 5               # tries to start a server: another process may take a free port before the server listens on it
 MISSING = ("no program scanvolt: set SCANVOLT to its path, put it on PATH, or build it in a checkout by "
            "`tools/serve BUILD=1`")
 Name = Union[str, "os.PathLike[str]"]
 
 
 class ProgramError(Exception):
-    """The program is missing, ended, or said what it shouldn't."""
+    """The program is missing, ended, or printed what it shouldn't."""
 
 
 def find_program(start: Optional[Name] = None) -> str:
-    """The path of the program: SCANVOLT, or on PATH, or built in the checkout that a folder lies in.
+    """The path of the program: what SCANVOLT says, else the one on PATH, else the one built in a checkout.
 
-    The folder is `start`, then that of this package, then the working folder. Raises ProgramError.
+    The checkout is the one that contains `start`, else this package, else the working folder. Raises ProgramError.
     """
     if os.environ.get("SCANVOLT"):
         named = os.path.abspath(os.environ["SCANVOLT"])
@@ -58,8 +58,8 @@ def free_ports(count: int) -> List[int]:
 
 
 class Server:
-    """`scanvolt serve` on free ports of 127.0.0.1, with a scenario by its file or none. It ends by `close`,
-    and behind a `with` block.
+    """`scanvolt serve` on free ports of 127.0.0.1, with the scenario in a file or none. `close` ends it, and so
+    does the end of a `with` block.
     """
 
     def __init__(self, scenario: Optional[Name] = None, program: Optional[Name] = None) -> None:
@@ -79,7 +79,7 @@ class Server:
         self.process.communicate()
 
     def _started(self) -> "Tuple[subprocess.Popen[str], Tuple[int, ...]]":
-        """A program that listens, and its ports."""
+        """Starts a program and waits until it listens. Returns the program and its ports."""
         told = ""
         for _ in range(TRIES):
             ports = tuple(free_ports(3))
@@ -88,7 +88,7 @@ class Server:
             if process.stdout.readline() == "ready %d %d %d\n" % ports:
                 return process, ports
             told = process.communicate()[1].strip()
-            if told != "scanvolt: socket":      # else somebody was quicker, and took a port
+            if told != "scanvolt: socket":      # with this message, another process took a port first
                 break
         raise ProgramError("%s doesn't serve: %s" % (self.program, told or "it said nothing"))
 

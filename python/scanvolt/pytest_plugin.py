@@ -1,7 +1,7 @@
 """Fixtures of pytest: `meter`, an instrument in virtual time, and `scanvolt_server`, one on sockets.
 
-Each test that asks for one has an instrument of its own, which has just been turned on. A marker gives its
-scenario, by a path beside the test's file: `@pytest.mark.scanvolt(scenario="stand.scenario")`.
+Each test that uses one of them has an instrument of its own, which has just been turned on. A marker names its
+scenario, by a path relative to the folder of the test's file: `@pytest.mark.scanvolt(scenario="stand.scenario")`.
 """
 from typing import Any, Callable, Dict, Iterator, TypeVar
 
@@ -16,12 +16,12 @@ OPTIONS = ("scenario", "patience")
 
 
 def pytest_configure(config: pytest.Config) -> None:
-    """Tells pytest of the marker."""
+    """Registers the marker with pytest."""
     config.addinivalue_line("markers", MARKER)
 
 
 def options_of(request: pytest.FixtureRequest) -> Dict[str, Any]:
-    """What the marker of a test gives."""
+    """The options that the marker of a test gives."""
     marker = request.node.get_closest_marker("scanvolt")
     options = {} if marker is None else dict(marker.kwargs)
     unknown = sorted(set(options) - set(OPTIONS)) if marker is None or not marker.args else ["without a name"]
@@ -33,7 +33,7 @@ def options_of(request: pytest.FixtureRequest) -> Dict[str, Any]:
 
 
 def made(make: Callable[[], Made]) -> Made:
-    """An instrument; if there is none, one line says why."""
+    """Makes an instrument. If that fails, the test fails with one line that says why."""
     try:
         return make()
     except (ProgramError, OSError, ValueError) as fault:

@@ -1,8 +1,8 @@
-"""The program as `scanvolt replay`, in lock step: lines go in, and what they print is known to be complete.
+"""Runs the program as `scanvolt replay`, in lock step: writes lines, and knows when all that they print has come.
 
-Behind the lines goes an event that is always refused in the same way, an input of channel 255, which prints
-`refused 8`. No other line prints that here. Its print tells that all in front of it is printed, and the
-program flushes before it reads on (docs/REPLAY.md).
+After the lines comes a probe, an event that is always refused in the same way: an input of channel 255, which
+prints `refused 8`. No other line prints that here. When it is printed, all that the lines before it print has
+been printed: the program flushes its output before it reads on (docs/REPLAY.md).
 """
 import os
 import select
@@ -18,20 +18,20 @@ PATIENCE = 60.0             # seconds that the program may take to answer
 PIECE = 30000               # bytes of lines that are written at once; a pipe holds 65,536
 LONGEST_TICK = 1000000      # milliseconds of one line
 LONGEST_ASK = 50000         # milliseconds that pass before the program has to answer
-STEPS = 64                  # single milliseconds that are tried before time is tried in cells
+STEPS = 64                  # single milliseconds that are tried before longer steps, the cells
 CELLS = 64                  # cells that are tried at once
-FIRST_CELL, LAST_CELL = 16, 1024    # milliseconds of the first ones, and of the longest
-LOG_MOST = 4000000          # bytes of lines that a second program is given; about 20 ms
+FIRST_CELL, LAST_CELL = 16, 1024    # milliseconds of the first cells, and of the longest
+LOG_MOST = 4000000          # bytes of lines that are kept for a second program, which takes about 20 ms to read them
 
 
 def ticks(milliseconds: int) -> bytes:
-    """Lines in which so much time passes."""
+    """Lines that let this many milliseconds pass."""
     whole, rest = divmod(milliseconds, LONGEST_TICK)
     return b"tick %d\n" % LONGEST_TICK * whole + (b"tick %d\n" % rest if rest else b"")
 
 
 def pieces(text: bytes) -> Iterator[bytes]:
-    """A text in pieces of whole lines, each of PIECE bytes at most, or of one line."""
+    """A text in pieces of whole lines. Each has at most PIECE bytes, or is one line."""
     start = 0
     while start < len(text):
         end = text.rfind(b"\n", start, start + PIECE) + 1 or text.index(b"\n", start) + 1
@@ -40,7 +40,7 @@ def pieces(text: bytes) -> Iterator[bytes]:
 
 
 def _end(process: "subprocess.Popen[bytes]", owner: int) -> None:
-    """Ends a program, whatever it does. A copy of the process that began it (fork) leaves it alone."""
+    """Ends a program, whatever it does. A fork of the process that started it leaves the program alone."""
     if os.getpid() != owner:
         return
     process.kill()
@@ -51,7 +51,7 @@ def _end(process: "subprocess.Popen[bytes]", owner: int) -> None:
 
 
 class Program:
-    """One program. It ends by `close`, when this is garbage, and when Python ends, by a signal or not."""
+    """A running program. It ends when it is closed, when this object is collected, and when Python ends, even by a signal."""
 
     def __init__(self, path: str) -> None:
         self.path = path
@@ -70,8 +70,8 @@ class Program:
         self.room.register(self.target, select.POLLOUT)
 
     def ask(self, lines: bytes, probes: int = 1) -> bytes:
-        """Writes lines, of which so many are probes, the last one too; what they print, to the last
-        probe's.
+        """Writes lines, `probes` of which are probes, the last line too. Returns what they print, up to the
+        answer to the last probe.
         """
         if not self.close.alive:
             raise ProgramError("the program was ended before")
@@ -85,7 +85,7 @@ class Program:
             raise
 
     def _write(self, lines: bytes) -> bytearray:
-        """Writes lines, and reads meanwhile where there is no room for them."""
+        """Writes lines. While the pipe is full, reads what is printed."""
         found = bytearray()
         while lines:
             try:
@@ -98,7 +98,7 @@ class Program:
         return found
 
     def _waits(self, poll: select.poll) -> bool:
-        """Waits; whether there is something to read."""
+        """Waits until the pipes can be read or written. Returns whether there is something to read."""
         ready = poll.poll(1000 * PATIENCE)
         if not ready:
             raise ProgramError("the program says nothing for %g s: %s" % (PATIENCE, self.path))
@@ -112,7 +112,7 @@ class Program:
         return data
 
     def fault(self) -> ProgramError:
-        """Why the program ended: what it said on standard error, or its status."""
+        """The exception that says why the program ended: what it wrote to standard error, or its status."""
         assert self.process.stderr is not None
         told = b""
         ended = select.poll()
@@ -122,7 +122,7 @@ class Program:
             if not piece:
                 break
             told += piece
-        else:                                   # it closed its output, and goes on
+        else:                                   # it closed its output, but still runs
             self.process.kill()
         self.process.wait()
         status = self.process.returncode
@@ -135,15 +135,15 @@ class Replay:
     """An instrument: what happens to it, and the time that passes for it.
 
     A second program that is given the same lines prints the same. So time can be tried in long steps: if
-    something is printed within one, a second program takes the first one's place, and goes on in front of
+    something is printed within a step, a second program takes the place of the first, from the time before
     that step.
     """
 
     def __init__(self, path: str) -> None:
         self.path = path
-        self.log: Optional[List[bytes]] = []        # all lines that were taken; none once they are too many
-        self.size = 0                               # their bytes
-        self.since = 0                              # milliseconds that passed behind the last of them
+        self.log: Optional[List[bytes]] = []        # all lines that were executed; None if they became too many
+        self.size = 0                               # how many bytes they have
+        self.since = 0                              # milliseconds that passed after the last of them
         self.checksum = 0                           # of all that was printed
         self.program = Program(path)
         self.program.ask(PROBE)
@@ -153,11 +153,11 @@ class Replay:
         self.program.close()
 
     def do(self, lines: bytes) -> bytes:
-        """Events, in lines; what they print."""
+        """Executes events, given as lines. Returns what they print."""
         return self._kept(lines, self.program.ask(lines + PROBE)[:-len(SEEN)])
 
     def pass_time(self, milliseconds: int) -> bytes:
-        """So much time passes at once; what that prints, at whichever of its moments."""
+        """Lets time pass in one go. Returns what is printed meanwhile, without the moment at which it was."""
         found = b""
         for start in range(0, milliseconds, LONGEST_ASK):
             passed = min(LONGEST_ASK, milliseconds - start)
@@ -166,8 +166,8 @@ class Replay:
         return found
 
     def seek(self, most: int) -> Tuple[int, bytes]:
-        """Time passes to the first millisecond that prints something, at most so many; how many, and the
-        print.
+        """Lets time pass up to the first millisecond that prints something, but at most `most`. Returns how
+        many passed, and what was printed.
         """
         passed, found = self._steps(min(most, STEPS))
         cell = FIRST_CELL
@@ -180,7 +180,7 @@ class Replay:
         return passed, found
 
     def _kept(self, lines: bytes, found: bytes) -> bytes:
-        """Remembers what was taken, and what it printed."""
+        """Notes the lines that were executed, and the checksum of what they printed. Returns what they printed."""
         self.checksum = zlib.crc32(found, self.checksum)
         if self.log is not None and lines:
             self.log += [ticks(self.since), lines] if self.since else [lines]
@@ -191,7 +191,7 @@ class Replay:
         return found
 
     def _steps(self, most: int) -> Tuple[int, bytes]:
-        """Single milliseconds, to the first that prints."""
+        """Passes single milliseconds, up to the first that prints."""
         for passed in range(1, most + 1):
             found = self.program.ask(b"tick\n" + PROBE)
             if found != SEEN:
@@ -201,11 +201,11 @@ class Replay:
         return most, b""
 
     def _cells(self, most: int, cell: int) -> Tuple[int, bytes, int]:
-        """Tries cells of so many milliseconds, and one of a single millisecond behind them.
+        """Tries cells of this many milliseconds, and after them one of a single millisecond.
 
-        How many milliseconds passed, what the last one printed, and the length of the next cells. Where
-        something was printed within a cell, time passes to its begin alone, and the next cells are its
-        parts.
+        Returns how many milliseconds passed, what the last one printed, and the length of the next cells. If
+        something was printed within a cell, time passes only to the start of that cell, and the next cells
+        divide it.
         """
         whole = min(CELLS, (most - 1) // cell)
         rest = most - 1 - whole * cell
@@ -223,7 +223,7 @@ class Replay:
         return passed, b"", 1 if cell <= STEPS else cell // CELLS
 
     def _begin_again(self, further: int) -> None:
-        """A second program takes the place of the first, at the same moment or so many milliseconds later."""
+        """Replaces the program by a second one, at the same moment or `further` milliseconds later."""
         self.program.close()
         self.program = Program(self.path)
         assert self.log is not None

@@ -1,4 +1,4 @@
-"""What happens to an instrument, and when: a scenario, as `scanvolt serve` takes it (docs/INSTRUMENT.md)."""
+"""What happens to an instrument, and when: reads a scenario, as `scanvolt serve` takes it (docs/INSTRUMENT.md)."""
 import decimal
 import os
 import re
@@ -8,7 +8,7 @@ from typing import List, Optional, Tuple, Union
 CHANNELS = 128
 MOST_MICROVOLTS = 10 ** 9
 LONGEST_LINE = 65536        # bytes
-SHOWN_MOST = 40             # characters that are shown of a bad word
+SHOWN_MOST = 40             # characters of a bad word that are shown
 DIGITS, CHANNEL, LEVEL = re.compile(b"[0-9]{1,18}"), re.compile(b"[1-9][0-9]{0,2}"), re.compile(b"-?[0-9]{1,18}")
 Name = Union[str, "os.PathLike[str]"]
 Volts = Union[decimal.Decimal, int, float, str]
@@ -16,7 +16,7 @@ Volts = Union[decimal.Decimal, int, float, str]
 
 @dataclass(frozen=True)
 class Entry:
-    """What happens at a millisecond, as a line of a replay: the external trigger, or an input has a voltage."""
+    """What happens at a millisecond, as a line of a replay: the external trigger comes, or an input gets a voltage."""
 
     clock: int
     line: bytes
@@ -26,7 +26,7 @@ class Entry:
 
 @dataclass(frozen=True)
 class Bad:
-    """A bad line of a scenario: its number, counted from 1, and why it is one."""
+    """A bad line of a scenario: its number, counted from 1, and what is wrong with it."""
 
     number: int
     line: bytes
@@ -34,10 +34,10 @@ class Bad:
 
 
 def microvolts(volts: Volts) -> int:
-    """Volts in whole microvolts, -1000 V to 1000 V.
+    """Volts in whole microvolts, from -1000 V to 1000 V.
 
-    A float is rounded to the nearest microvolt; any other number has to be a whole one. Else it raises
-    ValueError.
+    A float is rounded to the nearest microvolt. Any other number has to be a whole number of microvolts.
+    Raises ValueError if `volts` isn't such a number.
     """
     try:
         exact = decimal.Decimal(repr(volts) if isinstance(volts, float) else volts) * 10 ** 6
@@ -59,8 +59,8 @@ def input_line(channel: int, volts: Volts) -> bytes:
 
 
 def read_scenario(name: Name) -> List[Entry]:
-    """The entries of a scenario's file. Raises ValueError at the first bad line, OSError where it can't be
-    read.
+    """The entries of a scenario's file. Raises ValueError at the first bad line, and OSError if the file
+    can't be read.
     """
     entries, bad = checked_scenario(name)
     if bad:
@@ -69,7 +69,7 @@ def read_scenario(name: Name) -> List[Entry]:
 
 
 def checked_scenario(name: Name) -> Tuple[List[Entry], List[Bad]]:
-    """The entries of a scenario's file, and its bad lines. Raises OSError where it can't be read."""
+    """The entries of a scenario's file, and its bad lines. Raises OSError if the file can't be read."""
     with open(name, "rb") as file:
         lines = file.read().split(b"\n")
     entries: List[Entry] = []
@@ -84,18 +84,18 @@ def checked_scenario(name: Name) -> Tuple[List[Entry], List[Bad]]:
 
 
 def entry_of(line: bytes, last: int = 0) -> Entry:
-    """The entry that a line says, not before this millisecond. Raises ValueError, with the reason."""
+    """The entry in a line. Raises ValueError, with the reason, if the line is bad or its time is before `last`."""
     if len(line) > LONGEST_LINE:
         raise ValueError("it has more than %d bytes" % LONGEST_LINE)
     clock, *words = line.split(b" ")
     if not DIGITS.fullmatch(clock):
         raise ValueError("a time is a whole number of milliseconds, of 1 to 18 digits, and not %s" % shown(clock))
     if int(clock) < last:
-        raise ValueError("a time may not be before the one in front of it, %d: %d" % (last, int(clock)))
+        raise ValueError("a time may not be before that of the entry before, %d: %d" % (last, int(clock)))
     if words == [b"external"]:
         return Entry(int(clock), b"external\n")
     if len(words) != 3 or words[0] != b"input":
-        raise ValueError("behind the time stands `external` or `input CHANNEL MICROVOLTS`, with one space "
+        raise ValueError("after the time comes `external` or `input CHANNEL MICROVOLTS`, with one space "
                          "between two words, and not %s" % shown(b" ".join(words)))
     channel, level = words[1:]
     if not CHANNEL.fullmatch(channel) or int(channel) > CHANNELS:
@@ -107,6 +107,6 @@ def entry_of(line: bytes, last: int = 0) -> Entry:
 
 
 def shown(word: bytes) -> str:
-    """What stands in a line, as far as it is short."""
+    """A part of a line, in backquotes; of a long one, its start."""
     text = word.decode("latin-1").encode("unicode_escape").decode()
     return "`%s`" % text if len(text) <= SHOWN_MOST else "`%s`.." % text[:SHOWN_MOST]

@@ -1,8 +1,8 @@
 """An instrument in virtual time: `Meter`, over `scanvolt replay`, without ports and without waiting.
 
-Time passes where a call waits and where `advance` says so, and nowhere else. A call that waits advances
-time to its answer, by the instrument's own milliseconds, or to its timeout. So a test takes as long as the
-program computes, and ends the same each time.
+Time passes only where a call waits and where `advance` lets it pass. A call that waits advances time to its
+reply, millisecond by millisecond of the instrument, or to its timeout. So a test takes only as long as the
+program computes, and always ends in the same way.
 """
 import collections
 import contextlib
@@ -27,33 +27,33 @@ Itself = TypeVar("Itself", bound="Connection")
 Callback = Callable[[ServiceRequest], object]
 ROLES = ("core", "abort", "portmap")
 CLOCKS = ("time", "monotonic", "perf_counter")      # of Python's module time
-PLACES = 16             # connections that there are
+PLACES = 16             # connections that the instrument has room for
 PATIENCE = 600000       # milliseconds of virtual time that a call may wait
 
 
 class NoAnswer(Exception):
-    """A call that waits for longer than a meter's patience."""
+    """A call has waited for longer than the meter's patience."""
 
 
 class Pending(Generic[Value]):
-    """A call in flight. `clock` is the millisecond at which it was answered, none while it wasn't."""
+    """A call that was sent. `clock` is the millisecond of its reply, or None before that."""
 
     def __init__(self, connection: "Connection", call: Call[Value], xid: int) -> None:
         self.connection = connection
         self.call = call
         self.xid = xid
-        self.turned: Optional[int] = None       # the millisecond at which the instrument began with it
+        self.turned: Optional[int] = None       # the millisecond at which the instrument took the call
         self.clock: Optional[int] = None
         self.body = b""
         self.fault: Optional[Exception] = None
 
     @property
     def done(self) -> bool:
-        """Whether it was answered, or its connection ended."""
+        """Whether the call was answered, or its connection ended."""
         return self.clock is not None
 
     def result(self) -> Value:
-        """Advances time until the call is answered. Its result, or the exception of its error."""
+        """Advances time until the call is answered. Returns its result, or raises the exception of its error."""
         meter = self.connection.meter
         if not meter.until(lambda: self.done, meter.patience):
             raise NoAnswer("%s waits for more than %d ms of virtual time; see patience of Meter" % (
@@ -63,12 +63,12 @@ class Pending(Generic[Value]):
         return self.call.answer(self.body, self.xid)
 
     def end(self, clock: int, body: bytes = b"", fault: Optional[Exception] = None) -> None:
-        """It was answered, or can't be any more."""
+        """Ends the call: it was answered, or can't be any more."""
         self.clock, self.body, self.fault = clock, body, fault
 
 
 class Requests:
-    """The service requests of a connection's interrupt channel: to a callback, or else in a queue."""
+    """The service requests of a connection's interrupt channel. They go to a callback, or else into a queue."""
 
     def __init__(self, connection: "Connection") -> None:
         self.connection = connection
@@ -77,8 +77,8 @@ class Requests:
         self.stream = RequestStream()
 
     def wait(self, milliseconds: int) -> ServiceRequest:
-        """The next service request of the queue. Advances time; raises TimeoutError after so many
-        milliseconds.
+        """The next service request of the queue. Advances time until there is one. Raises TimeoutError after
+        this many milliseconds.
         """
         if not self.connection.meter.until(lambda: not self.queue.empty(), milliseconds):
             raise TimeoutError("no service request within %d ms of virtual time" % milliseconds)
@@ -91,14 +91,14 @@ class Requests:
 
 
 class Connection(Core):
-    """A connection to a meter. It ends by `close`, and behind a `with` block."""
+    """A connection to a meter. `close` ends it, and so does the end of a `with` block."""
 
     def __init__(self, meter: "Meter", number: int, role: str) -> None:
         self.meter = meter
         self.number = number
         self.role = role
         self.is_open = True
-        self.has_channel = False                            # an interrupt channel
+        self.has_channel = False                            # whether it has an interrupt channel
         self.xid = 0
         self.records = Records()
         self.pending: "Deque[Pending[object]]" = collections.deque()
@@ -116,7 +116,7 @@ class Connection(Core):
             self.meter.drop(self)
 
     def start(self, call: Call[Value]) -> Pending[Value]:
-        """Sends a call, and has the instrument begin with it once those in front of it are answered."""
+        """Sends a call. The instrument takes it after those sent before it are answered."""
         with self.meter.guard:
             self.xid = (self.xid + 1) % 2 ** 32
             pending = Pending(self, call, self.xid)
@@ -124,34 +124,34 @@ class Connection(Core):
             return pending
 
     def do(self, call: Call[Value]) -> Value:
-        """Does a call: advances time until it is answered."""
+        """Makes a call: advances time until it is answered."""
         return self.start(call).result()
 
     def abort(self, link: Link) -> None:
-        """Ends the call of a link that waits, over an abort channel of its own."""
+        """Aborts the call that waits on a link, over an abort channel of its own."""
         with self.meter.connect("abort") as channel:
             channel.do(calls.device_abort(link.number))
 
     def listen(self, callback: Optional[Callback] = None) -> Requests:
-        """Makes the interrupt channel: service requests go to the callback as time passes, or to a queue."""
+        """Makes the interrupt channel. Service requests go to the callback as time passes, or else into a queue."""
         if callback is not None:
             self.on_service_request(callback)
         self.create_intr_chan(calls.LOOPBACK, 1)
         return self.requests
 
     def on_service_request(self, callback: Optional[Callback]) -> None:
-        """Service requests go to this callback from now on; to the queue, if it is none."""
+        """From now on service requests go to this callback, or into the queue if it is None."""
         self.requests.callback = callback
 
 
 class Meter:
-    """An instrument that has just been turned on, in virtual time. It ends by `close`, and behind a `with`
-    block.
+    """An instrument that has just been turned on, in virtual time. `close` ends it, and so does the end of a
+    `with` block.
 
-    program is the path of the program, found by `find_program` if it isn't said. scenario is a file of
-    voltages and external triggers, as `scanvolt serve` takes it. patience is how many milliseconds of
-    virtual time a call may wait, before NoAnswer is raised. Threads may share a meter, but which of them
-    comes first is the machine's, and a call that waits doesn't wait for what another thread is about to do.
+    `program` is the path of the program; without it, `find_program` finds one. `scenario` is a file of
+    voltages and external triggers, as `scanvolt serve` takes it. `patience` is how many milliseconds of virtual
+    time a call may wait before NoAnswer is raised. Threads may share a meter. Which of them comes first depends
+    on the machine, and a call that waits doesn't wait for what another thread is about to do.
     """
 
     def __init__(self, program: Optional[Name] = None, scenario: Optional[Name] = None,
@@ -159,7 +159,7 @@ class Meter:
         entries = [] if scenario is None else read_scenario(scenario)
         self.ahead: Deque[Entry] = collections.deque(entries)
         self.patience = patience
-        self.clock = 0                  # milliseconds since it was turned on
+        self.clock = 0                  # milliseconds since the instrument was turned on
         self.dials = True               # whether the dialing of an interrupt channel succeeds
         self.connections: Dict[int, Connection] = {}
         self.deliveries: "Deque[Callable[[], object]]" = collections.deque()
@@ -175,14 +175,14 @@ class Meter:
         self.close()
 
     def close(self) -> None:
-        """Turns it off: its connections end, and its program."""
+        """Turns the instrument off: its connections and its program end."""
         with self.guard:
             self._end(ConnectionError("the meter is closed"))
 
     def connect(self, role: str = "core") -> Connection:
-        """A connection to the core channel, the abort channel (abort) or the port mapper (portmap).
+        """Opens a connection to the core channel (core), the abort channel (abort) or the port mapper (portmap).
 
-        There are sixteen of all kinds together. Raises ConnectionError where there are no more.
+        At most sixteen connections may be open, of all kinds together. Raises ConnectionError if all are taken.
         """
         if role not in ROLES:
             raise ValueError("no role of a connection: %r" % role)
@@ -195,14 +195,14 @@ class Meter:
             return self.connections[number]
 
     def drop(self, connection: Connection) -> None:
-        """A connection fails, or is closed: its links end, and calls of it that wait get no answer."""
+        """Ends a connection: its links end, and its calls that wait get no reply."""
         with self.guard:
             self._gone(connection, ConnectionError("the connection was closed"))
             self._perform(b"close c%d\n" % connection.number)
             self._deliver()
 
     def drop_channel(self, connection: Connection) -> None:
-        """The interrupt channel of a connection fails."""
+        """Ends the interrupt channel of a connection, as if it had failed."""
         if not connection.has_channel:
             raise ValueError("the connection has no interrupt channel")
         with self.guard:
@@ -210,7 +210,7 @@ class Meter:
             self._perform(b"close i%d\n" % connection.number)
 
     def set_input(self, channel: int, volts: Volts) -> None:
-        """The input of a channel, 1 to 128, has this voltage from now on: -1000 to 1000 V, in whole
+        """Sets the voltage at the input of a channel, 1 to 128, from now on: -1000 to 1000 V, in whole
         microvolts.
 
         A float is rounded to the nearest microvolt.
@@ -220,19 +220,19 @@ class Meter:
             self._deliver()
 
     def external(self) -> None:
-        """The external trigger comes."""
+        """Gives the external trigger."""
         with self.guard:
             self._perform(b"external\n")
             self._deliver()
 
     def advance(self, milliseconds: int) -> None:
-        """So much time passes. Service requests are handed on at their millisecond."""
+        """Lets this much time pass. Service requests are handed on at their millisecond."""
         if milliseconds < 0:
             raise ValueError("time doesn't go back: %d ms" % milliseconds)
         self.until(lambda: False, milliseconds)
 
     def until(self, holds: Callable[[], bool], most: int) -> bool:
-        """Time passes until this holds, at most so many milliseconds; whether it holds then."""
+        """Lets time pass until this holds, but at most this many milliseconds. Returns whether it holds then."""
         end = self.clock + most
         while True:
             with self.guard:
@@ -244,9 +244,10 @@ class Meter:
 
     @contextlib.contextmanager
     def keeping_time(self) -> Iterator["Meter"]:
-        """Python's clock is the meter's for the thread that says so: time.sleep advances the meter, and
-        time.time, time.monotonic and time.perf_counter go on by what passes there, from where they were. So
-        a driver that sleeps between its polls takes no real time. It holds for those who say `time.sleep`.
+        """Makes Python's clock the meter's, for the thread that enters this: time.sleep advances the meter, and
+        time.time, time.monotonic and time.perf_counter advance from where they are by the time that passes in the
+        meter. So a driver that sleeps between its polls takes no real time. Only calls written as `time.sleep` do
+        so: a name that was imported from `time` keeps the real clock.
         """
         thread, begin = threading.get_ident(), self.clock
 
@@ -266,11 +267,11 @@ class Meter:
             yield self
 
     def _sleep(self, seconds: float) -> None:
-        """So much time passes, in whole milliseconds: rounded up, so that a loop that sleeps ends."""
+        """Lets this much time pass, in whole milliseconds: rounded up, so that a loop that sleeps comes to an end."""
         self.advance(math.ceil(round(1000 * seconds, 3)))
 
     def _pass(self, most: int) -> None:
-        """Time passes by at most so many milliseconds, no further than to the first at which something
+        """Lets at most this many milliseconds pass, and no more than up to the first at which something
         happens.
         """
         if self.ahead:
@@ -300,7 +301,7 @@ class Meter:
             self._deliver()
 
     def _asked(self, question: Callable[[], Value]) -> Value:
-        """Asks the program. Once it fails, or is interrupted, the meter is closed."""
+        """Asks the program. If that fails or is interrupted, the meter is closed."""
         try:
             return question()
         except ProgramError as fault:
@@ -315,18 +316,18 @@ class Meter:
         return not any(one.pending or one.has_channel for one in self.connections.values())
 
     def _next_deadline(self, most: int) -> int:
-        """How many milliseconds there are to the next timeout of a call that waits."""
+        """How many milliseconds remain to the next timeout of a call that waits."""
         waiting = [one.pending[0] for one in self.connections.values() if one.pending]
         ends = [one.turned + one.call.wait - self.clock for one in waiting if one.turned is not None]
         return min([end for end in ends if end > 0], default=most)
 
     def _play(self) -> None:
-        """What the scenario has for this millisecond."""
+        """Executes the entries of the scenario for this millisecond."""
         while self.ahead and self.ahead[0].clock <= self.clock:
             self._perform(self.ahead.popleft().line)
 
     def _turn(self, connection: Connection) -> bytes:
-        """Lines in which the instrument begins with the first call of a connection, and dials if it is to."""
+        """The lines that make the instrument take the first call of a connection, and dial if the call asks for that."""
         pending = connection.pending[0]
         pending.turned = self.clock
         lines = b"turn %d\n" % connection.number
@@ -335,12 +336,12 @@ class Meter:
         return lines
 
     def _perform(self, lines: bytes) -> List[int]:
-        """Events; why they were refused. Calls behind those that are answered are begun with."""
+        """Executes events. Returns the reasons of those that were refused. Calls after answered ones are taken."""
         return self._take(self._asked(lambda: self.replay.do(lines)))
 
     def _take(self, printed: bytes) -> List[int]:
-        """Takes what was printed, and lets the instrument begin with further calls; why events were
-        refused.
+        """Handles what was printed, and lets the instrument take further calls. Returns the reasons of the
+        events that were refused.
         """
         refused: List[int] = []
         while printed:
@@ -356,7 +357,7 @@ class Meter:
         return refused
 
     def _came(self, port: bytes, data: bytes, answered: List[Connection]) -> None:
-        """Bytes came on a port: replies, or service requests."""
+        """Handles bytes that came on a port: replies, or service requests."""
         connection = self.connections.get(int(port[1:]))
         if connection is None:
             return
@@ -371,7 +372,7 @@ class Meter:
             answered.append(connection)
 
     def _answer(self, connection: Connection, pending: Pending[object], body: bytes) -> None:
-        """A call was answered."""
+        """Handles the reply to a call."""
         pending.end(self.clock, body)
         if pending.call.program == calls.CORE and body[4:] == vxi11.words(1, 0, 0, 0, 0, 0):
             if pending.call.procedure == calls.CREATE_INTR_CHAN:
@@ -381,13 +382,13 @@ class Meter:
                 connection.has_channel = False
 
     def _end(self, reason: Exception) -> None:
-        """The program ends, and all connections."""
+        """Ends the program, and all connections."""
         self.replay.close()
         for connection in list(self.connections.values()):
             self._gone(connection, reason)
 
     def _gone(self, connection: Connection, reason: Exception) -> None:
-        """A connection is there no more."""
+        """Ends a connection on this side: its calls end with this exception."""
         connection.is_open = connection.has_channel = False
         self.connections.pop(connection.number, None)
         for pending in connection.pending:
@@ -402,6 +403,6 @@ class Meter:
             connection.requests.callback(request)
 
     def _deliver(self) -> None:
-        """Hands on what came; a callback may do calls, by which more comes."""
+        """Hands on the service requests that came. A callback may make calls, during which more of them come."""
         while self.deliveries:
             self.deliveries.popleft()()

@@ -1,1 +1,1 @@
-"""Tests of the package, by the standard library alone, but for those of `with_pyvisa` and `with_pytest`."""
+"""Tests of the package that need only the standard library."""

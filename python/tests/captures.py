@@ -1,7 +1,7 @@
-"""Captures that were never captured, for the tests of scanvolt-capture.
+"""Made-up captures, for the tests of scanvolt-capture.
 
-They are lines as tshark prints them, of a session with a server that answers each call with one word: the
-voltage of channel 1, in microvolts. `tshark` and `scanvolt replay` are small scripts here.
+They are lines such as tshark prints, of a session with a server that answers each call with one word: the
+voltage of channel 1, in microvolts. Here small scripts take the place of `tshark` and `scanvolt replay`.
 """
 import base64
 import contextlib
@@ -25,7 +25,7 @@ case " $* " in
 *) cat "$CAPTURE.followed" ;;
 esac
 """
-# Each turn answers with the next line of REPLIES, if it has one, or else with the voltage.
+# The answer to each turn is the next line of REPLIES, if there is one, or else the voltage.
 REPLAY = """#!/bin/sh
 exec awk -v replies="$REPLIES" -v front=FRONT -v behind=BEHIND '
 $1 == "input" && $2 == 0 { print "refused 8" }
@@ -36,7 +36,7 @@ $1 == "turn" { printf "c%d %s%08x%s%08x\\n", $2, front, ++xid, behind, value }'
 
 
 def replay() -> str:
-    """The script that replays: a reply is what stands in front of its xid and behind it, and a word."""
+    """The script that replays. It writes a reply from the bytes before its xid, the xid, those after it, and a word."""
     reply = encode_reply(0, words(0)).hex()
     return REPLAY.replace("FRONT", reply[:8]).replace("BEHIND", reply[16:-8])
 
@@ -47,7 +47,7 @@ def call(xid: int) -> bytes:
 
 
 class Capture:
-    """A connection to the core port, packet by packet; times are milliseconds since START."""
+    """A connection to the core port, packet by packet. Times are in milliseconds since START."""
 
     def __init__(self, opened: int) -> None:
         self.lines: List[str] = []
@@ -58,7 +58,7 @@ class Capture:
         self.packet(opened, True)
 
     def packet(self, time: int, called: bool, data: bytes = b"", flags: int = ACK) -> None:
-        """A packet of the caller, or of the server."""
+        """Adds a packet of the caller, or of the server."""
         side = 0 if called else 1
         source, target = ENDS[side], ENDS[1 - side]
         number, size = len(self.lines) + 1, 66 + len(data)
@@ -71,7 +71,7 @@ class Capture:
                               "      " + base64.b64encode(data).decode()]
 
     def asks(self, time: int, xid: int, result: bytes, taking: int = 1) -> None:
-        """A call, and its reply so many milliseconds behind it."""
+        """Adds a call, and its reply `taking` milliseconds later."""
         self.packet(time, True, call(xid))
         self.packet(time + taking, False, encode_reply(xid, result))
 
@@ -89,14 +89,14 @@ class Folder:
         self.temporary.cleanup()
 
     def write(self, name: str, text: str, mode: int = 0o644) -> str:
-        """The path of a file that is written."""
+        """Writes a file. Returns its path."""
         path = self.path / name
         path.write_text(text, encoding="utf-8")
         path.chmod(mode)
         return str(path)
 
     def run(self, *given: str, path: Optional[str] = None, **variables: str) -> Tuple[int, str]:
-        """The status of the command, and what it prints."""
+        """Runs the command. Returns its status, and what it prints."""
         variables["PATH"] = "%s:%s" % (self.path, os.environ["PATH"]) if path is None else path
         printed = io.StringIO()
         with mock.patch.dict(os.environ, variables), mock.patch("signal.signal"), \
@@ -105,7 +105,7 @@ class Folder:
 
     def compare(self, capture: Capture, *given: str, program: Optional[str] = None,
                 scenario: Optional[str] = None, replies: Sequence[bytes] = ()) -> Tuple[int, str]:
-        """What is told of a comparison: its status, and its lines."""
+        """Compares. Returns the status, and the lines that are printed."""
         captured = self.write("captured", "\n".join(capture.lines) + "\n")
         self.write("captured.followed", "\n".join(capture.followed) + "\n")
         stored = self.write("replies", "".join(one.hex() + "\n" for one in replies))

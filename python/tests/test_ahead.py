@@ -1,4 +1,4 @@
-"""Chance sessions: time that is tried ahead leads to the same as single milliseconds do."""
+"""Random sessions: trying time ahead leads to the same as passing it in single milliseconds."""
 import random
 import unittest
 from typing import List
@@ -15,7 +15,7 @@ SESSIONS = 8
 
 
 class Session:
-    """A session of three connections, whose steps are drawn by chance; `told` is all that came of it."""
+    """A session of three connections, whose steps are random. `told` has all results."""
 
     def __init__(self, meter: Meter, chance: random.Random) -> None:
         self.meter = meter
@@ -33,7 +33,7 @@ class Session:
         return link
 
     def step(self) -> None:
-        """One step of a link."""
+        """Makes one step of a link."""
         link = self.chance.choice(self.links)
         kind = self.chance.randrange(9)
         if kind < 3:
@@ -54,7 +54,7 @@ class Session:
             self.begin(link)
 
     def begin(self, link: Link) -> None:
-        """A call that isn't waited for."""
+        """Sends a call without waiting for its reply."""
         connection = link.carrier
         assert isinstance(connection, Connection)
         ahead = link.calls
@@ -80,7 +80,7 @@ def told(seed: int) -> List[object]:
 
 
 class Ahead(unittest.TestCase):
-    """Each session once as it is, once without a second program."""
+    """Runs each session twice: as it is, and without a second program."""
 
     def test_sessions(self) -> None:
         begin_again = replay.Replay._begin_again

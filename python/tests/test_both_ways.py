@@ -1,5 +1,5 @@
-"""The sessions of the clients in examples/, over sockets and in virtual time: they print what is stored there, their
-replies are the same bytes, and the service requests the same ones, each once.
+"""The sessions of the clients in examples/, over sockets and in virtual time. They print what is stored there. Their
+replies are the same bytes both ways, and the service requests are the same ones, each sent once.
 
 tools/clients does that with the clients themselves, whose sessions it captures.
 """
@@ -27,7 +27,7 @@ Pause = Callable[[], None]
 
 
 def polled(link: Link, pause: Pause) -> int:
-    """Polls until the instrument requests service; the status byte."""
+    """Polls until the instrument requests service. Returns the status byte."""
     while True:
         status = link.readstb()
         if status & REQUEST:
@@ -36,7 +36,7 @@ def polled(link: Link, pause: Pause) -> int:
 
 
 def begun(link: Link) -> None:
-    """Whatever others left goes."""
+    """Clears what earlier sessions left, and resets the instrument."""
     link.clear()
     link.write("*RST;*CLS;*ESE 0;*SRE 0;:STAT:PRES\n")
 
@@ -74,7 +74,7 @@ def service_request(carrier: Carrier, pause: Pause) -> List[str]:
     link.write("INIT;*OPC\n")
     request: ServiceRequest = requests.wait(PATIENCE)
     told.append("service request of: " + request.handle.decode())
-    told.append("status byte behind: %d, and once more: %d" % (link.readstb(), link.readstb()))
+    told.append("status byte afterwards: %d, and once more: %d" % (link.readstb(), link.readstb()))
     told += ["%s %s" % (query, link.query(query + "\n")) for query in ("*ESR?", "FETC?", "SYST:ERR?")]
     carrier.destroy_intr_chan()
     link.destroy()
@@ -83,7 +83,7 @@ def service_request(carrier: Carrier, pause: Pause) -> List[str]:
 
 
 def several_requests(carrier: Carrier, pause: Pause) -> List[str]:
-    """Requests of two links, one after the other: handles and numbers."""
+    """Requests of two links, one after the other: returns handles and numbers."""
     links = [carrier.create_link(), carrier.create_link()]
     begun(links[0])
     requests = carrier.listen()
@@ -116,15 +116,15 @@ class BothWays(unittest.TestCase):
         self.scenario.write_text(SCENARIO)
 
     def recorded(self, run: Callable[[], List[str]]) -> Tuple[List[str], List[Tuple[str, bytes]]]:
-        """What a session prints, and its replies behind their numbers. Polls that come too early are left out:
-        how many there are is the clock's.
+        """What a session prints, and its replies, each after its number. Polls that come too early are left out:
+        how many there are depends on the clock.
         """
         replies: List[Tuple[str, bytes]] = []
         answer = calls.Call.answer
 
         def recording(call: "calls.Call[object]", body: bytes, xid: int) -> object:
             found = answer(call, body, xid)
-            if isinstance(found, calls.Made):           # it tells the port of the abort channel, which is the server's
+            if isinstance(found, calls.Made):           # it has the port of the abort channel, which the server chose
                 body = body.replace(words(found.abort_port), words(ABORT_PORT))
             if not (call.procedure == calls.DEVICE_READSTB and found == 0):
                 replies.append((call.name, body[4:]))
@@ -134,7 +134,7 @@ class BothWays(unittest.TestCase):
             return run(), replies
 
     def session(self, session: Callable[[Carrier, Pause], List[str]]) -> List[str]:
-        """What a session prints both ways, by the same replies."""
+        """What a session prints both ways. Its replies have to be the same."""
         def over_sockets() -> List[str]:
             with Server(self.scenario) as server, Client(port=server.core) as client:
                 return session(client, lambda: time.sleep(0.01))

@@ -1,5 +1,5 @@
-"""The arguments and results of VXI-11 1.0, B.6, and of RFC 1833, section 3, written down by hand: bytes as
-others send them, and not as scanvolt.vxi11 has them.
+"""The arguments and results of VXI-11 1.0, B.6, and of RFC 1833, section 3. The bytes are written down by hand as
+the standards have them, so scanvolt.vxi11 isn't tested with itself.
 """
 import pickle
 import unittest
@@ -14,7 +14,7 @@ class Arguments(unittest.TestCase):
     """Each call's arguments, in the order of the standard."""
 
     def arguments(self, call: "calls.Call[object]", head: str, text: str) -> None:
-        """A call has these bytes: its program, version and procedure, and its arguments."""
+        """Checks the bytes of a call: its program, version and procedure, and its arguments."""
         self.assertEqual(words(call.program, call.version, call.procedure).hex(" ", 4), head)
         self.assertEqual(call.arguments.hex(" ", 4), text)
 
@@ -95,7 +95,7 @@ class Arguments(unittest.TestCase):
 
 
 class Results(unittest.TestCase):
-    """What results say."""
+    """What is read from results."""
 
     def test_create_link(self) -> None:
         found = calls.create_link().read(bytes.fromhex("00000000 00000001 00001001 00001000"))
@@ -112,7 +112,7 @@ class Results(unittest.TestCase):
         self.assertEqual(calls.device_readstb(1, 1).read(bytes.fromhex("00000000 00000058")), 88)
 
     def test_errors(self) -> None:
-        """Table B.2; an error's other fields don't count."""
+        """Table B.2. The other fields of a result with an error are ignored."""
         named = {1: "syntax error", 3: "device not accessible", 4: "invalid link identifier",
                  5: "parameter error", 6: "channel not established", 8: "operation not supported",
                  9: "out of resources", 11: "device locked by another link", 12: "no lock held by this link",

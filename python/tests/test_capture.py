@@ -1,4 +1,4 @@
-"""scanvolt-capture: what is a difference, and what is told of it."""
+"""scanvolt-capture: what counts as a difference, and what is printed about it."""
 import base64
 import unittest
 from typing import Optional, Tuple
@@ -9,7 +9,7 @@ from .captures import START, Capture, Folder, call
 
 
 def told(start: int) -> Tuple[str, str]:
-    """The words that tell a start, in milliseconds since START."""
+    """The arguments that give a start, in milliseconds since START."""
     return "--start", "%.3f" % ((START + start) / 1000)
 
 
@@ -42,7 +42,7 @@ class Comparing(unittest.TestCase):
                                     self.folder.replay, 0o755)
         status, text = self.folder.compare(self.several(), *told(0), program=shorter)
         self.assertEqual(status, 2, text)
-        self.assertIn("ended early, behind", text)
+        self.assertIn("ended early, after", text)
 
     def test_a_program_that_reads_nothing_of_a_long_script_ended_early(self) -> None:
         capture = Capture(10)
@@ -94,7 +94,7 @@ class Comparing(unittest.TestCase):
             encode_reply(1, words(0, 16)), encode_reply(2, words(0, 15)), encode_reply(3, other)])
         self.assertEqual(status, 1, text)
         self.assertIn("reply 3 (device_read) of 127.0.0.1:50000 to 127.0.0.1:4096 differs", text)
-        self.assertIn('  behind the message: "MEAS:VOLT? (@1)\\n"\n', text)
+        self.assertIn('  after the message: "MEAS:VOLT? (@1)\\n"\n', text)
         self.assertRegex(text, "bytes in the capture:\n(.*\n)*  > .*  [.]{7}.[+]1.25000\n")
         self.assertRegex(text, "bytes in the replay:\n(.*\n)*  > .*  [.]{7}.[+]1.26000\n")
 
@@ -114,14 +114,14 @@ class Comparing(unittest.TestCase):
 
 
 class Starts(unittest.TestCase):
-    """The voltage tells whether a line of the scenario was due."""
+    """The voltage shows whether a line of the scenario was due."""
 
     def setUp(self) -> None:
         self.folder = Folder()
         self.addCleanup(self.folder.close)
 
     def asked(self, time: int, value: int) -> Capture:
-        """A voltage that is asked for at this time."""
+        """A capture in which the voltage is read at this time."""
         capture = Capture(time)
         capture.asks(time, 1, words(value))
         return capture
@@ -150,11 +150,11 @@ class Starts(unittest.TestCase):
         self.assertIn("the start may be wrong: without --start", text)
         status, text = self.folder.compare(self.asked(980, 7), *told(0), scenario=scenario)
         self.assertEqual(status, 1, text)
-        self.assertIn("--start may be wrong; `make serve` tells it", text)
+        self.assertIn("--start may be wrong; `make serve` prints it", text)
 
 
 class Faults(unittest.TestCase):
-    """What can't be compared has status 2, and one line that says why."""
+    """If a comparison can't be made, the status is 2, and one line says why."""
 
     def setUp(self) -> None:
         self.folder = Folder()
@@ -163,13 +163,13 @@ class Faults(unittest.TestCase):
         self.capture.asks(100, 1, words(0))
 
     def is_fault(self, reason: str, *given: str, path: Optional[str] = None) -> None:
-        """A command has status 2, and this is its reason."""
+        """Runs a command. Checks that its status is 2, and that it gives this reason."""
         status, text = self.folder.run(*given, path=path)
         self.assertEqual((status, text.count("\n")), (2, 1), text)
         self.assertRegex(text, "^scanvolt-capture: " + reason)
 
     def is_wrong(self, reason: str) -> None:
-        """The capture has status 2, and this is its reason."""
+        """Checks that the capture is refused with status 2, and for this reason."""
         status, text = self.folder.compare(self.capture, *told(0))
         self.assertEqual((status, text.count("\n")), (2, 1), text)
         self.assertRegex(text, "^scanvolt-capture: " + reason)

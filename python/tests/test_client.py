@@ -1,5 +1,5 @@
-"""The client over sockets: sessions of docs/INSTRUMENT.md with the program, and faults with peers made
-here.
+"""The client over sockets: sessions of docs/INSTRUMENT.md with the program, and faults of peers that these tests
+make.
 """
 import pathlib
 import socket
@@ -19,7 +19,7 @@ SCENARIO = "0 input 1 1250000\n0 input 2 -300000\n0 input 3 7500000\n"
 
 
 class Served(unittest.TestCase):
-    """One server for all; each test has a client and a link, and the instrument as `*RST` leaves it."""
+    """One server for all tests. Each has a client and a link, and the instrument is as `*RST` leaves it."""
 
     server: Server
 
@@ -49,7 +49,7 @@ class Served(unittest.TestCase):
 
 
 class Sessions(Served):
-    """What docs/INSTRUMENT.md says that calls answer."""
+    """What calls return, by docs/INSTRUMENT.md."""
 
     def test_the_session(self) -> None:
         link = self.link
@@ -57,7 +57,7 @@ class Sessions(Served):
         link.write("CONF:VOLT (@1:3);:CALC:LIM:UPP 5;STAT ON\n")
         link.write("STAT:QUES:ENAB 512;*SRE 24\n")
         self.assertEqual(link.query("READ?\n"), "+1.250000,-0.300000,+7.500000")
-        self.assertEqual(link.readstb(), 64 + 8)    # read at once: the response stands no more
+        self.assertEqual(link.readstb(), 64 + 8)    # bit 4 is 0: the response is no longer available
         self.assertEqual(link.query("STAT:QUES?;QUES:LIM?\n"), "512;2")
         self.assertEqual(link.query("VOLT:RANG:AUTO ON;:SYST:ERR?\n"), '-113,"Undefined header"')
         self.assertEqual(link.query("SYST:ERR?\n"), '0,"No error"')
@@ -78,7 +78,7 @@ class Sessions(Served):
         self.assertEqual(self.link.read(), b".0\n")
 
     def test_a_long_response_and_a_long_message(self) -> None:
-        """4,101 bytes go in two writes; 10,240 come in two reads."""
+        """4,101 bytes are written in two calls; 10,240 are read in two."""
         settings = "CONF:VOLT (@1:128);:TRIG:COUN 8"
         self.assertEqual(self.link.write("*CLS\n*CLS\n" + " " * 4060 + settings), 4101)
         response = self.link.query("READ?")
@@ -149,7 +149,7 @@ class Sessions(Served):
         self.assertFalse(requests.thread.is_alive())
 
     def test_a_callback_may_call(self) -> None:
-        """The callback polls over the same connection."""
+        """The callback makes a call over the same connection."""
         polls: List[int] = []
         came = threading.Event()
 
@@ -164,7 +164,7 @@ class Sessions(Served):
         self.assertEqual(polls, [68])
 
     def test_a_callback_that_raises(self) -> None:
-        """It is told as a thread's fault, and the next request comes."""
+        """Its exception is reported like that of a thread, and the next request still comes."""
         came = threading.Semaphore(0)
 
         def refuse(_request: object) -> None:
@@ -212,12 +212,12 @@ class OldVersion(calls.Call[None]):
 
 
 class Peers(unittest.TestCase):
-    """Servers of one connection that answer with bytes given here."""
+    """Servers of one connection that send the bytes given here."""
 
     LINK = encode_reply(1, words(0, 1, 4097, 4096))
 
     def link(self, *answers: bytes, patience: float = 5) -> Link:
-        """A link to a peer that sends these bytes, each behind a call, and then closes."""
+        """A link to a peer that sends one of these after each call, and then closes."""
         listener = socket.create_server(("127.0.0.1", 0))
         thread = threading.Thread(target=self.answer, args=(listener, answers))
         thread.start()
@@ -243,7 +243,7 @@ class Peers(unittest.TestCase):
         link = self.link(b"", patience=0.1)
         with self.assertRaisesRegex(ConnectionError, "no reply to device_readstb within 0.1 s"):
             link.readstb()
-        with self.assertRaises(OSError):        # it isn't used again
+        with self.assertRaises(OSError):        # the connection isn't used again
             link.readstb()
 
     def test_another_reply(self) -> None:
@@ -260,7 +260,7 @@ class Peers(unittest.TestCase):
         self.assertRaisesRegex(BadReply, "device_readstb", link.readstb)
 
     def test_writes_that_take_less(self) -> None:
-        """What wasn't taken is written again; that nothing is taken is a fault."""
+        """Bytes that weren't taken are written again. If none is taken, that is a fault."""
         link = self.link(*(encode_reply(xid, words(0, size)) for xid, size in ((2, 2), (3, 4), (4, 0))))
         self.assertEqual(link.write("*IDN?\n"), 6)
         self.assertRaisesRegex(BadReply, "took no byte of 6", link.write, "*IDN?\n")

@@ -1,4 +1,4 @@
-"""Programs that are missing, end, are killed or say what they shouldn't; and none is left behind."""
+"""Programs that are missing, end, are killed, or print what they shouldn't. No process remains after any of that."""
 import contextlib
 import gc
 import os
@@ -22,7 +22,7 @@ TOP = str(pathlib.Path(__file__).resolve().parent.parent)
 
 @contextlib.contextmanager
 def script(text: str) -> Iterator[str]:
-    """A program of the shell."""
+    """A program that is this shell script."""
     with tempfile.TemporaryDirectory() as folder:
         path = pathlib.Path(folder, "program")
         path.write_text("#!/bin/sh\n" + text)
@@ -31,7 +31,7 @@ def script(text: str) -> Iterator[str]:
 
 
 def is_there(number: int) -> bool:
-    """Whether a process is there, and isn't dead."""
+    """Whether a process exists and isn't a zombie."""
     try:
         return pathlib.Path("/proc/%d/stat" % number).read_text().rpartition(")")[2].split()[0] != "Z"
     except FileNotFoundError:
@@ -39,7 +39,7 @@ def is_there(number: int) -> bool:
 
 
 class Missing(unittest.TestCase):
-    """No program."""
+    """The program is missing."""
 
     def test_what_is_named(self) -> None:
         for path in ("/nonexistent/scanvolt", TOP, __file__):
@@ -71,7 +71,7 @@ class Missing(unittest.TestCase):
 
 
 class Ends(unittest.TestCase):
-    """Programs that end, or say something else."""
+    """Programs that end, or print something else than expected."""
 
     def test_other_programs(self) -> None:
         for text, told in (("exit 0", "ended with status 0$"), ("echo fault >&2; exit 3", "status 3: fault$"),
@@ -115,7 +115,7 @@ class Ends(unittest.TestCase):
             self.assertRaisesRegex(ProgramError, "ended by signal 9", reading.result)
 
     def test_another_program_in_its_place(self) -> None:
-        """A second program that prints otherwise isn't taken for the first."""
+        """A second program that prints something else isn't accepted in place of the first."""
         with Meter() as meter, meter.connect() as connection, connection.create_link() as link:
             link.write("CONF:VOLT (@1:128)")
             meter.replay.checksum += 1
@@ -133,7 +133,7 @@ class Ends(unittest.TestCase):
 
 
 class NothingLeft(unittest.TestCase):
-    """No process is left behind."""
+    """No process remains."""
 
     def test_garbage(self) -> None:
         meter = Meter()
@@ -151,13 +151,13 @@ class NothingLeft(unittest.TestCase):
         self.assertFalse(is_there(number))
 
     def test_python_ends(self) -> None:
-        """By itself, by Ctrl-C within a call, and killed."""
+        """No process remains when Python comes to its end, gets Ctrl-C during a call, or is killed."""
         for how in (None, signal.SIGINT, signal.SIGTERM, signal.SIGKILL):
             with self.subTest(how):
                 self.leaves(how)
 
     def leaves(self, how: "signal.Signals | None") -> None:
-        # Whoever began these tests in the background may have left Ctrl-C ignored.
+        # If these tests were started in the background, Ctrl-C may still be ignored.
         text = ("import signal\nsignal.signal(signal.SIGINT, signal.default_int_handler)\n"
                 "from scanvolt.virtual import Meter\nmeter = Meter()\n"
                 "print(meter.replay.program.process.pid, flush=True)\n") + (

@@ -1,4 +1,4 @@
-"""scanvolt-portmap, beside a port mapper that a thread is here."""
+"""scanvolt-portmap with a port mapper that is a thread of these tests."""
 import contextlib
 import os
 import pathlib
@@ -16,7 +16,7 @@ from scanvolt.vxi11 import Reader, Records, calls, encode_reply, read_call, word
 PACKAGE = pathlib.Path(portmap.__file__).resolve().parents[1]
 ENVIRONMENT = dict(os.environ, PYTHONPATH=str(PACKAGE), PYTHONDONTWRITEBYTECODE="1")
 PATIENCE = 20       # seconds
-# Whoever began these tests in the background may have left signals ignored.
+# If these tests were started in the background, signals may still be ignored.
 COMMAND = """import signal, sys
 from scanvolt import portmap
 for number in portmap.ENDING:
@@ -26,7 +26,7 @@ sys.exit(portmap.main())
 
 
 class Mapper(threading.Thread):
-    """A port mapper with some programs. `refuses` are those that it doesn't register."""
+    """A port mapper with some programs registered. It refuses to register those in `refuses`."""
 
     def __init__(self, **known: int) -> None:
         super().__init__(daemon=True)
@@ -45,7 +45,7 @@ class Mapper(threading.Thread):
                     self.serve(peer)
 
     def serve(self, peer: socket.socket) -> None:
-        """One connection, to its end."""
+        """Serves one connection, until it ends."""
         records = Records()
         while True:
             data = peer.recv(4096)
@@ -58,7 +58,7 @@ class Mapper(threading.Thread):
                     reader.word() for _ in range(4))))))
 
     def answer(self, procedure: int, program: int, version: int, protocol: int, port: int) -> int:
-        """What a call answers, by RFC 1833, section 3.2."""
+        """The result of a call, by RFC 1833, section 3.2."""
         self.asked.append((calls.name_of(calls.PORT_MAPPER, procedure), str(version), str(protocol)))
         if procedure == calls.GETPORT:
             return self.programs.get(program, 0)
@@ -76,7 +76,7 @@ class Mapper(threading.Thread):
 
 
 class Registering(unittest.TestCase):
-    """The command, as it is run."""
+    """The command, run as a process."""
 
     def mapper(self, **known: int) -> Mapper:
         mapper = Mapper(**known)
@@ -85,7 +85,7 @@ class Registering(unittest.TestCase):
 
     @contextlib.contextmanager
     def running(self, port: int, *given: str) -> "Iterator[subprocess.Popen[str]]":
-        """The command, until it ends; nothing of it stays."""
+        """Runs the command during a `with` block, and ends it then."""
         command = [sys.executable, "-c", COMMAND, "--port", str(port), *given]
         with subprocess.Popen(command, env=ENVIRONMENT, stdout=subprocess.PIPE, stderr=subprocess.PIPE,
                               text=True) as process:
@@ -95,7 +95,7 @@ class Registering(unittest.TestCase):
                 process.kill()
 
     def status(self, port: int, *given: str) -> Tuple[int, str]:
-        """The status of a command that can't do it, and its reason, which is one line."""
+        """The status of a command that fails, and the one line that it prints as its reason."""
         with self.running(port, *given) as process:
             told, fault = process.communicate(timeout=PATIENCE)
             self.assertEqual((told, fault.count("\n")), ("", 1))
@@ -117,8 +117,8 @@ class Registering(unittest.TestCase):
         mapper = self.mapper(ABORT=7)
         status, reason = self.status(mapper.port)
         self.assertEqual((status, mapper.programs), (1, {calls.ABORT: 7}))
-        self.assertRegex(reason, "^scanvolt-portmap: the abort program, %d, has port 7 already, by somebody else; "
-                         "`rpcinfo -d %d 1`" % (calls.ABORT, calls.ABORT))
+        self.assertRegex(reason, "^scanvolt-portmap: somebody else has registered the abort program, %d, at port 7; "
+                         "whoever did can unregister it by `rpcinfo -d %d 1`" % (calls.ABORT, calls.ABORT))
 
     def test_a_port_mapper_that_refuses(self) -> None:
         mapper = self.mapper()
@@ -165,7 +165,7 @@ class Registering(unittest.TestCase):
                 self.assertIn("argument --core: not a port, 1 to 65535: " + word, fault)
 
     def test_the_port_mapper_of_the_machine(self) -> None:
-        """Port 111, where its own socket isn't there."""
+        """Port 111, if its own socket doesn't exist."""
         self.assertEqual((portmap.words([]).port, portmap.LOCAL), (111, "/run/rpcbind.sock"))
 
 

@@ -1,4 +1,4 @@
-"""The first pieces of Python of the README, which need the standard library alone, do what they say."""
+"""The first pieces of Python in README.md, which need only the standard library, do what README.md says."""
 import pathlib
 import re
 import unittest
@@ -11,7 +11,7 @@ PIECES = re.findall(r"```python\n(.*?)```", TEXT, re.DOTALL)
 
 
 class Readme(unittest.TestCase):
-    """Pieces in their order."""
+    """The pieces in their order."""
 
     def test_virtual_time(self) -> None:
         exec(compile(PIECES[0], "README.md", "exec"), {})

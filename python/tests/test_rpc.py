@@ -1,5 +1,5 @@
-"""Records, calls and replies: the bytes of RFC 5531 and RFC 4506, written down by hand: bytes as others send
-them, and not as scanvolt.vxi11 has them.
+"""Records, calls and replies of RFC 5531 and RFC 4506. The bytes are written down by hand as the standards have
+them, so scanvolt.vxi11 isn't tested with itself.
 """
 import unittest
 
@@ -11,7 +11,7 @@ from scanvolt.vxi11.rpc import RESULT_AT
 
 
 def data(*texts: str) -> bytes:
-    """The bytes that hexadecimal texts say."""
+    """The bytes of texts in hexadecimal."""
     return bytes.fromhex(" ".join(texts))
 
 
@@ -41,7 +41,7 @@ class Values(unittest.TestCase):
 
 
 class Marks(unittest.TestCase):
-    """RFC 5531, section 11: a mark's top bit says that it is the last fragment, the rest is its length."""
+    """RFC 5531, section 11: the top bit of a mark says that the fragment is the last one; the others are its length."""
 
     def test_one_fragment(self) -> None:
         self.assertEqual(record(b"abcde"), data("80000005 6162636465"))

@@ -1,5 +1,5 @@
 """scanvolt-scenario: pictures of short scenarios, lines as `scanvolt serve` takes them, ranges of channels, and
-the lines of faults.
+messages about faults.
 """
 import contextlib
 import io
@@ -20,17 +20,17 @@ GOOD = ("0 input 1 -1000000000", "0 input 128 1000000000", "0 input 1 0000000000
 
 
 class Commands(unittest.TestCase):
-    """The command with words."""
+    """The command with arguments."""
 
     def run_words(self, *words: str) -> Tuple[int, str, str]:
-        """The status, the output and the faults of these words."""
+        """The status, the output and the messages for these arguments."""
         told, faults = io.StringIO(), io.StringIO()
         with mock.patch("signal.signal"), contextlib.redirect_stdout(told), contextlib.redirect_stderr(faults):
             status = main(list(words))
         return status, told.getvalue(), faults.getvalue()
 
     def run_on(self, text: str, *words: str, option: str = "--of") -> Tuple[int, str, str]:
-        """The same on a file with this text."""
+        """The same for a file with this text."""
         with tempfile.NamedTemporaryFile("w", newline="", suffix=".text") as file:
             file.write(text)
             file.flush()
@@ -39,7 +39,7 @@ class Commands(unittest.TestCase):
 
 
 class Scenarios(Commands):
-    """What is written and drawn."""
+    """What the command writes and draws."""
 
     def test_lines_of_one_moment_have_a_picture(self) -> None:
         status, text, faults = self.run_on("0 input 1 1250000\n0 input 2 -300000\n", "--picture")
@@ -83,10 +83,10 @@ class Scenarios(Commands):
 
 
 class Checks(Commands):
-    """--check tells each bad line, and why."""
+    """--check prints each bad line, and why it is bad."""
 
     REASONS = (("x external", "a time is a whole number"), ("4 external", "a time may not be before .*, 5: 4$"),
-               ("5 trigger", "behind the time stands"), ("5  external", "behind the time stands"),
+               ("5 trigger", "after the time comes"), ("5  external", "after the time comes"),
                ("5 input 0 1", "a channel is .* not `0`$"), ("5 input 129 1", "a channel is .* not `129`$"),
                ("5 input 1 1.5", "a voltage is .* not `1.5`$"), ("5 input 1 1000000001", "a voltage is "),
                ("5 external" + 65536 * " ", "it has more than 65536 bytes$"))

@@ -1,4 +1,4 @@
-"""Scenarios, as docs/INSTRUMENT.md says them, in virtual time."""
+"""Scenarios in virtual time, as docs/INSTRUMENT.md describes them."""
 import pathlib
 import tempfile
 import unittest
@@ -40,7 +40,7 @@ class Scenarios(unittest.TestCase):
         self.assertRaises(OSError, Meter, scenario="/nonexistent")
 
     def test_their_milliseconds(self) -> None:
-        """A reading of millisecond 10 is of what came before it: an entry of 10 comes behind it."""
+        """The reading at millisecond 10 has the voltage from before it: an entry for millisecond 10 comes after it."""
         meter = self.meter("0 input 1 1000000\n10 input 1 2000000\n11 input 1 3000000\n")
         link = meter.connect().create_link()
         self.assertEqual(link.query("MEAS:VOLT? (@1)"), "+1.000000")

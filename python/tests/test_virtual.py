@@ -16,7 +16,7 @@ from scanvolt.vxi11 import (CORE, DeviceError, GarbageArguments, Link, Procedure
 
 Value = TypeVar("Value")
 REAL_TIME = 0.05        # seconds that a measurement of 2,048 ms may take, by the proved program
-TRIES = 20              # how often it may take longer
+TRIES = 20              # tries of which one has to take less
 
 
 class WithMeter(unittest.TestCase):
@@ -40,7 +40,7 @@ class WithMeter(unittest.TestCase):
         self.assertEqual(caught.exception.number, number)
 
     def takes(self, milliseconds: int, call: Callable[[], Value]) -> Value:
-        """A call that takes so much virtual time."""
+        """Makes a call, and checks that it takes this much virtual time."""
         began = self.meter.clock
         try:
             return call()
@@ -49,7 +49,7 @@ class WithMeter(unittest.TestCase):
 
 
 class Sessions(WithMeter):
-    """The session of docs/INSTRUMENT.md, and what its tables say of calls."""
+    """The session of docs/INSTRUMENT.md, and what its tables say about calls."""
 
     def test_the_session(self) -> None:
         link = self.link
@@ -121,7 +121,7 @@ class Sessions(WithMeter):
 
 
 class Lines(unittest.TestCase):
-    """A session of examples/, whose lines and print were written down by hand (examples/identity.md)."""
+    """A session of examples/ whose lines and output were written down by hand (examples/identity.md)."""
 
     def test_the_lines_of_a_session(self) -> None:
         script = pathlib.Path(__file__).resolve().parents[2] / "examples/identity.replay"
@@ -137,7 +137,7 @@ class Lines(unittest.TestCase):
 
 
 class Moments(WithMeter):
-    """What takes how many milliseconds."""
+    """How many milliseconds calls take."""
 
     def test_timeouts(self) -> None:
         self.link.write("TRIG:SOUR EXT;:INIT;*OPC?")
@@ -172,7 +172,7 @@ class Moments(WithMeter):
         self.assertEqual(reading.clock, 450)
 
     def test_measurements(self) -> None:
-        """As many milliseconds as readings, wherever that lies in what is tried ahead."""
+        """They take as many milliseconds as readings, wherever their end lies in the time that is tried ahead."""
         for channels, count in ((1, 1), (7, 9), (8, 8), (5, 13), (100, 1), (127, 8), (64, 17 - 1), (128, 9)):
             with self.subTest(channels=channels, count=count):
                 self.link.write("CONF:VOLT (@1:%d);:TRIG:COUN %d" % (channels, count))
@@ -180,8 +180,8 @@ class Moments(WithMeter):
                 self.assertEqual(answer.count(","), channels * count - 1)
 
     def test_the_longest_measurement(self) -> None:
-        """2,048 ms, whose response of 20,480 bytes is read whole, in little real time: the least of some, since
-        others use the machine too.
+        """2,048 ms, whose response of 20,480 bytes is read whole, take little real time. The shortest of several
+        tries counts, since other programs use the machine too.
         """
         passed: List[float] = []
         self.link.write("CONF:VOLT (@1:128);:TRIG:COUN 16")
@@ -196,7 +196,7 @@ class Moments(WithMeter):
         self.assertLess(min(passed), REAL_TIME)
 
     def test_without_a_second_program(self) -> None:
-        """Where too many lines went by, time is tried millisecond by millisecond."""
+        """After too many lines, time is tried millisecond by millisecond."""
         with mock.patch.object(replay, "LOG_MOST", 100):
             self.link.write("CONF:VOLT (@1:100);:TRIG:COUN 2")
             program = self.meter.replay.program
@@ -204,7 +204,7 @@ class Moments(WithMeter):
             self.assertIs(self.meter.replay.program, program)
 
     def test_a_second_program(self) -> None:
-        """It takes the place of the first, and goes on as that would have."""
+        """The second program takes the place of the first, and continues as the first would have."""
         first = self.meter.replay.program
         self.link.write("CONF:VOLT (@1:100);:TRIG:COUN 2")
         for _ in range(3):
@@ -271,8 +271,7 @@ class InFlight(WithMeter):
         self.assertIsNone(latest.result())
 
     def test_calls_sent_ahead(self) -> None:
-        """They are done one after the other, each in the millisecond in which the one in front is answered.
-        """
+        """The calls are done one after the other, each in the millisecond in which the one before it is answered."""
         self.link.write("CONF:VOLT (@1:3)")
         start, ahead = self.connection.start, self.link.calls
         writes = [start(ahead.write(b"READ?"))]
@@ -325,7 +324,7 @@ class InFlight(WithMeter):
         self.assertRaisesRegex(ConnectionError, "no room", self.connection.start, write)
 
     def test_threads(self) -> None:
-        """They share a meter, each with a connection of its own. No call waits, so no time passes."""
+        """Threads share a meter, each with a connection of its own. No call waits, so no time passes."""
         polls: List[int] = []
 
         def poll() -> None:
@@ -369,7 +368,7 @@ class ServiceRequests(WithMeter):
         self.assertEqual(list(requests.queue.queue), [ServiceRequest(b"handle", 2, 106)])
 
     def test_a_callback(self) -> None:
-        """It is called at its millisecond, and may do calls."""
+        """The callback runs at the millisecond of its request, and may make calls."""
         found: List[object] = []
 
         def poll(request: ServiceRequest) -> None:

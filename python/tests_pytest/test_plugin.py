@@ -82,14 +82,14 @@ def test_bad_options(pytester: pytest.Pytester) -> None:
     result = pytester.runpytest_subprocess(*PLUGIN)
     result.assert_outcomes(errors=5)
     result.stdout.fnmatch_lines([
-        "bad line 1 of the scenario /*/bad: behind the time stands *", "*No such file or directory: '/*/none'",
+        "bad line 1 of the scenario /*/bad: after the time comes *", "*No such file or directory: '/*/none'",
         "the marker scanvolt has no option voltages, but scenario, patience",
         "the marker scanvolt has no option without a name, but scenario, patience",
         "*scanvolt doesn't serve: scanvolt: bad line 1"])
 
 
 def test_a_test_that_is_interrupted(pytester: pytest.Pytester) -> None:
-    """No program is left."""
+    """No process remains."""
     pytester.makepyfile("""
         def test_one(meter):
             print("process", meter.replay.program.process.pid)

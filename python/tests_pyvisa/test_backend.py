@@ -1,4 +1,4 @@
-"""The backend of PyVISA: what a driver does by it, and VISA's statuses for what isn't there."""
+"""The backend of PyVISA: what a driver does with it, and VISA's statuses for what it doesn't have."""
 import inspect
 import os
 import pathlib
@@ -42,7 +42,7 @@ class WithResource(unittest.TestCase):
         return meter
 
     def error(self, status: StatusCode, call: Callable[[], object], milliseconds: int = 0) -> None:
-        """A call that raises this status, after so much virtual time."""
+        """Checks that a call raises this status, after this much virtual time."""
         began = self.meter.clock
         with self.assertRaises(pyvisa.VisaIOError) as caught:
             call()
@@ -124,7 +124,7 @@ class Messages(WithResource):
         self.assertEqual(self.meter.clock, 6)
 
     def test_whole_responses(self) -> None:
-        """Also one of 20,480 bytes, as many as PyVISA reads at once."""
+        """Also a response of 20,480 bytes, as many as PyVISA reads at once."""
         self.resource.timeout = 5000
         for count in (1, 8, 15, 16):
             self.resource.write("CONF:VOLT (@1:128);:TRIG:COUN %d" % count)
@@ -264,7 +264,7 @@ class Events(WithResource):
         self.assertTrue(self.resource.wait_on_event(SRQ, 10, capture_timeout=True).timed_out)
 
     def test_a_handler(self) -> None:
-        """It is called at its millisecond, and may poll."""
+        """A handler runs at the millisecond of its request, and may poll."""
         found: List[object] = []
 
         def handle(resource: Any, event: Any, user_handle: object) -> None:
@@ -310,7 +310,7 @@ class Events(WithResource):
 
 
 class Others(WithResource):
-    """Attributes, what isn't there, and the end."""
+    """Attributes, unsupported operations, and what happens at the end."""
 
     def test_attributes(self) -> None:
         resource = self.resource
@@ -343,7 +343,7 @@ class Others(WithResource):
                     self.manager.visalib, name)(self.resource.session))
 
     def test_all_of_the_library(self) -> None:
-        """No operation of PyVISA's is left out."""
+        """The backend has every operation that PyVISA may call."""
         library: Any = type(self.manager.visalib)
         left = [name for name in dir(pyvisa.highlevel.VisaLibraryBase) if not name.startswith("_")
                 and "raise NotImplementedError" in source(getattr(pyvisa.highlevel.VisaLibraryBase, name))
@@ -369,7 +369,7 @@ class Others(WithResource):
         self.error(StatusCode.error_connection_lost, self.resource.read_stb)
 
     def test_the_readme(self) -> None:
-        """Its piece of PyVISA does what it says."""
+        """The piece with PyVISA in README.md does what README.md says."""
         text = pathlib.Path(__file__).resolve().parent.parent.joinpath("README.md").read_text()
         piece = text.split("```python\n")[3].split("```")[0]
         self.manager.close()

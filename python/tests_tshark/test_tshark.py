@@ -1,6 +1,6 @@
-"""scanvolt-capture over captures that tshark itself reads: segments that come twice, too early or not at all.
+"""scanvolt-capture with captures that tshark itself reads: segments that come twice, too early or not at all.
 
-Their packets are written here as pcap files have them: bytes from outside.
+These tests write the packets as pcap files have them, by their bytes.
 """
 import contextlib
 import io
@@ -21,12 +21,12 @@ from scanvolt.vxi11 import calls, encode_reply
 FIN, SYN, RST, ACK = 1, 2, 4, 16
 SERVER, CLIENT = 4096, 50000
 PCAP = struct.pack("=IHHiIII", 0xA1B2C3D4, 2, 4, 0, 0, 65535, 101)      # raw IPv4
-BEGIN = 2 ** 32 - 20        # the first sequence number: soon they are counted anew
+BEGIN = 2 ** 32 - 20        # the first sequence number; it soon passes 2^32
 
 
 def segment(time: int, called: bool, seq: int, ack: int, flags: int, data: bytes = b"",
             keep: Optional[int] = None) -> bytes:
-    """A packet of a capture, at a millisecond: of the client, or of the server."""
+    """A packet of a capture, at a millisecond: from the client, or from the server."""
     ports = (CLIENT, SERVER) if called else (SERVER, CLIENT)
     tcp = struct.pack(">HHIIBBHHH", *ports, seq % 2 ** 32, ack % 2 ** 32, 0x50, flags, 65535, 0, 0) + data
     ip = struct.pack(">BBHHHBBH4s4s", 0x45, 0, 20 + len(tcp), 1, 0x4000, 64, 6, 0, b"\x7f\0\0\1", b"\x7f\0\0\1")
@@ -45,13 +45,13 @@ class Captured:
 
     def add(self, time: int, called: bool, place: int, data: bytes = b"", flags: int = ACK, ack: Optional[int] = 0,
             keep: Optional[int] = None) -> None:
-        """A segment: where its bytes lie, and how many of the other direction its sender has."""
+        """Adds a segment: where its bytes lie, and how many bytes of the other direction its sender acknowledges."""
         known = 0 if ack is None else BEGIN + 1 + ack
         self.segments.append(segment(time, called, BEGIN + 1 + place, known, flags, data, keep))
 
 
 class Reading(unittest.TestCase):
-    """What a stream is put together to."""
+    """How a stream is put together."""
 
     def setUp(self) -> None:
         temporary = tempfile.TemporaryDirectory(prefix="tshark-")
@@ -66,7 +66,7 @@ class Reading(unittest.TestCase):
         return found[0]
 
     def told(self) -> List[Tuple[int, str, bytes]]:
-        """What happened: the packet's number, what, and the bytes."""
+        """What happened: the packet's number, the kind, and the bytes."""
         return [(one.number, one.kind, one.data) for one in self.read().happenings]
 
     def is_fault(self, reason: str) -> None:
@@ -107,7 +107,7 @@ class Reading(unittest.TestCase):
             self.assertEqual(self.told(), [(3, "opened", b""), (4, "sent", b"abc"), (5, kind, b"")])
 
     def test_a_reset_behind_the_end(self) -> None:
-        """The server closed, so a reset is nothing more."""
+        """The server closed first, so a reset is ignored."""
         self.captured.add(1, True, 0, b"abc")
         self.captured.add(2, False, 0, b"def", FIN | ACK, ack=3)
         self.captured.add(3, True, 3, b"ghi", ack=3)
@@ -145,13 +145,13 @@ class Reading(unittest.TestCase):
 
 
 class Comparing(unittest.TestCase):
-    """A session that the meter itself had, as packets."""
+    """A session with a meter, written as packets."""
 
     SESSION = (calls.create_link(), calls.device_write(1, b"*IDN?\n", 0), calls.device_read(1, 99, 0),
                calls.device_write(1, b"MEAS:VOLT? (@1)\n", 0), calls.device_read(1, 99, 9))
 
     def replies(self) -> List[bytes]:
-        """What the meter answers."""
+        """The replies of the meter."""
         with Meter() as meter, meter.connect() as connection:
             found = []
             for call in self.SESSION:
@@ -161,7 +161,7 @@ class Comparing(unittest.TestCase):
             return found
 
     def compared(self, replies: List[bytes], *given: str, mode: str = "compare") -> Tuple[int, str]:
-        """The status and the lines of a comparison, with each segment in two parts, the second one first."""
+        """The status and the lines of a comparison. Each segment comes in two parts, the second one first."""
         captured = Captured()
         counts = [0, 0]
         for xid, (call, reply) in enumerate(zip(self.SESSION, replies), 1):
@@ -202,7 +202,7 @@ class Comparing(unittest.TestCase):
         replies[2] = replies[2].replace(b"SV32", b"SV31")
         status, text = self.compared(replies)
         self.assertEqual(status, 1, text)
-        self.assertIn('  behind the message: "*IDN?\\n"', text)
+        self.assertIn('  after the message: "*IDN?\\n"', text)
         self.assertRegex(text, "byte [0-9]+ of the reply: 31 in the capture, 32 in the replay")
         self.assertRegex(text, "(?s)in the capture:.*SV31.*in the replay:.*SV32")
 

@@ -1,6 +1,6 @@
-"""Peers that misbehave, and those beside them: what tools/hostile and tools/soak share."""
+"""Clients that misbehave, and clients that behave meanwhile: what tools/hostile and tools/soak share."""
 import pathlib
 import sys
 
-# The package scanvolt of this checkout, whatever else is installed.
+# Take the package scanvolt of this checkout, even if another one is installed.
 sys.path.insert(0, str(pathlib.Path(__file__).resolve().parents[2] / "python"))

@@ -1,4 +1,4 @@
-"""Peers that behave, and must lose nothing."""
+"""Clients that behave while others attack, and must lose nothing."""
 import socket
 import threading
 import time
@@ -6,7 +6,7 @@ import time
 from attacking.calls import PATIENCE, Lost, Peer
 from scanvolt.vxi11 import calls
 
-# The service requests that come: each has the next number as its xid.
+# The service requests that come. The xid of each is one more than that of the request before.
 HANDLE = b"beside"
 REQUEST = calls.device_intr_srq(HANDLE)
 SIZE = len(REQUEST.encode(0))
@@ -23,7 +23,7 @@ class Beside(threading.Thread):
         self.slowest = 0.0
         self.fault = None
         self.going = True
-        # Who holds it keeps the client silent.
+        # While somebody holds this lock, the client is silent.
         self.turn = threading.Lock()
 
     def run(self):
@@ -35,11 +35,11 @@ class Beside(threading.Thread):
                     self.slowest = max(self.slowest, time.monotonic() - begun)
                 time.sleep(0.002)
         except (OSError, Lost) as fault:
-            self.fault = "the client beside lost a reply, behind %d: %s" % (self.replies, fault)
+            self.fault = "the client beside lost a reply, after %d: %s" % (self.replies, fault)
 
 
 class Requests(threading.Thread):
-    """A client that asks for service again and again, and must get each request for it."""
+    """A client that makes the server request service again and again, and must get each request."""
 
     def __init__(self, port):
         super().__init__(daemon=True)
@@ -50,15 +50,15 @@ class Requests(threading.Thread):
             self.peer.do(calls.create_intr_chan(calls.LOOPBACK, listener.getsockname()[1]))
             self.channel = listener.accept()[0]
         self.peer.do(calls.device_enable_srq(self.peer.link, HANDLE))
-        self.count = 0          # calls that came, of which others may have raised some
-        self.asked = 0          # requests that it raised
+        self.count = 0          # service requests that came; other clients may have caused some
+        self.asked = 0          # service requests that this client caused
         self.data = b""
         self.fault = None
         self.going = True
         self.turn = threading.Lock()
 
     def take(self, patience):
-        """Takes calls that came, or waits so long for one. Each has the next number."""
+        """Reads service requests that came, or waits up to `patience` seconds for one. Checks their xids."""
         self.channel.settimeout(patience)
         try:
             piece = self.channel.recv(65536)
@@ -70,12 +70,12 @@ class Requests(threading.Thread):
         while len(self.data) >= SIZE:
             self.count += 1
             if self.data[:SIZE] != REQUEST.encode(self.count):
-                raise Lost("request %d is another: %s" % (self.count, self.data[:SIZE].hex()))
+                raise Lost("request %d has other bytes: %s" % (self.count, self.data[:SIZE].hex()))
             self.data = self.data[SIZE:]
         return True
 
     def ask(self):
-        """Raises one request, with the lock, so that nobody else does."""
+        """Causes one service request, while it holds the lock, so that no other client causes one."""
         self.peer.lock()
         self.peer.write(b"*CLS;*SRE 4\n")
         self.peer.poll()
@@ -99,4 +99,4 @@ class Requests(threading.Thread):
                     self.ask()
                 time.sleep(0.01)
         except (OSError, Lost) as fault:
-            self.fault = "a request was lost, behind %d: %s" % (self.asked, fault)
+            self.fault = "a request was lost, after %d: %s" % (self.asked, fault)

@@ -1,4 +1,4 @@
-"""A peer that makes calls of VXI-11, and may break off within one."""
+"""A client that makes calls of VXI-11, and may break off within one."""
 import socket
 import struct
 
@@ -12,26 +12,26 @@ TIMEOUT = 15000         # the timeout of calls, in milliseconds
 
 
 class Lost(Exception):
-    """Something that should have come didn't."""
+    """Something that the server should have sent didn't come."""
 
 
 class NoRoom(Lost):
-    """A link was refused for want of room."""
+    """The server refused a link since it had no room."""
 
 
 class Dropped(Exception):
-    """A peer has sent all that it was to send."""
+    """A peer has sent as many bytes as it should, and broke off."""
 
 
 def reset(connection):
-    """Closes, so that the other side sees a reset."""
+    """Closes a connection so that the other side sees a reset."""
     connection.setsockopt(socket.SOL_SOCKET, socket.SO_LINGER, struct.pack("ii", 1, 0))
     connection.close()
 
 
 class Peer:
-    """A connection. With a limit it drops, by Dropped, once so many bytes are sent. A narrow one
-    has little room on its way from the server.
+    """A connection. With a limit it breaks off, and raises Dropped, after that many bytes were sent. With `narrow`
+    it has little room for bytes from the server.
     """
 
     def __init__(self, port, limit=None, narrow=False):
@@ -53,7 +53,7 @@ class Peer:
         self.socket.close()
 
     def drop(self, chance):
-        """Closes, so that the other side sees an end or a reset."""
+        """Closes the connection so that the other side sees an end or a reset, by chance."""
         if chance.random() < 0.5:
             reset(self.socket)
         self.socket.close()
@@ -76,7 +76,7 @@ class Peer:
         return data
 
     def reply(self):
-        """The bytes of the next record, with its marks."""
+        """The bytes of the next record, with the marks of its fragments."""
         records, data = Records(), b""
         while True:
             data += self.take(1 if records.left is None else records.left)
@@ -84,7 +84,7 @@ class Peer:
                 return data
 
     def result(self, call):
-        """Does a call; the bytes of its result."""
+        """Makes a call. Returns the bytes of its result."""
         self.xid += 1
         self.send(call.encode(self.xid))
         reply = self.reply()
@@ -93,10 +93,10 @@ class Peer:
         return reply[RESULT_AT:]
 
     def do(self, call, expected=b""):
-        """Does a call of the core channel that answers so, behind no error."""
+        """Makes a call of the core channel. Checks that its result is error 0 and then these bytes."""
         found = self.result(call)
         if found != words(0) + expected:
-            raise Lost("%s answers otherwise: %s" % (call.name, found.hex()))
+            raise Lost("%s returns something else: %s" % (call.name, found.hex()))
 
     def make_link(self):
         call = calls.create_link(client=1)
@@ -113,14 +113,14 @@ class Peer:
         self.do(calls.device_write(self.link, text, TIMEOUT), words(len(text)))
 
     def lock(self):
-        """Waits for the lock."""
+        """Takes the lock, and waits for it."""
         self.do(calls.device_lock(self.link, TIMEOUT))
 
     def unlock(self):
         self.do(calls.device_unlock(self.link))
 
     def session(self):
-        """The lock, a cleared instrument, its name, a poll, the lock freed; six replies."""
+        """Takes the lock, clears the device, asks for its name, polls, and frees the lock. Returns the number of replies."""
         self.lock()
         self.do(calls.device_clear(self.link, TIMEOUT, TIMEOUT))
         self.write(b"*IDN?\n")
@@ -130,7 +130,7 @@ class Peer:
         return 6
 
     def poll(self):
-        """The status byte."""
+        """Reads the status byte."""
         call = calls.device_readstb(self.link, TIMEOUT, TIMEOUT)
         found = self.result(call)
         try:

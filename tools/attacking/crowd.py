@@ -1,4 +1,4 @@
-"""Peers that ask without a pause, and a deadline beside them."""
+"""Clients that make calls without a pause, and how late a deadline comes meanwhile."""
 import multiprocessing
 import time
 
@@ -6,14 +6,14 @@ from attacking.calls import PATIENCE, Lost, Peer
 from scanvolt.vxi11 import calls, encode_reply, words
 from scanvolt.vxi11.errors import LOCKED
 
-PROCESSES, EACH = 3, 4      # who asks, and on how many connections
+PROCESSES, EACH = 3, 4      # how many processes make calls, and on how many connections each
 DEADLINES = 20
-WAIT = 100                  # milliseconds of a deadline
-LATEST = 1000               # milliseconds behind which a deadline counts as lost
+WAIT = 100                  # milliseconds until a deadline
+LATEST = 1000               # a deadline that comes this many milliseconds late counts as lost
 
 
 def ask(port, begun, ended):
-    """Asks on each of its connections as soon as the last reply there came: calls that do nothing."""
+    """On each of its connections makes a call that does nothing, and the next one as soon as its reply comes."""
     peers = [Peer(port) for _ in range(EACH)]
     nothing = calls.null().encode(1)
     for peer in peers:
@@ -26,18 +26,18 @@ def ask(port, begun, ended):
 
 
 def lateness(peer, first, second):
-    """By how many milliseconds a call is late that waits in vain for the lock."""
+    """By how many milliseconds a call that waits in vain for the lock returns late."""
     peer.do(calls.device_lock(first))
     begun = time.monotonic()
     found = peer.result(calls.device_lock(second, WAIT))
     late = 1000 * (time.monotonic() - begun) - WAIT
     if found != words(LOCKED):
-        raise Lost("a call that waited for the lock answers otherwise: %s" % found.hex())
+        raise Lost("a call that waited for the lock returns something else: %s" % found.hex())
     return late
 
 
 def latest(server):
-    """The greatest of so many, while others ask without a pause."""
+    """The greatest lateness of DEADLINES calls, while other clients make calls without a pause."""
     begun, ended = multiprocessing.Semaphore(0), multiprocessing.Event()
     crowd = [multiprocessing.Process(target=ask, args=(server.core, begun, ended), daemon=True)
              for _ in range(PROCESSES)]

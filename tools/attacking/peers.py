@@ -1,5 +1,5 @@
-"""The hostile peers, each alone. A connection that is refused, dropped or reset is to be expected:
-it may be the seventeenth, or its bytes were no call.
+"""The hostile peers, one function each. A connection may well be refused, dropped or reset: it may be the
+seventeenth, or its bytes weren't a call.
 """
 import socket
 import time
@@ -11,7 +11,7 @@ from scanvolt.vxi11.errors import LOCKED, NOT_ESTABLISHED
 PLACES = 16
 LONGEST = 0xFFFFFFFF    # the longest timeout, in milliseconds
 ASK_PORT = calls.getport(calls.CORE, 1)
-# What leaves a connection no room while its call waits: further calls, or a record that is too long.
+# Bytes after a waiting call that leave the connection no room: further calls, or a record that is too long.
 FURTHER, TOO_LONG = calls.null().encode(1) * 1000, mark(8193)
 
 
@@ -36,7 +36,7 @@ def visit(server, chance):
 
 
 def noise(chance):
-    """10,000 random bytes: bare, in records, or as the arguments of calls."""
+    """Makes 10,000 random bytes: bare, in records, or as the arguments of calls."""
     kind = chance.randrange(3)
     data = b""
     while len(data) < 10000:
@@ -51,7 +51,7 @@ def noise(chance):
 
 
 def send_noise(server, chance):
-    """Sends random bytes, and waits a little for what comes of it."""
+    """Sends random bytes, and waits a little for what the server does with them."""
     with Peer(chance.choice(server.ports)) as peer:
         peer.socket.settimeout(0.5)
         try:
@@ -62,7 +62,7 @@ def send_noise(server, chance):
 
 
 def reset_early(server, chance):
-    """Resets while replies are on their way."""
+    """Resets a connection while replies are on their way."""
     try:
         peer = Peer(server.core)
         peer.send(calls.null().encode(1) * chance.randrange(1, 200))
@@ -73,7 +73,7 @@ def reset_early(server, chance):
 
 
 def half_close(server, chance):
-    """Ends its own direction behind some calls, or within one; the server has to close."""
+    """Shuts down its sending direction after some calls, or within one. The server has to close the connection."""
     with Peer(server.core) as peer:
         data = calls.null().encode(1) * 3
         try:
@@ -88,12 +88,12 @@ def half_close(server, chance):
 
 
 def remote(listener):
-    """A create_intr_chan to a port that is listened on."""
+    """A create_intr_chan to the port of this listener."""
     return calls.create_intr_chan(calls.LOOPBACK, listener.getsockname()[1])
 
 
 def raise_once(peer):
-    """Raises a request for service, with the lock, and clears it."""
+    """Causes a service request, while it holds the lock, and clears the request."""
     peer.lock()
     peer.write(b"*CLS;*SRE 4;UNKNOWN\n")
     peer.write(b"*CLS;*SRE 0\n")
@@ -101,8 +101,8 @@ def raise_once(peer):
 
 
 def interrupt_channel(server, chance):
-    """A port that refuses the instrument, or resets it before its service request, or never accepts
-    it, or a peer that leaves while it dials."""
+    """Has the instrument connect to a port that refuses it, resets it before its service request, or never
+    accepts it; or leaves while the instrument dials."""
     kind = chance.choice(("refuse", "reset", "ignore", "leave"))
     with Peer(server.core) as peer, socket.create_server(("127.0.0.1", 0)) as listener:
         peer.make_link()
@@ -115,18 +115,18 @@ def interrupt_channel(server, chance):
             listener.close()
         found = peer.result(where)
         if found not in server.outcomes(NOT_ESTABLISHED if kind == "refuse" else 0):
-            raise Lost("create_intr_chan answers otherwise: %s" % found.hex())
+            raise Lost("create_intr_chan returns something else: %s" % found.hex())
         if kind == "reset" and found == words(0):
             reset(listener.accept()[0])
             peer.do(calls.device_enable_srq(peer.link, b"hostile"))
             raise_once(peer)
             found = peer.result(calls.destroy_intr_chan())
             if found != words(NOT_ESTABLISHED):
-                raise Lost("an interrupt channel that was reset stands: %s" % found.hex())
+                raise Lost("an interrupt channel that was reset still exists: %s" % found.hex())
 
 
 def take_the_lock(server, chance):
-    """Takes the lock, or waits for it, and dies."""
+    """Takes the lock, or waits for it, and leaves."""
     with Peer(server.core) as peer:
         peer.make_link()
         lock = calls.device_lock(peer.link, TIMEOUT)
@@ -139,12 +139,12 @@ def take_the_lock(server, chance):
 
 
 def fill_channel(server, chance):
-    """Raises 33 requests in one message: 32 of them find room on its channel."""
+    """Causes 33 service requests by one message: its channel has room for 32 of them."""
     with Peer(server.core) as peer, socket.create_server(("127.0.0.1", 0)) as listener:
         peer.make_link()
         found = peer.result(remote(listener))
         if found not in server.outcomes(0):
-            raise Lost("create_intr_chan answers otherwise: %s" % found.hex())
+            raise Lost("create_intr_chan returns something else: %s" % found.hex())
         if found != words(0):
             return
         peer.do(calls.device_enable_srq(peer.link, b"filled"))
@@ -163,7 +163,7 @@ def fill_channel(server, chance):
 
 
 def never_read(server, chance):
-    """Sends calls and takes no reply, until no more of them are taken, and stays for a while."""
+    """Sends calls and reads no reply, until the server reads no more calls. Then stays for a while."""
     with Peer(server.core, narrow=True) as peer:
         rest = nothing = calls.null().encode(1) * 500
         peer.socket.setblocking(False)
@@ -177,13 +177,13 @@ def never_read(server, chance):
 
 
 def all_gone(server, behind):
-    """All places are taken by peers of which each has a call that waits, and these bytes behind it.
-    Then all are reset at once; the milliseconds until a new client was served.
+    """Takes all places with peers, each of which has a call that waits, and these bytes after it. Then resets
+    all at once. Returns how many milliseconds later a new client was served.
     """
     peers = [Peer(server.core) for _ in range(PLACES)]
     for peer in peers:
         peer.make_link()
-    # The first holds the lock and reads what comes when a trigger does, which is never.
+    # The first holds the lock, and reads a response that comes after a trigger, which never comes.
     peers[0].do(calls.device_lock(peers[0].link))
     peers[0].write(b"*RST;*CLS;:TRIG:SOUR EXT;:INIT;*OPC?\n")
     for place, peer in enumerate(peers):
@@ -199,7 +199,7 @@ def all_gone(server, behind):
             answer = peer.socket.recv(1)
         except BlockingIOError:
             continue
-        raise Lost("a call that is to wait was answered, or its connection closed: %s" % answer.hex())
+        raise Lost("a call that should wait was answered, or its connection closed: %s" % answer.hex())
     for peer in peers:
         reset(peer.socket)
     time.sleep(0.2)
@@ -214,7 +214,7 @@ def all_gone(server, behind):
 
 
 def half_closed(server):
-    """Ends its own direction while its call waits and no more is read, and must get the answer."""
+    """Shuts down its sending direction while its call waits and the server reads no more. It must get the reply."""
     with Peer(server.core) as holder, Peer(server.core) as peer:
         holder.make_link()
         peer.make_link()
@@ -227,11 +227,11 @@ def half_closed(server):
         except OSError as fault:
             raise Lost("a call that waits isn't answered where its peer sends no more: %s" % fault) from None
         if found != wanted:
-            raise Lost("where its peer sends no more, a call is answered otherwise: %s" % found.hex())
+            raise Lost("where its peer sends no more, a call returns something else: %s" % found.hex())
 
 
 def urgent(server, chance):
-    """Sends a byte of urgent data between two calls, and must get both replies."""
+    """Sends a byte of urgent data between two calls. It must get both replies."""
     with Peer(server.core) as peer:
         peer.make_link()
         peer.socket.settimeout(1)
@@ -245,19 +245,19 @@ def urgent(server, chance):
             peer.socket.sendall(second[cut:])
             found = peer.take(len(wanted))
         except socket.timeout:
-            raise Lost("a call behind a byte of urgent data isn't answered") from None
+            raise Lost("a call after a byte of urgent data isn't answered") from None
         if found != wanted:
-            raise Lost("calls around a byte of urgent data are answered otherwise: %s" % found.hex())
+            raise Lost("calls around a byte of urgent data return something else: %s" % found.hex())
 
 
 def all_places(server, taken=1):
-    """All places but those that are taken serve again, three times; the port mapper too."""
+    """Checks, three times, that the port mapper serves again, and all places except `taken` of them."""
     try:
         for _ in range(3):
             time.sleep(0.2)
             with Peer(server.portmap) as peer:
                 if peer.result(ASK_PORT) != words(server.core):
-                    raise Lost("the port mapper answers otherwise")
+                    raise Lost("the port mapper returns something else")
             time.sleep(0.2)
             peers = [Peer(server.core) for _ in range(PLACES - taken)]
             for peer in peers:

@@ -1,6 +1,6 @@
 /*
- * A malloc whose memory can be used up, to be loaded in front of the C library: behind SIGUSR1
- * nothing more is given, behind SIGUSR2 all is as before. What is freed is not given again either.
+ * A malloc whose memory can be used up. It is loaded before the C library. After SIGUSR1 it gives
+ * no more memory, after SIGUSR2 it does again. It never reuses what was freed.
  */
 #define _GNU_SOURCE
 #include <dlfcn.h>

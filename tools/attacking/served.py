@@ -13,7 +13,7 @@ TOOLS = os.path.dirname(os.path.dirname(os.path.abspath(__file__)))
 PROVED = os.path.dirname(TOOLS) + "/crates/scanvolt/out/scanvolt"
 
 
-# The rows so far, which `keep` has appended to a file of results.
+# The rows so far, which `keep` appends to a file of results.
 ROWS = []
 
 
@@ -23,18 +23,18 @@ def row(what, found, aim):
 
 
 def keep(name):
-    """Has the rows appended to the results of this name; whether that was done."""
+    """Appends the rows to the file of results with this name. Returns whether that was done."""
     text = "".join("%s\t%s\t%s\n" % one for one in ROWS)
     return subprocess.run([TOOLS + "/results", name], input=text, text=True, check=False).returncode == 0
 
 
 def runs(program):
-    """Whether the program can be run; else it is said why not."""
+    """Whether the program can be run. If not, says why."""
     return subprocess.run([TOOLS + "/runnable", program], check=False).returncode == 0
 
 
 def whose_aims(program):
-    """What is to be known of the aims where this program is measured; nothing of the proved one."""
+    """What has to be said about the aims if this program is measured; nothing if it is the proved one."""
     if os.path.realpath(program) == os.path.realpath(PROVED):
         return None
     with open(program, "rb") as file:
@@ -44,34 +44,34 @@ def whose_aims(program):
 
 
 class Aims:
-    """Values that have an aim, and those that are beyond it."""
+    """Measured values that have an aim, and those that miss it."""
 
     def __init__(self):
         self.beyond = []
 
     def row(self, what, found, most, digits=1):
-        """A row of a value that is to be at most this."""
+        """Prints a row with a value that may be at most `most`."""
         shown = "%.*f" % (digits, found)
         row(what, shown, "at most %g" % most)
         if found > most:
             self.beyond.append("%s: %s, and not at most %g" % (what.strip(), shown, most))
 
     def told(self, name):
-        """Tells what is beyond its aim; the status of that."""
+        """Prints the values that miss their aims. Returns the status."""
         for what in self.beyond:
             print("%s: beyond its aim: %s" % (name, what), flush=True)
         return 3 if self.beyond else 0
 
 
 class Server:
-    """The program, serving, and what the system says of it. Others may be its environment and what
-    is done in its process before it begins.
+    """The running server, and what the system says about it. `environment` is that of the process; `before` is
+    called in the process before the program starts.
     """
 
     def __init__(self, program, scenario, environment=None, before=None):
         self.ports = free_ports(3)
         self.aims = Aims()
-        self.refusals = ()      # errors that calls may answer under a limit
+        self.refusals = ()      # errors that calls may return under a limit
         options = zip(("--core", "--abort", "--portmap"), map(str, self.ports))
         command = [program, "serve"] + [word for option in options for word in option]
         command += ["--scenario", scenario, "--sweeps", "4294967295"]
@@ -89,7 +89,7 @@ class Server:
             raise Lost("it printed %r instead of %r" % (line, expected))
 
     def outcomes(self, error):
-        """The results that a create_intr_chan may have that is to answer this."""
+        """The results that a create_intr_chan may have if it should return this error."""
         return [words(error)] + [words(other) for other in self.refusals]
 
     def alive(self):
@@ -101,24 +101,24 @@ class Server:
             return next(int(line.split()[1]) for line in status if line.startswith("VmRSS:"))
 
     def descriptors(self):
-        """How many file descriptors it has."""
+        """How many file descriptors the process has."""
         return len(os.listdir("/proc/%d/fd" % self.process.pid))
 
     def seconds(self):
-        """The seconds of processor time so far."""
+        """How many seconds of processor time it has used so far."""
         with open("/proc/%d/stat" % self.process.pid) as stat:
             fields = stat.read().rsplit(")", 1)[1].split()
         return (int(fields[11]) + int(fields[12])) / os.sysconf("SC_CLK_TCK")
 
     def share(self, seconds):
-        """The share of a core, in percent, that it uses in so many seconds."""
+        """The share of a core, in percent, that it uses during this many seconds."""
         used, begun = self.seconds(), time.monotonic()
         time.sleep(seconds)
         return 100 * (self.seconds() - used) / (time.monotonic() - begun)
 
 
     def end(self):
-        """Ends it."""
+        """Ends the server."""
         self.process.kill()
         self.process.wait()
         self.process.stdout.close()

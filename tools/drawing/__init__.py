@@ -1,1 +1,1 @@
-"""The pictures of docs/pictures: what is drawn, a module for each, from what the sources and the documents say."""
+"""The pictures of docs/pictures, a module for each. They are drawn from what the sources and the documents say."""

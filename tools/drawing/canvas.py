@@ -1,13 +1,13 @@
-"""A picture as SVG, which reads on light and on dark: boxes, words and arrows, and how much room words take.
+"""A picture as SVG: boxes, words and arrows, and how much room words take.
 
-It has a ground of its own, since a page may be dark where the reader's machine is light. No fonts come with it. Room is
-reckoned by a wide font, so that words fit in others too; words without room are a fault.
+It can be read on a light and on a dark page, and has a background of its own, since a page may be dark on a machine set to
+light. It brings no fonts. Room is computed for a wide font, so that words fit in other fonts too. Words without room are a fault.
 """
 from xml.sax.saxutils import escape, quoteattr
 
 FONTS = "'Segoe UI','Helvetica Neue',Helvetica,Arial,'Liberation Sans','DejaVu Sans',sans-serif"
 FIXED = "'SFMono-Regular',Consolas,'Liberation Mono','DejaVu Sans Mono',monospace"
-# Words, and lines with their heads: on light, and on dark.
+# Words, and lines with their heads: colors on light, and on dark.
 INKS = {
     "ink": ("#1f2328", "#f0f6fc"),
     "soft": ("#59636e", "#9da7b3"),
@@ -16,7 +16,7 @@ INKS = {
     "amber": ("#7d4e00", "#e3b341"),
     "red": ("#a40e26", "#ff8f88"),
 }
-# Boxes: their ground and their edge, on light, and on dark.
+# Boxes: colors of the background and the edge, on light, and on dark.
 GROUNDS = {
     "page": ("#ffffff", "#d0d7de", "#0d1117", "#3d444d"),
     "plain": ("#f6f8fa", "#8c959f", "#1c2129", "#6e7681"),
@@ -26,15 +26,15 @@ GROUNDS = {
     "amber": ("#fff8c5", "#9a6700", "#2e240d", "#d29922"),
     "red": ("#ffebe9", "#cf222e", "#361a1c", "#f85149"),
 }
-# How wide characters are, in parts of the size; and all others.
+# The widths of characters, as parts of the font's size; then that of all others.
 WIDTHS = ((".,:;'|!ijlIJ ", 0.33), ("frt()[]/-\"*`", 0.42), ("mwMW@%", 0.97), ("ABCDEFGHKLNOPQRSTUVXYZ&+=<>#", 0.73))
 OTHERS, FIXED_WIDTH, BOLD = 0.63, 0.61, 1.1
-# What stays free below.
+# The free space below.
 MARGIN = 24
 
 
 class Fault(Exception):
-    """Why there is no picture, as one line."""
+    """Why the picture can't be drawn, in one line."""
 
 
 def width(words, size=13, look=""):
@@ -46,7 +46,7 @@ def width(words, size=13, look=""):
 
 
 def wrapped(text, room, size=12, look=""):
-    """A text in lines that have this room."""
+    """A text as lines that fit in this room."""
     lines = []
     for word in text.split():
         longer = lines[-1] + " " + word if lines else word
@@ -58,7 +58,7 @@ def wrapped(text, room, size=12, look=""):
 
 
 def style(dark):
-    """The rules of one of the two."""
+    """The style rules for light, or for dark."""
     for name, inks in INKS.items():
         yield ".%s{fill:%s}.line-%s{stroke:%s}" % (name, inks[dark], name, inks[dark])
     for name, grounds in GROUNDS.items():
@@ -66,7 +66,7 @@ def style(dark):
 
 
 class Canvas:
-    """A picture that is being drawn. It is as high as what is drawn wants."""
+    """A picture that is being drawn. It becomes as high as needed."""
 
     def __init__(self, wide, title, told):
         self.wide = wide
@@ -84,7 +84,7 @@ class Canvas:
                           % (x, y, wide, high, corner, look, dashes))
 
     def words(self, x, y, text, look="ink", size=13, anchor="start", room=None):
-        """Words on a line that ends at y; `look` is an ink, and `bold` or `fixed` where they are."""
+        """Writes words on a line with baseline y. `look` is an ink, with `bold` or `fixed` if they apply."""
         wide = width(text, size, look)
         left = {"start": x, "middle": x - wide / 2, "end": x - wide}[anchor]
         if wide > (room or self.wide) or left < 0 or left + wide > self.wide:
@@ -94,14 +94,14 @@ class Canvas:
         self.parts.append('<text x="%g" y="%g" font-size="%g" class="%s"%s>%s</text>' % (x, y, size, look, where, escape(text)))
 
     def lines(self, x, y, lines, look="ink", size=12, anchor="start", room=None):
-        """Lines of words below each other; where the next would stand."""
+        """Writes lines below each other. Returns where the next one would be."""
         for line in lines:
             self.words(x, y, line, look, size, anchor, room)
             y += round(size * 1.3)
         return y
 
     def way(self, points, ink="soft", heads="end", dashed=False):
-        """A line through these points, with a head at its end, at both ends, or none."""
+        """Draws a line through these points, with an arrowhead at its end, at both ends, or at none."""
         path = "M" + "L".join("%g %g" % point for point in points)
         dashes = ' stroke-dasharray="5 4"' if dashed else ""
         self.parts.append('<path d="%s" class="way line-%s"%s/>' % (path, ink, dashes))
@@ -111,7 +111,7 @@ class Canvas:
             self.head(points[1], points[0], ink)
 
     def head(self, before, at, ink):
-        """The head of an arrow, along the axis on which it comes."""
+        """Draws an arrowhead, along the axis on which the line comes."""
         (x, y), across = at, before[1] == at[1]
         back = -8 if (at[0] > before[0] if across else at[1] > before[1]) else 8
         sides = ((x + back, y - 4), (x + back, y + 4)) if across else ((x - 4, y + back), (x + 4, y + back))
@@ -121,12 +121,12 @@ class Canvas:
         self.parts.append('<circle cx="%g" cy="%g" r="%g" class="%s"/>' % (x, y, radius, ink))
 
     def heading(self, further):
-        """The title in the picture, with what stands behind it."""
+        """Writes the title, and further words after it."""
         self.words(24, 36, self.title, "ink bold", 18)
         self.words(24 + width(self.title, 18, "bold") + 12, 36, further, "soft", 13)
 
     def svg(self):
-        """The picture as a file."""
+        """The text of the SVG file."""
         wide, high = self.wide, self.lowest + MARGIN
         rules = "".join(style(0)) + "@media (prefers-color-scheme:dark){" + "".join(style(1)) + "}"
         fonts = "text{font-family:%s}.fixed{font-family:%s}.bold{font-weight:bold}" % (FONTS, FIXED)

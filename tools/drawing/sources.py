@@ -1,4 +1,4 @@
-"""What the pictures are drawn from: tables of the documents, definitions, and variants of the code."""
+"""What the pictures are drawn from: tables of the documents, definitions, and enums of the code."""
 import os
 import re
 
@@ -23,7 +23,7 @@ class Sources:
         return self.texts[path]
 
     def table(self, path, *columns):
-        """The rows of the table with these columns. An empty cell of the first one is that of the row above."""
+        """The rows of the table with these columns. An empty cell in the first column means the cell above it."""
         head = "\n| " + " | ".join(columns) + " |\n"
         text = self.text(path)
         if text.count(head) != 1:
@@ -40,7 +40,7 @@ class Sources:
         return rows
 
     def definition(self, place, name):
-        """The lines of a definition, joined; `place` is as `sv_scan/Scan`."""
+        """The lines of a definition, joined; `place` is a file such as `sv_scan/Scan`."""
         crate, _, file = place.partition("/")
         found = self.definitions.lines.get(("Rattle.%s.specs.%s" % (crate, file), name))
         if found is None:
@@ -53,7 +53,7 @@ class Sources:
         return dict(line.partition(" = ")[::2] for line in joined.split("\n")[1:])
 
     def variants(self, path, name):
-        """The variants of an enum of the code, each with the first sentence over it."""
+        """The variants of an enum of the code, each with the first sentence of its comment."""
         found = re.search(r"\npub enum %s \{\n(.*?)\n\}" % name, self.text(path), flags=re.S)
         if not found:
             raise Fault("%s: it has no enum %s" % (path, name))
@@ -69,8 +69,8 @@ class Sources:
 
 
 def agree(path, what, here, there, other):
-    """A fault, where a document doesn't say the same as a source."""
+    """Raises Fault if a document doesn't say the same as a source."""
     for one in sorted(set(there) - set(here)):
-        raise Fault("%s: %s: %s stands in %s alone" % (path, what, one, other))
+        raise Fault("%s: %s: %s is only in %s" % (path, what, one, other))
     for one in sorted(set(here) - set(there)):
-        raise Fault("%s: %s: %s doesn't stand in %s" % (path, what, one, other))
+        raise Fault("%s: %s: %s isn't in %s" % (path, what, one, other))

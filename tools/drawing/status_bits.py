@@ -1,4 +1,4 @@
-"""The bits of the status model: their names from docs/INSTRUMENT.md, their numbers and what they sum up from the definitions."""
+"""The bits of the status model: names from docs/INSTRUMENT.md; numbers, and what each bit sums up, from the definitions."""
 import re
 
 from drawing.canvas import Fault
@@ -7,10 +7,10 @@ from drawing.sources import agree
 PAGE = "docs/INSTRUMENT.md"
 COLUMNS = ("Register", "Bit", "Weight", "Name", "Stands")
 REGISTERS = "crates/sv_status/src/register_name.rt"
-# The registers of the code, and what standard events and the status byte are, by the words of the page.
+# The registers of the code, and the names that the page gives to them, to standard events and to the status byte.
 WORDS = {"Operation": "operation", "Questionable": "questionable", "Limit": "limits"}
 STANDARD, BYTE = "standard events", "status byte"
-# What the status byte sums up, by the name that its definition gives it; the summary of a register is `Summary NAME`.
+# What the status byte sums up, by the name in its definition. The summary of a register is `Summary NAME`.
 SUMMED = {"StandardSummary": STANDARD, "response": "output queue", "entries": "error queue"}
 
 
@@ -27,7 +27,7 @@ def terms(text):
 
 
 def word(sources, place, text):
-    """The bits of a condition word, each with what it is the value of: a word is a sum of bits and of other words."""
+    """The bits of a condition word, each with its value. A word is a sum of bits and of other words."""
     bits = {}
     for term in terms(text):
         bit = re.match(r"(?:scan\.)?bit (\d+) (.*)", term)
@@ -44,7 +44,7 @@ def word(sources, place, text):
 
 
 def conditions(sources):
-    """The bits of each register's condition, by the words of the page: what the measurement tells it, and what is nested in it."""
+    """The bits of each register's condition, by the names of the page: those of the measurement, and summaries of registers."""
     found, place = {}, "sv_layers/Condition"
     equations, measured = sources.equations(place, "condition"), sources.equations(place, "scan_word")
     for name in sources.variants(REGISTERS, "RegisterName"):
@@ -58,7 +58,7 @@ def conditions(sources):
 
 
 def standard_events(sources):
-    """The numbers of the standard events, each with the class of errors that it is of, if any."""
+    """The numbers of the standard events, each with its class of errors, if it has one."""
     here = {int(bit): None for bit in re.findall(r"(?:\(|= )k ≡ (\d+)", sources.definition("sv_layers/Standard", "Occurs"))}
     there = sources.definition("sv_errors/Code", "class_event")
     here.update((int(bit), "-%sxx" % kind) for kind, bit in re.findall(r"class == (\d+) then 2 \^ (\d+)", there))
@@ -66,7 +66,7 @@ def standard_events(sources):
 
 
 def status_byte(sources):
-    """The bits of the status byte, each with what it sums up; bit 6 sums up all others."""
+    """The bits of the status byte, each with what it sums up. Bit 6 sums up all others."""
     found = {}
     text = sources.definition("sv_layers/StatusByte", "SummaryBit")
     for bit, said in re.findall(r"\(k ≡ (\d+)\) × (.*?log)", text):
@@ -80,7 +80,7 @@ def status_byte(sources):
 
 
 def named(sources):
-    """The bits of each register as the page has them: their name and when they stand."""
+    """The bits of each register as the page has them: their names, and when they are 1."""
     found = {}
     for register, bit, weight, name, stands in sources.table(PAGE, *COLUMNS):
         if int(weight) != 2 ** int(bit):
@@ -90,7 +90,7 @@ def named(sources):
 
 
 def polling(sources):
-    """What the page says first of requests and polls, a sentence each."""
+    """The first sentences of the page about requests and polls."""
     found = re.search(r"\n- \*\*Polling\.\*\* (.*?)\n- ", sources.text(PAGE), flags=re.S)
     if not found:
         raise Fault("%s: it has no item 'Polling.'" % PAGE)
@@ -98,7 +98,7 @@ def polling(sources):
 
 
 def read(sources):
-    """The bits as the page names them, what the status byte sums up, and which bit of a condition sums up a register."""
+    """The bits as the page names them, what the status byte sums up, and which bit of a condition sums up which register."""
     names, standard, byte, words = named(sources), standard_events(sources), status_byte(sources), conditions(sources)
     numbers = {**words, STANDARD: standard, BYTE: byte}
     agree(PAGE, "the table of bits", names, numbers, "the sources")

@@ -3,12 +3,12 @@ from drawing import status_bits
 from drawing.canvas import Canvas, Fault, width, wrapped
 
 WIDE = 1040
-# Where columns begin and how wide they are: sources of bits, filters, events, enables, what is or-ed; then the status byte.
+# Where columns begin and how wide they are: sources of bits, filters, events, enables, the OR of bits; then the status byte.
 SOURCE, FILTER, EVENT, ENABLE, OR = (52, 280), (352, 66), (438, 52), (510, 52), (582, 30)
 LANES, BYTE, MASK, LAST = 630, (694, 166), (884, 50), (958, 30)
 ROW, CELL, HEAD = 36, 32, 24
 BYTE_TOP, BYTE_ROW = 200, 40
-# What stands below each other, with the header of its commands.
+# The registers and queues from top to bottom, each with the header of its commands.
 ORDER = (("operation", "STAT:OPER:COND?"), ("standard events", ""), ("output queue", None),
          ("questionable", "STAT:QUES:COND?"), ("limits", "STAT:QUES:LIM:COND?"),
          ("error queue", None))
@@ -21,7 +21,7 @@ def cell(canvas, at, wide, bit, look):
 
 
 def bit_row(canvas, y, bit, said, has_filter):
-    """A bit's way from its source to where bits are or-ed."""
+    """Draws a bit's way from its source to the OR."""
     name, stands = said
     canvas.box(SOURCE[0], y, SOURCE[1], CELL, "plain", 3)
     canvas.words(SOURCE[0] + 14, y + 21, str(bit), "ink bold", 13, "middle")
@@ -39,7 +39,7 @@ def bit_row(canvas, y, bit, said, has_filter):
 
 
 def heads(canvas, y, title, header, has_filter):
-    """The line over a register: its name and its commands."""
+    """Draws the line over a register: its name and its commands."""
     canvas.words(SOURCE[0], y, title, "ink bold", 13, room=SOURCE[1] - 10 - width(header, 11, "fixed"))
     canvas.words(SOURCE[0] + SOURCE[1], y, header, "soft fixed", 11, "end")
     if has_filter:
@@ -49,7 +49,7 @@ def heads(canvas, y, title, header, has_filter):
 
 
 def filters(canvas, y, high):
-    """What stands between condition and event."""
+    """Draws the filters between condition and event."""
     canvas.box(FILTER[0], y, FILTER[1], high, "green")
     middle = FILTER[0] + FILTER[1] / 2
     canvas.words(middle, y + high / 2 - 20, "PTR", "ink bold", 12, "middle")
@@ -59,13 +59,13 @@ def filters(canvas, y, high):
 
 
 def gate(canvas, left, wide, top, high):
-    """Where bits are or-ed."""
+    """Draws the OR of bits."""
     canvas.box(left, top, wide, high, "plain", 12)
     canvas.words(left + wide / 2, top + high / 2 + 4, "OR", "ink bold", 12, "middle")
 
 
 def queue(canvas, y, name, stands):
-    """A queue; where it ends, and from where its summary goes."""
+    """Draws a queue. Returns where it ends, and where its summary begins."""
     canvas.box(SOURCE[0], y, SOURCE[1], 40, "plain")
     canvas.words(SOURCE[0] + 14, y + 25, name, "ink bold", 13)
     canvas.words(SOURCE[0] + 128, y + 25, stands, "soft", 12, room=SOURCE[1] - 132)
@@ -73,7 +73,7 @@ def queue(canvas, y, name, stands):
 
 
 def block(canvas, y, name, header, bits):
-    """A register; where it ends, and from where its summary goes."""
+    """Draws a register. Returns where it ends, and where its summary begins."""
     has_filter = name != status_bits.STANDARD
     heads(canvas, y + 14, name, header, has_filter)
     top, high = y + HEAD, ROW * len(bits) - ROW + CELL
@@ -86,7 +86,7 @@ def block(canvas, y, name, header, bits):
 
 
 def blocks(canvas, names, bits):
-    """All registers and queues below each other: where each begins, and from where its summary goes."""
+    """Draws all registers and queues below each other. Returns where each begins, and where its summary begins."""
     y, tops, summaries = 60, {}, {}
     stands = {what: names[status_bits.BYTE][bit][1] for bit, what in bits.items()}
     for name, header in ORDER:
@@ -100,12 +100,12 @@ def blocks(canvas, names, bits):
 
 
 def byte_y(bit):
-    """The middle of a bit of the status byte."""
+    """The height of the middle of a bit of the status byte."""
     return BYTE_TOP + BYTE_ROW * (7 - bit) + BYTE_ROW / 2
 
 
 def byte_row(canvas, bit, bits, said):
-    """A bit of the status byte, and of its enable."""
+    """Draws a bit of the status byte, and of its enable register."""
     left, wide = BYTE
     top, middle = BYTE_TOP + BYTE_ROW * (7 - bit), byte_y(bit)
     canvas.box(left, top + 2, wide, BYTE_ROW - 4, "blue" if bit in bits else "room", 3)
@@ -123,7 +123,7 @@ def byte_row(canvas, bit, bits, said):
 
 
 def status_byte(canvas, bits, said):
-    """The status byte with its enable, up to the request."""
+    """Draws the status byte with its enable register, up to the request."""
     canvas.words(BYTE[0], BYTE_TOP - 26, "status byte", "ink bold", 13)
     canvas.words(BYTE[0], BYTE_TOP - 10, "*STB?, device_readstb", "soft", 11)
     canvas.words(MASK[0] + MASK[1] / 2, BYTE_TOP - 10, "*SRE", "soft fixed", 11, "middle")
@@ -142,7 +142,7 @@ def status_byte(canvas, bits, said):
 
 
 def request(canvas, end, rules):
-    """How the service request comes of it, by what the page says of polls."""
+    """Draws how the service request comes about, by what the page says about polls."""
     left, top = BYTE[0] + 16, 570
     wide = WIDE - 24 - left
     middle = LAST[0] + LAST[1] / 2
@@ -159,7 +159,7 @@ def request(canvas, end, rules):
 
 
 def sums(canvas, summaries, bits):
-    """The ways from registers and queues to the status byte. Ways that rise keep to the right of those above them."""
+    """Draws the ways from registers and queues to the status byte. Ways that rise keep to the right of those above them."""
     rising = [(start, bit) for bit, name in bits.items() if name for start in [summaries[name]]]
     rising.sort(key=lambda one: (byte_y(one[1]) > one[0][1], one[0][1] if byte_y(one[1]) <= one[0][1] else -one[0][1]))
     for place, (start, bit) in enumerate(rising):
@@ -168,14 +168,14 @@ def sums(canvas, summaries, bits):
 
 
 def nested(canvas, tops, summaries, names, inside):
-    """The ways from a register into a bit of another one's condition."""
+    """Draws the ways from a register into a bit of another register's condition."""
     for name, (register, bit) in inside.items():
         start = summaries[name]
         place = sorted(names[register], reverse=True).index(bit)
         y = tops[register] + HEAD + ROW * place + CELL / 2
         between, left = tops[name] - 12, 30
         if not tops[register] < tops[name]:
-            raise Fault("%s: %s stands above %s" % (canvas.title, name, register))
+            raise Fault("%s: %s is above %s" % (canvas.title, name, register))
         turn = start[0] + 14
         canvas.way([start, (turn, start[1]), (turn, between), (left, between), (left, y), (SOURCE[0], y)], "blue")
 

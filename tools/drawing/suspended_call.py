@@ -7,7 +7,7 @@ from drawing.sources import agree
 PAGE = "docs/INSTRUMENT.md"
 COLUMNS = ("Waits for", "Call", "Resumes when", "At most", "Timed out", "device_abort")
 WAITS, ADMISSION, RESUMING = "crates/sv_links/src/waiting.rt", "sv_history/Admission", "sv_history/Resuming"
-# What is waited for, where the page has another word for it.
+# What is waited for, if the page has another word for it than the code.
 WORDS = {"Lock": "the lock", "Dial": "dialing"}
 WIDE = 1040
 TOP, LEFT, BOX, STEP = 112, 196, (390, 80), 98
@@ -22,13 +22,13 @@ def word(wait):
 
 
 def numbers(sources):
-    """The numbers of the errors."""
+    """The numbers of the errors, by name."""
     lines = sources.equations("sv_vxi/ErrorCode", "error_number")
     return {left.split()[1]: right for left, right in lines.items()}
 
 
 def late(sources, waits):
-    """For each wait the number of the error of a call that waited too long for it, where it has a deadline."""
+    """For each wait that has a deadline, the number of the error of a call that waited too long."""
     rules, codes = sources.equations(RESUMING, "late"), numbers(sources)
     text = sources.text("crates/sv_history/specs/Resuming.antt")
     names = {here: there for there, here in re.findall(r"(\w+) as (\w+)\}", text)}
@@ -41,7 +41,7 @@ def late(sources, waits):
 
 
 def callers(sources):
-    """The calls of the device's waits and of dialing, by wait, as their names are in VXI-11."""
+    """The calls that wait for the device and for dialing, by wait, with their names in VXI-11."""
     found = {}
     for left, right in sources.equations(ADMISSION, "device_wait").items():
         wait = re.search(r"Some \((\w+), timeout\)", right)
@@ -52,7 +52,7 @@ def callers(sources):
 
 
 def anew(sources):
-    """What may wait anew, and for what."""
+    """Which wait may lead to a further wait, and to which."""
     rules = sources.equations(RESUMING, "next_wait")
     found = [re.match(r"next_wait (\w+) ", left).group(1) for left, right in rules.items() if right.startswith("device_wait")]
     if len(found) != 1:
@@ -61,7 +61,7 @@ def anew(sources):
 
 
 def aborted(sources, waits):
-    """For each wait what device_abort answers its call: it ends the calls that name the link."""
+    """For each wait, the error that device_abort gives to its call. It ends the calls that name the link."""
     named = {re.match(r"link \(?(\w+)", left).group(1) for left, right in sources.equations("sv_vxi/Arguments", "link").items()
              if right.startswith("Some")}
     whole = numbers(sources)["Abort"]
@@ -69,12 +69,12 @@ def aborted(sources, waits):
     if "CreateIntrChan" not in named:
         found["Dial"] = ""
     if "CreateLink" not in named:
-        found["Lock"] = whole + ", but for create_link"
+        found["Lock"] = whole + ", except create_link"
     return found
 
 
 def rows(sources):
-    """The row of the page for each wait, where they agree with the definitions."""
+    """The row of the page for each wait. Checks that it agrees with the definitions."""
     waits = sources.variants(WAITS, "Wait")
     page = {row[0]: row[1:] for row in sources.table(PAGE, *COLUMNS)}
     agree(PAGE, "the table of calls that wait", page, [word(wait) for wait in waits], WAITS)
@@ -95,7 +95,7 @@ def rows(sources):
 
 
 def lanes(canvas, bottom):
-    """How a wait ends, from above down to what the call then answers."""
+    """Draws how a wait ends, from the top down to what the call then returns."""
     said = ("it is done, and answered", "an error; nothing changes", "an error; nothing changes", "no reply")
     for (name, ink, x), answer in zip(LANES, said):
         lines = wrapped(name, ENDS, 13, "bold")
@@ -108,7 +108,7 @@ def lanes(canvas, bottom):
 
 
 def wait_row(canvas, y, name, row):
-    """A wait: which calls it has, when they resume and how long it takes; and which of the lanes end it, with their answers."""
+    """Draws a wait: which calls have it, when they resume and how long it takes; and which lanes end it, with their results."""
     call, resumes, most, error, abort = row
     canvas.box(LEFT, y, *BOX, "blue")
     canvas.words(LEFT + 14, y + 23, name, "ink bold", 14)
@@ -127,7 +127,7 @@ def wait_row(canvas, y, name, row):
 
 
 def ways(canvas, places, start, others):
-    """How a call comes to wait, and waits anew."""
+    """Draws how a call comes to wait, and to wait again."""
     trunk, rail, middle = LEFT - 44, LEFT - 22, BOX[1] / 2
     ends = sorted(places.values())
     canvas.way([(trunk, ends[0] + middle), (trunk, ends[-1] + middle)], "blue", "")
@@ -135,7 +135,7 @@ def ways(canvas, places, start, others):
         canvas.way([(trunk, y + middle), (LEFT, y + middle)], "blue")
     canvas.box(20, TOP + 122, 112, 128, "plain")
     canvas.words(76, TOP + 148, "a call", "ink bold", 14, "middle")
-    said = wrapped("what it needs isn't there: no reply yet, and calls behind it wait", 100)
+    said = wrapped("what it needs isn't there: no reply yet, and later calls wait", 100)
     canvas.lines(76, TOP + 170, said, "soft", 12, "middle", 110)
     canvas.way([(132, TOP + 186), (trunk, TOP + 186)], "blue", "")
     for other in others:
@@ -156,5 +156,5 @@ def draw(sources):
     ways(canvas, places, start, others)
     y = TOP + STEP * len(waits) + 26
     canvas.way([(LEFT - 22, y), (LEFT + 8, y)], "green")
-    canvas.words(LEFT + 16, y + 4, "past the lock it may wait anew, in its place of the order", "soft", 12)
+    canvas.words(LEFT + 16, y + 4, "after the lock it may wait again, at its place in the order", "soft", 12)
     return canvas.svg()

@@ -1,5 +1,5 @@
-"""How the trigger state of sv_scan moves, computed from its definitions: the state after so many triggers and samples, and
-which acts count in which state."""
+"""How the trigger state of sv_scan moves, computed from its definitions: the state after a number of triggers and samples,
+and which acts count in which state."""
 import itertools
 import re
 
@@ -21,7 +21,7 @@ def product(text, values):
 
 
 def chain(sources):
-    """The tests of `state_by` in their order, each with its state, of which the last always holds."""
+    """The tests of `state_by` in their order, each with its state. The last test always holds."""
     left, right = next(iter(sources.equations(SCAN, "state_by").items()))
     if tuple(left.split()[1:]) != NUMBERS:
         raise Fault("crates/sv_scan/specs/Scan.antt: state_by takes other numbers")
@@ -38,12 +38,12 @@ def without(sources):
 
 
 def state_of(tests, values):
-    """The state at these numbers."""
+    """The state for these numbers of triggers and samples."""
     return next(state for one, other, state in tests if product(one, values) == product(other, values))
 
 
 def holding(sources, text, states):
-    """The states in which a test of the state holds, as `is_idle (state log)`."""
+    """The states in which a test of the state holds, such as `is_idle (state log)`."""
     found = re.search(r"is_(\w+) \(state log\)", text)
     if not found:
         return set(states)
@@ -52,7 +52,7 @@ def holding(sources, text, states):
 
 
 def guards(sources, states, acts):
-    """For each act the states in which it counts, and the error of one that is refused, if any."""
+    """For each act, the states in which it counts, and the error if it is refused, if there is one."""
     rules = sources.equations(COUNTED, "counts")
     found = {}
     for act in acts:
@@ -67,7 +67,7 @@ def guards(sources, states, acts):
 
 
 def kinds(sources):
-    """The act that begins a measurement, those that end one, and those that are counted as triggers and as samples."""
+    """The act that begins a measurement, the acts that end one, and those that count as triggers and as samples."""
     begins = re.findall(r"(\w+) ∷ before ↦ Some", sources.definition(SCAN, "before_init"))
     ends = set(re.findall(r"(\w+) ∷ log ↦ true", sources.definition(SCAN, "starts_or_ends"))) - set(begins)
     counted = [re.search(r"elim \[ (\w+)", sources.definition(SCAN, name)).group(1) for name in ("triggers", "samples")]
@@ -75,7 +75,7 @@ def kinds(sources):
 
 
 def after(place, act, kind):
-    """How many triggers and samples a measurement has after an act; none where there is none."""
+    """How many triggers and samples a measurement has after an act; None if there is no measurement then."""
     begins, ends, (trigger, sample) = kind
     if act in ends:
         return None
@@ -85,7 +85,7 @@ def after(place, act, kind):
 
 
 def moves_in(channels, scans, guarded, kind, tests, rest):
-    """Each move from this state at rest on, in a measurement of so many channels and scans, as (state, act, state)."""
+    """Each move from the state at rest on, in a measurement of this many channels and scans, as (state, act, state)."""
     def state(place):
         return state_of(tests, dict(zip(NUMBERS, place + (channels, scans)))) if place else rest
     found, seen, open_ones = set(), {None}, [None]
@@ -102,7 +102,7 @@ def moves_in(channels, scans, guarded, kind, tests, rest):
 
 
 def moves(sources):
-    """Each move there is, in measurements of one or two channels and scans."""
+    """All moves in measurements of one or two channels and scans."""
     states, acts = sources.variants(STATES, "State"), sources.variants(ACTS, "ScanAct")
     known = guards(sources, states, acts), kinds(sources), chain(sources), without(sources)
     sizes = itertools.product((1, 2), repeat=2)

@@ -5,20 +5,20 @@ from drawing.sources import agree
 
 PAGE = "docs/INSTRUMENT.md"
 COLUMNS = ("From", "By", "To", "When")
-# The acts of sv_scan in the words of the page.
+# The words of the page for the acts of sv_scan.
 WORDS = {"Init": "INITiate", "Trigger": "trigger", "Sample": "tick", "Abort": "ABORt", "Reset": "*RST"}
-# Who is told where an act is refused.
+# The command or trigger that is named if an act is refused.
 TOLD = {"Init": "INITiate", "Trigger": "a trigger from BUS"}
 WIDE = 1000
 TOP, BOX = 158, (212, 104)
-# Where the states stand, from the left.
+# Where the states are, from the left.
 PLACES = {"Idle": 40, "Waiting": 414, "Scanning": 748}
-# How far below, and from where, the ways lead back from the last state.
+# How far below the states the ways back from the last state are, and where they begin.
 DEEP, INSET = {"Waiting": 44, "Idle": 106}, {"Waiting": 60, "Idle": 120}
 
 
 def rows(sources):
-    """The rows of the page, where they are the moves that the definitions have."""
+    """The rows of the page. Checks that they are the moves of the definitions."""
     table = sources.table(PAGE, *COLUMNS)
     states = list(sources.variants(trigger_moves.STATES, "State"))
     if set(states) != set(PLACES):
@@ -32,7 +32,7 @@ def rows(sources):
 
 
 def states(canvas, sources):
-    """The states, each with what it is and the operation condition in it."""
+    """Draws the states, each with what it is and its operation condition."""
     words = trigger_moves.conditions(sources)
     for name, told in sources.variants(trigger_moves.STATES, "State").items():
         x = PLACES[name]
@@ -43,7 +43,7 @@ def states(canvas, sources):
 
 
 def over(canvas, moves):
-    """The moves that lead to the right, and around the last state."""
+    """Draws the moves that lead to the right, and around the last state."""
     middle = TOP + 34
     for start, to in (("Idle", "Waiting"), ("Waiting", "Scanning")):
         left, right = PLACES[start] + BOX[0], PLACES[to]
@@ -59,7 +59,7 @@ def over(canvas, moves):
 
 
 def under(canvas, moves):
-    """The moves that lead back from the last state, below."""
+    """Draws the moves that lead back from the last state, below the states."""
     bottom, left = TOP + BOX[1], PLACES["Scanning"]
     for to, deep in DEEP.items():
         at, start, low = PLACES[to] + BOX[0] / 2, left + INSET[to], bottom + deep
@@ -70,7 +70,7 @@ def under(canvas, moves):
 
 
 def back(canvas, moves):
-    """What ends each state, above."""
+    """Draws what ends each state, above the states."""
     high, at = TOP - 78, PLACES["Idle"] + BOX[0] / 2
     for name in ("Waiting", "Scanning"):
         x = PLACES[name] + 40

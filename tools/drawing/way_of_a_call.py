@@ -10,14 +10,14 @@ PAGE = "docs/ARCHITECTURE.md"
 COLUMNS = ("Crate", "Called by", "Comes in", "Goes back")
 BESIDE = "\nBeside the way: "
 WIDE, TOP = 1040, 58
-# The two columns, how far a crate stands to the right of its caller, and how far below the one before.
+# The two columns, how far to the right of its caller a crate is, and how far below the one before.
 LEFT, RIGHT, COLUMN, INDENT, GAP = 24, 536, 480, 22, 12
-# The crate whose part of the tree has the right column, and the one that joins both.
+# The crate whose part of the tree is in the right column, and the crate that joins both columns.
 INSTRUMENT, SERVER = "sv_instrument", "sv_server"
 
 
 def below(name, stands_on):
-    """All crates that one stands on, however far below."""
+    """All crates that a crate depends on, directly or not."""
     found, open_ones = set(), [name]
     while open_ones:
         for other in stands_on.get(open_ones.pop(), ()):
@@ -28,7 +28,7 @@ def below(name, stands_on):
 
 
 def read(sources):
-    """The rows of the page by crate, each with its callers, where they agree with crates.txt; and the crates beside the way."""
+    """The rows of the page by crate, each with its callers, checked with crates.txt; and the crates beside the way."""
     stands_on = dict(crates())
     rows = {crate: ([name.strip() for name in by.split(",")], comes, goes)
             for crate, by, comes, goes in sources.table(PAGE, *COLUMNS)}
@@ -36,9 +36,9 @@ def read(sources):
     for place, (crate, (callers, _, _)) in enumerate(rows.items()):
         for caller in callers if place else ():
             if crate not in stands_on.get(caller, ()):
-                raise Fault("%s: by crates.txt %s doesn't stand on %s" % (PAGE, caller, crate))
+                raise Fault("%s: by crates.txt %s doesn't depend on %s" % (PAGE, caller, crate))
         if place and callers[0] not in list(rows)[:place]:
-            raise Fault("%s: %s stands above its caller" % (PAGE, crate))
+            raise Fault("%s: %s is above its caller" % (PAGE, crate))
     line = re.search(BESIDE + r"(.*?)\.\n", sources.text(PAGE), flags=re.S)
     if not line:
         raise Fault("%s: it has no line 'Beside the way:'" % PAGE)
@@ -56,7 +56,7 @@ def tree(rows, top, depth=0):
 
 
 def crate_box(canvas, x, y, wide, crate, row, look):
-    """A crate with what comes in, what goes back, and its first sentence; how high it is."""
+    """Draws a crate with what comes in, what goes back, and its first sentence. Returns how high it is."""
     lines = wrapped(told(crate), wide - 24, 11)
     high = 46 + 15 * len(lines)
     canvas.box(x, y, wide, high, look)
@@ -71,7 +71,7 @@ def crate_box(canvas, x, y, wide, crate, row, look):
 
 
 def column(canvas, x, y, nodes, rows, looks):
-    """Crates below each other; the place and size of each."""
+    """Draws crates below each other. Returns the place and size of each."""
     places = {}
     for crate, depth in nodes:
         left = x + INDENT * depth
@@ -83,7 +83,7 @@ def column(canvas, x, y, nodes, rows, looks):
 
 
 def calls(canvas, places, rows):
-    """The ways between crates and those that they call."""
+    """Draws the ways between crates and those that they call."""
     for crate, (callers, _, _) in rows.items():
         x, y, wide, high = places[crate]
         for place, caller in enumerate(callers):

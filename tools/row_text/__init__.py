@@ -1,1 +1,1 @@
-"""The text of rows: what people write and read in place of a test crate's `stdin` and `stdout`."""
+"""The text of rows, which people write and read instead of a test crate's `stdin` and `stdout`."""

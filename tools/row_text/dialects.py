@@ -1,4 +1,4 @@
-"""What each test crate says in its rows beside calls, replies and requests for service."""
+"""The lines that each test crate has in its rows besides calls, replies and requests for service."""
 import re
 
 from .lines import Reading, unquoted
@@ -8,15 +8,15 @@ from .values import TextError
 class Scripts(Reading):
     """crates/test_scripts: lines of a replay or of events (its `src`), and what is printed.
 
-    What the text can't say better stands as it is behind `line` or `prints`; `given` is the next line that is asked,
-    as a row of the kind `line by line` prints it.
+    Lines for which the text has no words are copied as they are, after `line` or `prints`. `given` means the next line
+    that is asked, as a row of the kind `line by line` prints it.
     """
 
     WANTED = ("reply", "request", "refused", "given", "prints")
     BYTES = "bytes %s %s"
     PRINTS = {"reply": "c%s %s", "request": "i%s %s"}
     AS_IT_IS = re.compile(r"input \d+ -?\d+|external|tick( \d+)?|clock \d+|times \d+|memory (\d+|\?)|used")
-    # A verb behind a connection, and the line of the replay.
+    # A verb, which comes after a connection, and the line of the replay.
     VERBS = {"open core": "open %s core", "open abort": "open %s abort", "open portmap": "open %s portmap",
              "turn": "turn %s", "refuse": "refuse %s", "close": "close c%s", "close channel": "close i%s",
              "dialed ok": "dialed %s ok", "dialed failed": "dialed %s failed",
@@ -25,7 +25,7 @@ class Scripts(Reading):
 
     def __init__(self, joined=False):
         super().__init__(joined)
-        self.given = []         # the lines that were asked and that no `given` stands for yet
+        self.given = []         # lines that were asked and that no `given` has taken yet
 
     def asked(self, line, more=()):
         """The lines that are asked."""
@@ -61,9 +61,10 @@ class Scripts(Reading):
 
 
 class Driver(Reading):
-    """crates/test_driver: what a wire answers, and behind `> ` what it is asked; `0 CALL` are bytes that it reads.
+    """crates/test_driver: what a wire answers, and after `> ` what the driver asks it. `0 CALL` gives the bytes that are
+    read on connection 0.
 
-    Of peers, `peer 0 CALL` is what one sends.
+    `peer 0 CALL` is what a peer sends.
     """
 
     WANTED = ("reply", "request", "gets", ">")
@@ -88,15 +89,15 @@ class Driver(Reading):
 
 
 class Sockets(Reading):
-    """crates/sv_sockets: what peers do, each a letter; `a CALL` is what one sends, and `reply a ..` what it waits for.
+    """crates/sv_sockets: what peers do. Each peer is a letter: `a CALL` is what it sends, and `reply a ..` what it waits for.
 
-    Behind `> ` stands what is printed else.
+    After `> ` comes any other line that is printed.
     """
 
     WANTED = (">",)
     BYTES = "%s < %s"
     PRINTS = {"reply": "%s %s", "request": "%s %s"}
-    # What a peer does but to send a call.
+    # What a peer does other than send a call.
     VERBS = "core abort portmap listens accepts closes before ends silent drains > <".split()
     PEER = re.compile(r"([a-z]) (\S+).*")
     POURS = re.compile(r"([a-z] pours \d+) (.*)")

@@ -1,4 +1,4 @@
-"""What a crate's program printed beside what it had to: each row that differs, with its title and its question."""
+"""Compares what a crate's program printed with what it had to print: shows each row that differs, its title and its question."""
 import copy
 import re
 
@@ -6,8 +6,8 @@ from . import fields
 from .files import PREFIX
 from .lines import Telling, quoted
 
-BEFORE = 8              # lines of the text that stand in front of a difference
-WIDEST = 400            # columns of a line that is told
+BEFORE = 8              # lines of the text that are shown before a difference
+WIDEST = 400            # columns of a line that are shown
 REFUSALS = {"1": "out of memory", "2": "the connection is open", "3": "no such connection or channel", "4": "no room",
             "5": "more than waits", "6": "no call waits for a dialing", "7": "no call that may be refused",
             "8": "no such channel of the scanner", "9": "a voltage out of range", "10": "the clock is at its end"}
@@ -15,7 +15,7 @@ NOTHING = "nothing more"
 
 
 def parts(text):
-    """The titles of a print, each with its lines; none of a program that printed nothing."""
+    """The titles of an output, each with its lines; none if the program printed nothing."""
     if not text:
         return []
     if not text.startswith("= "):
@@ -25,7 +25,7 @@ def parts(text):
 
 
 def explained(line):
-    """A line with the names of its numbers."""
+    """A line, with names after its numbers."""
     error = re.search(r" error=(\d+)", line)
     if error:
         return "%s (%s)" % (line, fields.error_name(int(error[1])))
@@ -35,7 +35,7 @@ def explained(line):
 
 
 def decoded(numbering, line, text=None):
-    """A line that is printed, in the words of the text; those that it has there, if it wants it."""
+    """A printed line in the words of the text. If `text` wants this line, its own words are kept."""
     if line is None:
         return NOTHING
     told = Telling(copy.deepcopy(numbering), always=True).told(line) or [quoted(line)]
@@ -45,7 +45,7 @@ def decoded(numbering, line, text=None):
 
 
 def call_of(numbering, line):
-    """The call that a reply answers, in the words of the text."""
+    """The call to which a reply belongs, in the words of the text."""
     found = re.fullmatch(r"(?:write )?c?(\w+) [0-9a-f]{8}([0-9a-f]{8})[0-9a-f]*", line or "")
     return numbering.texts.get((found[1], int(found[2], 16))) if found else None
 
@@ -60,7 +60,7 @@ def marked(wanted, came):
 
 
 def context(row, index):
-    """The lines of the text in front of the one that wants line `index`, that one, and what was called so far."""
+    """The lines of the text before the one that wants line `index`, that line itself, and the calls so far."""
     reading, lines, count = row.reading(), [], 0
     for _, (first, *more) in row.lines:
         said, before = [first] + ["and " + one for one in more], copy.deepcopy(reading.numbering)
@@ -77,7 +77,7 @@ def is_wanted(line):
 
 
 def shown(lines):
-    """The last of some lines; where they ask nothing, the last that do in front of them."""
+    """The last of some lines. If they ask nothing, the last lines before them that ask are shown first."""
     last, front = lines[-BEFORE:], lines[:-BEFORE]
     asked = [] if not all(map(is_wanted, last)) else [line for line in front if not is_wanted(line)][-BEFORE:]
     left = len(front) - len(asked)
@@ -85,18 +85,18 @@ def shown(lines):
 
 
 def source(rows, title, index):
-    """The row of a title with its text, and which line of it wants line `index` of the title's print."""
+    """The row of a title that has its text, and which of its wanted lines corresponds to line `index` of the title's output."""
     row = rows[title]
     if row.lines or not title.startswith(PREFIX):
         return row, index
     whole, place = rows[title[len(PREFIX):]], -1
-    for line in row.wanted[:index + 1]:     # those of the whole row, but for some that are left out
+    for line in row.wanted[:index + 1]:     # the lines of the whole row, without some of them
         place = whole.wanted.index(line, place + 1)
     return whole, place if index < len(row.wanted) else len(whole.wanted)
 
 
 def told(rows, title, wanted, came):
-    """The lines that tell how a row differs."""
+    """The lines that show how a row differs."""
     index = next((at for at, pair in enumerate(zip(wanted, came)) if pair[0] != pair[1]), min(len(wanted), len(came)))
     row, place = source(rows, title, index)
     lines, text, numbering = context(row, place)
@@ -110,7 +110,7 @@ def told(rows, title, wanted, came):
 
 
 def differences(rows, wanted, printed):
-    """The rows that differ, each as the lines that tell of it; `rows` are the rows of the text."""
+    """The rows that differ, each as the lines that show it. `rows` are the rows of the text."""
     known = {row.title: row for row in rows}
     came = dict(parts(printed))
     found = []

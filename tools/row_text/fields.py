@@ -8,7 +8,7 @@ FLAGS = {"waitlock": calls.WAITLOCK, "end": calls.END, "termchrset": calls.TERMC
 REASONS = {"reqcnt": calls.REQUEST_COUNT, "chr": calls.TERMINATOR, "end": calls.ENDED}
 FAMILIES = {"tcp": calls.TCP, "udp": calls.UDP}
 OPAQUE = ("device", "data", "handle", "data_in", "data_out")
-# The words that stand for a number in a field.
+# Words that may be written instead of a number in a field.
 WORDS = {"flags": FLAGS, "reason": REASONS, "prog": PROGRAMS, "progNum": PROGRAMS, "prot": FAMILIES}
 SUMS = ("flags", "reason")
 
@@ -45,7 +45,7 @@ NAMES = {name: (program, procedure) for program, names in calls.NAMES.items() fo
 
 
 def arguments(program, procedure):
-    """The fields of a call's arguments; none where there is no such call."""
+    """The fields of a call's arguments; None if there is no such call."""
     if procedure == calls.NULL:
         return []
     found = ARGUMENTS.get(program, {}).get(procedure)
@@ -53,14 +53,14 @@ def arguments(program, procedure):
 
 
 def results(program, procedure):
-    """The fields of a result; an error alone, unless the tables say another."""
+    """The fields of a result; only an error, unless the tables say otherwise."""
     if procedure == calls.NULL:
         return []
     return RESULTS.get(program, {}).get(procedure, "error").split()
 
 
 def name_of(program, procedure):
-    """The name of a call in the text; none where there is no such call."""
+    """The name of a call in the text; None if there is no such call."""
     if procedure == calls.NULL and program in PROGRAMS.values():
         return "null"
     return calls.NAMES.get(program, {}).get(procedure)

@@ -1,9 +1,9 @@
 """Files of rows: each row has a title, and lines that say what is asked and what is wanted.
 
-`#` in front makes a line a comment. Behind the title may stand, a line each: `kind WORDS`, what is done with the row
-(crates/test_scripts/src/main.rt says which kinds there are); `joined`, its hexadecimal has no blanks; `unended`, its
-last line has no new line; `singly`, it is asked again with its writes cut into single bytes. A line `and MESSAGE`
-goes on with the line in front of it: the messages come together.
+A line that begins with `#` is a comment. These lines may follow the title: `kind WORDS`, what is done with the row
+(crates/test_scripts/src/main.rt lists the kinds); `joined`, its hexadecimal has no blanks; `unended`, its last line has
+no new line; `singly`, the row is run a second time with its writes cut into single bytes. A line `and MESSAGE` continues
+the line before it: the messages come together.
 """
 import dataclasses
 import glob
@@ -19,7 +19,7 @@ MARKS = ("joined", "unended", "singly")
 
 @dataclasses.dataclass
 class Row:
-    """A row: where it stands, its marks, the lines of its text, and what they ask and want."""
+    """A row: its place in the file, its marks, the lines of its text, and what they ask and want."""
 
     title: str
     place: str = ""
@@ -31,7 +31,7 @@ class Row:
     dialect: type = Scripts
 
     def reading(self):
-        """What reads the lines of this row."""
+        """A reader for the lines of this row."""
         return self.dialect("joined" in self.marks)
 
     def read(self):
@@ -61,13 +61,13 @@ def rows_of(path, dialect=Scripts):
 
 
 def _take(rows, line, path, number, dialect):
-    """Takes a line into the last row, or begins one with it."""
+    """Adds a line to the last row, or begins a row with it."""
     word, _, rest = line.partition(" ")
     place = "%s:%d" % (path, number)
     if word == "title":
         rows.append(Row(rest.strip(), place, dialect=dialect))
     elif not rows:
-        raise TextError("%s: a line in front of the first title" % place)
+        raise TextError("%s: a line before the first title" % place)
     elif word == "kind" and not rows[-1].lines:
         rows[-1].kind = rest
     elif line in MARKS and not rows[-1].lines:
@@ -79,7 +79,7 @@ def _take(rows, line, path, number, dialect):
 
 
 def rows_in(folder):
-    """The rows of a folder's files, in the order of their names, and those that are made of them."""
+    """The rows of a folder's files, in the order of their names, and the rows that are made from these."""
     paths = sorted(glob.glob(os.path.join(glob.escape(folder), "*.rows")))
     if not paths:
         raise TextError("no *.rows in " + folder)
@@ -95,7 +95,7 @@ def _cut(row):
 
 
 def streams(rows):
-    """What is asked and what is to be printed, as the crate's program takes and prints it."""
+    """What is asked and what is wanted, as the crate's program reads and prints it."""
     asked = "\n".join("\n".join(["= " + row.title] + row.asked) for row in rows)
     wanted = "".join(line + "\n" for row in rows for line in ["= " + row.title] + row.wanted)
     return asked, wanted

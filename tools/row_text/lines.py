@@ -1,7 +1,7 @@
 """Lines of a row: from the text to what is asked and wanted, and back.
 
-What all test crates share: calls that are asked on a connection, replies and requests for service that are wanted on
-it. `dialects` has what each crate says beside them.
+All test crates share these: calls that are asked on a connection; replies and requests for service that are wanted on
+it. `dialects` has the other lines of each crate.
 """
 import re
 
@@ -11,11 +11,11 @@ from . import messages
 from .numbering import Numbering
 from .values import TextError, bytes_of, number_of, plain_number, split, text_of
 
-LONG = 200          # columns of a text that stands as it is
+LONG = 200          # columns from which on a text is put in quotes
 
 
 def spaced(data, joined):
-    """Hexadecimal with a blank behind each word, up to word number `joined`, if that is said."""
+    """Hexadecimal with a blank after each word, up to word number `joined` if that is given."""
     text, front = data.hex(), len(data) if joined is None else joined * 4
     head = " ".join(text[at:at + 8] for at in range(0, min(front, len(data)) * 2, 8))
     return " ".join(part for part in (head, text[front * 2:]) if part)
@@ -27,7 +27,7 @@ def hex_of(text):
 
 
 def quoted(text):
-    """A text as it is, or in quotes where a reader couldn't see it."""
+    """A text as it is, or in quotes if it is long or a reader couldn't see all of it."""
     plain = text.isprintable() and text.isascii() and text.strip() == text and text and text[0] != '"'
     return text if plain and len(text) < LONG and not re.match(r'\d+\*"', text) else text_of(text.encode("latin-1"))
 
@@ -47,7 +47,7 @@ class Reading:
     def __init__(self, joined=False):
         self.numbering = Numbering()
         self.joined = joined or self.JOINED
-        self.piece = {}         # of a connection: the xid of the call of which a part was sent
+        self.piece = {}         # for each connection, the xid of the call that was sent in part
 
     def read(self, line, more=()):
         """The lines that are asked and those that are wanted; `more` are messages that come in the same bytes."""
@@ -59,9 +59,9 @@ class Reading:
         raise NotImplementedError
 
     def alone(self, line, more):
-        """A line that stands as it is, and brings no messages."""
+        """A line that is copied as it is, and brings no messages."""
         if more:
-            raise TextError("`and` goes on with a message, and this is none: " + line)
+            raise TextError("`and` continues a message, and this is none: " + line)
         return unquoted(line[5:]) if line == "line" or line.startswith("line ") else line
 
     def wanted(self, line, more=()):
@@ -72,7 +72,7 @@ class Reading:
         return self.PRINTS[kind] % (connection, made.hex())
 
     def sent(self, connection, lines, how=None):
-        """The lines that bring calls; hexadecimal alone stands as it is written."""
+        """The lines that bring calls. Bare hexadecimal is copied as it is."""
         if len(lines) == 1 and lines[0].startswith("hex "):
             return [(how or self.BYTES) % (connection, hex_of(lines[0][4:]))]
         data, front = b"", None
@@ -92,7 +92,7 @@ class Reading:
         beside = messages.parsed(line)[2]
         first, _, last = beside.get("part", "1..").partition("..")
         xid = self.numbering.next_call()
-        if first != "1":        # it goes on with a call
+        if first != "1":        # the part continues a call
             xid = self.piece.get(connection, xid)
         if "xid" in beside:
             xid = number_of(beside["xid"])
@@ -118,14 +118,14 @@ class Reading:
 
 
 class Telling:
-    """Tells what is wanted, or was printed, in the words of the text."""
+    """Translates printed lines into the words of the text."""
 
     def __init__(self, numbering, always=False):
         self.numbering = numbering
-        self.always = always        # whether each xid is told
+        self.always = always        # whether each xid is shown
 
     def told(self, line):
-        """The lines of the text for a line that is printed; none where it has no replies and no requests."""
+        """The lines of the text for a printed line; none if it has no reply and no request."""
         found = re.fullmatch(r"(?:write )?([ci]?)(\w+) ([0-9a-f]{8,})", line)
         if not found or len(found[3]) % 2:
             return []

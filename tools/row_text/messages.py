@@ -1,11 +1,11 @@
 """Calls, replies and requests for service: from the words of the text to bytes, and back.
 
-A message is a name and its fields, as `device_write lid=1 flags=end data="*IDN?\\n"`. A field that isn't said is
-0, or has no bytes. The one field of bytes may stand without its name, and so may the words of flags. Behind the fields may
-stand those of the header (HEADER), and how a call is sent (SENDING): `behind`, bytes behind its arguments; `cut`, how
-many bytes of its body are sent, with a mark that says so; `fragments`, their sizes; `part`, which bytes of the record
-come now, the first one is 1; `singly`, each byte comes by itself; `times`, how often it comes; `joined`, behind how
-many words the hexadecimal has no blanks.
+A message is a name and its fields, as `device_write lid=1 flags=end data="*IDN?\\n"`. A field that isn't given is 0, or
+has no bytes. A single field of bytes may be written without its name, and so may the words of flags. After the fields may
+come those of the header (HEADER), and how a call is sent (SENDING): `behind`, bytes after its arguments; `cut`, how many
+bytes of its body are sent, with a mark that says so; `fragments`, their sizes; `part`, which bytes of the record come now,
+counted from 1; `singly`, each byte comes alone; `times`, how often it comes; `joined`, after how many words the
+hexadecimal has no blanks.
 """
 from scanvolt.vxi11 import (Reader, Records, XdrError, calls, encode_denial, encode_refusal, encode_reply, mark, opaque,
                             rpc, words)
@@ -17,13 +17,13 @@ ACCEPTED = {name: getattr(rpc, name) for name in
             ("PROG_UNAVAIL", "PROG_MISMATCH", "PROC_UNAVAIL", "GARBAGE_ARGS", "SYSTEM_ERR")}
 DENIED = {"RPC_MISMATCH": rpc.RPC_MISMATCH, "AUTH_ERROR": rpc.AUTH_ERROR}
 DETAILS = {"PROG_MISMATCH": ["low", "high"], "RPC_MISMATCH": ["low", "high"], "AUTH_ERROR": ["stat"]}
-# What may be said of a call beside its arguments: its header, bytes behind them, and how it is sent.
+# What a call may have besides its arguments: its header, bytes after them, and how it is sent.
 HEADER = ("xid", "rpcvers", "prog", "vers", "proc", "cred", "credBody", "verf", "verfBody")
 SENDING = ("behind", "cut", "fragments", "part", "singly", "times", "joined")
 
 
 def said(line, names, may=()):
-    """The fields that words say, by their names; those that may be said beside them are texts."""
+    """The fields in these words, by their names. Those in `may` are kept as texts."""
     found, beside = {}, {}
     for word in line:
         name, equals, value = word.partition("=")
@@ -56,12 +56,12 @@ def packed(names, found):
 
 
 def read(names, reader):
-    """The fields that bytes say, or XdrError."""
+    """The fields in some bytes. Raises XdrError if they aren't there."""
     return [(name, reader.opaque() if name in fields.OPAQUE else reader.word()) for name in names]
 
 
 def shown(values):
-    """The words that say fields."""
+    """The words for these fields."""
     made = []
     for name, value in values:
         if not value:
@@ -80,7 +80,7 @@ def shown(values):
 
 
 def header_of(name, beside, xid):
-    """The program, the procedure, and the words in front of the arguments of a call."""
+    """The program and the procedure of a call, and the words before its arguments."""
     if name not in fields.NAMES and name not in ("null", "call"):
         raise TextError("no call of VXI-11: " + name)
     program, procedure = fields.NAMES.get(name, (calls.CORE, calls.NULL))
@@ -95,14 +95,14 @@ def header_of(name, beside, xid):
 
 
 def parsed(line):
-    """The name of a call, its arguments, and what is said beside them."""
+    """The name of a call, its arguments, and what it has besides them."""
     name, *rest = split(line)
     names = fields.arguments(*fields.NAMES[name]) if name in fields.NAMES else []
     return (name, *said(rest, names, [key for key in HEADER if key not in names] + list(SENDING)))
 
 
 def call_of(line, xid):
-    """The record's bytes that a line says, but for parts of it, and what it calls."""
+    """The bytes of the record that a line describes, before parts are cut out of it, and the call's program and procedure."""
     name, found, beside = parsed(line)
     program, procedure, front = header_of(name, beside, xid)
     names = fields.arguments(*fields.NAMES[name]) if name in fields.NAMES else []
@@ -122,7 +122,7 @@ def sizes_of(text):
 
 
 def framed(body, sizes):
-    """The record of a body, in fragments of these sizes or in one; `3*0` is three of 0 bytes."""
+    """The record of a body, in fragments of these sizes or in one; `3*0` means three fragments of 0 bytes."""
     made, sizes = b"", sizes_of(sizes) if sizes else [len(body)]
     if sum(sizes) != len(body):
         raise TextError("fragments of %d bytes in all, where %d are sent" % (sum(sizes), len(body)))
@@ -133,7 +133,7 @@ def framed(body, sizes):
 
 
 def call_text(body):
-    """The words that say a call's body, but for its xid, and the xid; or XdrError."""
+    """The words for a call's body, without its xid, and the xid. Raises XdrError if it is no call."""
     reader = Reader(body)
     xid, kind, version_of_rpc = reader.word(), reader.word(), reader.word()
     if kind != rpc.CALL:
@@ -159,7 +159,7 @@ def call_text(body):
 
 
 def reply_of(line, xid):
-    """The bytes of the reply that a line says."""
+    """The bytes of the reply that a line describes."""
     name, *rest = split(line)
     if name in ACCEPTED or name in DENIED:
         names = DETAILS.get(name, [])
@@ -179,7 +179,7 @@ def xid_of(body):
 
 
 def reply_text(body, called):
-    """The words that say a reply to what was called, but for its xid; or XdrError."""
+    """The words for a reply to a call, without its xid. Raises XdrError if it is no reply."""
     reader = Reader(body)
     reader.word()
     if reader.word() != rpc.REPLY:
@@ -205,12 +205,12 @@ def refusal_text(statuses, reader):
 
 
 def request_of(line, xid):
-    """The bytes of the request for service that a line says."""
+    """The bytes of the request for service that a line describes."""
     return call_of("device_intr_srq " + line, xid)[0]
 
 
 def bodies(data):
-    """The bodies of the records that make up these bytes, or none where they end within one."""
+    """The bodies of the records that make up these bytes; none if the bytes end within a record."""
     records = Records()
     found = records.push(data)
     whole = records.start == len(data) and b"".join(framed(one.body, None) for one in found) == data

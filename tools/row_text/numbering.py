@@ -1,18 +1,18 @@
-"""The xids that a row doesn't say: a call has the next number in its row, and a reply that of its call."""
+"""The xids that a row doesn't give: a call gets the next number in its row, and a reply gets that of its call."""
 
 
 class Numbering:
-    """What was called in a row so far."""
+    """The calls of a row so far."""
 
     def __init__(self):
         self.last = 0           # the xid of the last call
-        self.open = {}          # of a connection: the calls without a reply, each an xid and what it calls
-        self.calls = {}         # of a connection and an xid: what was called
+        self.open = {}          # for each connection: the calls without a reply, each an xid and what it calls
+        self.calls = {}         # for a connection and an xid: what was called
         self.texts = {}         # the same, in the words of the text
-        self.requests = {}      # of a connection: the xid of its last request for service
+        self.requests = {}      # for each connection: the xid of its last request for service
 
     def opened(self, connection):
-        """No call of the connection waits: it is new, or gone."""
+        """Forgets the calls that wait on the connection, which is new, or gone."""
         self.open.pop(connection, None)
         self.requests.pop(connection, None)
 
@@ -30,7 +30,7 @@ class Numbering:
         return waiting[0] if waiting else 0
 
     def reply(self, connection, xid):
-        """Takes a reply; the calls in front of its own have none any more."""
+        """Notes a reply. Calls that came before its own won't get any."""
         waiting = self.open.get(connection, [])
         if xid in waiting:
             del waiting[:waiting.index(xid) + 1]

@@ -1,21 +1,21 @@
-"""A row whose writes are cut into single bytes, made from one whose aren't.
+"""A row whose writes are cut into single bytes, made from a row whose writes aren't.
 
-A message may come in any writes (VXI-11 1.0, B.6.3): what is read, polled and requested doesn't depend on where it
-is cut. So the row prints what the uncut row prints, where the replies to the writes that were cut are left out of
-both. END stays with the last byte.
+A message may be split into writes at any place (VXI-11 1.0, B.6.3): what is read, polled and requested doesn't depend
+on where. So both rows print the same, if the replies to the writes that were cut are left out of both. END stays with
+the last byte.
 """
 import re
 
 from scanvolt.vxi11 import Reader, Records, XdrError, calls, encode_call, encode_reply, opaque, read_call, words
 
 PREFIX = "single bytes: "
-# What the reply to a write of one byte ends in: no error, size 1.
+# The end of the reply to a write of one byte: no error, size 1.
 DONE = encode_reply(0, words(0, 1)).hex()[24:]
 
 
 def _write(line):
-    """The connection, the call, the words in front of the flags, the flags and the bytes of a line that brings one
-    device_write, else None.
+    """The connection, the call, the words before the flags, the flags and the bytes of a line that brings one
+    device_write; None for any other line.
     """
     found = re.fullmatch(r"bytes (\d+) ([0-9a-f ]+)", line)
     if not found:
@@ -33,7 +33,7 @@ def _write(line):
 
 
 def _pieces(connection, xid, front, flags, text):
-    """The lines that write each byte by itself, the last one without the turn that takes it."""
+    """The lines that write each byte alone. The last one has no turn."""
     made = []
     for at in range(len(text)):
         last = at + 1 == len(text)
@@ -44,7 +44,7 @@ def _pieces(connection, xid, front, flags, text):
 
 
 def cut(asked, wanted):
-    """The lines of a row with each write cut that takes all its bytes, and what they print but for the replies to
+    """The lines of a row with each write cut that takes all its bytes, and what they print without the replies to
     writes of one byte.
     """
     made, shown, rest = ["! without " + DONE], [], list(wanted)
@@ -54,7 +54,7 @@ def cut(asked, wanted):
             made.append(line)
             continue
         reply = "c%s %s" % (write[0], encode_reply(write[1], words(0, len(write[4]))).hex())
-        if reply not in rest:       # it waits, or takes nothing
+        if reply not in rest:       # the write waits, or takes nothing
             made.append(line)
             continue
         place = rest.index(reply)

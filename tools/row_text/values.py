@@ -1,7 +1,7 @@
-"""Values of the text: bytes in quotes, numbers, and words that stand for numbers.
+"""Values of the text: bytes in quotes, numbers, and words for numbers.
 
-Bytes are pieces joined by `+`: `"text"` with the escapes of Python, `hex"80 00"`, and either behind `N*`,
-which repeats it.
+Bytes are pieces joined by `+`: `"text"` with the escapes of Python, or `hex"80 00"`. `N*` before a piece repeats
+it.
 """
 import re
 
@@ -11,7 +11,7 @@ ESCAPES = {"n": "\n", "r": "\r", "t": "\t"}
 NAMED = {character: "\\" + letter for letter, character in ESCAPES.items()}
 SHORTEST = 64           # bytes that a repetition has at least
 LONGEST_PERIOD = 64
-SEPARATORS = b"\n;, "   # what a text that repeats ends in, the first one that it has
+SEPARATORS = b"\n;, "   # a repeated text ends with the first of these that it has
 
 
 class TextError(ValueError):
@@ -19,7 +19,7 @@ class TextError(ValueError):
 
 
 def split(line):
-    """The words of a line; a blank within quotes parts none."""
+    """The words of a line. A blank within quotes separates none."""
     left = WORD.sub("", line).strip()
     if left:
         raise TextError("a quote without its end: " + line)
@@ -34,7 +34,7 @@ def _unescaped(match):
 
 
 def bytes_of(text):
-    """The bytes that a value says."""
+    """The bytes that a value describes."""
     place, data = 0, b""
     while True:
         found = PIECE.match(text, place)
@@ -70,7 +70,7 @@ def _piece(data):
 
 
 def _repeated(data, place):
-    """What repeats at a place: how many bytes, and how often. It is what reaches farthest."""
+    """What repeats at a place: how many bytes, and how often. Of several repetitions, the one that reaches farthest."""
     best = (0, 0)
     for period in range(1, min(LONGEST_PERIOD, (len(data) - place) // 3) + 1):
         unit, count = data[place:place + period], 1
@@ -82,7 +82,7 @@ def _repeated(data, place):
 
 
 def _shifted(data, place, period, count):
-    """The same from the first byte on behind a separator."""
+    """The same repetition, shifted so that it begins after a separator."""
     for separator in SEPARATORS:
         for shift in range(period):
             if data[place + shift + period - 1] == separator:
@@ -91,7 +91,7 @@ def _shifted(data, place, period, count):
 
 
 def text_of(data):
-    """The value that says these bytes."""
+    """The value that describes these bytes."""
     pieces, plain, place = [], b"", 0
     while place < len(data):
         period, count = _repeated(data, place)
@@ -110,7 +110,7 @@ def text_of(data):
 
 
 def number_of(text, names=None):
-    """A number, decimal or behind 0x, or a sum of words that stand for numbers."""
+    """A number: decimal, hexadecimal after 0x, or a sum of words for numbers."""
     total = 0
     for word in text.split("+"):
         if names and word in names:
@@ -123,13 +123,13 @@ def number_of(text, names=None):
 
 
 def word_of(number, names):
-    """The name of a number, else the number."""
+    """The name of a number, or the number if it has none."""
     found = [name for name, value in names.items() if value == number]
     return found[0] if found else plain_number(number)
 
 
 def sum_of(number, names):
-    """The names of a number's bits, else the number."""
+    """The names of a number's bits, or the number if a bit has none."""
     words = [name for name, value in names.items() if number & value]
     return "+".join(words) if words and sum(names[word] for word in words) == number else plain_number(number)
 

@@ -1,4 +1,4 @@
-"""Tests of tools/book: what it reads of functions and their contracts, and the counts and figures that it compares."""
+"""Tests of tools/book: what it reads about functions and their contracts, and the counts and figures that it compares."""
 import importlib.machinery
 import importlib.util
 import os

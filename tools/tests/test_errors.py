@@ -1,4 +1,4 @@
-"""Tests of tools/lint-errors: a function that answers a Result, without '# Errors' in its comment, is told."""
+"""Tests of tools/lint-errors: it prints a function that returns a Result and has no '# Errors' in its comment."""
 import glob
 import os
 import re
@@ -11,7 +11,7 @@ TOP = os.path.dirname(os.path.dirname(os.path.dirname(os.path.abspath(__file__))
 LINT = os.path.join(TOP, "tools", "lint-errors")
 SECTION = "/// # Errors\n"
 ROOT = "pub mod laws;\nmod inside;\n\npub use inside::{Meter, Stream, read};\n"
-# Functions that answer a Result, all with the section; and one that others can't call, without it.
+# Functions that return a Result, all with the section; and one that others can't call, without it.
 INSIDE = """\
 /// Reads.
 ///
@@ -78,7 +78,7 @@ class Errors(unittest.TestCase):
             file.write(text)
 
     def lint(self):
-        """The status and the lines."""
+        """The status and the printed lines."""
         done = subprocess.run([LINT, self.top], capture_output=True, text=True, check=False)
         return done.returncode, done.stdout
 
@@ -98,7 +98,7 @@ class Errors(unittest.TestCase):
         self.assertEqual(self.lint()[0], 1)
 
     def test_the_repository_has_them(self):
-        """Without those of one crate, as many are told as it has."""
+        """Without the sections of one crate, as many functions are printed as the crate has."""
         shutil.copy(os.path.join(TOP, "crates.txt"), self.top)
         for path in glob.glob(TOP + "/crates/*/src/**/*.rt", recursive=True):
             there = os.path.join(self.top, os.path.relpath(path, TOP))

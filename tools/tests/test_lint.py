@@ -1,4 +1,4 @@
-"""Tests of tools/lint: it ends with 0 only if each of its parts came to its end and found nothing."""
+"""Tests of tools/lint: its status is 0 only if each of its parts came to its end and found nothing."""
 import os
 import shutil
 import subprocess
@@ -7,7 +7,7 @@ import unittest
 
 TOOLS = os.path.dirname(os.path.dirname(os.path.abspath(__file__)))
 PASSES = "#!/bin/sh\n"
-# A repository of one crate, in which nothing falls short.
+# A repository of one crate without faults.
 FILES = {
     "tools/lint-errors": PASSES,
     "tools/header-rows": PASSES,
@@ -46,7 +46,7 @@ class Linting(unittest.TestCase):
         os.chmod(path, 0o755)
 
     def lint(self):
-        """The status and the lines."""
+        """The status and the printed lines."""
         path = "%s/bin:%s" % (self.top, os.environ["PATH"])
         done = subprocess.run([self.top + "/tools/lint"], env=dict(os.environ, PATH=path),
                               capture_output=True, text=True, check=False)

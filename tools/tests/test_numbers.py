@@ -1,4 +1,4 @@
-"""Tests of tools/lint-numbers: each kind of number is found where it is spelled, and nothing else."""
+"""Tests of tools/lint-numbers: each kind of number is found if it is written out, and nothing else is."""
 import os
 import subprocess
 import tempfile
@@ -27,7 +27,7 @@ class Numbers(unittest.TestCase):
         subprocess.run(["git", "init", "-q", self.top], check=True)
 
     def told(self, name, text):
-        """The status, and the lines, where this file is alone there."""
+        """The status and the printed lines, if this is the only file."""
         path = os.path.join(self.top, name)
         os.makedirs(os.path.dirname(path), exist_ok=True)
         with open(path, "w", encoding="utf-8") as file:

@@ -1,4 +1,4 @@
-"""Tests of tools/pictures: what a picture shows can't change without it, and a table can't differ from a definition."""
+"""Tests of tools/pictures: what a picture shows can't change without the picture, and a table can't differ from a definition."""
 import os
 import shutil
 import subprocess
@@ -7,27 +7,27 @@ import unittest
 
 TOP = os.path.dirname(os.path.dirname(os.path.dirname(os.path.abspath(__file__))))
 FOLDER = "docs/pictures/"
-DIFFERS = FOLDER + "%s.svg: it isn't what tools/pictures draws\n"
+DIFFERS = FOLDER + "%s.svg: it differs from what tools/pictures draws\n"
 PAGE, SCAN = "docs/INSTRUMENT.md", "crates/sv_scan/specs/"
-# What is changed in a file, from what to what; and what is then told.
+# A file, the text that is changed in it, the new text, and what is printed then.
 CHANGES = (
     (PAGE, "| QYE | query error, -4xx |", "| QYE | a query at fault, -4xx |", DIFFERS % "status-model"),
-    (PAGE, "| | 2 | 4 | QYE |", "| | 1 | 2 | QYE |", PAGE + ": standard events: bit 2 stands in the sources alone\n"),
+    (PAGE, "| | 2 | 4 | QYE |", "| | 1 | 2 | QYE |", PAGE + ": standard events: bit 2 is only in the sources\n"),
     (PAGE, "| | 2 | 4 | QYE |", "| | 2 | 8 | QYE |", PAGE + ": standard events: the weight of bit 2 isn't 8\n"),
     (SCAN + "Condition.antt", "+ bit 8 (not", "+ bit 10 (is_idle (state log)) + bit 8 (not",
-     PAGE + ": operation: bit 10 stands in the sources alone\n" + DIFFERS % "trigger-states"),
+     PAGE + ": operation: bit 10 is only in the sources\n" + DIFFERS % "trigger-states"),
     ("crates/sv_errors/specs/Code.antt", "class == 4 then 2 ^ 2", "class == 4 then 2 ^ 1",
-     PAGE + ": standard events: bit 1 stands in the sources alone\n"),
+     PAGE + ": standard events: bit 1 is only in the sources\n"),
     ("crates/sv_layers/specs/StatusByte.antt", "(k ≡ 7) × Summary Operation", "(k ≡ 7) × Summary Limit", DIFFERS % "status-model"),
     ("crates/sv_status/src/register_name.rt", "    Limit,\n", "    Limit,\n    Voltage,\n",
      "crates/sv_status/src/register_name.rt: there is no place for the register Voltage\n"),
     (SCAN + "Counted.antt", "counts log Sample = is_scanning (state log)", "counts log Sample = is_waiting (state log)",
-     PAGE + ": the table of moves: Waiting by tick to Idle stands in crates/sv_scan/specs alone\n"),
+     PAGE + ": the table of moves: Waiting by tick to Idle is only in crates/sv_scan/specs\n"),
     (SCAN + "Counted.antt", "counts log Sample = is_scanning (state log)", "counts log Sample = true",
-     PAGE + ": the table of moves: Idle by tick to Idle stands in crates/sv_scan/specs alone\n"),
+     PAGE + ": the table of moves: Idle by tick to Idle is only in crates/sv_scan/specs\n"),
     (SCAN + "Counted.antt", "if is_idle (state log) then None else Some InitIgnored",
      "if is_scanning (state log) then Some InitIgnored else None",
-     PAGE + ": the table of moves: Idle by INITiate to Waiting doesn't stand in crates/sv_scan/specs\n"),
+     PAGE + ": the table of moves: Idle by INITiate to Waiting isn't in crates/sv_scan/specs\n"),
     (PAGE, "| no other link holds it | lock_timeout | 11 |", "| no other link holds it | lock_timeout | 15 |",
      PAGE + ": the lock: Timed out: by the definitions '11', not '15'\n"),
     (PAGE, "| no limit | | |", "| no limit | | 23 |", PAGE + ": dialing: device_abort: by the definitions '', not '23'\n"),
@@ -35,10 +35,10 @@ CHANGES = (
     ("crates/sv_history/specs/Resuming.antt", "late _ = IoTimeout", "late _ = Locked",
      PAGE + ": input: Timed out: by the definitions '11', not '15'\n"),
     ("crates/sv_links/src/waiting.rt", "    /// That a write is accepted.\n", "    /// Noon.\n    Noon,\n    /// That a write is accepted.\n",
-     PAGE + ": the table of calls that wait: noon stands in crates/sv_links/src/waiting.rt alone\n"),
+     PAGE + ": the table of calls that wait: noon is only in crates/sv_links/src/waiting.rt\n"),
     ("crates.txt", "sv_vxi: sv_xdr\n", "sv_vxi: sv_xdr\nsv_new:\n", ""),
     ("crates.txt", "sv_layers: sv_logs", "sv_new:\nsv_layers: sv_new sv_logs",
-     "docs/ARCHITECTURE.md: the way of a call: sv_new stands in crates.txt alone\n"),
+     "docs/ARCHITECTURE.md: the way of a call: sv_new is only in crates.txt\n"),
     ("docs/ARCHITECTURE.md", "| `sv_value` | `sv_command` | parameters |", "| `sv_value` | `sv_command` | " + 9 * "parameters " + "|",
      "The way of a call: there is no room for '" + " ".join(9 * ["parameters"]) + "'\n"),
     ("crates/sv_rpc/src/lib.rt", "//! RPC over a stream", "//! RPC over streams", DIFFERS % "way-of-a-call"),
@@ -49,7 +49,7 @@ CHANGES = (
 
 
 def left_out(_, names):
-    """What no picture is drawn from."""
+    """The files from which no picture is drawn."""
     return [name for name in names if name in ("out", "proofs", "must-fail", "tests") or name.endswith((".md", ".edit"))]
 
 
@@ -68,7 +68,7 @@ class Pictures(unittest.TestCase):
         self.assertEqual(self.told(), (0, ""))
 
     def told(self, *words):
-        """The status, and the lines."""
+        """The status and the printed lines."""
         done = subprocess.run([TOP + "/tools/pictures", *words, self.top], capture_output=True, text=True, check=False)
         self.assertEqual(done.stderr, "")
         return done.returncode, done.stdout

@@ -1,4 +1,4 @@
-"""Tests of tools/rows and tools/row-diff: what the text says is what VXI-11 sends, and a row that differs is told."""
+"""Tests of tools/rows and tools/row-diff: the bytes for a text are those of VXI-11, and a row that differs is shown."""
 import os
 import subprocess
 import sys
@@ -17,7 +17,7 @@ from row_text.singly import DONE                                            # no
 from row_text.values import TextError, bytes_of, text_of                    # noqa: E402
 from scanvolt.vxi11 import DeviceError, ProgramMismatch, Records, RpcMismatch, calls, encode_reply, words   # noqa: E402
 
-# Calls, each with its name and the words that say its fields.
+# Calls, each with its name and the words for its fields.
 CALLS = (
     (calls.null(), "null", ""),
     (calls.create_link("inst0", True, 50, 7), "create_link",

@@ -11,7 +11,7 @@ pub(crate) struct Connection {
 }
 
 impl Connection {
-    /// A connection that the system reports under this token.
+    /// Makes a connection of this stream. The system reports events of the stream under this token.
     pub(crate) fn new(
         mut stream: TcpStream,
         registry: &Registry,
@@ -22,7 +22,7 @@ impl Connection {
         Ok(Connection { stream })
     }
 
-    /// Reads once and sends the bytes back. Returns false if the connection is to be closed.
+    /// Makes one read, and sends the bytes back. Returns false if the connection has to be closed.
     pub(crate) fn echo(&mut self, buffer: &mut [u8]) -> bool {
         match self.stream.read(buffer) {
             Ok(0) => false,

@@ -1,6 +1,6 @@
-//! A bare echo server, for measuring: `echo PORT LOOKS` sends back what it reads on connections to
-//! a port of 127.0.0.1. It polls and sleeps as scanvolt does between sweeps. It prints `ready
-//! PORT`, and ends after `LOOKS` polls.
+//! A bare echo server, with which scanvolt is compared in measurements. `echo PORT LOOKS` listens
+//! on a port of 127.0.0.1, and sends back what it reads. It polls and sleeps as scanvolt does
+//! between sweeps. It prints `ready PORT`, and ends after `LOOKS` polls.
 #![tactic(auto)]
 
 mod connection;

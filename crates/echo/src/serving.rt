@@ -12,7 +12,7 @@ use sv_pace::{FEW, Pace, STILL};
 /// How many connections there may be.
 const CONNECTIONS: usize = 16;
 
-/// Accepts connections, while there is a place.
+/// Accepts the connections that have come, as long as fewer than 16 connections are open.
 fn accept(
     listener: &TcpListener,
     poll: &Poll,
@@ -32,7 +32,8 @@ fn accept(
     Ok(())
 }
 
-/// Sends back what a connection sent.
+/// Makes one read on the connection with this number, and sends the bytes back. Drops the
+/// connection if it has to be closed.
 fn echo(connections: &mut Vec<Option<Connection>, Global>, number: usize, buffer: &mut [u8]) {
     let Some(place) = connections.get_mut(number) else {
         return;
@@ -77,8 +78,8 @@ impl Served {
         })
     }
 
-    /// Waits until bytes come, at most for `limit`, if there is one, and sends them back. Returns
-    /// whether any came.
+    /// Polls one time, and waits at most for `limit`, if there is one. Accepts connections, and
+    /// sends back the bytes that came. Returns whether the poll reported anything.
     fn spin(&mut self, limit: Option<Duration>) -> io::Result<bool> {
         self.poll.poll(&mut self.events, limit)?;
         for event in self.events.iter() {
@@ -93,7 +94,7 @@ impl Served {
     }
 }
 
-/// Serves a port for this number of polls.
+/// Listens on a port, and makes this number of polls.
 pub(crate) fn serve(rt: &HostRuntime, port: u16, looks: u32) -> io::Result<()> {
     let mut served = Served::listen(rt, port)?;
     println!(rt; "ready {port}")?;
@@ -115,7 +116,8 @@ pub(crate) fn serve(rt: &HostRuntime, port: u16, looks: u32) -> io::Result<()> {
     Ok(())
 }
 
-/// How long it may sleep, with `left` polls left: without a limit, except before the last polls.
+/// How long the next poll may sleep if `left` polls remain: without a limit (`None`), except before
+/// the last few polls.
 fn sleep_time(pace: &Pace, now: u64, left: u32) -> Option<Duration> {
     if left > FEW {
         return None;

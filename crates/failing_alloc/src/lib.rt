@@ -8,16 +8,16 @@
 //! for number in 1..100 {
 //!     heap.refuse(number);
 //!     let outcome = code_under_test(&heap);
-//!     // If no refusal was met, the code makes fewer allocations than `number`, and `outcome` is
-//!     // its answer with all of them.
+//!     // If no allocation was refused, the code makes fewer allocations than `number`, and
+//!     // `outcome` is its answer with all memory.
 //!     if heap.is_armed() { .. }
 //! }
 //! ```
 //!
-//! A contract cannot speak of the contents of a cell, so `refuse` and `is_armed` have none, and the
-//! tests show what they do. What is proved is that memory is used safely: each block handed out is
-//! one that the inner allocator gave for that layout, and it is given back to it with that layout
-//! and at most once. No contract says that it is given back at all.
+//! A contract cannot describe the contents of a cell, so `refuse` and `is_armed` have no contract;
+//! the tests show what they do. It is proved that memory is used safely: each block comes from the
+//! inner allocator for the requested layout, and goes back to it with that layout and at most once.
+//! But no contract says that a block is ever given back.
 #![tactic(auto)]
 
 use std::alloc::{AllocError, Allocator};
@@ -29,19 +29,21 @@ mod tests;
 /// An allocator for tests: it refuses one allocation, and passes every other call on to another
 /// allocator.
 ///
-/// Lend it, as `&heap`: a reference to an allocator is an allocator too, and is `Copy`. `refuse`
-/// and `is_armed` may be called while it is lent.
+/// Lend it, as `&heap`: a reference to an allocator is itself an allocator, and is `Copy`. `refuse`
+/// and `is_armed` may be called while the allocator is lent.
 ///
-/// A block that grows or shrinks is allocated anew and copied, whatever the inner allocator would
-/// do. So each time counts as one allocation, and may be the one that is refused.
+/// A block that grows or shrinks is allocated anew and copied, even if the inner allocator could
+/// resize it. So each growth counts as one allocation, and may be the one that is refused.
 pub struct FailingAllocator<B: Allocator> {
     inner: B,
-    // How many allocations are left, up to the refused one and with it; 0 if none is to be refused.
+    // The number of the allocation that is refused, counted from the next one; 0 if none is to be
+    // refused.
     left: Cell<u64>,
 }
 
 impl<B: Allocator> FailingAllocator<B> {
-    /// Passes every call on to `inner`, until `refuse` says otherwise.
+    /// Makes an allocator that passes every call on to `inner`, until `refuse` chooses an
+    /// allocation that is refused.
     pub fn new(inner: B) -> FailingAllocator<B> {
         FailingAllocator {
             inner,
@@ -49,15 +51,15 @@ impl<B: Allocator> FailingAllocator<B> {
         }
     }
 
-    /// Refuses one allocation: the one with this number among those that come from now on, counted
-    /// from 1. The others are passed on, also those after it. With 0 none is refused.
+    /// Refuses one allocation: of the allocations made from now on, the one with this number,
+    /// counted from 1. All other allocations are passed on. With 0 no allocation is refused.
     ///
-    /// This replaces what an earlier call asked for.
+    /// A second call replaces the number of the first.
     pub fn refuse(&self, number: u64) {
         self.left.set(number);
     }
 
-    /// Whether a refusal was asked for and is still to come.
+    /// Whether the allocation to refuse hasn't been made yet.
     pub fn is_armed(&self) -> bool {
         self.left.get() != 0
     }
@@ -80,7 +82,8 @@ fn take_turn(left: &Cell<u64>) -> bool {
 }
 
 unsafe impl<B: Allocator> Allocator for FailingAllocator<B> {
-    // A block is the inner allocator's, and so is the right to free it.
+    // A block belongs to the inner allocator. So the right to free it is the inner allocator's
+    // `dealloc_token`.
     ghost dealloc_token = { λ heap ty ptr. B.dealloc_token heap.inner ty ptr };
 
     fn allocate(&self, size: usize, align: usize) -> Result<*mut u8, AllocError> {

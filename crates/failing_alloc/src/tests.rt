@@ -43,7 +43,7 @@ fn keeps_the_items_of_a_vec_through_refusals(rt: HostRuntime) -> Result<(), Fail
     let heap = FailingAllocator::new(rt.alloc());
     let mut items = Vec::new(&heap);
     let mut refused = 0u64;
-    // The first allocation makes the block, and the second is its first growth.
+    // The first allocation makes the vector's block, and the second grows it for the first time.
     heap.refuse(2);
     for item in 0..40u8 {
         if items.push(item).is_err() {

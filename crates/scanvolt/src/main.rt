@@ -21,7 +21,7 @@ fn main(rt: HostRuntime) -> ExitCode {
     }
 }
 
-/// Reads the words of the command line, and runs what they ask for.
+/// Reads the command line, and replays or serves as it says.
 fn program(rt: &HostRuntime) -> Result<(), ProgramFault> {
     let words = own_words(rt)?;
     match read_words(rt.alloc(), words.get(1..).unwrap_or(&[]))? {
@@ -36,7 +36,7 @@ fn own_words(rt: &HostRuntime) -> Result<Vec<String<Global>, Global>, ProgramFau
     Ok(words.collect(rt.alloc())?)
 }
 
-/// The fault if the words can't be read: out of memory, or a word isn't text.
+/// The fault if the command line can't be read: memory was refused, or a word isn't text.
 fn words_fault(error: &Error) -> ProgramFault {
     match error.kind() {
         ErrorKind::OutOfMemory => ProgramFault::Run(RunFault::Memory),

@@ -9,7 +9,8 @@ use sv_serve::Driver;
 use sv_server::{Config, Server};
 use sv_words::{ProgramFault, Serve};
 
-/// The fault of an error of the system: out of memory, or else `other`.
+/// The program's fault for an error of the system: `Memory` if the error is that memory was
+/// refused, else `other`.
 fn fault_or(error: &Error, other: ProgramFault) -> ProgramFault {
     match error.kind() {
         ErrorKind::OutOfMemory => ProgramFault::Run(RunFault::Memory),
@@ -17,7 +18,7 @@ fn fault_or(error: &Error, other: ProgramFault) -> ProgramFault {
     }
 }
 
-/// Reads the whole scenario.
+/// Reads the scenario from the file at `path`.
 fn scenario(rt: &HostRuntime, path: &str) -> Result<Vec<Entry, Global>, ProgramFault> {
     let text = fs::read(rt, path).map_err(|error| fault_or(
         &error,
@@ -26,7 +27,8 @@ fn scenario(rt: &HostRuntime, path: &str) -> Result<Vec<Entry, Global>, ProgramF
     Ok(read_scenario(rt.alloc(), &text)?)
 }
 
-/// Serves sockets on three ports of 127.0.0.1. Once it listens it prints `ready` and the ports.
+/// Serves sockets on three ports of 127.0.0.1. Prints `ready` and the ports when it listens on
+/// them.
 pub(crate) fn serve(rt: &HostRuntime, words: &Serve<'_>) -> Result<(), ProgramFault> {
     let scenario = scenario(rt, words.scenario)?;
     let config = Config {

@@ -4,7 +4,7 @@ ghost use Rattle.std.specs.Prelude.{◌≡◌, ◌+◌, ◌≤◌, ◌++◌, dro
 
 use std::alloc::Allocator;
 
-/// Appends `piece` to `bytes`, which must have the capacity for it. It doesn't allocate.
+/// Appends `piece` to `bytes` without allocating. `bytes` must have the capacity for `piece`.
 pub fn append<A: Allocator>(bytes: &mut Vec<u8, A>, piece: &[u8])
     requires { vec_len bytes.old + length piece.now ≤ vec_capacity bytes.old }
     ensures items { bytes.new.items ≡ bytes.old.items ++ piece.now }
@@ -13,7 +13,7 @@ pub fn append<A: Allocator>(bytes: &mut Vec<u8, A>, piece: &[u8])
     bytes.extend_from_slice(piece).unwrap();
 }
 
-/// Drops the first `count` bytes. It doesn't allocate.
+/// Drops the first `count` of these bytes, without allocating.
 pub fn drop_front<A: Allocator>(bytes: &mut Vec<u8, A>, count: usize)
     requires { count ≤ vec_len bytes.old }
     ensures items { bytes.new.items ≡ drop count bytes.old.items }

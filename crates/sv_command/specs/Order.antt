@@ -19,24 +19,25 @@ pub record Parameter : Type 0 where
   pub kind : Kind
   pub text : List ℕ
 
--- what `make` makes of the value of a result; if the result is an error, the error
+-- the result with `make` applied to its value; an error stays the same
 abbrev pub then_value : {A B : Type 0} → (A → B) → Result A Code → Result B Code
 then_value make (Ok value) = Ok (make value)
 then_value make (Err code) = Err code
 
--- the channels of a channel list, or its error; `None` if there is no parameter
+-- the channels of the channel list that is the parameter, or the error of the list; `None` if there is no parameter
 abbrev pub channels_in : Option Parameter → Result (Option (List ℕ)) Code
 channels_in None = Ok None
 channels_in (Some parameter) = then_value Some (read_channels parameter.kind parameter.text)
 
--- the only channel of a list; -223 if the list has more channels
+-- the channel of a list that has to have exactly one; -223 if the list has more channels
 abbrev pub only_channel : Result (List ℕ) Code → Result ℕ Code
 only_channel (Ok []) = Err InvalidExpression
 only_channel (Ok (channel ∷ [])) = Ok channel
 only_channel (Ok (channel ∷ other ∷ others)) = Err TooMuchData
 only_channel (Err code) = Err code
 
--- the order of a command that sets a value, or the error of the value; bit 6 of the service request enable is dropped
+-- what a command that sets a value tells the instrument to do (its order), or the error of the value. Bit 6 of the service request enable
+-- is dropped.
 abbrev pub set_order : SettingName → Kind → List ℕ → Result Order Code
 set_order name.StandardEnable kind text = then_value order.EnableStandard (read_whole 0 255 kind text)
 set_order name.ServiceEnable kind text = then_value (λ mask. order.EnableService (bit_and mask 191)) (read_whole 0 255 kind text)
@@ -52,8 +53,8 @@ set_order name.Limits kind text = then_value (λ on. order.Set (setting.Limits o
 set_order name.Source kind text = then_value (λ source. order.Set (setting.Source source)) (read_source kind text)
 set_order name.Count kind text = then_value (λ scans. order.Set (setting.Count scans)) (read_whole 1 most_scans kind text)
 
--- The order of a command, with its parameter if it has one; or the error. A command that sets a value needs a parameter (else -109). A
--- command that configures a measurement can have a channel list or no parameter.
+-- What a command with this parameter, if any, tells the instrument to do (its order); or the error. A command that sets a value needs a
+-- parameter (else -109). A command that configures a measurement can have a channel list or no parameter.
 abbrev pub order_of : CommandId → Option Parameter → Result Order Code
 order_of (id.Do action) parameter_of = Ok (order.Do action)
 order_of (id.Ask question) parameter_of = Ok (order.Ask question)
@@ -62,7 +63,7 @@ order_of (id.Set name) (Some parameter) = set_order name parameter.kind paramete
 order_of id.Configure parameter_of = then_value order.Configure (channels_in parameter_of)
 order_of id.Measure parameter_of = then_value order.Measure (channels_in parameter_of)
 
--- a token as a parameter
+-- a token of the code, as a parameter; `None` if there is no token
 abbrev pub parameter_of : Option Token → Option Parameter
 parameter_of None = None
 parameter_of (Some token) = Some (record { kind = token.kind; text = token.text.now })

@@ -15,13 +15,13 @@ use Rattle.sv_command.specs.Order.{Parameter, order_of}
 abbrev pub first_parameter : List ℕ → Option Parameter
 first_parameter unit = if count unit == 0 then None else Some (record { kind = kind_of (parameter unit 0); text = parameter unit 0 })
 
--- this error, if there is one; else this result
+-- the error, if there is one; else `outcome`
 abbrev pub unless : Option Code → Result Order Code → Result Order Code
 unless (Some code) outcome = Err code
 unless None outcome = outcome
 
--- The order of a command in a unit, or its first error. First the syntax of the parameters is checked; then their number (-108 if there are
--- too many); then their values.
+-- What a command with the parameters of its unit tells the instrument to do (its order); or the first error. First the syntax of the
+-- parameters is checked; then their number (-108 if there are too many); then their values.
 abbrev pub order_of_unit : CommandId → List ℕ → Result Order Code
 order_of_unit command unit =
     unless (parameters_fault unit)
@@ -35,8 +35,8 @@ IsNamed path unit outcome behind =
     (header unit)))
     ⊎ (((command : CommandId) → Resolves path (header unit) command → ⊥) × (outcome ≡ Err UndefinedHeader) × (behind ≡ path))
 
--- A unit, with the path before it, has this outcome: an order or an error. `behind` is the path for the next unit. The path is updated
--- after a header that is well-formed and names a command; otherwise it is unchanged.
+-- A unit, with the path before it, has this outcome: an order, which tells the instrument what to do; or an error. `behind` is the path for
+-- the next unit. The path is updated if the unit is well-formed and its header names a command; otherwise it is unchanged.
 abbrev pub IsReadAs : List (List ℕ) → List ℕ → Result Order Code → List (List ℕ) → Type 0
 IsReadAs path unit outcome behind = ((code : Code) × (unit_fault unit ≡ Some code) × (outcome ≡ Err code) × (behind ≡ path))
     ⊎ ((unit_fault unit ≡ None) × IsNamed path unit outcome behind)

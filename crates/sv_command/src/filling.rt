@@ -14,7 +14,8 @@ use sv_value::{boolean, keyword, microvolts, whole};
 /// All bits of a mask but bit 6.
 const ALL_BUT_SIX: u8 = 191;
 
-/// Returns the order of a command with this parameter, or the error.
+/// Returns the order of a command with this parameter: what the instrument has to do. Or returns
+/// the error, if the parameter is wrong.
 pub(crate) fn order(command: CommandId, given: Option<Token<'_>>) -> Result<Order, Code>
     ensures { result ≡ order_of command (given_by given.entry) }
 {
@@ -30,7 +31,7 @@ pub(crate) fn order(command: CommandId, given: Option<Token<'_>>) -> Result<Orde
     }
 }
 
-/// Returns the order that sets a setting to the value of a token, or the error.
+/// Returns the order that sets a setting to the value of a token, or the error of this value.
 fn set(name: SettingName, token: &Token<'_>) -> Result<Order, Code>
     ensures { result ≡ set_order name token.now.kind token.now.text.now }
 {

@@ -4,11 +4,11 @@ use sv_header::{Action, Question};
 use sv_scan::{ScanList, Setting};
 use sv_status::RegisterName;
 
-/// What a unit tells the instrument to do, with its values. A register's mask can have bit 15 set:
-/// the register drops this bit.
+/// What a unit tells the instrument to do, with the values of its parameters. The mask for a
+/// register can have bit 15 set: the register drops this bit.
 #[derive(Drop)]
 pub enum Order {
-    /// An action without a value: a command, or a query that waits.
+    /// An action without a parameter: a command, or a query whose answer may have to wait.
     Do(Action),
     /// A query that is answered at once.
     Ask(Question),
@@ -22,7 +22,8 @@ pub enum Order {
     SetRise(RegisterName, u16),
     /// `STATus:..:NTRansition`: set the negative transition filter of a register.
     SetFall(RegisterName, u16),
-    /// Change a setting of the scanner. A range may be any voltage up to 1,000 V in magnitude.
+    /// Change a setting of the scanner. A range can be any voltage up to 1,000 V in magnitude here:
+    /// the scanner checks whether it has this range.
     Set(Setting),
     /// `CONFigure:VOLTage`: abort, and configure a measurement, with this channel list if there is
     /// one.

@@ -19,8 +19,8 @@ use sv_lexer::Unit;
 /// The first of these that applies: the error in `lexed`; [`Code::UndefinedHeader`] if the header
 /// names no command; [`Code::InvalidExpression`], then [`Code::SyntaxError`], if the syntax of the
 /// parameters is wrong; [`Code::ParameterNotAllowed`] if there are too many;
-/// [`Code::MissingParameter`]; the error of the parameter's value. A range may be any voltage here:
-/// the scanner checks whether it has this range.
+/// [`Code::MissingParameter`]; the error of the parameter's value. For a range, any voltage is
+/// accepted here: the scanner checks later whether it has this range.
 pub fn read_unit<A: Allocator>(
     table: &Table<A>,
     path: &mut Path,
@@ -35,7 +35,8 @@ pub fn read_unit<A: Allocator>(
     }
 }
 
-/// Returns the order of a unit whose header is well-formed, or the error, and updates the path.
+/// Returns what a well-formed unit tells the instrument to do (its order), or the error. Updates
+/// the path if the header names a command.
 fn named<A: Allocator>(table: &Table<A>, path: &mut Path, unit: &Unit<'_>) -> Result<Order, Code>
     ensures { IsNamed path.old unit.now result path.new }
 {
@@ -49,7 +50,8 @@ fn named<A: Allocator>(table: &Table<A>, path: &mut Path, unit: &Unit<'_>) -> Re
     }
 }
 
-/// Returns the order of a command with the parameters of its unit, or the error.
+/// Returns what a command with the parameters of its unit tells the instrument to do (its order),
+/// or the first error of the parameters.
 fn asked(command: CommandId, unit: &Unit<'_>) -> Result<Order, Code>
     ensures { result ≡ asked_by command unit.now }
 {

@@ -40,7 +40,7 @@ pub(crate) fn list(token: &Token<'_>) -> Result<ScanList, Code>
     }
 }
 
-/// Reads the channels of a list; `None` if there is no list.
+/// Reads the channel list that is the parameter; returns `None` if there is no parameter.
 pub(crate) fn list_if_given(given: Option<Token<'_>>) -> Result<Option<ScanList>, Code>
     ensures { result ≡ channels_in (given_by given.entry) }
 {
@@ -63,7 +63,7 @@ pub(crate) fn monitor(token: &Token<'_>) -> Result<u8, Code>
     }
 }
 
-/// Returns the only channel of a list; -223 if the list has more channels.
+/// Returns the channel of a list that has to have exactly one; -223 if the list has more channels.
 fn only(channels: &[u8]) -> Result<u8, Code>
     ensures { result ≡ only_channel (Ok channels.now) }
 {

@@ -3,7 +3,7 @@ use Rattle.std.specs.Prelude.{ℤ, ℕ, ◌/◌, ◌^◌, ◌==◌, pos, neg_ℤ
 use Rattle.sv_errors.specs.declared.code.Code.{Code}
 use Rattle.sv_errors.specs.declared.code.Code.TheVariants.{NoError, InvalidCharacter, SyntaxError, DataTypeError, ParameterNotAllowed, MissingParameter, ProgramMnemonicTooLong, UndefinedHeader, InvalidCharacterInNumber, ExponentTooLarge, TooManyDigits, InvalidSuffix, SuffixNotAllowed, InvalidCharacterData, InvalidExpression, TriggerIgnored, InitIgnored, TriggerDeadlock, SettingsConflict, DataOutOfRange, TooMuchData, IllegalParameterValue, DataCorruptOrStale, QueueOverflow, InputBufferOverrun, QueryInterrupted, QueryUnterminated, QueryDeadlocked}
 
--- the number of an error, without its minus, and its text
+-- the number of an error, without its minus sign, and the text of the error
 abbrev pub entry : Code → ℕ × List ℕ
 entry NoError = (0, codes "No error")
 entry InvalidCharacter = (101, codes "Invalid character")

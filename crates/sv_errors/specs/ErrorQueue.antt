@@ -10,32 +10,32 @@ use Rattle.sv_errors.specs.declared.error_queue.QueueAct.TheVariants.{Report, Ta
 abbrev pub most : ℕ
 most = 64
 
--- the places of the reports since the last clearing for which the queue had room, in order (`admitted`), and how many of these entries were
--- taken
+-- `admitted`: the reports since the last clearing for which the queue had room, in order, each given as the number of its act, counted from
+-- the oldest act; `taken`: how many of their entries were taken from the queue
 pub record Counted : Type 0 where
   pub admitted : List ℕ
   pub taken : ℕ
 
--- the places of the admitted reports whose entries weren't taken yet
+-- the admitted reports whose entries weren't taken from the queue yet, as numbers of acts
 abbrev pub left : Counted → List ℕ
 left count_acts = drop count_acts.taken count_acts.admitted
 
--- what is counted after an error is reported at this place: the report is admitted if fewer than 64 entries are in the queue
+-- what is counted after act number `place` reports an error: the report is admitted if fewer than 64 entries are in the queue
 abbrev pub admit : Counted → ℕ → Counted
 admit before place = if nat_lt (length (left before)) most then record before { admitted = before.admitted ++ place ∷ [] } else before
 
--- what is counted after a take: one more entry is taken, if the queue has one
+-- what is counted after a take: one more entry is taken, unless the queue is empty
 abbrev pub take_one : Counted → Counted
 take_one before = if is_some (slice_get (left before) 0) then record before { taken = before.taken + 1 } else before
 
--- what is counted after these acts
+-- after these acts: which reports since the last clearing the queue had room for, and how many of their entries were taken
 abbrev pub count_acts : List QueueAct → Counted
 count_acts [] = record { admitted = []; taken = 0 }
 count_acts (Report code ∷ acts) = admit (count_acts acts) (length acts + 1)
 count_acts (Take ∷ acts) = take_one (count_acts acts)
 count_acts (Clear ∷ acts) = record { admitted = []; taken = 0 }
 
--- the entries of the queue, the oldest first, each given as the place of its report
+-- the entries of the queue, the oldest first; each is given as the number of the act that reported it, counted from the oldest act
 abbrev pub entries : List QueueAct → List ℕ
 entries acts = left (count_acts acts)
 
@@ -43,20 +43,20 @@ entries acts = left (count_acts acts)
 abbrev pub is_full : List QueueAct → Bool
 is_full acts = length (entries acts) == most
 
--- the acts up to and including the one at this place
+-- the acts up to and including act number `place`, counted from the oldest act
 abbrev pub up_to : ℕ → List QueueAct → List QueueAct
 up_to place acts = drop (length acts - place) acts
 
--- the error that the newest act reports; `None` if it reports none
+-- the error that the newest act reports; `None` if the act isn't a report
 abbrev pub report_of : List QueueAct → Option Code
 report_of = elim [ Report code ∷ acts ↦ Some code | _ ↦ None ]
 
--- whether the act that follows the one at this place is a report
+-- whether the act that follows act number `place`, counted from the oldest act, is a report
 abbrev pub is_overtaken : ℕ → List QueueAct → Bool
 is_overtaken place acts = nat_lt place (length acts) && is_some (report_of (up_to (place + 1) acts))
 
--- The error of an entry: the one that was reported at its place. But if this report made the queue full and the next act is a report too,
--- the entry has the error -350.
+-- The error of the entry that act number `place` reported. It is the reported error. But it is -350 if the queue was full after this act,
+-- and the next act is a report too.
 abbrev pub entry_code : List QueueAct → ℕ → Code
 entry_code acts place =
     if is_full (up_to place acts) && is_overtaken place acts then QueueOverflow else unwrap_or (report_of (up_to place acts)) NoError

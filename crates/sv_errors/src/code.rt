@@ -5,11 +5,11 @@ ghost use Rattle.sv_errors.specs.Code.{number_of, text_of, standard_event_of};
 
 /// A command error's bit in the standard event register (IEEE 488.2, 11.5.1).
 const COMMAND_ERROR: u8 = 1 << 5;
-/// An execution error's bit.
+/// An execution error's bit in the standard event register.
 const EXECUTION_ERROR: u8 = 1 << 4;
-/// A device-specific error's bit.
+/// A device-specific error's bit in the standard event register.
 const DEVICE_ERROR: u8 = 1 << 3;
-/// A query error's bit.
+/// A query error's bit in the standard event register.
 const QUERY_ERROR: u8 = 1 << 2;
 
 /// An error of the instrument, or the value for no error.

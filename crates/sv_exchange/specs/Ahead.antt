@@ -10,7 +10,7 @@ use Rattle.sv_exchange.specs.declared.ahead.Ahead.{Ahead}
 abbrev pub is_separator : ℕ → Bool
 is_separator b = b == 59
 
--- The unit may still go on: after the bytes of it that were read, only white space was read, and no semicolon.
+-- The first unit may still go on, because no semicolon after it was read. Behind the bytes of `unit`, only white space was read.
 pub record IsOpen (seen unit space : List ℕ) : Type 0 where
   pub left : (more : List ℕ) → units (seen ++ more) ≡ units ((unit ++ space) ++ more)
   pub single : list_any is_separator (unit ++ space) ≡ false
@@ -24,7 +24,8 @@ abbrev pub IsFound : Bool → (seen unit space : List ℕ) → Type 0
 IsFound true seen unit space = (is_something unit ≡ true) × ((more : List ℕ) → units (seen ++ more) ≡ unit ∷ units more)
 IsFound false seen unit space = IsOpen seen unit space
 
--- The bytes that were read: the bytes before the first unit (`before`), this unit as far as it was read, and the bytes after it (`space`).
+-- `ahead` describes the bytes that were read (`seen`). They consist of the bytes before the first unit, this unit as far as it was read,
+-- and the bytes after it (`space`).
 pub record IsAhead (ahead : Ahead) (seen : List ℕ) : Type 0 where
   pub before : List ℕ
   pub unit : List ℕ

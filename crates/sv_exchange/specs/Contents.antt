@@ -19,7 +19,7 @@ pub record Contents : Type 0 where
   pub answering : Bool
   pub output : List ℕ
 
--- no text, and nothing to read
+-- the state in which no bytes of a message are stored, and nothing can be read
 abbrev pub empty : Contents
 empty = record {
   rest = [];
@@ -43,14 +43,13 @@ abbrev pub following : Bool → List ℕ → Bool → List (List ℕ)
 following true later end_pending = messages (symbols later end_pending)
 following false later end_pending = []
 
--- Either the stored output is the answers of the current message, joined, and nothing can be read. Or this message has no answers, and the
--- stored output is the response.
--- the response.
+-- Either the current message has answers: the stored output is these answers, joined, and nothing can be read. Or this message has no
+-- answers: the stored output is the response, which can be read.
 abbrev pub IsShown : Bool → List ℕ → List (List ℕ) → List ℕ → Type 0
 IsShown true output given readable = (given ≢ []) × (output ≡ joined_answers given) × (readable ≡ [])
 IsShown false output given readable = (given ≡ []) × (readable ≡ output)
 
--- The state stands for the acts: there is a current message, some of whose units were executed.
+-- The state stands for the acts. `message` is the current message, and `executed` are those of its units that were executed.
 pub record StandsFor (contents : Contents) (acts : List ExchangeAct) : Type 0 where
   pub message : List ℕ
   pub executed : List (List ℕ)
@@ -71,7 +70,7 @@ pub record StandsFor (contents : Contents) (acts : List ExchangeAct) : Type 0 wh
 abbrev pub is_open : Contents → Bool
 is_open contents = not contents.ended
 
--- what can be read: nothing while answers are collected
+-- what can be read of the stored output: nothing while it collects the answers of the current message (`true`), else all of it
 abbrev pub readable_of : Bool → List ℕ → List ℕ
 readable_of true output = []
 readable_of false output = output
@@ -90,7 +89,7 @@ abbrev pub next_of : Contents → Due
 next_of contents = if contents.overlong && not contents.overrun_reported then OverrunDue else due_unit (unit_of contents)
     (is_something (shown_by contents)) contents.ended
 
--- A unit is due.
+-- The step that is due is the execution of a unit.
 abbrev pub IsUnitDue : Due → Type 0
 IsUnitDue due = (unit : List ℕ) × (due ≡ UnitDue unit)
 
@@ -109,7 +108,7 @@ abbrev pub text_size : Bool → ℕ → ℕ → Bool → ℕ
 text_size true rest later end_pending = rest + (1 + (later + bit end_pending))
 text_size false rest later end_pending = rest
 
--- a measure of the work that remains: each step that is due makes it less, so repeated stepping terminates
+-- a measure of the work that remains: each step that is due lowers the measure, so repeated stepping terminates
 abbrev pub exchange_measure : Contents → ℕ
 exchange_measure contents = 3 * text_size contents.ended (length contents.rest) (length contents.later) contents.end_pending +
     (bit (contents.overlong && not contents.overrun_reported) + bit (is_something (shown_by contents)))

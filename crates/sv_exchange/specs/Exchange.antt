@@ -58,7 +58,7 @@ messages_finished acts = length (filter (elim [ Finished ↦ true | _ ↦ false 
 abbrev pub current : List ExchangeAct → List ExchangeAct
 current acts = since (elim [ Finished ∷ older ↦ true | TextDropped ∷ older ↦ true | _ ↦ false ]) acts
 
--- how many units were done in these acts
+-- how many units were executed in these acts
 abbrev pub units_done : List ExchangeAct → ℕ
 units_done acts = length (filter (elim [ UnitDone ↦ true | _ ↦ false ]) acts)
 
@@ -76,11 +76,11 @@ all_answers [] = []
 all_answers (Answered answer ∷ acts) = all_answers acts ++ answer ∷ []
 all_answers (_ ∷ acts) = all_answers acts
 
--- the answers of the current message; none if they were dropped
+-- the answers of the current message; none if the answers were dropped
 abbrev pub answers : List ExchangeAct → List (List ℕ)
 answers acts = if has_dropped (current acts) then [] else all_answers (current acts)
 
--- the current message
+-- the current message: the first message of the text that wasn't finished yet
 abbrev pub message : List ExchangeAct → List ℕ
 message acts = slice_index_or (messages (text acts)) (messages_finished acts) []
 
@@ -111,13 +111,15 @@ next_unit acts =
 abbrev pub joined_answers : List (List ℕ) → List ℕ
 joined_answers = join_with_byte 59
 
--- whether the newest act makes a new response: it finishes a message that had answers, or interrupts the response
+-- whether the newest act replaces the response: it finishes a message that has answers, which become the response; or it interrupts the
+-- response, which becomes empty
 abbrev pub renews : List ExchangeAct → Bool
 renews (Finished ∷ acts) = is_something (answers acts)
 renews (Interrupted ∷ acts) = true
 renews _ = false
 
--- the response that the newest act makes: the joined answers and a new line; empty if the act interrupts the response
+-- the new response, if the newest act replaces the response: the joined answers of the message that the act finishes, and a new line; empty
+-- if the act interrupts the response
 abbrev pub new_response : List ExchangeAct → List ℕ
 new_response (Finished ∷ acts) = joined_answers (answers acts) ++ 10 ∷ []
 new_response _ = []
@@ -128,12 +130,12 @@ bytes_read [] = 0
 bytes_read (ResponseRead count ∷ acts) = bytes_read acts + count
 bytes_read (_ ∷ acts) = bytes_read acts
 
--- what can be read: the response as it was made, without the bytes that were read since
+-- what can be read: the newest response, without the bytes of it that were read
 abbrev pub response : List ExchangeAct → List ℕ
 response acts = drop (bytes_read (since renews acts)) (new_response (newest renews acts))
 
--- The step that is due: a message that is too long is reported, one time; a unit starts; a response that isn't read to its end is
--- interrupted, because a unit is to start; or a message that has ended is finished.
+-- The step that is due: nothing; a message that is too long is reported, one time; a response that wasn't read to its end is interrupted,
+-- because a unit of a new message is to start; a unit starts; or a message that has ended is finished.
 pub data Due : Type 0 where
   NothingDue : Due
   OverrunDue : Due

@@ -4,15 +4,15 @@ use Rattle.std.specs.List.{position_or_len}
 use Rattle.sv_exchange.specs.Contents.{Contents}
 use Rattle.sv_exchange.specs.Limits.{max_message, max_text, max_response}
 
--- how many bytes the first message has
+-- how many bytes the first message of a text has: those before the first new line, or all if there is no new line
 abbrev pub first_size : List ℕ → ℕ
 first_size bytes = position_or_len (λ b. b == 10) bytes
 
--- whether a new line ends the first message
+-- whether a new line ends the first message of a text
 abbrev pub has_line : List ℕ → Bool
 has_line bytes = nat_lt (first_size bytes) (length bytes)
 
--- where the second message begins
+-- where the second message of a text begins: after the first new line; at the end of the text if there is no new line
 abbrev pub second_at : List ℕ → ℕ
 second_at bytes = if has_line bytes then first_size bytes + 1 else length bytes
 
@@ -47,7 +47,7 @@ abbrev pub with_answer : Bool → List ℕ → List ℕ → List ℕ
 with_answer true output answer = output ++ 59 ∷ answer
 with_answer false output answer = answer
 
--- the contents after an answer was given (`true`), or after it didn't fit and all answers were dropped
+-- the contents after a unit gave an answer. The flag says whether the answer fits. If it doesn't, all answers of the message are dropped.
 abbrev pub after_answer : Contents → List ℕ → Bool → Contents
 after_answer contents answer true = record contents { answering = true; output = with_answer contents.answering contents.output answer }
 after_answer contents answer false = record contents { answers_dropped = true; answering = false; output = [] }
@@ -66,7 +66,8 @@ contents_of text cursor end next_start ended end_pending overlong overrun_report
   output = drop read response;
 }
 
--- While answers are collected, none of their bytes were read, and the new line still fits after them.
+-- While answers are collected (`true`), none of their bytes were read, and the new line still fits after them. Otherwise the output is a
+-- response that isn't too long, of which `read` bytes were read.
 abbrev pub IsOut : Bool → ℕ → ℕ → Type 0
 IsOut true size read = (size < max_response) × (read ≡ 0)
 IsOut false size read = (size ≤ max_response) × (read ≤ size)

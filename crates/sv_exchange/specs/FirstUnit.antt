@@ -2,7 +2,7 @@
 use Rattle.std.specs.Prelude.{◌≡◌, ◌≢◌, ℕ, ◌<◌, ◌≤◌, List, [], ◌∷◌, length, drop}
 use Rattle.sv_exchange.specs.Exchange.{units}
 
--- `unit` is the first unit of the message. Without its first `count` bytes, the message has exactly its other units.
+-- `unit` is the first unit of the message. The message without its first `count` bytes has exactly the units after this one.
 pub record IsFirst (message unit : List ℕ) (count : ℕ) : Type 0 where
   pub units : units message ≡ unit ∷ units (drop count message)
   pub some : unit ≢ []

@@ -42,7 +42,7 @@ impl Ahead {
         ahead
     }
 
-    /// Reads on in a text that has grown. If `anew` is true, it reads the text from its start
+    /// Reads on in a text that has grown. If `anew` is true, reads the text again from its start
     /// instead.
     pub(crate) fn look_on(&mut self, text: &[u8], anew: bool)
         requires { anew ≡ false → IsBegun self.old text.now }
@@ -69,7 +69,7 @@ impl Ahead {
         }
     }
 
-    /// The unit with its header and parameters, or its error.
+    /// The unit with its header and parameters, or the error of the unit.
     pub(crate) fn lexed<'a>(&self, text: &'a [u8]) -> Result<Unit<'a>, Code>
         requires { IsLooked self.now text.now }
         ensures { (unit : List ℕ) → slice_get (units text.now) 0 ≡ Some unit

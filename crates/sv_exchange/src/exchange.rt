@@ -52,7 +52,8 @@ pub struct Exchange<A: Allocator = Global> {
     ended: bool,
     /// Whether END came with the last byte of the text after the current message.
     end_pending: bool,
-    /// Whether the current message is too long; its bytes are dropped if it is.
+    /// Whether the current message is too long. The bytes of a message that is too long are
+    /// dropped.
     overlong: bool,
     /// Whether the current message was reported as too long.
     overrun_reported: bool,
@@ -83,7 +84,8 @@ impl<A: Allocator> Model for Exchange<A> {
 }
 
 impl<A: Allocator + Copy> Exchange<A> {
-    /// An exchange with no text and no response. All memory that it ever uses is allocated here.
+    /// An exchange without bytes of a message, and without a response. All memory that the exchange
+    /// ever uses is allocated here.
     ///
     /// # Errors
     /// If memory is refused.
@@ -109,7 +111,8 @@ impl<A: Allocator + Copy> Exchange<A> {
 }
 
 impl<A: Allocator> Exchange<A> {
-    /// Whether text is accepted. It isn't while a message has ended and isn't finished yet.
+    /// Whether a write is accepted. None is accepted from the end of a message until that message
+    /// is finished.
     pub fn open_for_write(&self) -> bool
         ensures value { result ≡ is_open self.now }
         ensures answer { (acts : List ExchangeAct) → StandsFor self.now acts
@@ -118,7 +121,7 @@ impl<A: Allocator> Exchange<A> {
         !self.ended
     }
 
-    /// Accepts the bytes of a write; `ended` says whether END comes with the last of them (VXI-11,
+    /// Accepts the bytes of a write. `ended` says whether END comes with the last byte (VXI-11,
     /// device_write). A message ends at END or at a new line (IEEE 488.2, 7.5). If a message is
     /// longer than [`MAX_MESSAGE`] bytes, none of its bytes are stored. The exchange must be open
     /// for a write, and a write may have at most [`MAX_MESSAGE`] bytes.
@@ -174,7 +177,8 @@ impl<A: Allocator> Exchange<A> {
         }
     }
 
-    /// The unit that is due, with its header and parameters. It was read while its bytes came.
+    /// The unit that is due, with its header and parameters. The unit was read while its bytes
+    /// came.
     ///
     /// # Errors
     /// The errors that [`unit`](sv_lexer::unit) returns for the bytes of this unit.
@@ -201,7 +205,8 @@ impl<A: Allocator> Exchange<A> {
         }
     }
 
-    /// Records that the current message was reported as too long. It is dropped up to its end.
+    /// Records that the current message was reported as too long. The message is dropped up to its
+    /// end.
     pub fn overran(&mut self)
         requires { next_of self.old ≡ OverrunDue }
         ensures value { self.new ≡ record self.old { overrun_reported = true } }
@@ -226,8 +231,8 @@ impl<A: Allocator> Exchange<A> {
         self.read = self.response.len();
     }
 
-    /// Finishes the message that has ended. If it has answers, these and a new line become the
-    /// response (IEEE 488.2, 8.5).
+    /// Finishes the message that has ended. If the message has answers, these and a new line become
+    /// the response (IEEE 488.2, 8.5).
     pub fn finish(&mut self)
         requires { next_of self.old ≡ FinishDue }
         ensures value { self.new ≡ after_finish self.old }
@@ -341,7 +346,7 @@ impl<A: Allocator> Exchange<A> {
         self.read = 0;
     }
 
-    /// Drops all text, and all that is stored about its messages.
+    /// Drops all program text, and all that is stored about the messages in the text.
     fn drop_text(&mut self)
         ensures { self.new ≡ record empty {
           answering = self.old.answering;
@@ -373,7 +378,7 @@ impl<A: Allocator> Exchange<A> {
     }
 }
 
-/// Drops the first `count` bytes, because their units were executed.
+/// Drops the first `count` bytes, because the units in these bytes were executed.
 fn drop_done<A: Allocator>(bytes: &mut Vec<u8, A>, count: usize)
     requires { count ≤ vec_len bytes.old }
     ensures items { bytes.new.items ≡ drop count bytes.old.items }
@@ -384,8 +389,8 @@ fn drop_done<A: Allocator>(bytes: &mut Vec<u8, A>, count: usize)
     }
 }
 
-/// If `joins` is true, appends a semicolon and the answer to the bytes, which are the answers
-/// before. Else replaces all bytes with the answer.
+/// If `joins` is true, appends a semicolon and the answer to `bytes`, which has the earlier answers
+/// of the message. Otherwise replaces `bytes` with the answer.
 fn put_answer<A: Allocator>(bytes: &mut Vec<u8, A>, joins: bool, answer: &[u8])
     requires { length (with_answer joins bytes.old.items answer.now) ≤ vec_capacity bytes.old }
     ensures items { bytes.new.items ≡ with_answer joins bytes.old.items answer.now }
@@ -399,7 +404,8 @@ fn put_answer<A: Allocator>(bytes: &mut Vec<u8, A>, joins: bool, answer: &[u8])
     append(bytes, answer);
 }
 
-/// Appends a new line if the bytes are answers.
+/// If `answers` is true, the bytes are the answers of a message: appends the new line that ends the
+/// response.
 fn end_response<A: Allocator>(bytes: &mut Vec<u8, A>, answers: bool)
     requires { IsTrue answers → vec_len bytes.old < vec_capacity bytes.old }
     ensures items { bytes.new.items

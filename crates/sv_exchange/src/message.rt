@@ -14,12 +14,12 @@ pub(crate) struct Cut {
     pub(crate) next_start: usize,
     /// Whether the message has ended.
     pub(crate) ended: bool,
-    /// Whether END comes after the bytes of the messages after the first one.
+    /// Whether END comes after the text that follows the first message.
     pub(crate) end_pending: bool,
 }
 
-/// Finds the first message of `bytes`. It ends at a new line or at END (IEEE 488.2, 7.5). END comes
-/// with the last byte if `end_pending` is true.
+/// Finds the first message of `bytes`. A message ends at a new line or at END (IEEE 488.2, 7.5).
+/// END comes with the last byte if `end_pending` is true.
 pub(crate) fn first_message(bytes: &[u8], end_pending: bool) -> Cut
     ensures size { result.size ≡ first_size bytes.now }
     ensures next_start { result.next_start ≡ second_at bytes.now }

@@ -16,7 +16,7 @@ pub struct Read<'a> {
     pub character: bool,
     /// The last byte is the last byte of the response.
     pub end: bool,
-    /// The bytes.
+    /// The bytes that the read returns.
     pub bytes: &'a [u8],
 }
 

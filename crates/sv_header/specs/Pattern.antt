@@ -10,7 +10,8 @@ pub record Part : Type 0 where
   pub long : List ℕ
   pub optional : Bool
 
--- a row of the table: whether it is a common command, whether it is a query, its nodes, and the command
+-- a row of the table of commands: whether its header is that of a common command, whether it ends in a question mark, the nodes of its
+-- pattern, and the command that it names
 pub record Row : Type 0 where
   pub common : Bool
   pub query : Bool
@@ -29,7 +30,7 @@ maybe short more = record { short = codes short; long = codes short ++ codes mor
 abbrev pub row : Bool → Bool → List Part → CommandId → Row
 row common query parts command = record { common = common; query = query; parts = parts; command = command }
 
--- Both texts are equal, but for the case of letters.
+-- The two texts are equal if upper and lower case aren't distinguished.
 abbrev pub Same : List ℕ → List ℕ → Type 0
 Same sent form = map to_ascii_lowercase sent ≡ map to_ascii_lowercase form
 

@@ -15,7 +15,7 @@ abbrev pub sent_of : Option (Bor (List ℕ)) → List (List ℕ)
 sent_of None = []
 sent_of (Some text) = cut_at 58 text.now
 
--- the mnemonics `first` and `others`; none if there is no first one
+-- the mnemonic `first`, followed by `others`; no mnemonics at all if `first` is `None`
 abbrev pub led_by : Option (Bor (List ℕ)) → List (List ℕ) → List (List ℕ)
 led_by None others = []
 led_by (Some first) others = first.now ∷ others

@@ -8,7 +8,7 @@ use Rattle.sv_header.specs.declared.command.CommandId.{CommandId}
 use Rattle.sv_header.specs.Pattern.{Row, Fits}
 use Rattle.sv_header.specs.Table.{table}
 
--- the mnemonics before those of a header: the path, unless the header starts at the root or is a common command
+-- the mnemonics that are looked up before a header's own: those of the path; none if the header starts at the root or is a common command
 abbrev pub path_before : Lead → List (List ℕ) → List (List ℕ)
 path_before Onward path = path
 path_before _ path = []

@@ -58,7 +58,7 @@ system_commands =
     ∷ query (node "SYST" "EM" ∷ node "VERS" "ION" ∷ []) (Ask Version)
     ∷ []
 
--- the commands of a status register: their headers begin with the nodes `place`
+-- the commands of a status register, whose headers begin with the nodes in `place`
 abbrev register : List Part → RegisterName → List Row
 register place name =
     query (place ++ maybe "EVEN" "T" ∷ []) (Ask (Events name))

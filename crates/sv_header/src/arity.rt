@@ -6,8 +6,8 @@ ghost use Rattle.sv_header.specs.Arity.{most_parameters as most_of};
 use crate::command::CommandId;
 
 impl CommandId {
-    /// How many parameters the command takes at most (IEEE 488.2, chapter 10; SCPI-1999, volume 2):
-    /// one for a value or a channel list, else none.
+    /// Returns how many parameters the command takes at most: one if its parameter is a value or a
+    /// channel list, else none (IEEE 488.2, chapter 10; SCPI-1999, volume 2).
     pub fn most_parameters(self) -> usize
         ensures { result ≡ most_of self }
     {

@@ -9,22 +9,23 @@ use crate::command::CommandId;
 use crate::left::Mnemonics;
 use crate::pattern::Node;
 
-/// A node, as it is stored in a list: right after it come the nodes below it, and then its next
-/// sibling.
+/// A node of the tree of headers. The tree is stored as a list: right after a node come the nodes
+/// below it, and then its next sibling.
 #[derive(Clone, Copy, Debug)]
 pub(crate) struct Branch {
-    /// The mnemonic.
+    /// The mnemonic of this node, in its two forms.
     pub(crate) node: Node,
-    /// How many nodes are below it, at any depth.
+    /// How many nodes are below this node, at any depth.
     pub(crate) below: usize,
-    /// The command of the headers that end here without the question mark.
+    /// The command of the headers that end at this node without a question mark, if there is one.
     pub(crate) plain: Option<CommandId>,
-    /// The command of the headers that end here with the question mark.
+    /// The command of the headers that end at this node with a question mark, if there is one.
     pub(crate) query: Option<CommandId>,
 }
 
 impl Branch {
-    /// Returns the command of a header that ends at this node, with the question mark if `query`.
+    /// Returns the command of a header that ends at this node: with a question mark if `query`,
+    /// else without one.
     fn command(&self, query: bool) -> Option<CommandId>
         ensures { result ≡ command_of query self.now }
     {

@@ -10,7 +10,7 @@ pub enum CommandId {
     Do(Action),
     /// A query that is answered at once.
     Ask(Question),
-    /// A setting, whose value is the parameter.
+    /// A command that sets this setting to the value of its parameter.
     Set(SettingName),
     /// `CONFigure:VOLTage[:DC]`: configure a measurement, with the given channels, if any.
     Configure,
@@ -32,7 +32,7 @@ pub enum Action {
     Wait,
     /// `*OPC?`: wait for the end of the measurement, and answer `1` (IEEE 488.2, 10.19).
     WaitAndTell,
-    /// `*TRG`: a trigger from the controller (IEEE 488.2, 10.37).
+    /// `*TRG`: trigger the scanner, as the controller's trigger (IEEE 488.2, 10.37).
     Trigger,
     /// `STATus:PRESet`: preset the registers' filters and enables.
     Preset,

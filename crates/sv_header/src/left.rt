@@ -6,11 +6,11 @@ ghost use Rattle.sv_header.specs.Plain.{left_of, sent_of};
 use crate::path::Mnemonic;
 use sv_text::first_part;
 
-/// The mnemonics that are still to be looked up: the first one, then the remaining ones of a path,
-/// then those in a text.
+/// The mnemonics of a header that are still to be looked up in the tree: `first`, then those of the
+/// path in `kept`, then those of the header's text in `sent`.
 #[derive(Clone, Copy, Debug)]
 pub(crate) struct Mnemonics<'a> {
-    /// The first mnemonic; `None` if none is left.
+    /// The mnemonic that is looked up next; `None` if none remains.
     pub(crate) first: Option<&'a [u8]>,
     /// The remaining mnemonics of the path, which come after the first one.
     pub(crate) kept: &'a [Mnemonic],

@@ -36,7 +36,7 @@ impl Default for Mnemonic {
 }
 
 impl Mnemonic {
-    /// Its characters.
+    /// Returns the characters of the mnemonic.
     pub(crate) fn text(&self) -> &[u8]
         ensures { result.now ≡ self.now }
     {
@@ -56,9 +56,10 @@ impl Mnemonic {
     }
 }
 
-/// The path: the mnemonics, as they were sent, that come before those of the next header, unless
-/// that header starts at the root or is a common command. There are at most four: no pattern has
-/// more than five nodes, and the last mnemonic of a header isn't part of the path.
+/// The path: mnemonics of the headers before, as they were sent. They are looked up in front of the
+/// next header's own mnemonics, unless that header starts at the root or is a common command. The
+/// path has at most four mnemonics: no pattern has more than five nodes, and the last mnemonic of a
+/// header isn't part of the path.
 #[derive(Debug, Drop)]
 pub struct Path {
     mnemonics: ArrayVec<Mnemonic, 4>,
@@ -113,7 +114,7 @@ impl Path {
         }
     }
 
-    /// The mnemonics of the path.
+    /// Returns the mnemonics of the path.
     pub(crate) fn mnemonics(&self) -> &[Mnemonic]
         ensures { result.now ≡ self.now }
     {

@@ -7,7 +7,7 @@ ghost use Rattle.sv_header.specs.Inside.Walk.{IsBehind, IsAllOf};
 
 use crate::left::Mnemonics;
 
-/// A mnemonic in its two forms, in capitals.
+/// A mnemonic of a pattern, in its short and its long form, in capitals.
 #[derive(Clone, Copy, Debug)]
 pub(crate) struct Node {
     /// The short form.
@@ -26,8 +26,8 @@ impl Node {
         mnemonic.eq_ignore_ascii_case(self.short) || mnemonic.eq_ignore_ascii_case(self.long)
     }
 
-    /// Returns the mnemonics after the first one, if the first one is a form of this node; else
-    /// `None`.
+    /// Returns the mnemonics of `left` after the first one, if the first one is a form of this
+    /// node; else `None`.
     pub(crate) fn behind<'a>(&self, left: &Mnemonics<'a>) -> Option<Mnemonics<'a>>
         ensures { IsBehind (left_of left.now) (part self.now) result }
     {
@@ -39,7 +39,7 @@ impl Node {
         }
     }
 
-    /// Returns all mnemonics, if this node may be left out; else `None`.
+    /// Returns all mnemonics of `left`, if this node may be left out; else `None`.
     pub(crate) fn absent<'a>(&self, left: &Mnemonics<'a>) -> Option<Mnemonics<'a>>
         ensures { IsAllOf (left_of left.now) (part self.now) result }
     {

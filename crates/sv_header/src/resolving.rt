@@ -16,10 +16,11 @@ use std::alloc::{AllocError, Allocator, Global};
 use std::marker::Model;
 use sv_errors::Code;
 
-/// How many nodes belong to common commands, which come first.
+/// How many nodes of the tree belong to common commands. These nodes come first.
 const COMMON_NODES: usize = 11;
 
-/// The table of commands in memory: a tree of nodes, one for each mnemonic at its place.
+/// The table of commands in memory: a tree whose nodes are mnemonics. The pattern of a header is a
+/// path from the root down to a node.
 #[derive(Drop)]
 pub struct Table<A: Allocator = Global> {
     branches: Vec<Branch, A>,

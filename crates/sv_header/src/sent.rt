@@ -22,7 +22,7 @@ pub(crate) struct Sent<'a> {
 }
 
 impl<'a> Sent<'a> {
-    /// Makes the value for a header that continues a path.
+    /// Combines a header with the path before it.
     pub(crate) fn new(path: &'a Path, header: &'a [u8]) -> Sent<'a>
         ensures common { result.common ≡ leads_common (lead_of header.now) }
         ensures query { result.query ≡ is_query header.now }

@@ -60,7 +60,7 @@ macro_rules! sets {
     };
 }
 
-/// Common commands (IEEE 488.2, chapter 10).
+/// The nodes of the common commands (IEEE 488.2, chapter 10).
 pub(crate) static COMMON_COMMANDS: [Branch; 11] = [
     does!(CLS, ClearStatus),
     sets!(ESE, SettingName::StandardEnable),
@@ -80,7 +80,7 @@ pub(crate) static COMMON_COMMANDS: [Branch; 11] = [
     does!(WAI, Wait),
 ];
 
-/// SYSTem (SCPI-1999, volume 2).
+/// The nodes of SYSTem (SCPI-1999, volume 2).
 pub(crate) static SYSTEM_NODES: [Branch; 5] = [
     group!(SYSTEM, 4),
     group!(ERROR, 2),
@@ -89,8 +89,8 @@ pub(crate) static SYSTEM_NODES: [Branch; 5] = [
     asks!(VERSION, Question::Version),
 ];
 
-/// STATus (SCPI-1999, volume 2): the preset, and each register. A register is given by its node,
-/// the number of nodes below that, and its name.
+/// The nodes of STATus (SCPI-1999, volume 2): those of the preset, then those of each register. The
+/// arguments for a register are its node, the number of nodes below this node, and its name.
 macro_rules! status_nodes {
     ($below:literal, $($register:ident, $count:literal, $name:ident;)*) => {
         [
@@ -108,7 +108,8 @@ macro_rules! status_nodes {
     };
 }
 
-/// STATus with its registers; the nodes of a nested register follow those of the register above it.
+/// The nodes of STATus and its registers. The nodes of a nested register follow those of the
+/// register above it.
 pub(crate) static STATUS_NODES: [Branch; 20] = status_nodes!(
     19,
     OPERATION, 5, Operation;
@@ -116,7 +117,7 @@ pub(crate) static STATUS_NODES: [Branch; 20] = status_nodes!(
     LIMIT, 5, Limit;
 );
 
-/// The settings: what is measured, and how (SCPI-1999, volume 2).
+/// The nodes of the settings: what is measured, and how (SCPI-1999, volume 2).
 pub(crate) static SETTINGS: [Branch; 16] = [
     group!(ROUTE, 2),
     sets!(SCAN, SettingName::ScanList),
@@ -136,7 +137,7 @@ pub(crate) static SETTINGS: [Branch; 16] = [
     sets!(COUNT, SettingName::Count),
 ];
 
-/// Measuring (SCPI-1999, volume 2).
+/// The nodes of the commands that measure (SCPI-1999, volume 2).
 pub(crate) static MEASURING: [Branch; 11] = [
     group!(INITIATE, 1),
     does!(MAYBE_IMMEDIATE, Initiate),

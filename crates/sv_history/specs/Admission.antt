@@ -68,7 +68,7 @@ channel_stop there host_addr host_port prog_family =
     else (if not (prog_family == 0) then Fails NotSupported
     else (if not (is_peer host_addr host_port) then Fails InvalidAddress else Awaits Dial None))
 
--- what stops a call; `None` if nothing stops it
+-- what stops a call of connection `c`; `None` if nothing stops it
 abbrev pub stop_of : ℕ → Arguments → List DeviceAct → Option Stop
 stop_of c (CreateLink client_id lock_device lock_timeout device) acts = link_stop lock_device lock_timeout device acts
 stop_of c (OnLink lid call) acts = call_stop c (lid_of (Some lid)) call acts
@@ -80,7 +80,7 @@ stop_of c DestroyIntrChan acts = None
 abbrev pub deadline : Config → Option ℕ → List DeviceAct → Option ℕ
 deadline config timeout acts = option_map (λ milliseconds. config.clock + ticks acts + milliseconds) timeout
 
--- The outcome of a call: it is executed, unless something stops it.
+-- The outcome of a call: if nothing stops it, that of executing it; else it fails, or is suspended.
 abbrev pub admission : Config → ℕ → ℕ → Arguments → Option Stop → List DeviceAct → CallOutcome
 admission config polled c arguments None acts = own_call config polled c arguments acts
 admission config polled c arguments (Some (Fails error)) acts = only (failure arguments error)

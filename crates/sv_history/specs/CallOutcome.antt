@@ -9,14 +9,14 @@ pub record CallOutcome : Type 0 where
   pub adds : List DeviceAct
   pub result : Option Outcome
 
--- a call that is answered, with the acts that it adds
+-- the outcome of a call that is answered with this result, and adds these acts
 abbrev pub answer_with : List DeviceAct → Outcome → CallOutcome
 answer_with adds result = record { adds = adds; result = Some result }
 
--- a call that is answered and adds no act
+-- the outcome of a call that is answered with this result, and adds no act
 abbrev pub only : Outcome → CallOutcome
 only result = answer_with [] result
 
--- a call that is suspended by this act
+-- the outcome of a call that is suspended by this act
 abbrev pub suspend_by : WaitAct → CallOutcome
 suspend_by act = record { adds = Waited act ∷ []; result = None }

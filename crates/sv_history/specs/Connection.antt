@@ -21,7 +21,7 @@ opening = elim [ Opened role ↦ Some (Some role) | PortClosed ↦ Some None | _
 abbrev pub open_role : List ConnAct → Option Role
 open_role = last_given opening None
 
--- the acts since the newest opening or closing
+-- the acts of a connection since it was last opened or closed
 abbrev pub acts_since_opening : List ConnAct → List ConnAct
 acts_since_opening = since (elim [ Opened role ∷ older ↦ true | PortClosed ∷ older ↦ true | _ ↦ false ])
 
@@ -59,7 +59,7 @@ pending_call acts = last_given taking None (acts_since_opening acts)
 abbrev pub is_busy : List ConnAct → Bool
 is_busy acts = is_some (pending_call acts)
 
--- how many records were answered, or aren't calls
+-- how many records of the connection are finished: each was answered, or was taken and isn't a call
 abbrev pub records_ended : List ConnAct → ℕ
 records_ended acts = length (filter (elim [ Replied bytes ↦ true | Faulted ↦ true | _ ↦ false ]) (acts_since_opening acts))
 
@@ -98,7 +98,7 @@ next_call acts = if took_no_call acts || is_busy acts then None else slice_get (
 abbrev pub is_idle : List ConnAct → Bool
 is_idle acts = is_none (next_call acts)
 
--- whether a record that came is too long: the server stores no byte after it
+-- whether the record at the end of the stream is too long: the server stores no byte that comes after it
 abbrev pub is_overlong : List ConnAct → Bool
 is_overlong acts = ends_overlong (tail_of (stream acts))
 

@@ -6,7 +6,7 @@ use Rattle.sv_vxi.specs.Arguments.{LinkCall, DeviceWrite, DeviceRead, Generic, D
 use Rattle.sv_vxi.specs.Results.{Outcome, Link, Size, Read, Status, Plain, Data}
 use Rattle.sv_exchange.specs.Limits.{max_message}
 
--- a call of the core channel: its xid and its arguments
+-- a call of the core channel: its transaction id (xid) and its arguments
 pub record CoreCall : Type 0 where
   pub xid : ℕ
   pub arguments : Arguments

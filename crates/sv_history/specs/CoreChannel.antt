@@ -55,15 +55,15 @@ device_write flags bytes acts =
 abbrev pub term_of : ℕ → ℕ → Option ℕ
 term_of flags term_char = if bit_at flags 7 == 1 then Some (term_char % 256) else None
 
--- the result of a read of this response: its first bytes, as many as requested or up to the termination character; and each reason to end
--- there
+-- the result of a device_read of this response: its first bytes, up to the requested number or to the termination character, whichever
+-- comes first; and each reason that applies for ending there
 abbrev pub read_of : List ℕ → ℕ → Option ℕ → Outcome
 read_of bytes most term =
     let count = read_count bytes most term in
     Read NoError (record { request_count = count == most; character = ends_at_term bytes count term; end = count == length bytes })
     (take count bytes)
 
--- a read, while there is a response
+-- the outcome of a device_read while there is a response: the bytes that are returned are removed from the response
 abbrev pub reads : List ℕ → ℕ → Option ℕ → CallOutcome
 reads bytes most term = answer_with (Applied (Exchanged (ResponseRead (read_count bytes most term))) ∷ []) (read_of bytes most term)
 

@@ -6,12 +6,12 @@ use Rattle.sv_history.specs.Act.{Act, ConnAct, DeviceAct, Replied, On, OnDevice}
 use Rattle.sv_history.specs.Reply.{reply_record}
 use Rattle.sv_history.specs.CallOutcome.{CallOutcome}
 
--- an effect: acts of the connection, and acts of the device
+-- an effect of a call or record: acts of its connection, and acts of the device
 pub record Effect : Type 0 where
   pub own : List ConnAct
   pub adds : List DeviceAct
 
--- the acts of an effect on the connection of this number, in the order of the log
+-- the acts of an effect, in the order of the log: its own acts are those of connection `c`
 abbrev pub acts_of : ℕ → Effect → List Act
 acts_of c effect = map (On c) effect.own ++ map OnDevice effect.adds
 
@@ -28,6 +28,6 @@ replies xid None = []
 abbrev pub call_effect : ℕ → CallOutcome → Effect
 call_effect xid outcome = record { own = replies xid outcome.result; adds = outcome.adds }
 
--- the effect of an answer that does nothing but send this reply
+-- the effect of a record that is answered with this reply, and does nothing else
 abbrev pub only_reply : List ℕ → Effect
 only_reply bytes = record { own = Replied bytes ∷ []; adds = [] }

@@ -40,13 +40,13 @@ abbrev pub taken_acts : ℕ → List ℕ → Effect → Option ℕ → List Act 
 taken_acts c bytes effect aborts log =
     let acts = acts_of c effect ++ On c (CallTaken bytes) ∷ [] in abort_acts aborts (acts ++ log) ++ acts
 
--- the acts of a Turn: those of the connection's next call; none if there is no call to take
+-- the acts of a Turn event: those of the connection's next call; none if there is no call to take
 abbrev pub turn_acts : Config → ℕ → ℕ → Option (List ℕ) → Option Request → List Act → List Act
 turn_acts config polled c (Some bytes) (Some request) log =
     taken_acts c bytes (request_effect config polled c request (device_acts log)) (aborts request (device_acts log)) log
 turn_acts config polled c _ _ log = []
 
--- the acts of a Refuse: the call is taken and answered at once
+-- the acts of a Refuse event: the next call is taken, and answered at once with error 9
 abbrev pub refuse_acts : ℕ → Option (List ℕ) → Option CoreCall → List Act
 refuse_acts c (Some bytes) (Some call) = On c (Replied (refused_reply call)) ∷ On c (CallTaken bytes) ∷ []
 refuse_acts c _ _ = []
@@ -87,7 +87,7 @@ abbrev pub is_beyond : ℤ → Bool
 is_beyond (pos n) = nat_lt most_microvolts n
 is_beyond (negsuc n) = nat_lt most_microvolts (n + 1)
 
--- why an Input is refused: there is no such channel; or the voltage is beyond plus or minus 1,000 V
+-- why an Input event is refused: there is no such channel; or the voltage is beyond plus or minus 1,000 V
 abbrev pub input_refusal : ℕ → ℤ → Option Refused
 input_refusal channel microvolts =
     if not (is_channel channel) then Some BadChannel else (if is_beyond microvolts then Some BadInput else None)
@@ -96,21 +96,21 @@ input_refusal channel microvolts =
 abbrev pub last_clock : ℕ
 last_clock = 9223372036854775807
 
--- why a Turn of an open connection is refused: there is a call to take, but no room for the longest reply
+-- why a Turn event of an open connection is refused: there is a call to take, but no room for the longest reply
 abbrev pub turn_refusal : List ConnAct → Option Refused
 turn_refusal acts = if is_idle acts then None else (if nat_lt (free acts) longest_reply then Some NoRoom else None)
 
--- why a Refuse of an open connection is itself refused: the next call isn't of a kind that may be refused; or there is no room for the
--- longest reply
+-- why a Refuse event of an open connection is itself refused: the next call is none that the server can answer with error 9; or there is no
+-- room for the longest reply
 abbrev pub refuse_refusal : List ConnAct → Option Refused
 refuse_refusal acts =
     if is_none (refusable acts) then Some NotRefusable else (if nat_lt (free acts) longest_reply then Some NoRoom else None)
 
--- why a Took is refused: it takes more bytes than wait to be sent
+-- why a Took event is refused: its number of bytes that the peer took is more than wait to be sent
 abbrev pub took_refusal : ℕ → List ℕ → Option Refused
 took_refusal count bytes = if nat_lt (length bytes) count then Some NotSent else None
 
--- `NoConn` if the connection isn't open, else this refusal
+-- the refusal of an event that needs an open connection: `NoConn` if it isn't open, else `other`
 abbrev pub unless_shut : ℕ → List Act → Option Refused → Option Refused
 unless_shut c log other = if is_shut c log then Some NoConn else other
 
@@ -145,12 +145,12 @@ abbrev pub did : PlainEvent → List Act → Did
 did (Turn c) log = if is_idle (of c log) then Idle else Done
 did _ log = Done
 
--- whether acts need memory: they create a link, or suspend a create_link or a create_intr_chan
+-- whether the server needs memory for these acts: they create a link, or suspend a create_link or a create_intr_chan
 abbrev pub wants_memory : List DeviceAct → Bool
 wants_memory acts = nat_lt 0 (links_made (link_acts acts)) || (nat_lt 0 (creating (wait_acts acts)) || nat_lt 0 (dialing (wait_acts acts)))
 
--- The result of an event: what it did, or the first check that it failed. It can run out of memory only if it fails no check, and creates a
--- link or suspends a create_link or a create_intr_chan.
+-- The result of an event: what it did, or the first check that it failed. The server can run out of memory only at an event that fails no
+-- check, and creates a link or suspends a create_link or a create_intr_chan.
 abbrev pub AnswersBy : Config → List ChannelAct → PlainEvent → List Act → Result Did Refused → Type 0
 AnswersBy config channel_log event log (Ok what) = (refusal config channel_log event log ≡ None) × (what ≡ did event log)
 AnswersBy config channel_log event log (Err NoMemory) = (refusal config channel_log event log ≡ None) × (polled : ℕ)

@@ -28,7 +28,7 @@ enable_srq c false lid handle = answer_with (Channel (SrqDisabled lid) ∷ []) (
 abbrev pub is_peer : ℕ → ℕ → Bool
 is_peer host_addr host_port = (host_addr / 16777216 == 127) && nat_lt 0 host_port && nat_lt host_port 65536
 
--- whether a call waits for the connection to its peer to be made
+-- whether this is a wait until the peer of an interrupt channel is connected
 abbrev pub is_dial : Option Wait → Bool
 is_dial (Some Dialing) = true
 is_dial _ = false

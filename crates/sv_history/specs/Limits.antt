@@ -2,11 +2,11 @@
 use Rattle.std.specs.Prelude.{ℕ, ◌+◌}
 use Rattle.sv_exchange.specs.Limits.{max_read}
 
--- the length of the longest reply in bytes, with its record mark. It is a reply to device_read: 40 bytes and those that were read (RFC
--- 5531, sections 9 and 11; VXI-11, device_read).
+-- the length of the longest reply in bytes, with its record mark. It is a reply to device_read: 40 bytes besides the data that it returns
+-- (RFC 5531, sections 9 and 11; VXI-11, device_read).
 abbrev pub longest_reply : ℕ
 longest_reply = 40 + max_read
 
--- how many bytes of replies that the peer hasn't taken may wait on a connection
+-- how many bytes of replies can wait on a connection until the peer takes them
 abbrev pub max_output : ℕ
 max_output = 16384

@@ -43,7 +43,7 @@ abbrev pub below : ℕ → List ℕ
 below zero = []
 below (suc n) = below n ++ n ∷ []
 
--- the port at place n in the order of the lines: first connections 0 to 15, then their interrupt channels
+-- the port whose line is printed at index n: first those of connections 0 to 15, then those of their interrupt channels
 abbrev pub port_of : ℕ → Port
 port_of n = if nat_lt n 16 then Conn n else Intr (n - 16)
 
@@ -51,7 +51,7 @@ port_of n = if nat_lt n 16 then Conn n else Intr (n - 16)
 abbrev pub ports : List Port
 ports = map port_of (below 32)
 
--- the lines of these ports, given the log and the log of the interrupt channels
+-- the lines that a replay prints for these ports, given the log and the log of the interrupt channels
 abbrev pub lines_of : List ChannelAct → List Port → List Act → List ℕ
 lines_of channel_log [] log = []
 lines_of channel_log (port ∷ others) log = port_line port (waiting_on channel_log port log) ++ lines_of channel_log others log
@@ -67,7 +67,7 @@ with_tooks channel_log [] log history = history
 with_tooks channel_log (port ∷ others) log history = with_tooks channel_log others log
     (with_took port (waiting_on channel_log port log) history)
 
--- the line of a refusal; nothing for an event that isn't refused
+-- what is printed first for an event: the line of its refusal; nothing if the event isn't refused
 abbrev pub head_of : Result Did Refused → List ℕ
 head_of (Ok did) = []
 head_of (Err refusal) = refusal_line refusal

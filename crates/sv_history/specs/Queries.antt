@@ -15,11 +15,11 @@ WaitOn port config history bytes = (log : List Act) × (channel_log : List Chann
     × HearsOf (device_acts log) channel_log
     × (bytes ≡ waiting_on channel_log port log)
 
--- The result is what `answer` returns for the log of the history.
+-- The result of a query is what `answer` returns for the log of the history.
 abbrev pub Answered : {A : Type 0} → (List Act → A) → Config → List PlainEvent → A → Type 0
 Answered answer config history result = (log : List Act) × IsLogOf config history log × (result ≡ answer log)
 
--- The result is true exactly if `IsSuch` holds of the log of the history.
+-- The result of a query is true exactly if `IsSuch` holds of the log of the history.
 abbrev pub Decided : (List Act → Type 0) → Config → List PlainEvent → Bool → Type 0
 Decided IsSuch config history result = (log : List Act) × IsLogOf config history log × ((result ≡ true) ↔ IsSuch log)
 

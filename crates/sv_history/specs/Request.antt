@@ -1,5 +1,5 @@
--- What a record asks for (RFC 5531, section 9; VXI-11 revision 1.0, section B.6; RFC 1833, section 3). The header of the record is checked
--- first. After that it is a call of the program that its connection serves.
+-- What a record requests (RFC 5531, section 9; VXI-11 revision 1.0, section B.6; RFC 1833, section 3). The header of the record is checked
+-- first. After that the record is read as a call of the program that its connection serves.
 use Rattle.std.specs.Prelude.{ℕ, ℤ, ◌==◌, not, List, [], ◌∷◌, Option, Some, None, Result, Ok, Err, if◌then◌else◌}
 use Rattle.sv_xdr.specs.declared.garbage.Garbage.{Garbage}
 use Rattle.sv_rpc.specs.declared.reply.Reply.{Reply}
@@ -15,8 +15,8 @@ use Rattle.sv_history.specs.Act.{ConnAct}
 use Rattle.sv_history.specs.Connection.{next_call, open_role}
 use Rattle.sv_history.specs.CoreCall.{CoreCall}
 
--- what a record is: not a call; a call whose header, or whose unreadable arguments, decide the reply; a call of the core channel;
--- device_abort; or GETPORT
+-- what a record requests: nothing, since it isn't a call; this reply, which follows from the call's header or from arguments that can't be
+-- read; a call of the core channel; device_abort; or GETPORT
 pub data Request : Type 0 where
   NoCall : Request
   Decided : (xid : ℕ) (reply : Reply) → Request
@@ -40,14 +40,14 @@ abbrev pub abort_request : ℕ → Result Arguments Garbage → Request
 abort_request xid (Ok (OnLink lid call)) = AbortRequest xid lid
 abort_request xid _ = Decided xid GarbageArgs
 
--- what a call of the connection's program asks for, if the program has the call's procedure
+-- what a call of the connection's program requests, if the program has the call's procedure
 abbrev pub procedure_request : Role → PlainCall → Request
 procedure_request Core call = core_request call.xid (arguments_at call.proc call.args)
 procedure_request Abort call = abort_request call.xid (arguments_at call.proc call.args)
 procedure_request Portmap call = PortRequest call.xid call.args
 
--- What a call asks for. The first of these that applies decides the reply: not the role's program; not the program's version; the null
--- procedure; an unknown procedure.
+-- What a call requests. The first of these that applies decides the reply: the call isn't for the role's program; not for the program's
+-- version; it is for the null procedure; it is for an unknown procedure.
 abbrev pub call_request : Role → PlainCall → Request
 call_request role call =
     let (program, version, procedures) = program_of role in
@@ -56,19 +56,19 @@ call_request role call =
     else (if call.proc == 0 then Decided call.xid Success
     else (if not (is_one_of procedures call.proc) then Decided call.xid ProcUnavail else procedure_request role call)))
 
--- What a record asks for, given the result of reading it as a call. A call with another version of RPC than 2 is denied. A record with a
+-- What a record requests, given the result of reading it as a call. A call with another version of RPC than 2 is denied. A record with a
 -- bad header isn't a call.
 abbrev pub request_of : Role → Result PlainCall CallFault → Request
 request_of role (Ok call) = call_request role call
 request_of role (Err (Version xid)) = Decided xid Mismatch
 request_of role (Err BadHeader) = NoCall
 
--- what the next call of a connection asks for, given the role of the connection and the bytes of the call; `None` if there is no call
+-- what the next call of a connection requests, given the role of the connection and the bytes of the call; `None` if there is no call
 abbrev pub request_for : Option Role → Option (List ℕ) → Option Request
 request_for (Some role) (Some bytes) = Some (request_of role (call_at bytes))
 request_for _ _ = None
 
--- what the next call of a connection asks for; `None` if there is no call
+-- what the next call of a connection requests; `None` if there is no call
 abbrev pub next_request : List ConnAct → Option Request
 next_request acts = request_for (open_role acts) (next_call acts)
 

@@ -6,12 +6,13 @@ use Rattle.sv_links.specs.Channels.{ChannelAct, SrqDisabled, Requested}
 use Rattle.sv_layers.specs.StatusByte.{IsRaised}
 use Rattle.sv_history.specs.Act.{DeviceAct, Linked, Channel, Applied, instrument_acts}
 
--- the log of the interrupt channels after an act of a link: if the act destroys the link, its service requests are disabled
+-- the log of the interrupt channels after an act of a link; if the act destroys the link, an act is added that disables its service
+-- requests
 abbrev pub link_told : LinkAct → List ChannelAct → List ChannelAct
 link_told (Destroyed lid) channel_log = SrqDisabled lid ∷ channel_log
 link_told _ channel_log = channel_log
 
--- the log of the interrupt channels after an act of the instrument: if the act raises a request for service, with that request in front
+-- the log of the interrupt channels after an act of the instrument; if the act raises a request for service, the request is added in front
 abbrev pub request_told : Bool → List ChannelAct → List ChannelAct
 request_told true channel_log = Requested ∷ channel_log
 request_told false channel_log = channel_log

@@ -16,7 +16,7 @@ use Rattle.sv_history.specs.CoreChannel.{own_call}
 use Rattle.sv_history.specs.Interrupts.{connect_outcome}
 use Rattle.sv_history.specs.Admission.{device_wait, deadline}
 
--- this outcome, with an act in addition that ends the suspension of the call
+-- this outcome of a suspended call, with one more act, which ends the call's suspension
 abbrev pub leaving : ℕ → CallOutcome → CallOutcome
 leaving c outcome = record outcome { adds = outcome.adds ++ Waited (Left c) ∷ [] }
 
@@ -30,7 +30,7 @@ abbrev pub resume_outcome : Config → ℕ → ℕ → Arguments → Option (Wai
 resume_outcome config polled c arguments (Some wait) acts = suspend_by (Again c wait.0 (deadline config (Some wait.1) acts))
 resume_outcome config polled c arguments None acts = leaving c (own_call config polled c arguments (Waited (Left c) ∷ acts))
 
--- the effect of a suspended call with this outcome; if there is no call of the core channel, the effect is only that the suspension ends
+-- the effect of a suspended call, whose outcome `does` gives; if there is no call of the core channel, only the suspension ends
 abbrev pub effect_of : ℕ → (Arguments → CallOutcome) → Option CoreCall → Effect
 effect_of c does (Some call) = call_effect call.xid (does call.arguments)
 effect_of c does None = record { own = []; adds = Waited (Left c) ∷ [] }
@@ -41,7 +41,7 @@ abbrev pub resume_effect : Config → ℕ → ℕ → Wait → Option CoreCall �
 resume_effect config polled c wait call acts =
     effect_of c (λ arguments. resume_outcome config polled c arguments (next_wait wait arguments acts) acts) call
 
--- the effect of a call that ends with this error
+-- the effect of a suspended call that ends with this error
 abbrev pub failure_effect : ErrorCode → ℕ → Option CoreCall → Effect
 failure_effect error c call = effect_of c (λ arguments. leaving c (only (failure arguments error))) call
 
@@ -49,7 +49,7 @@ failure_effect error c call = effect_of c (λ arguments. leaving c (only (failur
 abbrev pub connect_effect : ℕ → Bool → Option CoreCall → Effect
 connect_effect c ok call = effect_of c (λ arguments. leaving c (connect_outcome c ok arguments)) call
 
--- the error of a call that times out: 11 if it waited for the lock, else 15
+-- the error of a suspended call that times out: 11 if it waited for the lock, else 15
 abbrev pub late : Wait → ErrorCode
 late Lock = DeviceLocked
 late _ = IoTimeout

@@ -2,7 +2,7 @@
 
 use thiserror::Error;
 
-/// What a connection is for.
+/// The program that a connection serves.
 #[derive(Clone, Copy, Debug, PartialEq, Eq)]
 pub enum Role {
     /// The core channel.
@@ -13,7 +13,7 @@ pub enum Role {
     Portmap,
 }
 
-/// Where bytes are sent to.
+/// Where the server sends bytes: a connection, or the interrupt channel of a connection.
 #[derive(Clone, Copy, Debug, PartialEq, Eq)]
 pub enum Port {
     /// The connection of this number.
@@ -25,9 +25,9 @@ pub enum Port {
 /// What happens to the server.
 #[derive(Clone, Copy, Debug, PartialEq, Eq)]
 pub enum Event<'a> {
-    /// A connection opens, of number 0 to 15.
+    /// A connection opens.
     Open {
-        /// The connection's number.
+        /// The connection's number, 0 to 15.
         conn: u8,
         /// The connection's role.
         role: Role,
@@ -51,14 +51,14 @@ pub enum Event<'a> {
     },
     /// The peer took bytes that waited to be sent.
     Took {
-        /// The port.
+        /// The port on which the bytes waited.
         port: Port,
         /// How many bytes the peer took.
         count: u32,
     },
     /// A connection or an interrupt channel closes.
     Close {
-        /// The port.
+        /// The port that closes.
         port: Port,
     },
     /// An attempt to connect an interrupt channel to its peer has ended.
@@ -97,14 +97,15 @@ pub struct Config {
     pub core: u16,
     /// The port of the abort channel.
     pub abort: u16,
-    /// The clock at the start, in milliseconds, at most 9,223,372,036,854,775,807.
+    /// What the clock shows when the server starts, in milliseconds, at most
+    /// 9,223,372,036,854,775,807.
     pub clock: u64,
 }
 
-/// Where to connect an interrupt channel.
+/// Where to connect an interrupt channel to: its peer's address and port.
 #[derive(Clone, Copy, Debug, PartialEq, Eq)]
 pub struct Dial {
-    /// The address, most significant byte first.
+    /// The IPv4 address as a number, with its first byte as the most significant one.
     pub addr: u32,
     /// The port.
     pub port: u16,
@@ -120,7 +121,7 @@ pub enum Refused {
     /// The connection's number is in use.
     #[error("the connection is open already")]
     ConnInUse = 2,
-    /// The number is above 15, or nothing of that number is open.
+    /// The number is above 15, or no connection or interrupt channel of this number is open.
     #[error("there is no such connection")]
     NoConn = 3,
     /// A Bytes event has more bytes than the connection has room for; or, at a Turn or a Refuse,

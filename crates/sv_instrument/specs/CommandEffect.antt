@@ -1,5 +1,5 @@
--- What an order does (IEEE 488.2, chapter 10; SCPI-1999, volume 2). First come the acts of the order; then the unit is done; then its
--- answer is added. An order that can't be performed in the present state only reports its error.
+-- What an order, which is a unit that was read, does (IEEE 488.2, chapter 10; SCPI-1999, volume 2). First come the acts of the order; then
+-- the unit is done; then its answer is added. An order that can't be performed in the present state only reports an error.
 use Rattle.std.specs.Prelude.{◌≡◌, ℕ, List, ◌∷◌, Option, Some, None, pos, if◌then◌else◌}
 use Rattle.sv_errors.specs.declared.code.Code.{Code}
 use Rattle.sv_errors.specs.declared.code.Code.TheVariants.{QueryDeadlocked, DataCorruptOrStale}
@@ -30,7 +30,7 @@ after_answering text log =
     if fits_response (answers (exchange_acts log)) text then Exchanged (Answered text) ∷ log
     else Reported QueryDeadlocked ∷ Exchanged AnswersDropped ∷ log
 
--- if there is an error, the log after this error is reported and the unit is done; else `acts`
+-- if there is an error, the log after this error is reported and the unit is done; else `acts`, the log after the order is performed
 abbrev pub unless : Option Code → List Act → List Act → List Act
 unless (Some code) acts log = done (Reported code ∷ log)
 unless None acts log = acts
@@ -40,32 +40,33 @@ abbrev pub set_list : Option (List ℕ) → List Act → List Act
 set_list None log = log
 set_list (Some channels) log = Scanned (scan.Configure (setting.List channels)) ∷ log
 
--- A measurement is configured: it is aborted; range (10 V), source (immediate) and count (1) get their defaults; then the list is set, if
--- one is given.
+-- the log after a measurement is configured: the measurement before is aborted; range (10 V), source of triggers (immediate) and number of
+-- scans (1) get their defaults; then the scan list is set, if one is given
 abbrev pub after_configure : Option (List ℕ) → List Act → List Act
 after_configure list log = set_list list
     (Scanned (scan.Configure (setting.Count 1)) ∷ Scanned (scan.Configure (setting.Source Immediate))
     ∷ Scanned (scan.Configure (setting.Range (pos 10000000))) ∷ Scanned scan.Abort ∷ log)
 
--- the log after a query: with the act by which the query removes an entry or clears a register, if it does so
+-- the log after a query's effect: a query that removes an entry of the error queue or clears a register adds an act; every other query adds
+-- none
 abbrev pub after_query : Question → List Act → List Act
 after_query question.StandardEvents log = StandardRead ∷ log
 after_query question.Error log = EntryTaken ∷ log
 after_query (question.Events name) log = EventRead name ∷ log
 after_query asked log = log
 
--- the error of a query that can't be answered: -230 for the readings of a measurement that isn't complete or was aborted
+-- the error of a query that can't be answered: -230 for the readings of a measurement that isn't complete or was aborted; else `None`
 abbrev pub question_fault : Question → List Act → Option Code
 question_fault question.Readings log = if is_complete (effective_acts log) then None else Some DataCorruptOrStale
 question_fault asked log = None
 
--- The query is answered with its text. If the query removes an entry or clears a register, that happens before the answer is added. Or the
--- query only reports its error.
+-- A query has an error, and only reports it. Or the query is answered; if it removes an entry of the error queue or clears a register, it
+-- does so before its answer is added.
 abbrev pub Replies : Option Code → Question → List Act → List Act → Type 0
 Replies (Some code) asked log new = new ≡ done (Reported code ∷ log)
 Replies None asked log new = (text : List ℕ) × Says asked log text × (new ≡ after_answering text (done (after_query asked log)))
 
--- the log after a command without a value
+-- the log after a command without a parameter, or after a query that may have to wait
 abbrev pub after_action : Action → List Act → List Act
 after_action action.ClearStatus log = done (Cleared ∷ log)
 after_action action.Reset log = done (Scanned scan.Reset ∷ log)
@@ -79,7 +80,7 @@ after_action action.Abort log = done (Scanned scan.Abort ∷ log)
 after_action action.Read log = unless (read_fault (effective_acts log))
     (Held awaited.Readings ∷ Scanned scan.Init ∷ Scanned scan.Abort ∷ log) log
 
--- The order leads from `log` to `new`.
+-- Performing the order leads from `log` to `new`.
 abbrev pub Performs : Order → List Act → List Act → Type 0
 Performs (order.Do action) log new = new ≡ after_action action log
 Performs (order.Ask asked) log new = Replies (question_fault asked log) asked log new

@@ -15,12 +15,12 @@ Leaves [] path = path ≡ []
 Leaves (unit ∷ before) path =
     (front : List (List ℕ)) × (outcome : Result Order Code) × Leaves before front × IsReadAs front unit outcome path
 
--- 1 if a unit is held, else 0
+-- 1 if a unit waits for the end of the measurement (it is held), else 0
 abbrev pub one_if_held : Option Awaited → ℕ
 one_if_held None = 0
 one_if_held (Some awaited) = 1
 
--- how many units of the current message began: those that are done, and the one that is held, if any
+-- how many units of the current message began: those that are done, and the one that waits for the end of the measurement, if any
 abbrev pub units_begun : List Act → ℕ
 units_begun log = units_done (current (exchange_acts log)) + one_if_held (held_unit log)
 

@@ -23,7 +23,7 @@ use Rattle.sv_layers.specs.Filter.{rise, fall, enable}
 use Rattle.sv_layers.specs.Standard.{Stands, enable as standard_enable}
 use Rattle.sv_layers.specs.StatusByte.{MasterBit, service}
 
--- The text is a number of 16 bits in decimal. Exactly those of its bits are set for which `Bit` holds.
+-- The text is a 16-bit number in decimal. Bit k of the number is set exactly if `Bit` holds of k.
 pub record IsWord (Bit : ℕ → Type 0) (text : List ℕ) : Type 0 where
   pub word : ℕ
   pub fits : word < 65536
@@ -40,11 +40,11 @@ reading_text Under = overload_text true
 abbrev pub readings_text : List Reading → List ℕ
 readings_text given = join_by reading_text (codes ",") given
 
--- the oldest entry of the error queue; `0,"No error"` if the queue is empty
+-- the answer to `SYSTem:ERRor?`: the oldest entry of the error queue; `0,"No error"` if the queue is empty
 abbrev pub oldest_text : Option Code → List ℕ
 oldest_text oldest = error_text (unwrap_or oldest NoError)
 
--- the value of a setting
+-- the answer to the query of a setting: its value
 abbrev pub value_text : SettingName → List Act → List ℕ
 value_text name.StandardEnable log = decimal (standard_enable log)
 value_text name.ServiceEnable log = decimal (service log)

@@ -10,7 +10,8 @@ use Rattle.sv_instrument.specs.HeldUnit.{held_unit}
 use Rattle.sv_instrument.specs.Path.{IsPath}
 use Rattle.sv_instrument.specs.RequestCount.{Raises}
 
--- the state: the layers, what the held unit will answer, and the path
+-- the state of the instrument: its layers; what the unit that waits for the end of the measurement will answer, if there is such a unit;
+-- and the path before the next header
 pub record Kept : Type 0 where
   pub layers : LayerState
   pub held : Option Awaited
@@ -27,12 +28,12 @@ pub record Ran (kept : Kept) (count : ℕ) (log new : List Act) : Type 0 where
   pub stands : StandsFor kept new
   pub raises : Raises log new count
 
--- The step that is due was taken, and it raised `count` requests for service; or the code returned `None`, and no step is due.
+-- For `Some count`: the step that was due is taken, and it raised `count` requests for service. For `None`: no step is due.
 abbrev pub Takes : (List Act → List Act → Type 0) → Kept → Option ℕ → List Act → Type 0
 Takes IsNext kept None log = (new : List Act) → IsNext log new → ⊥
 Takes IsNext kept (Some count) log = (new : List Act) × IsNext log new × Ran kept count log new
 
--- 1 if no unit is held, so that the next unit can start; else 0
+-- 1 if no unit waits for the end of the measurement, so that the next unit can start; else 0
 abbrev pub one_if_unheld : Option Awaited → ℕ
 one_if_unheld None = 1
 one_if_unheld (Some awaited) = 0
@@ -43,12 +44,13 @@ waits Waiting = 1
 waits Idle = 0
 waits Scanning = 0
 
--- a measure of the steps that remain: a trigger or a step always makes it smaller, so repeated stepping terminates
+-- a number that measures how many steps remain: an immediate trigger or a step always makes it smaller, so that repeated stepping
+-- terminates
 abbrev pub instrument_measure : Kept → ℕ
 instrument_measure kept = 2 * (2 * exchange_measure kept.layers.exchange + one_if_unheld kept.held)
     + waits (state_by kept.layers)
 
--- If a unit is held, it is the unit that is due.
+-- If a unit waits for the end of the measurement (it is held), it is the unit that is due.
 abbrev pub IsHeldRight : Option Awaited → LayerState → Type 0
 IsHeldRight None layers = ⊤
 IsHeldRight (Some awaited) layers = IsUnitDue (next_of layers.exchange)

@@ -1,5 +1,5 @@
--- The step of message exchange that is due (IEEE 488.2, 6.1.4 and 6.3): a held unit ends; the next unit starts; a message that is too long
--- is reported; or a message that has ended is finished.
+-- The step of message exchange that is due (IEEE 488.2, 6.1.4 and 6.3): a unit that waited for the end of the measurement ends; the next
+-- unit starts; an error is reported for a message that is too long; or a message that has ended is finished.
 use Rattle.std.specs.Prelude.{◌≡◌, ℕ, Bool, true, false, not, ◌&&◌, ◌||◌, List, ◌∷◌, Option, Some, None, Result, Ok, Err, codes}
 use Rattle.sv_errors.specs.declared.code.Code.{Code}
 use Rattle.sv_errors.specs.declared.code.Code.TheVariants.{InputBufferOverrun, QueryInterrupted}
@@ -16,13 +16,13 @@ use Rattle.sv_instrument.specs.Path.{IsPath}
 use Rattle.sv_instrument.specs.QueryResponse.{readings_text}
 use Rattle.sv_instrument.specs.CommandEffect.{Performs, done, after_answering}
 
--- the log after a held unit ends: it is done, and its answer is given
+-- the log after a unit ends that waited for the end of the measurement: the unit is done, and its answer is added to the response
 abbrev pub after_release : Awaited → List Act → List Act
 after_release Nothing log = done log
 after_release One log = after_answering (codes "1") (done log)
 after_release Readings log = after_answering (readings_text (readings (effective_acts log))) (done log)
 
--- The order of a unit is performed; or, if the unit has an error, the error is reported.
+-- The unit was read as an order, and the order is performed. Or the unit has an error, and the error is reported.
 abbrev pub Does : Result Order Code → List Act → List Act → Type 0
 Does (Err code) log new = new ≡ done (Reported code ∷ log)
 Does (Ok order) log new = Performs order log new
@@ -36,8 +36,8 @@ Starts unit log new = (path behind : List (List ℕ)) × (outcome : Result Order
 abbrev pub after_interrupt : List Act → List Act
 after_interrupt log = Reported QueryInterrupted ∷ Exchanged Interrupted ∷ log
 
--- The step that is due, which depends on whether a unit is held and on what is due in message exchange. A held unit ends only while no
--- measurement is under way.
+-- The step that is due leads from `log` to `new`. It depends on whether a unit is held, and on what is due in message exchange. A held unit
+-- ends only while no measurement is under way.
 abbrev pub StepOf : Option Awaited → Due → List Act → List Act → Type 0
 StepOf (Some awaited) next log new = (is_idle log ≡ true) × (new ≡ after_release awaited log)
 StepOf None NothingDue log new = ⊥
@@ -50,11 +50,11 @@ StepOf None FinishDue log new = new ≡ Exchanged Finished ∷ log
 abbrev pub IsStep : List Act → List Act → Type 0
 IsStep log new = StepOf (held_unit log) (due (exchange_acts log)) log new
 
--- whether a unit is held
+-- whether a unit waits for the end of the measurement (it is held)
 abbrev pub is_held : Option Awaited → Bool
 is_held None = false
 is_held (Some awaited) = true
 
--- whether a read can be answered now: there is a response; or no response is under way, so that the read fails at once
+-- whether a read can be answered now: there is a response; or no response can come without another write, so that the read fails at once
 abbrev pub is_answerable : List Act → Bool
 is_answerable log = is_something (response (exchange_acts log)) || (not (is_held (held_unit log)) && not (has_ended (exchange_acts log)))

@@ -10,7 +10,7 @@ use Rattle.sv_scan.specs.Scan.{state}
 use Rattle.sv_layers.specs.Act.{Act, Scanned, Reported}
 use Rattle.sv_layers.specs.Condition.{effective_acts}
 
--- the trigger from the controller; or, if the scanner ignores the trigger, the report of the error
+-- the act of a trigger from the controller; if the scanner ignores the trigger, the act that reports this error
 abbrev pub or_reported : Option Code → Act
 or_reported None = Scanned (Trigger Bus)
 or_reported (Some code) = Reported code
@@ -19,7 +19,7 @@ or_reported (Some code) = Reported code
 abbrev pub trigger_acts : List Act → List Act
 trigger_acts log = or_reported (trigger_fault (effective_acts log) Bus) ∷ []
 
--- the trigger from the trigger input; or nothing, if the scanner ignores the trigger
+-- the act of a trigger at the trigger input; no act if the scanner ignores the trigger
 abbrev pub or_nothing : Option Code → List Act
 or_nothing None = Scanned (Trigger External) ∷ []
 or_nothing (Some code) = []
@@ -28,15 +28,15 @@ or_nothing (Some code) = []
 abbrev pub external_acts : List Act → List Act
 external_acts log = or_nothing (trigger_fault (effective_acts log) External)
 
--- a sample of the next channel, if the scanner is scanning; else nothing
+-- the act that samples the next channel, if a scan is under way; else no act
 abbrev pub where_scanning : State → List Act
 where_scanning Scanning = Scanned Sample ∷ []
 where_scanning _ = []
 
--- the acts of a millisecond: during a scan the next channel is read
+-- the acts when a millisecond passes: during a scan the next channel is read; else there are none
 abbrev pub tick_acts : List Act → List Act
 tick_acts log = where_scanning (state (effective_acts log))
 
--- An immediate trigger occurs, which is due as soon as the scanner waits for one.
+-- An immediate trigger leads from `log` to `new`. It is due as soon as the scanner waits for an immediate trigger.
 abbrev pub IsFired : List Act → List Act → Type 0
 IsFired log new = (trigger_fault (effective_acts log) Immediate ≡ None) × (new ≡ Scanned (Trigger Immediate) ∷ log)

@@ -12,13 +12,14 @@ use sv_layers::{Awaited, Layers};
 /// A simulated instrument.
 #[derive(Drop)]
 pub struct Instrument<A: Allocator = Global> {
-    /// The table that finds the command of a header.
+    /// The table in which the command of a header is looked up.
     pub(crate) table: Table<A>,
     /// The path before the next header.
     pub(crate) path: Path,
     /// Message exchange, error queue, scanner and status registers.
     pub(crate) layers: Layers<A>,
-    /// What the held unit will answer; `None` if no unit is held.
+    /// What the unit that waits for the end of the measurement (the held unit) will answer; `None`
+    /// if no unit is held.
     pub(crate) held: Option<Awaited>,
     /// The buffer for the answer of a unit, which is at most as long as a response.
     pub(crate) answer: Vec<u8, A>,

@@ -2,7 +2,7 @@
 
 ghost use Rattle.sv_instrument.specs.Laws.{OneStep};
 
-/// At most one step is due, and it leads to only one log.
+/// After each log at most one step of message exchange is due, and it leads to only one log.
 pub fn one_step()
     ensures { OneStep }
 {}

@@ -18,8 +18,8 @@ use sv_header::Path;
 use sv_layers::Change;
 
 impl<A: Allocator> Instrument<A> {
-    /// Whether a write is accepted now: always, except while a message has ended and isn't
-    /// finished.
+    /// Whether a write is accepted now. No write is accepted after the end of a message until the
+    /// message is finished, when its units are done and its answers became the response.
     pub fn can_write(&self) -> bool
         ensures value { result ≡ is_open self.now.layers.exchange }
         ensures answer { (log : List Act) → StandsFor self.now log
@@ -30,8 +30,8 @@ impl<A: Allocator> Instrument<A> {
 
     /// Accepts the bytes of a write, with END at the last byte or without END (VXI-11,
     /// device_write). The caller must know that a write is accepted now, and pass at most
-    /// [`MAX_MESSAGE`] bytes. Like every function here that changes something, it returns how many
-    /// requests for service it raised.
+    /// [`MAX_MESSAGE`] bytes. Returns how many requests for service were raised, like every
+    /// function of this file that changes the instrument.
     pub fn write(&mut self, bytes: &[u8], ended: bool) -> u8
         requires open { IsTrue (is_open self.old.layers.exchange) }
         requires short { length bytes.now ≤ max_message }
@@ -72,7 +72,7 @@ impl<A: Allocator> Instrument<A> {
     }
 
     /// Drops the first `count` bytes of the response, after a client has read them (VXI-11,
-    /// device_read).
+    /// device_read). Returns how many requests for service were raised.
     pub fn take(&mut self, count: usize) -> u8
         requires { count ≤ length (shown_by self.old.layers.exchange) }
         ensures { (log : List Act) → StandsFor self.old log
@@ -83,8 +83,8 @@ impl<A: Allocator> Instrument<A> {
     }
 
     /// Handles a read to which no response will come: drops the text of the unfinished message, and
-    /// reports -420 (IEEE 488.2, 6.3.2.2). It must not be called while a message has ended and
-    /// isn't finished.
+    /// reports -420 (IEEE 488.2, 6.3.2.2). It must not be called from the end of a message until
+    /// the message is finished. Returns how many requests for service were raised.
     pub fn unterminated(&mut self) -> u8
         requires { IsTrue (is_open self.old.layers.exchange) }
         ensures { (log : List Act) → StandsFor self.old log → Ran self.new result log
@@ -97,8 +97,9 @@ impl<A: Allocator> Instrument<A> {
         self.take_requests()
     }
 
-    /// Device clear: drops program text, the held unit and the response, and cancels a pending
-    /// `*OPC` (VXI-11, device_clear; IEEE 488.2, 5.8).
+    /// Performs a device clear: drops program text, the unit that waits for the end of the
+    /// measurement, and the response; cancels a pending `*OPC` (VXI-11, device_clear; IEEE 488.2,
+    /// 5.8). Returns how many requests for service were raised.
     pub fn clear(&mut self) -> u8
         ensures { (log : List Act) → StandsFor self.old log
             → Ran self.new result log (Purged ∷ log) }

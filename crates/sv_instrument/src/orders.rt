@@ -1,4 +1,4 @@
-//! Performing an order.
+//! Performing an order, which is a unit that was read.
 
 ghost use Rattle.std.specs.Prelude.{◌≡◌, ◌≤◌, List, vec_capacity};
 ghost use Rattle.sv_exchange.specs.Contents.{IsUnitDue, next_of};
@@ -16,8 +16,8 @@ use sv_header::Action;
 use sv_layers::{Awaited, Change, Layers};
 use sv_scan::ScanAct;
 
-/// Performs the order of the unit that is due. `answer` is the buffer for its answer. Returns what
-/// the unit will answer if it is held, else `None`.
+/// Performs the order of the unit that is due. `answer` is the buffer for its answer. If the unit
+/// has to wait for the end of the measurement, returns what it will answer then; else `None`.
 pub(crate) fn perform<A: Allocator>(
     layers: &mut Layers<A>,
     answer: &mut Vec<u8, A>,
@@ -49,8 +49,8 @@ pub(crate) fn perform<A: Allocator>(
     carry_out(layers, change)
 }
 
-/// Performs an action, which has no parameter. Returns what the unit will answer if it is held,
-/// else `None`.
+/// Performs an action, which has no parameter. If the unit has to wait for the end of the
+/// measurement, returns what it will answer then; else `None`.
 fn act<A: Allocator>(layers: &mut Layers<A>, action: Action) -> Option<Awaited>
     requires { IsUnitDue (next_of layers.old.exchange) }
     ensures behaves { (start log : List Act) → Counts start layers.old log

@@ -18,7 +18,8 @@ use sv_header::{Question, SettingName};
 use sv_layers::{Awaited, Change, Layers};
 use sv_value::printing::{put_channels, put_error, put_source, put_switch, put_voltage, put_whole};
 
-/// Answers the query of the unit that is due.
+/// Performs the query of the unit that is due: adds its answer to the response, or reports the
+/// error if it can't be answered.
 pub(crate) fn ask<A: Allocator>(
     layers: &mut Layers<A>,
     answer: &mut Vec<u8, A>,
@@ -68,8 +69,8 @@ fn take<A: Allocator>(layers: &mut Layers<A>, question: Question)
     }
 }
 
-/// Replaces all bytes of `out` by the answer of a query. If the query asks for the readings, they
-/// must be complete.
+/// Replaces all bytes of `out` by the answer to a query. The query of the readings requires a
+/// complete measurement.
 pub(crate) fn put_answer<A: Allocator>(out: &mut Vec<u8, A>, layers: &Layers<A>, question: Question)
     requires { max_response ≤ vec_capacity out.old }
     ensures says { (log : List Act) → Stands layers.now log → question_fault question log ≡ None

@@ -37,7 +37,7 @@ pub(crate) fn trigger<A: Allocator>(layers: &mut Layers<A>) -> Option<Awaited>
     }
 }
 
-/// Returns the act of the scanner if it is allowed, else the report of the error.
+/// Returns the change to apply: the scanner's act if it is allowed, else the report of the error.
 fn unless_refused(allowed: Result<(), Code>, act: ScanAct) -> Change
     ensures { (fault : Option Code) (log : List Act) → allowed ≡ refused_by fault
         → done_of (act_of result ∷ log) ≡ unless fault (done_of (Scanned act ∷ log)) log }
@@ -70,7 +70,8 @@ pub(crate) fn initiate<A: Allocator>(layers: &mut Layers<A>) -> Option<Awaited>
     carry_out(layers, unless_refused(allowed, ScanAct::Init))
 }
 
-/// Configures a measurement: aborts, sets the defaults, and then sets the list, if one is given.
+/// Configures a measurement: aborts the one that is under way, sets range, source of triggers and
+/// number of scans to their defaults, and then sets the scan list, if one is given.
 pub(crate) fn configure<A: Allocator>(layers: &mut Layers<A>, list: Option<ScanList>)
     ensures counts { (start log : List Act) → Counts start layers.old log
         → Counts start layers.new (after_configure list log) }
@@ -95,8 +96,8 @@ fn set_list<A: Allocator>(layers: &mut Layers<A>, list: Option<ScanList>)
     }
 }
 
-/// Aborts the measurement, begins a new one, and holds the unit until the new readings are
-/// complete. Reports -214 if the new measurement would wait for a trigger from the controller.
+/// Aborts the measurement and begins a new one. The unit waits until the new readings are complete.
+/// Reports -214 instead, if the new measurement would wait for a trigger from the controller.
 pub(crate) fn read<A: Allocator>(layers: &mut Layers<A>) -> Option<Awaited>
     requires { IsUnitDue (next_of layers.old.exchange) }
     ensures behaves { (start log : List Act) → Counts start layers.old log
@@ -113,7 +114,7 @@ pub(crate) fn read<A: Allocator>(layers: &mut Layers<A>) -> Option<Awaited>
     }
 }
 
-/// Configures and begins a measurement, and holds the unit until its readings are complete.
+/// Configures and begins a measurement. The unit waits until the readings are complete.
 pub(crate) fn measure<A: Allocator>(
     layers: &mut Layers<A>,
     list: Option<ScanList>,

@@ -20,8 +20,9 @@ use sv_layers::{Awaited, Change};
 use sv_scan::State;
 
 impl<A: Allocator> Instrument<A> {
-    /// Triggers the scan that waits for a trigger, if the source of triggers is immediate. Returns
-    /// how many requests for service were raised; `None` if no trigger was due and nothing changed.
+    /// Begins the next scan, if the scanner waits for a trigger and the source of triggers is
+    /// immediate. Returns how many requests for service were raised; `None` if no trigger was due
+    /// and nothing changed.
     pub fn fire(&mut self) -> Option<u8>
         ensures fires { (log : List Act) → StandsFor self.old log
             → Takes IsFired self.new result log }
@@ -35,10 +36,10 @@ impl<A: Allocator> Instrument<A> {
         }
     }
 
-    /// Takes the step of message exchange that is due: a held unit ends; the next unit starts; a
-    /// message that is too long is reported; or a message that has ended is finished (IEEE 488.2,
-    /// 6.1.4 and 6.3). Returns how many requests for service were raised; `None` if no step was due
-    /// and nothing changed.
+    /// Takes the step of message exchange that is due: a unit that waited for the end of the
+    /// measurement ends; the next unit starts; an error is reported for a message that is too long;
+    /// or a message that has ended is finished (IEEE 488.2, 6.1.4 and 6.3). Returns how many
+    /// requests for service were raised; `None` if no step was due and nothing changed.
     pub fn step(&mut self) -> Option<u8>
         ensures steps { (log : List Act) → StandsFor self.old log
             → Takes IsStep self.new result log }
@@ -63,7 +64,8 @@ impl<A: Allocator> Instrument<A> {
         }
     }
 
-    /// Ends the held unit, if no measurement is under way. Returns whether the unit ended.
+    /// Ends the unit that waits for the end of the measurement, if no measurement is under way any
+    /// more. Returns whether the unit ended.
     fn release(&mut self, awaited: Awaited) -> bool
         requires { self.old.held ≡ Some awaited }
         ensures { Steps result self.old self.new }
@@ -79,7 +81,8 @@ impl<A: Allocator> Instrument<A> {
         }
     }
 
-    /// Takes the step that is due while no unit is held. Returns whether a step was due.
+    /// Takes the step that is due. No unit must be waiting for the end of the measurement. Returns
+    /// whether a step was due.
     fn next_step(&mut self) -> bool
         requires { self.old.held ≡ None }
         ensures { Steps result self.old self.new }
@@ -94,7 +97,7 @@ impl<A: Allocator> Instrument<A> {
         true
     }
 
-    /// Reports that the message is too long.
+    /// Reports the error that the message is too long.
     fn overran(&mut self)
         requires free { self.old.held ≡ None }
         requires due { next_of self.old.layers.exchange ≡ OverrunDue }
@@ -135,7 +138,7 @@ impl<A: Allocator> Instrument<A> {
         );
     }
 
-    /// Finishes the message that has ended.
+    /// Finishes the message that has ended: its answers become the response.
     fn finish(&mut self)
         requires free { self.old.held ≡ None }
         requires due { next_of self.old.layers.exchange ≡ FinishDue }

@@ -17,8 +17,8 @@ use sv_scan::{ScanAct, State};
 
 impl<A: Allocator> Instrument<A> {
     /// Sets the input of a channel to this voltage, in microvolts. Nothing changes if there is no
-    /// such channel. Like each function below that changes something, it returns how many requests
-    /// for service it raised.
+    /// such channel. Returns how many requests for service were raised, like each function below
+    /// that changes the instrument.
     pub fn input(&mut self, channel: u8, microvolts: i64) -> u8
         ensures { (log : List Act) → StandsFor self.old log
             → Ran self.new result log (Scanned (Input channel microvolts) ∷ log) }

@@ -1,4 +1,4 @@
-//! How a unit ends, is held, or answers.
+//! How a unit ends, waits for the end of the measurement (it is held), or answers.
 
 ghost use Rattle.std.specs.Prelude.{◌≡◌, ◌≤◌, List, ◌∷◌, None, IsTrue};
 ghost use Rattle.sv_exchange.specs.Contents.{IsUnitDue, next_of, may_respond, exchange_measure};
@@ -21,9 +21,8 @@ pub(crate) fn end<A: Allocator>(layers: &mut Layers<A>)
     layers.done();
 }
 
-/// Applies a change, and ends the unit that is due. Returns `None`, like every function that
-/// performs a unit and doesn't hold it; a function that holds the unit returns what the unit will
-/// answer.
+/// Applies a change, and ends the unit that is due. Returns `None`: the unit doesn't have to wait
+/// for the end of the measurement.
 pub(crate) fn carry_out<A: Allocator>(layers: &mut Layers<A>, change: Change) -> Option<Awaited>
     requires { IsUnitDue (next_of layers.old.exchange) }
     ensures behaves { (start log : List Act) → Counts start layers.old log
@@ -35,7 +34,8 @@ pub(crate) fn carry_out<A: Allocator>(layers: &mut Layers<A>, change: Change) ->
     None
 }
 
-/// Holds the unit that is due. Returns what the unit will answer.
+/// Keeps the unit that is due waiting for the end of the measurement, instead of ending it now.
+/// Returns `awaited`, which is what the unit will answer then.
 pub(crate) fn hold<A: Allocator>(layers: &mut Layers<A>, awaited: Awaited) -> Option<Awaited>
     requires { IsUnitDue (next_of layers.old.exchange) }
     ensures behaves { (start log : List Act) → Counts start layers.old log

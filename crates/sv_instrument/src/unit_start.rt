@@ -1,4 +1,4 @@
-//! The start of a unit, and the end of a held unit.
+//! The start of a unit, and the end of a unit that waited for the end of the measurement.
 
 ghost use Rattle.std.specs.Prelude.{◌≡◌, ◌≤◌, ℕ, List, Some, None, vec_capacity};
 ghost use Rattle.sv_exchange.specs.Exchange.{next_unit};
@@ -17,8 +17,8 @@ use sv_errors::Code;
 use sv_header::{Path, Table};
 use sv_layers::{Awaited, Change, Layers};
 
-/// Starts the unit that is due: executes it, or reports its first fault. The header of the unit
-/// updates the path.
+/// Starts the unit that is due: executes it, or reports its first fault. If its header names a
+/// command, the path for the next unit is updated.
 pub(crate) fn start<A: Allocator>(
     table: &Table<A>,
     path: &mut Path,
@@ -39,7 +39,7 @@ pub(crate) fn start<A: Allocator>(
     }
 }
 
-/// Ends the held unit, and adds its answer to the response.
+/// Ends the unit that waited for the end of the measurement, and adds its answer to the response.
 pub(crate) fn release<A: Allocator>(
     layers: &mut Layers<A>,
     answer: &mut Vec<u8, A>,

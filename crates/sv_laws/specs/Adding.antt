@@ -1,5 +1,5 @@
--- All bytes that a history sends on a port, and the bytes that further events add to them. All bytes count, even those sent before the port
--- was last closed: of a connection the bytes of all replies, of an interrupt channel those of all calls for service requests.
+-- All bytes that a history sends on a port, and the bytes that further events add to them. On a connection these are the bytes of all
+-- replies, on an interrupt channel those of all calls for service requests. Bytes that were sent before the port was last closed count too.
 use Rattle.std.specs.Prelude.{◌≡◌, ℕ, List, [], ◌∷◌, ◌++◌}
 use Rattle.std.specs.List.{concat}
 use Rattle.sv_links.specs.Channels.{ChannelAct, all_calls}
@@ -11,7 +11,7 @@ use Rattle.sv_history.specs.Act.{Act, ConnAct, Replied, of, device_acts}
 use Rattle.sv_history.specs.Requests.{HearsOf}
 use Rattle.sv_history.specs.History.{IsLogOf}
 
--- all bytes of the replies of a connection, across its openings
+-- all bytes of the replies of a connection, even of those before it was last opened
 abbrev pub all_replies : List ConnAct → List ℕ
 all_replies [] = []
 all_replies (Replied bytes ∷ acts) = all_replies acts ++ bytes

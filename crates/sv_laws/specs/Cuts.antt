@@ -23,7 +23,7 @@ use Rattle.sv_laws.specs.Adding.{Sends, Adds}
 
 -- ---- writes
 
--- The event is Bytes on connection `c`, or a Turn of it.
+-- The event is Bytes on connection `c`, or a Turn of this connection.
 abbrev pub IsFeeding : ℕ → PlainEvent → Type 0
 IsFeeding c (Bytes d piece) = d ≡ c
 IsFeeding c (Turn d) = d ≡ c
@@ -38,23 +38,23 @@ is_piece _ = false
 abbrev pub without_pieces : List ConnAct → List ConnAct
 without_pieces = filter (λ act. not (is_piece act))
 
--- The newest acts are a device_write of these bytes on a link, with or without the END flag. Its reply has no error, and says that all its
--- bytes were written.
+-- The newest acts of a connection are a device_write of these bytes on a link, with or without the END flag, and its reply. The reply has
+-- no error, and says that all these bytes were written.
 abbrev pub IsWritten : ℕ → List ℕ → Bool → List ConnAct → List ConnAct → Type 0
 IsWritten lid bytes ended before acts = (xid io_timeout lock_timeout flags : ℕ) × (call : List ℕ)
     × (core_call call ≡ Some (record { xid = xid; arguments = OnLink (pos lid) (DeviceWrite io_timeout lock_timeout flags bytes) }))
     × ((bit_at flags 3 ≡ 1) ↔ (ended ≡ true))
     × (acts ≡ Replied (result_reply xid (Size NoError (length bytes))) ∷ CallTaken call ∷ before)
 
--- After the history `past` these events, all Bytes and Turns of connection `c`, lead from the log `before` to `log`, and leave no complete
--- record to take.
+-- These events follow the history `past`, and each is Bytes on connection `c` or a Turn of it. They lead from the log `before` to `log`,
+-- and leave no complete record to take on the connection.
 pub record Feeds (c : ℕ) (config : Config) (past events : List PlainEvent) (before log : List Act) : Type 0 where
   pub feeding : AllByRecursion (IsFeeding c) events
   pub was : IsLogOf config past before
   pub is_log : IsLogOf config (events ++ past) log
   pub none_left : drop (records_ended (of c log)) (records_of (stream (of c log))) ≡ []
 
--- No write is suspended that waits to be accepted, and no read that waits to be answered.
+-- No device_write is suspended until it can be accepted, and no device_read is suspended until it can be answered.
 abbrev pub NoneWaits : List WaitAct → Type 0
 NoneWaits acts = (c : ℕ) → (waits c acts ≢ Some ForInput) × (waits c acts ≢ Some ForResponse)
 
@@ -74,8 +74,9 @@ pub record AreCut (c lid : ℕ) (x y : List ℕ) (ended : Bool) (config : Config
   pub writes_first : IsWritten lid x false (without_pieces (of c before)) middle
   pub writes_second : IsWritten lid y ended middle (without_pieces (of c cut))
 
--- One history has a write in one piece, the other has it cut in two (`AreCut`). If the same events are added to both, and both are still
--- histories, these events add the same bytes to each port. The writes themselves add the same bytes to each port except their connection.
+-- One history has a single write, where the other has it cut into two writes (`AreCut`). If the same events are added to both, and both are
+-- still histories, these events add the same bytes to each port. The writes themselves add the same bytes to each port but the connection
+-- on which they come.
 abbrev pub WritesCut : Type 0
 WritesCut = (c lid : ℕ) (x y : List ℕ) (ended : Bool) (config : Config) (past one two events : List PlainEvent) (log other : List Act)
     → AreCut c lid x y ended config past one two → IsLogOf config (events ++ (one ++ past)) log

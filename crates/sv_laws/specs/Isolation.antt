@@ -28,7 +28,7 @@ is_foreign c (Input channel microvolts) = false
 is_foreign c External = false
 is_foreign c Tick = false
 
--- the events without those of other connections and their interrupt channels
+-- the events without those of other connections than `c` and of the interrupt channels of other connections
 abbrev pub own_events : ℕ → List PlainEvent → List PlainEvent
 own_events c = filter (λ event. not (is_foreign c event))
 
@@ -42,7 +42,8 @@ abbrev pub makes_link : Option Request → Bool
 makes_link (Some (CoreRequest call)) = is_create_link call.arguments
 makes_link _ = false
 
--- The event takes no device_abort of a link of this connection, and neither takes nor refuses a create_link on this connection.
+-- If the event takes a device_abort, it names no link of connection `c`; and the event neither takes nor refuses a create_link on this
+-- connection.
 abbrev pub LeavesLinksAlone : ℕ → PlainEvent → List Act → Type 0
 LeavesLinksAlone c (Turn d) log = (owner_of (aborted_link (next_request (of d log))) (device_acts log) ≢ Some c)
     × (d ≡ c → makes_link (next_request (of d log)) ≡ false)
@@ -60,7 +61,7 @@ abbrev pub HoldsFrom : ℕ → List Act → List Act → Type 0
 HoldsFrom lid before log = (later since : List Act) → log ≡ later ++ (since ++ before)
     → holder (link_acts (device_acts (since ++ before))) ≡ Some lid
 
--- No write of another connection is suspended that waits to be accepted, and no read that waits to be answered.
+-- On no other connection than `c` is a device_write suspended until it can be accepted, or a device_read until it can be answered.
 abbrev pub NoOtherWaits : ℕ → List WaitAct → Type 0
 NoOtherWaits c acts = (d : ℕ) → d ≢ c → (waits d acts ≢ Some ForInput) × (waits d acts ≢ Some ForResponse)
 
@@ -77,8 +78,8 @@ pub record IsLocked (c lid : ℕ) (config : Config) (past events : List PlainEve
   pub rest : NoOtherWaits c (wait_acts (device_acts before))
   pub left_alone : EachIs (LeavesLinksAlone c) config past events
 
--- While a link of a connection holds the lock (`IsLocked`), leave out the events of all other connections. The remaining events are a
--- history too. They add the same bytes to the connection and to its interrupt channel as all events do.
+-- While a link of a connection holds the lock (`IsLocked`), the events of all other connections can be left out. The remaining events
+-- continue the history too. They add the same bytes to the connection and to its interrupt channel as all events do.
 abbrev pub Isolation : Type 0
 Isolation = (c lid : ℕ) (config : Config) (past events : List PlainEvent) → IsLocked c lid config past events
     → ((log : List Act) × IsLogOf config (own_events c events ++ past) log)

@@ -23,7 +23,8 @@ use Rattle.sv_history.specs.History.{is_port_shut, input_refusal, last_clock, Is
 abbrev pub OneLog : Type 0
 OneLog = (config : Config) (history : List PlainEvent) (a b : List Act) → IsLogOf config history a → IsLogOf config history b → a ≡ b
 
--- While nothing becomes due as time passes, ticks change only the clock, up to its last value. The log gains only the acts of the ticks.
+-- If nothing becomes due within `most` milliseconds, that many ticks change only the clock: the log gains only the acts of the ticks. The
+-- clock must not be past its last value then.
 abbrev pub TimeOnlyCounts : Type 0
 TimeOnlyCounts = (config : Config) (history : List PlainEvent) (log : List Act) (most : ℕ) → IsLogOf config history log
     → IsStill most config (device_acts log) → config.clock + ticks (device_acts log) + most ≤ last_clock
@@ -34,9 +35,9 @@ abbrev pub NoneLate : Type 0
 NoneLate = (config : Config) (history : List PlainEvent) (log : List Act) (c : ℕ) → IsLogOf config history log
     → (IsExpired (config.clock + ticks (device_acts log)) (wait_acts (device_acts log)) c → ⊥) × (CanResume (device_acts log) c → ⊥)
 
--- The event is one that the queries allow at this moment: an Open of a free number; Bytes that fit the room; a Took of at most the bytes
--- that wait, if any wait; a Close of an open port; a Dialed while a create_intr_chan waits for it; an Input that isn't refused; or the
--- external trigger.
+-- The answers of the server's queries allow this event: an Open of a free number; Bytes, if there is room and they fit it; a Took of at
+-- most the bytes that wait, if any wait; a Close of an open port; a Dialed while a create_intr_chan waits for it; an Input that isn't
+-- refused; or the external trigger.
 abbrev pub Suits : PlainEvent → List ChannelAct → List Act → Type 0
 Suits (Open c role) channel_log log = (c < 16) × (is_open (of c log) ≡ false)
 Suits (Bytes c piece) channel_log log = (c < 16) × (0 < room (of c log)) × (length piece ≤ room (of c log))
@@ -48,7 +49,7 @@ Suits (Input channel microvolts) channel_log log = input_refusal channel microvo
 Suits External channel_log log = ⊤
 Suits _ channel_log log = ⊥
 
--- An event that the queries allow (`Suits`) is never refused.
+-- An event that the answers of the server's queries allow (`Suits`) is never refused.
 abbrev pub NothingLost : Type 0
 NothingLost = (config : Config) (history : List PlainEvent) (event : PlainEvent) (channel_log : List ChannelAct) (log : List Act)
     (result : Result Did Refused) → IsLogOf config history log → HearsOf (device_acts log) channel_log → Suits event channel_log log
@@ -82,8 +83,8 @@ RepliesMatch = (config : Config) (history : List PlainEvent) (log : List Act) (c
     → IsLogOf config history log → of c log ≡ newer ++ Replied reply ∷ older
     → (call : List ℕ) × (pending_call older ≡ Some call) × HasXidOf call reply
 
--- A record that a Turn takes is answered, if it is a call; or it is suspended and can't resume yet (VXI-11 revision 1.0, section B.4.4). If
--- the record isn't a call, its connection is at fault.
+-- After a Turn that takes a record there are three cases: the record is a call that was answered; it is a call that is suspended and can't
+-- resume yet (VXI-11 revision 1.0, section B.4.4); or it isn't a call, and its connection is at fault.
 abbrev pub TurnAnswered : Type 0
 TurnAnswered = (config : Config) (history : List PlainEvent) (before log : List Act) (c : ℕ) (call : List ℕ) → IsLogOf config history before
     → IsLogOf config (Turn c ∷ history) log → next_call (of c before) ≡ Some call

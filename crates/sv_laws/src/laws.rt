@@ -18,8 +18,8 @@ pub fn isolation()
     ensures { Isolation }
 {}
 
-/// It makes no difference to what is sent how input is split into pieces, records into fragments
-/// and text into writes, except for the replies to the writes. There are four premises: each piece
+/// The server sends the same bytes, however its input is split into pieces, records into fragments
+/// and text into writes; only the replies to the writes differ. There are four premises: each piece
 /// finds room; each write is answered without error for all its bytes; only the last write has END
 /// or a new line; and no read or write was suspended before (RFC 5531, section 11: record marking;
 /// VXI-11 revision 1.0, section B.6, device_write; IEEE 488.2, 6.1).
@@ -28,7 +28,8 @@ pub fn cuts()
     ensures writes { WritesCut }
 {}
 
-/// While nothing becomes due as time passes, ticks change nothing but the clock.
+/// If nothing becomes due within a number of milliseconds, that many ticks change nothing but the
+/// clock.
 pub fn stillness()
     ensures { TimeOnlyCounts }
 {}
@@ -38,8 +39,8 @@ pub fn none_late()
     ensures { NoneLate }
 {}
 
-/// An event that the queries allow is never refused. So the server loses no bytes that come while
-/// there is room for them, and counts all bytes that the peer takes of those that wait.
+/// An event that the answers of the server's queries allow is never refused. So the server loses no
+/// bytes that come while there is room for them, and removes all bytes that the peer took.
 pub fn nothing_lost()
     ensures { NothingLost }
 {}

@@ -12,17 +12,17 @@ use Rattle.sv_exchange.specs.Exchange.{ExchangeAct, TextDropped, Interrupted}
 
 -- an act of the instrument
 pub data Act : Type 0 where
-  -- program text and responses; all of it is dropped by a device clear
+  -- the acts of message exchange (program text and responses), and a device clear, which drops all text and responses
   Exchanged : (act : ExchangeAct) → Act
   Purged : Act
-  -- inputs, settings and the trigger system
+  -- an act of the scanner: its inputs, settings and trigger system
   Scanned : (act : ScanAct) → Act
-  -- a unit is held until no measurement is under way
+  -- a unit began that can't end until no measurement is under way: it is held
   Held : (awaited : Awaited) → Act
-  -- the error queue
+  -- the acts of the error queue: an error is reported, or the oldest entry is removed
   Reported : (code : Code) → Act
   EntryTaken : Act
-  -- status
+  -- the acts of the status registers and of the status byte
   Cleared : Act
   Preset : Act
   OpcAsked : Act
@@ -35,7 +35,7 @@ pub data Act : Type 0 where
   ServiceEnabled : (mask : ℕ) → Act
   Polled : Act
 
--- the acts of message exchange; a device clear interrupts the response and drops the text
+-- the acts of message exchange; a device clear counts as two of them, which interrupt the response and drop the text
 abbrev pub exchange_acts : List Act → List ExchangeAct
 exchange_acts [] = []
 exchange_acts (Exchanged act ∷ log) = act ∷ exchange_acts log

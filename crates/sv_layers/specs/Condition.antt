@@ -19,17 +19,18 @@ effective_acts log = effective (scan_acts log)
 abbrev pub is_idle : List Act → Bool
 is_idle log = idles (state (effective_acts log))
 
--- the condition bits of a register that the scanner determines, given those of its acts that have an effect
+-- the condition bits that the scanner determines in a register, given the scanner's acts that have an effect
 abbrev pub scan_word : RegisterName → List ScanAct → ℕ
 scan_word Operation acts = scan.operation acts
 scan_word Questionable acts = scan.questionable acts
 scan_word Limit acts = scan.limit acts
 
--- the condition bits of a register that the scanner determines, given the log
+-- the condition bits that the scanner determines in a register, given the log
 abbrev pub word : RegisterName → List Act → ℕ
 word name log = scan_word name (effective_acts log)
 
--- The summary of a register that has no nested register: since the last clearing some bit passed its filter, and the bit is enabled.
+-- whether the summary of a register without nested registers is set: since the event register was last cleared, a transition of some
+-- condition bit passed its filter, and this bit is enabled
 abbrev pub summary : RegisterName → List Act → Bool
 summary name log =
     list_any (λ k. is_since (passes (word name) name k) (leaves name) log && has_bit (enable name log) k) (range_with_len 0 16)

@@ -11,6 +11,6 @@ use Rattle.sv_layers.specs.Filter.{enable, passes, leaves}
 abbrev pub EventStands : RegisterName → ℕ → List Act → Type 0
 EventStands name k log = Since (λ place. passes (condition name) name k place ≡ true) (λ place. leaves name place ≡ true) log
 
--- Some bit of the event register is set and enabled.
+-- The summary of a register is set: some bit of its event register is set and enabled.
 abbrev pub Summary : RegisterName → List Act → Type 0
 Summary name log = (k : ℕ) × EventStands name k log × (bit_at (enable name log) k ≡ 1)

@@ -14,7 +14,7 @@ is_same Questionable Questionable = true
 is_same Limit Limit = true
 is_same _ _ = false
 
--- the enable at power on and after a preset: 32767 for the limit register, 0 for every other register
+-- the enable mask of a register at power on and after a preset: 32767 for the limit register, 0 for every other register
 abbrev pub start : RegisterName → ℕ
 start = elim [ Limit ↦ 32767 | _ ↦ 0 ]
 
@@ -22,23 +22,23 @@ start = elim [ Limit ↦ 32767 | _ ↦ 0 ]
 abbrev pub mask_for : RegisterName → RegisterName → ℕ → Option ℕ
 mask_for name other mask = if is_same name other then Some (without_top_bit mask) else None
 
--- the positive transition filter: as last set, or 32767 after power on or a preset
+-- the positive transition filter of a register: as last set, or 32767 after power on or a preset
 abbrev pub rise : RegisterName → List Act → ℕ
 rise name = last_given (elim [ RiseSet other mask ↦ mask_for name other mask | Preset ↦ Some 32767 | _ ↦ None ]) 32767
 
--- the negative transition filter: as last set, or 0 after power on or a preset
+-- the negative transition filter of a register: as last set, or 0 after power on or a preset
 abbrev pub fall : RegisterName → List Act → ℕ
 fall name = last_given (elim [ FallSet other mask ↦ mask_for name other mask | Preset ↦ Some 0 | _ ↦ None ]) 0
 
--- the enable: as last set, or `start` after power on or a preset
+-- the enable mask of a register: as last set, or `start` after power on or a preset
 abbrev pub enable : RegisterName → List Act → ℕ
 enable name = last_given (elim [ Enabled other mask ↦ mask_for name other mask | Preset ↦ Some (start name) | _ ↦ None ]) (start name)
 
--- whether a word has this bit
+-- whether bit k of this number is set
 abbrev pub has_bit : ℕ → ℕ → Bool
 has_bit word k = bit_at word k == 1
 
--- whether the newest act changes a bit of the condition in a direction for which the filter was on before that act
+-- whether the newest act changes bit k of the condition, and the filter for this direction (rise or fall) was on before that act
 abbrev pub passes : (List Act → ℕ) → RegisterName → ℕ → List Act → Bool
 passes condition name k [] = false
 passes condition name k (act ∷ before) =

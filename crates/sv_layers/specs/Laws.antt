@@ -18,8 +18,8 @@ use Rattle.sv_layers.specs.StatusByte.{service, SummaryBit, Request, IsRaised, P
 use Rattle.sv_layers.specs.Inside.LayerLogs.{layer_logs, after_begin, after_complete, register_acts}
 use Rattle.sv_layers.specs.Inside.Representation.{IsSummary, IsStatus, RaisedAt}
 
--- The logs of message exchange, error queue and scanner have exactly the instrument's acts of that layer. The service request enable is the
--- one that was set last.
+-- The log of message exchange has exactly the acts of message exchange in the instrument's log; likewise for the error queue and for the
+-- scanner. The service request enable is the one that was set last.
 abbrev pub OwnActs : Type 0
 OwnActs = (log : List Act) → ((layer_logs log).exchange ≡ exchange_acts log) × ((layer_logs log).errors ≡ queue_acts log)
     × ((layer_logs log).scanner ≡ scan_acts log) × ((layer_logs log).service ≡ service log)

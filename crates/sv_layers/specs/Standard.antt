@@ -16,7 +16,7 @@ IsAsked = elim [ OpcAsked ∷ log ↦ ⊤ | _ ↦ ⊥ ]
 abbrev pub cancels : Act → Bool
 cancels = elim [ Cleared ↦ true | Scanned Reset ↦ true | Purged ↦ true | _ ↦ false ]
 
--- At the newest act a measurement is under way, and the act doesn't cancel a pending `*OPC`.
+-- After the newest act a measurement is under way, and the act doesn't cancel a pending `*OPC`.
 abbrev pub IsPending : List Act → Type 0
 IsPending [] = ⊤
 IsPending (act ∷ log) = (is_idle (act ∷ log) ≡ false) × (cancels act ≡ false)
@@ -47,10 +47,10 @@ NotCleared = elim [ StandardRead ∷ log ↦ ⊥ | Cleared ∷ log ↦ ⊥ | _ �
 abbrev pub Stands : ℕ → List Act → Type 0
 Stands k log = Since (Occurs k) NotCleared log
 
--- the enable that was set last; 0 at first
+-- the enable mask of the standard events: the one that was set last; 0 at first
 abbrev pub enable : List Act → ℕ
 enable = last_given (elim [ StandardEnabled mask ↦ Some mask | _ ↦ None ]) 0
 
--- Some event is set and enabled.
+-- The summary of the standard events is set: some event is set and enabled.
 abbrev pub Summary : List Act → Type 0
 Summary log = (k : ℕ) × Stands k log × (bit_at (enable log) k ≡ 1)

@@ -33,7 +33,7 @@ abbrev pub Reason : List Act → Type 0
 Reason [] = ⊥
 Reason (act ∷ before) = (k : ℕ) × ServiceRequested k (act ∷ before) × (ServiceRequested k before → ⊥)
 
--- The newest act doesn't end a request for service: it isn't a poll, and the master summary is set.
+-- The newest act doesn't end a request for service: it isn't a poll, and the master summary is set after it.
 abbrev pub Lasts : List Act → Type 0
 Lasts (Polled ∷ log) = ⊥
 Lasts log = Master log

@@ -4,7 +4,7 @@ use sv_errors::Code;
 use sv_scan::ScanAct;
 use sv_status::RegisterName;
 
-/// What a held unit will answer when no measurement is under way any more.
+/// What a unit that waits for the end of the measurement (a held unit) will answer then.
 #[derive(Clone, Copy)]
 pub enum Awaited {
     /// Nothing: `*WAI` (IEEE 488.2, 12.5.1).
@@ -20,7 +20,7 @@ pub enum Awaited {
 pub enum Change {
     /// An act of the scanner.
     Scan(ScanAct),
-    /// A unit is held, and will answer this when it is released.
+    /// A unit has to wait for the end of the measurement, and will answer this then.
     Hold(Awaited),
     /// An error is reported.
     Report(Code),
@@ -30,7 +30,7 @@ pub enum Change {
     ClearStatus,
     /// `STATus:PRESet`: enables and filters of all registers are preset.
     Preset,
-    /// `*OPC`: the event operation complete is requested.
+    /// `*OPC`: the operation complete event is requested, for the end of the measurement.
     AskComplete,
     /// The standard events are read, which clears them.
     ReadStandard,

@@ -26,10 +26,11 @@ const COMPLETE: u8 = 1 << 0;
 const SUMMARY: u16 = 1 << 9;
 
 impl<A: Allocator> Layers<A> {
-    /// Ends an act that has begun in its own layer, by updating one register after the next. If the
-    /// condition of a register may have changed, its transitions first pass the filters as they
-    /// were before the act. Then the act's own effect on the register is applied. A nested register
-    /// is updated before the register above it, whose condition contains the nested one's summary.
+    /// Ends an act, which has already changed its own layer, by updating one register after the
+    /// next. If the condition of a register may have changed, its transitions first pass the
+    /// filters as they were before the act. Then the act's own effect on the register is applied. A
+    /// nested register is updated before the register above it, whose condition contains its
+    /// summary.
     pub(crate) fn end(&mut self, change: &Change)
         ensures stands { (log : List Act) (act : Act) (status_log : List StatusAct)
             → EndsAs (act_of change.now) act
@@ -84,8 +85,8 @@ fn summary_bit(stands: bool) -> u16
     if stands { SUMMARY } else { 0 }
 }
 
-/// Gives a register its condition, if the condition may have changed; the transitions pass its
-/// filters.
+/// Gives a register the condition `word`, if the condition may have changed (`touched`). The
+/// transitions of its bits pass the register's filters.
 fn compare(register: &mut Register, touched: bool, word: u16)
     ensures { (start : ℕ) (acts : List RegisterAct) → Registers start register.old acts
         → (touched ≡ false → word ≡ condition acts)
@@ -96,7 +97,8 @@ fn compare(register: &mut Register, touched: bool, word: u16)
     }
 }
 
-/// Applies to a status register what a change does directly to it.
+/// Applies the direct effect of a change on a status register, if it has one: clears its events, or
+/// sets its enable or its filters.
 fn change_register(register: &mut Register, name: RegisterName, change: &Change)
     ensures { (start : ℕ) (acts : List RegisterAct) → Registers start register.old acts
         → Registers start register.new (own name (act_of change.now) acts) }
@@ -137,7 +139,8 @@ fn change_register(register: &mut Register, name: RegisterName, change: &Change)
     }
 }
 
-/// Applies to the standard events what a change does directly to them.
+/// Applies the direct effect of a change on the standard events, if it has one: clears the events,
+/// or sets their enable.
 fn change_standard(standard: &mut StandardEvent, change: &Change)
     ensures { (acts : List StandardAct) → Standards standard.old acts
         → Standards standard.new (own_standard (act_of change.now) acts) }

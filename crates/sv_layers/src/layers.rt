@@ -41,7 +41,7 @@ pub struct Layers<A: Allocator = Global> {
     pub(crate) service: u8,
     /// Whether an `*OPC` is pending: it waits for the end of a measurement.
     pub(crate) waits: bool,
-    /// How many requests for service were raised since `take_requests` was last called; 255 if
+    /// How many requests for service were raised since `take_requests` last returned them; 255 if
     /// there were more.
     pub(crate) requests: u8,
 }
@@ -93,7 +93,7 @@ impl<A: Allocator + Copy> Layers<A> {
 }
 
 impl<A: Allocator> Layers<A> {
-    /// Message exchange: program text and the response.
+    /// Returns the layer of message exchange: program text and the response.
     pub fn exchange(&self) -> &Exchange<A>
         ensures value { result.now ≡ self.now.exchange }
         ensures stands { (log : List Act) → StandsFor self.now log
@@ -109,7 +109,7 @@ impl<A: Allocator> Layers<A> {
         &self.errors
     }
 
-    /// The scanner: inputs, settings, the trigger state and the readings.
+    /// Returns the scanner: inputs, settings, the trigger state and the readings.
     pub fn scanner(&self) -> &Scanner<A>
         ensures value { result.now ≡ self.now.scanner }
         ensures stands { (log : List Act) → StandsFor self.now log

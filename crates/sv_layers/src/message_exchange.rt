@@ -40,7 +40,7 @@ impl<A: Allocator> Layers<A> {
         self.update_status();
     }
 
-    /// Notes that the error of a message that is too long was reported.
+    /// Notes that the message is too long and that this error was reported.
     pub fn overran(&mut self)
         requires { next_of self.old.exchange ≡ OverrunDue }
         ensures applied { (log : List Act) → StandsFor self.old log
@@ -117,7 +117,8 @@ impl<A: Allocator> Layers<A> {
         self.update_status();
     }
 
-    /// Device clear: drops program text, answers and response, and cancels a pending `*OPC`.
+    /// Performs a device clear: drops program text, answers and response, and cancels a pending
+    /// `*OPC`.
     pub fn purge(&mut self)
         ensures applied { (log : List Act) → StandsFor self.old log
             → IsApplied self.old.requests self.new (Purged ∷ log) }

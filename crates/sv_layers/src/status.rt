@@ -48,8 +48,8 @@ impl<A: Allocator> Layers<A> {
         self.requests = self.requests.saturating_add(u8::from(raised));
     }
 
-    /// Returns how many requests for service were raised since the last call of this function; 255
-    /// if there were more.
+    /// Returns how many requests for service were raised since this function last returned; 255 if
+    /// there were more.
     pub fn take_requests(&mut self) -> u8
         ensures count { result ≡ self.old.requests }
         ensures stands { (log : List Act) → StandsFor self.old log → AllRead self.new log }
@@ -60,7 +60,8 @@ impl<A: Allocator> Layers<A> {
         requests
     }
 
-    /// Ends an act that does nothing directly to a register, and updates the status byte.
+    /// Ends an act that changes no register directly: updates the registers' conditions, then the
+    /// status byte.
     pub(crate) fn update_status(&mut self)
         ensures applied { (log : List Act) (act : Act) → Begun self.old act log
             → is_plain act ≡ true → IsApplied self.old.requests self.new (act ∷ log) }

@@ -7,7 +7,8 @@ use Rattle.sv_errors.specs.declared.code.Code.TheVariants.{InvalidExpression, Sy
 use Rattle.sv_text.specs.White.{trim}
 use Rattle.sv_lexer.specs.Unit.{rest, rest_place, white_size}
 
--- whether a parenthesis is open after these bytes, listed from the last to the first: the last parenthesis in the bytes is an opening one
+-- whether a parenthesis is open at the end of a text: the last parenthesis in the text is an opening one. The argument lists the bytes of
+-- the text from the last to the first.
 abbrev pub is_open : List ℕ → Bool
 is_open [] = false
 is_open (b ∷ before) = if b == 40 then true else if b == 41 then false else is_open before
@@ -34,11 +35,11 @@ count unit = length (parts (rest unit))
 abbrev part : List ℕ → ℕ → List ℕ
 part unit index = slice_index_or (parts (rest unit)) index []
 
--- a parameter: a part without white space around it
+-- the parameter of a unit with this index, counted from 0: the part with this index, without white space around it
 abbrev pub parameter : List ℕ → ℕ → List ℕ
 parameter unit index = trim (part unit index)
 
--- where a parameter begins in the unit
+-- where the parameter with this index begins in the unit
 abbrev pub parameter_place : List ℕ → ℕ → ℕ
 parameter_place unit index = rest_place unit + part_place index (parts (rest unit)) + white_size (part unit index)
 
@@ -53,7 +54,7 @@ parameters_fault unit =
     else if list_any is_blank (parts (rest unit)) then Some SyntaxError
     else None
 
--- whether a parenthesis is open after byte b; `inside` says whether one was open before it
+-- whether a parenthesis is open after byte b; `inside` says whether a parenthesis was open before this byte
 abbrev pub opens : Bool → ℕ → Bool
 opens inside b = if b == 40 then true else if b == 41 then false else inside
 

@@ -54,20 +54,22 @@ abbrev pub is_common : List ℕ → Bool
 is_common [] = false
 is_common (b ∷ text) = b == 42
 
--- A mnemonic must follow this text. After its last colon or its asterisk nothing has come, and the parts before are mnemonics.
+-- The text is the front of a header, and a mnemonic must follow it: the text ends in a colon or an asterisk, and its parts before that are
+-- mnemonics.
 pub record Awaits (text : List ℕ) : Type 0 where
   pub some : is_empty text ≡ false
   pub unsigned : is_query text ≡ false
   pub empty : last (words text) ≡ []
   pub mnemonics : list_all is_mnemonic (others (words text)) ≡ true
 
--- The text is a complete header. A question mark may still follow it, but isn't in it.
+-- The text is a complete header without a question mark.
 pub record IsUnsigned (text : List ℕ) : Type 0 where
   pub header : is_header text ≡ true
   pub unsigned : is_query text ≡ false
 
--- The header read so far has the form that the stage requires (7.6.1): empty; an asterisk; a text that a mnemonic must follow; a common
--- command header; another header; or a header with its question mark. At later stages it is a complete header.
+-- The header read so far has the form that the stage requires (7.6.1). By stage, the header is: empty; an asterisk; a text that a mnemonic
+-- must follow; the header of a common command; the header of any other command; or a header with its question mark. At later stages it is a
+-- complete header.
 abbrev pub HeaderEnds : Stage → List ℕ → Type 0
 HeaderEnds WhiteSpace text = text ≡ []
 HeaderEnds Asterisk text = text ≡ 42 ∷ []
@@ -77,7 +79,7 @@ HeaderEnds Mnemonic text = (is_common text ≡ false) × IsUnsigned text
 HeaderEnds QuerySign text = (front : List ℕ) × (text ≡ front ++ 63 ∷ []) × IsUnsigned front
 HeaderEnds _ text = is_header text ≡ true
 
--- The unit has program data, and `p` has the places where they begin and end.
+-- The unit has program data, and `p` has the positions at which these data begin and end.
 pub record HasData (p : Progress) (unit : List ℕ) : Type 0 where
   pub some : is_empty (rest unit) ≡ false
   pub begins : p.data_start ≡ in_u64 (rest_place unit)
@@ -105,7 +107,7 @@ At Misspelled p unit = (more : List ℕ) → is_header (header (unit ++ more)) �
 At Illegal p unit = ⊤
 At stage p unit = IsRead stage p unit
 
--- whether an illegal byte came
+-- whether the stage is the one after an illegal byte
 abbrev pub is_illegal : Stage → Bool
 is_illegal Illegal = true
 is_illegal _ = false

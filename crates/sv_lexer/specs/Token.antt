@@ -9,13 +9,13 @@ use Rattle.sv_lexer.specs.declared.token.Token.{Token}
 abbrev begins_number : ℕ → Bool
 begins_number b = is_ascii_digit b || (b == 43 || (b == 45 || b == 46))
 
--- the kind of data that begin with this first byte (IEEE 488.2, 7.7)
+-- the kind of the data in a text, determined by the first byte of the text (IEEE 488.2, 7.7)
 abbrev pub kind_of : List ℕ → Kind
 kind_of [] = Other
 kind_of (b ∷ text) =
     if begins_number b then Number else if b == 35 then Base else if is_letter b then Word else if b == 40 then Expression else Other
 
--- the place, but at most 2 ^ 32 - 1
+-- the position `place`, but at most 2 ^ 32 - 1
 abbrev pub in_u32 : ℕ → ℕ
 in_u32 place = min place 4294967295
 
@@ -23,7 +23,7 @@ in_u32 place = min place 4294967295
 abbrev pub StandsAt : List ℕ → ℕ → List ℕ → Type 0
 StandsAt unit place text = (front behind : List ℕ) × (unit ≡ front ++ (text ++ behind)) × (length front ≡ place)
 
--- The token has this text, at this place of the unit.
+-- The text is in the unit at position `place`. The token has this text, the kind of the text, and its position, but at most 2 ^ 32 - 1.
 pub record IsToken (unit : List ℕ) (place : ℕ) (slice : List ℕ) (token : Token) : Type 0 where
   pub text : token.text.now ≡ slice
   pub start : token.start ≡ in_u32 place

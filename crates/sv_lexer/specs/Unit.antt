@@ -10,7 +10,7 @@ use Rattle.sv_lexer.specs.Spelled.{is_header, words}
 abbrev pub white_size : List ℕ → ℕ
 white_size bytes = prefix_len is_white bytes
 
--- how many bytes the header has: it ends before the first white space
+-- how many bytes the header of a unit has: the header ends before the first white space
 abbrev pub header_size : List ℕ → ℕ
 header_size unit = position_or_len is_white (trim unit)
 
@@ -22,15 +22,15 @@ header unit = take (header_size unit) (trim unit)
 abbrev pub header_place : List ℕ → ℕ
 header_place unit = white_size unit
 
--- the text after the header
+-- the text of a unit after its header, without white space at the end
 abbrev behind : List ℕ → List ℕ
 behind unit = drop (header_size unit) (trim unit)
 
--- the text of the parameters
+-- the text of a unit's parameters, including the commas between them
 abbrev pub rest : List ℕ → List ℕ
 rest unit = trim_start (behind unit)
 
--- where the text of the parameters begins
+-- where the text of the parameters begins in the unit
 abbrev pub rest_place : List ℕ → ℕ
 rest_place unit = header_place unit + header_size unit + white_size (behind unit)
 
@@ -47,6 +47,6 @@ unit_fault unit =
     else if not (list_all (λ word. nat_le (length word) 12) (words (header unit))) then Some ProgramMnemonicTooLong
     else None
 
--- The outcome of reading a unit: its bytes if it has no fault, else its first fault.
+-- The outcome of reading a unit: the bytes of the unit if the unit has no fault, else its first fault.
 abbrev pub IsLexed : Result (List ℕ) Code → List ℕ → Type 0
 IsLexed outcome bytes = MatchResult outcome (λ unit. (unit ≡ bytes) × (unit_fault bytes ≡ None)) (λ code. unit_fault bytes ≡ Some code)

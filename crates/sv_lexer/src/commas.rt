@@ -22,7 +22,8 @@ pub(crate) fn is_open(text: &[u8]) -> bool
     false
 }
 
-/// How many parts the text has between commas; `None` if one of the parts is blank.
+/// How many parts the text has between its commas outside parentheses; `None` if one of the parts
+/// is blank.
 pub(crate) fn filled(text: &[u8]) -> Option<usize>
     ensures { MatchOption result (list_any is_blank_part (parts text.now) ≡ true)
         (λ count. (list_any is_blank_part (parts text.now) ≡ false)
@@ -44,7 +45,7 @@ pub(crate) fn filled(text: &[u8]) -> Option<usize>
 }
 
 /// The part with this index, counted from 0, and its position in the text; `None` if the text has
-/// fewer parts.
+/// fewer parts. Commas outside parentheses separate the parts.
 pub(crate) fn part_at(text: &[u8], index: usize) -> Option<(&[u8], usize)>
     ensures { MatchOption result (length (cut_outside [] text.now) ≤ index)
         (λ found. (index < length (cut_outside [] text.now))

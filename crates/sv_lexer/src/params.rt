@@ -20,7 +20,7 @@ pub struct Params<'a> {
     bytes: &'a [u8],
     /// The parameters and the commas between them.
     text: &'a [u8],
-    /// The position of this text in the unit.
+    /// The position of `text` in the unit.
     place: usize,
     /// How many parameters there are.
     count: usize,

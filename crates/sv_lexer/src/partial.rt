@@ -155,7 +155,7 @@ impl Partial {
         }
     }
 
-    /// The error of a unit in which a mnemonic is too long; `None` if no mnemonic is.
+    /// The error of a unit with a mnemonic that is too long; `None` if no mnemonic is too long.
     fn length_fault(&self) -> Option<Code>
         ensures { result ≡ length_fault_of self.now }
     {
@@ -166,8 +166,8 @@ impl Partial {
         }
     }
 
-    /// Where the program data begin and end if the unit ends here. If it has no program data, both
-    /// are the end of the header.
+    /// Where the program data begin and end if the unit ends here. If the unit has no program data,
+    /// both are the end of the header.
     fn data(&self) -> (usize, usize)
         ensures start { result.0 ≡ data_of self.now.stage self.now.header_end self.now.data_start }
         ensures end { result.1 ≡ data_of self.now.stage self.now.header_end self.now.data_end }

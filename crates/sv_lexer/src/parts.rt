@@ -10,7 +10,7 @@ use crate::token::Token;
 use std::marker::Model;
 use sv_errors::Code;
 
-/// A unit with a well-formed header. Contracts see it as the bytes that it was read from.
+/// A unit with a well-formed header. Contracts see a unit as the bytes that it was read from.
 #[derive(Debug, Drop)]
 pub struct Unit<'a> {
     /// The bytes that the unit was read from.

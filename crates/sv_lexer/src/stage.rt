@@ -9,7 +9,7 @@ use sv_text::is_space;
 /// What the bytes of a unit that were read so far end in (IEEE 488.2, 7.3 and 7.6).
 #[derive(Clone, Copy, Debug)]
 pub(crate) enum Stage {
-    /// Nothing, or white space before the program header.
+    /// No byte was read yet, or only white space before the program header.
     WhiteSpace,
     /// The asterisk of a common command program header.
     Asterisk,

@@ -21,11 +21,12 @@ pub enum Kind {
 /// A slice of a unit.
 #[derive(Clone, Copy, Debug)]
 pub struct Token<'a> {
-    /// Its bytes, without white space around them.
+    /// The bytes of the token, without white space around them.
     pub text: &'a [u8],
-    /// Its position in the unit, in bytes; 4,294,967,295 for every position above that number.
+    /// The position of the token in the unit, in bytes; 4,294,967,295 for every position above that
+    /// number.
     pub start: u32,
-    /// Its kind, by its first byte.
+    /// The kind of data, determined by the first byte of the token.
     pub kind: Kind,
 }
 

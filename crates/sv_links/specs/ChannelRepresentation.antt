@@ -8,7 +8,8 @@ use Rattle.sv_links.specs.declared.channel.Stage.TheVariants.{Closed, Prepared, 
 use Rattle.sv_links.specs.Limits.{max_connections, max_enabled}
 use Rattle.sv_links.specs.Channels.{ChannelAct, enabled_links, peer, bytes_taken, calls, calls_left}
 
--- one channel: its stage; how many calls were sent on it; how many bytes of each waiting call are still to be sent; and these bytes
+-- the state of one channel: its stage; how many calls were appended since it was opened; how many bytes of each waiting call are still to
+-- be sent; and these bytes of all waiting calls, joined
 pub record Channel : Type 0 where
   pub stage : Stage
   pub made : ℕ
@@ -20,24 +21,25 @@ pub record Channels : Type 0 where
   pub enabled : List Enabled
   pub channels : List Channel
 
--- the program that a channel is open for; `None` if it isn't open
+-- the program that a channel is open for; `None` if the channel isn't open
 abbrev pub opened_for : Stage → Option Peer
 opened_for (Open what) = Some what
 opened_for Closed = None
 opened_for Prepared = None
 
--- whether a channel is prepared
+-- whether a channel is prepared: its memory is allocated, and it can be opened
 abbrev pub is_prepared : Stage → Bool
 is_prepared Prepared = true
 is_prepared Closed = false
 is_prepared (Open what) = false
 
--- what remains of calls with these sizes after the peer took `count` bytes in total
+-- how many bytes remain of each call, for calls of these sizes, after the peer took `count` bytes in total. A call of which no byte remains
+-- is omitted.
 abbrev pub left_in : ℕ → List ℕ → List ℕ
 left_in count [] = []
 left_in count (size ∷ sizes) = if nat_lt count size then (size - count) ∷ sizes else left_in (count - size) sizes
 
--- The channel stores what remains of `calls` after the peer took `count` of their bytes. It can't have taken more than they have.
+-- The channel stores what remains of `calls` after the peer took `count` of their bytes. The calls have at least `count` bytes.
 abbrev pub IsQueued : Channel → ℕ → List (List ℕ) → Type 0
 IsQueued kept count calls = (kept.made ≡ length calls) × (kept.sizes ≡ map length (calls_left count calls))
     × (kept.bytes ≡ concat (calls_left count calls)) × (count ≤ length (concat calls))
@@ -60,7 +62,7 @@ IsSorted (link ∷ links) = AllByRecursion (λ other. link.lid < other.lid) link
 abbrev pub HasRoomFor : ℕ → Channels → Type 0
 HasRoomFor lid kept = length (filter (λ other. not (other.lid == lid)) kept.enabled) < max_enabled
 
--- the links without those with these numbers
+-- the links whose numbers aren't among `lids`
 abbrev pub without_links : List ℕ → List Enabled → List Enabled
 without_links [] links = links
 without_links (lid ∷ lids) links = filter (λ other. not (other.lid == lid)) (without_links lids links)
@@ -69,16 +71,16 @@ without_links (lid ∷ lids) links = filter (λ other. not (other.lid == lid)) (
 abbrev pub of_others : ℕ → List Enabled → List Enabled
 of_others c links = filter (λ other. not (other.conn == c)) links
 
--- the bytes that wait on a channel, if it is open
+-- the bytes that wait to be sent on a channel; none if there is no channel or it isn't open
 abbrev pub bytes_in : Option Channel → List ℕ
 bytes_in (Some channel) = if is_some (opened_for channel.stage) then channel.bytes else []
 bytes_in None = []
 
--- the bytes that wait on the channel of a connection
+-- the bytes that wait to be sent on the channel of connection c
 abbrev pub bytes_of : Channels → ℕ → List ℕ
 bytes_of kept c = bytes_in (slice_get kept.channels c)
 
--- The channel of connection c is prepared.
+-- The channel of connection c is prepared: its memory is allocated, and it can be opened.
 abbrev pub IsReady : Channels → ℕ → Type 0
 IsReady kept c = (other : Channel) → is_prepared (slice_index_or kept.channels c other).stage ≡ true
 

@@ -7,8 +7,8 @@ use Rattle.sv_links.specs.declared.request.Peer.{Peer}
 use Rattle.sv_links.specs.Limits.{max_calls}
 use Rattle.sv_links.specs.Request.{request}
 
--- what happens: a link enables service requests, with a handle; a link disables them; the channel of a connection opens, for a program and
--- its version; the channel of a connection closes; a service request is raised; or the peer takes bytes of a channel
+-- what happens: a link enables service requests, with a handle; a link disables service requests; the channel of a connection opens, for a
+-- program and its version; the channel of a connection closes; a service request is raised; or the peer takes bytes of a channel
 pub data ChannelAct : Type 0 where
   SrqEnabled : (lid conn : ℕ) (handle : List ℕ) → ChannelAct
   SrqDisabled : (lid : ℕ) → ChannelAct
@@ -17,7 +17,8 @@ pub data ChannelAct : Type 0 where
   Requested : ChannelAct
   ChannelTaken : (conn count : ℕ) → ChannelAct
 
--- the connection of a link and the newest handle that it enabled service requests with; `None` if they aren't enabled on the link
+-- the connection of a link, and the handle with which the link last enabled service requests; `None` if service requests of the link aren't
+-- enabled
 abbrev pub srq_enabled : ℕ → List ChannelAct → Option Enabled
 srq_enabled lid [] = None
 srq_enabled lid (SrqEnabled other conn handle ∷ acts) =
@@ -39,7 +40,7 @@ enabled_links acts = filter_map (λ lid. srq_enabled lid acts) (range_with_len 0
 abbrev pub handles_of : ℕ → List Enabled → List (List ℕ)
 handles_of c links = map (λ link. link.handle) (filter (λ link. link.conn == c) links)
 
--- the program that the channel of a connection was opened for; `None` if it isn't open
+-- the program that the channel of a connection was opened for; `None` if the channel isn't open
 abbrev pub peer : ℕ → List ChannelAct → Option Peer
 peer c [] = None
 peer c (ChannelOpened conn what ∷ acts) = if conn == c then Some what else peer c acts
@@ -50,7 +51,7 @@ peer c (_ ∷ acts) = peer c acts
 abbrev pub is_channel_open : ℕ → List ChannelAct → Bool
 is_channel_open c acts = is_some (peer c acts)
 
--- how many bytes the peer took of a connection's channel since the channel was opened
+-- how many bytes the peer took from the channel of a connection since this channel was opened
 abbrev pub bytes_taken : ℕ → List ChannelAct → ℕ
 bytes_taken c [] = 0
 bytes_taken c (ChannelOpened conn what ∷ acts) = if conn == c then 0 else bytes_taken c acts
@@ -58,13 +59,14 @@ bytes_taken c (ChannelClosed conn ∷ acts) = if conn == c then 0 else bytes_tak
 bytes_taken c (ChannelTaken conn count ∷ acts) = if conn == c then bytes_taken c acts + count else bytes_taken c acts
 bytes_taken c (_ ∷ acts) = bytes_taken c acts
 
--- what remains of these calls after the peer took `count` bytes: the calls that it didn't take completely, the first of them without the
--- bytes that it took
+-- what remains of these calls after the peer took `count` bytes: the calls that the peer didn't take completely. The first of them lacks
+-- the bytes that the peer took.
 abbrev pub calls_left : ℕ → List (List ℕ) → List (List ℕ)
 calls_left count [] = []
 calls_left count (call ∷ calls) = if nat_lt count (length call) then drop count call ∷ calls else calls_left (count - length call) calls
 
--- whether one more call may be sent: fewer than 32 calls are still not completely taken by the peer, and a number remains for the new call
+-- whether one more call may be appended: the peer still has to take some bytes of fewer than 32 calls, and a number remains for the new
+-- call
 abbrev pub may_call : ℕ → List (List ℕ) → Bool
 may_call count calls = nat_lt (length (calls_left count calls)) max_calls && nat_lt (length calls) 4294967295
 
@@ -73,8 +75,8 @@ abbrev pub add_call : Option Peer → ℕ → List (List ℕ) → List ℕ → L
 add_call (Some what) count calls handle = if may_call count calls then calls ++ request (length calls + 1) what handle ∷ [] else calls
 add_call None count calls handle = calls
 
--- the calls that were sent on the channel of a connection since it was opened: each service request sends one call for each link of the
--- connection that has service requests enabled
+-- the calls that were appended on the channel of a connection since the channel was opened: each service request appends one call for each
+-- link of the connection that has service requests enabled, if `may_call` allows it
 abbrev pub calls : ℕ → List ChannelAct → List (List ℕ)
 calls c [] = []
 calls c (ChannelOpened conn what ∷ acts) = if conn == c then [] else calls c acts
@@ -82,7 +84,7 @@ calls c (ChannelClosed conn ∷ acts) = if conn == c then [] else calls c acts
 calls c (Requested ∷ acts) = fold (add_call (peer c acts) (bytes_taken c acts)) (calls c acts) (handles_of c (enabled_links acts))
 calls c (_ ∷ acts) = calls c acts
 
--- all calls that were ever sent on the channel of a connection, over all its openings
+-- all calls that were ever appended on the channel of a connection, over all its openings
 abbrev pub all_calls : ℕ → List ChannelAct → List (List ℕ)
 all_calls c [] = []
 all_calls c (Requested ∷ acts) = all_calls c acts ++ drop (length (calls c acts)) (calls c (Requested ∷ acts))

@@ -30,7 +30,7 @@ live (_ ∷ acts) = live acts
 abbrev pub owner : ℕ → List LinkAct → Option ℕ
 owner lid acts = option_map (λ link. link.conn) (find (λ link. link.lid == lid) (live acts))
 
--- whether connection `conn` is the owner; false if there is no owner
+-- whether connection `conn` is the owner of a link, given as `owner`; false if the link has no owner
 abbrev pub is_of : ℕ → Option ℕ → Bool
 is_of conn owner = option_map_or (λ other. other == conn) owner false
 
@@ -38,7 +38,7 @@ is_of conn owner = option_map_or (λ other. other == conn) owner false
 abbrev pub links_of : ℕ → List LinkAct → List ℕ
 links_of conn acts = map (λ link. link.lid) (filter (λ link. link.conn == conn) (live acts))
 
--- the lowest number of a connection's live links; `None` if it has none
+-- the lowest number of a connection's live links; `None` if the connection has no live link
 abbrev pub lowest : ℕ → List LinkAct → Option ℕ
 lowest conn acts = find (λ lid. true) (links_of conn acts)
 
@@ -54,7 +54,7 @@ may_make acts = nat_lt (length (live acts)) max_links && lids_left acts
 abbrev pub closing : ℕ → List LinkAct → List LinkAct
 closing conn acts = reverse (map Destroyed (links_of conn acts))
 
--- the links that were ever locked, the newest first
+-- the links that ever got the lock, the one that got it last first; a link stands here once for each time that it got the lock
 abbrev pub lock_order : List LinkAct → List ℕ
 lock_order = filter_map (elim [ Locked lid ↦ Some lid | _ ↦ None ])
 

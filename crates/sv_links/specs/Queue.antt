@@ -6,11 +6,11 @@ use Rattle.sv_links.specs.declared.waiting.Wait.{Wait}
 use Rattle.sv_links.specs.declared.waiting.Wait.TheVariants.{Lock, Input, Response, Dial}
 use Rattle.sv_links.specs.Waiting.{WaitAct, waits, deadline, link, arrival, is_lock}
 
--- No entry is of this connection.
+-- The queue has no entry of this connection.
 abbrev pub IsFree : ℕ → List Entry → Type 0
 IsFree conn entries = AllByRecursion (λ entry. entry.conn ≢ conn) entries
 
--- No connection has two entries.
+-- No connection has two entries in the queue.
 abbrev pub IsOnce : List Entry → Type 0
 IsOnce [] = ⊤
 IsOnce (entry ∷ entries) = IsFree entry.conn entries × IsOnce entries
@@ -19,7 +19,7 @@ IsOnce (entry ∷ entries) = IsFree entry.conn entries × IsOnce entries
 abbrev pub IsBelow : ℕ → List Entry → Type 0
 IsBelow most entries = AllByRecursion (λ entry. entry.conn < most) entries
 
--- the entry of a connection
+-- the entry of a connection in the queue; `None` if it has none
 abbrev pub entry_of : ℕ → List Entry → Option Entry
 entry_of conn entries = find (λ entry. entry.conn == conn) entries
 
@@ -45,7 +45,7 @@ pub record IsQueue (entries : List Entry) (acts : List WaitAct) : Type 0 where
 abbrev pub anew : ℕ → Wait → Option ℕ → Entry → Entry
 anew conn wait deadline entry = if entry.conn == conn then record entry { wait = wait; deadline = deadline } else entry
 
--- whether a deadline has come
+-- whether a call's deadline has come by the time `clock`; false if the call has no deadline
 abbrev pub is_past : ℕ → Option ℕ → Bool
 is_past clock (Some deadline) = nat_le deadline clock
 is_past clock None = false
@@ -70,7 +70,7 @@ wait_measure Input = 1
 wait_measure Response = 1
 wait_measure Dial = 1
 
--- the sum of the measures of all entries
+-- the most steps that all suspended calls together can still take: the sum over the entries
 abbrev pub queue_measure : List Entry → ℕ
 queue_measure [] = 0
 queue_measure (entry ∷ entries) = wait_measure entry.wait + queue_measure entries

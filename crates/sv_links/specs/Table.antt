@@ -4,8 +4,8 @@ use Rattle.std.specs.List.{AllByRecursion}
 use Rattle.sv_links.specs.declared.links.Link.{Link}
 use Rattle.sv_links.specs.Links.{LinkAct, links_made, live, is_locked, is_this}
 
--- the state: how many links were ever made; the slots, each with a live link or empty; the link that holds the lock; and the number of
--- further links for which memory is reserved
+-- the state of the table of links: how many links were ever made; the slots, each with a live link or empty; the link that holds the lock;
+-- and the number of further links for which memory is reserved
 pub record Table : Type 0 where
   pub made : ℕ
   pub slots : List (Option Link)

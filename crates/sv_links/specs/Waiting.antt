@@ -1,5 +1,5 @@
--- Suspended calls (VXI-11 revision 1.0, section B.4.4: locks and timeouts): what each waits for, until when, and in which order they came.
--- In a list of acts the newest act comes first.
+-- Suspended calls (VXI-11 revision 1.0, section B.4.4: locks and timeouts): what each call waits for, until when, and in which order the
+-- calls came. In a list of acts the newest act comes first.
 use Rattle.std.specs.Prelude.{◌≡◌, ℕ, ◌==◌, ◌≤◌, not, ◌&&◌, Bool, true, false, List, [], ◌∷◌, length, filter, is_none, option_map, Option, Some, None, if◌then◌else◌}
 use Rattle.std.specs.List.{range_with_len}
 use Rattle.sv_logs.specs.Since.{newest}
@@ -8,8 +8,9 @@ use Rattle.sv_links.specs.Limits.{max_connections}
 use Rattle.sv_links.specs.Links.{is_locked_out}
 use Rattle.sv_links.specs.declared.waiting.Wait.TheVariants.{Lock, Input, Response}
 
--- What happens to the call of a connection. `Entered`: it is suspended, with the link that it names, if any. `Again`: it stays suspended,
--- but now waits for something else. `Left`: it isn't suspended any more. A wait may have a deadline, in milliseconds of the clock.
+-- What happens to the call of a connection. `Entered`: the call is suspended; `link` is the link that the call names, if any. `Again`: the
+-- call stays suspended, but now waits for something else. `Left`: the call isn't suspended any more. A wait may have a deadline, in
+-- milliseconds of the clock.
 pub data WaitAct : Type 0 where
   Entered : (conn : ℕ) (link : Option ℕ) (wait : Wait) (deadline : Option ℕ) → WaitAct
   Again : (conn : ℕ) (wait : Wait) (deadline : Option ℕ) → WaitAct
@@ -53,7 +54,8 @@ is_lock = elim [ Some Lock ↦ true | _ ↦ false ]
 abbrev pub connections : List ℕ
 connections = range_with_len 0 max_connections
 
--- whether what a call waits for is there: the lock is free for its link; a write is accepted now; or a read is answered now
+-- whether a suspended call gets what it waits for. `Lock`: no link other than the named one holds the lock. `Input`: a write is accepted
+-- now. `Response`: a read is answered now. For any other wait, and for no wait, it is false.
 abbrev pub is_there : Option ℕ → Bool → Bool → Option ℕ → Option Wait → Bool
 is_there holder can_write can_read named (Some Lock) = not (is_locked_out holder named)
 is_there holder can_write can_read named (Some Input) = can_write
@@ -76,7 +78,8 @@ is_creating acts c = is_lock (waits c acts) && is_none (link c acts)
 abbrev pub creating : List WaitAct → ℕ
 creating acts = length (filter (is_creating acts) connections)
 
--- Of the connections for which `IsSuch` holds, this is the one whose call came first; `None` if there is none.
+-- Of the connections for which `IsSuch` holds, the given one has the call that was suspended first; `None` is given if `IsSuch` holds for
+-- no connection.
 abbrev pub IsOldest : List WaitAct → (ℕ → Type 0) → Option ℕ → Type 0
 IsOldest acts IsSuch None = (c : ℕ) → IsSuch c → ⊥
 IsOldest acts IsSuch (Some c) = IsSuch c × ((d : ℕ) → IsSuch d → arrival c acts ≤ arrival d acts)

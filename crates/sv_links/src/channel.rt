@@ -29,7 +29,7 @@ pub(crate) enum Stage {
 #[derive(Drop)]
 pub(crate) struct Channel<A: Allocator> {
     stage: Stage,
-    /// How many calls were sent since the channel was opened.
+    /// How many calls were appended since the channel was opened, including those that wait.
     made: u32,
     /// For each call that the peer didn't take completely: how many of its bytes are still to be
     /// sent.
@@ -100,7 +100,7 @@ impl<A: Allocator> Channel<A> {
         Ok(())
     }
 
-    /// Undoes the preparation: the channel won't be opened. An open channel doesn't change.
+    /// Undoes `prepare`, because the channel won't be opened. An open channel doesn't change.
     pub(crate) fn cancel(&mut self)
         ensures open { opened_for self.new.stage ≡ opened_for self.old.stage }
         ensures unready { is_prepared self.new.stage ≡ false }
@@ -134,7 +134,7 @@ impl<A: Allocator> Channel<A> {
         }
     }
 
-    /// Drops all calls, and counts from 0 again.
+    /// Drops all calls that wait, and sets the count of calls to 0.
     fn clear(&mut self)
         ensures stage { self.new.stage ≡ self.old.stage }
         ensures queued { IsQueued self.new 0 [] }
@@ -163,8 +163,8 @@ impl<A: Allocator> Channel<A> {
         let_go(&mut self.sizes, count);
     }
 
-    /// Appends a call with this handle. It does nothing if [`MAX_CALLS`] calls wait, or if the
-    /// numbers for calls are used up.
+    /// Appends a call with this handle. Nothing is appended if [`MAX_CALLS`] calls wait already, or
+    /// if the numbers for calls are used up.
     fn request(&mut self, peer: Peer, handle: &[u8])
         requires open { self.old.stage ≡ Stage.Open peer }
         requires short { length handle.now ≤ max_handle }
@@ -182,7 +182,8 @@ impl<A: Allocator> Channel<A> {
         self.made += 1;
     }
 
-    /// If the channel is open: for each of these links that connection `conn` made, appends a call.
+    /// If the channel is open, appends a call for each link in `enabled` that connection `conn`
+    /// made.
     pub(crate) fn request_each(&mut self, conn: u8, enabled: &[Enabled])
         ensures stage { self.new.stage ≡ self.old.stage }
         ensures queued { (count : ℕ) (calls : List (List ℕ)) (peer : Peer)
@@ -201,8 +202,8 @@ impl<A: Allocator> Channel<A> {
     }
 }
 
-/// Takes `count` bytes off calls of these sizes, beginning with the first call. Calls without bytes
-/// are dropped.
+/// Subtracts `count` bytes from the sizes of calls, beginning with the first call. A call of which
+/// no byte remains is dropped.
 fn let_go(sizes: &mut ArrayVec<u8, MAX_CALLS>, count: usize)
     ensures { sizes.new.items ≡ left_in count sizes.old.items }
 {

@@ -49,7 +49,7 @@ pub(crate) struct Enabled {
     pub(crate) lid: u32,
     /// The connection that made the link.
     pub(crate) conn: u8,
-    /// The handle that the controller passed when it enabled service requests.
+    /// The handle that the controller passed when it last enabled service requests of the link.
     pub(crate) handle: Handle,
 }
 

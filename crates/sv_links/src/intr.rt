@@ -84,8 +84,8 @@ impl<A: Allocator> Intr<A> {
         self.channels[usize::from(conn)].prepare()
     }
 
-    /// Undoes the preparation of a connection's channel: it won't be opened. An open channel stays
-    /// open. `conn` must be below [`MAX_CONNECTIONS`].
+    /// Undoes `prepare` for a connection's channel, because the channel won't be opened. An open
+    /// channel doesn't change. `conn` must be below [`MAX_CONNECTIONS`].
     pub fn cancel(&mut self, conn: u8)
         requires { conn < max_connections }
         ensures unready { IsReady self.new conn → ⊥ }
@@ -112,8 +112,8 @@ impl<A: Allocator> Intr<A> {
         self.channels[usize::from(conn)].open(peer);
     }
 
-    /// Closes the channel of a connection, drops the bytes that wait on it, and returns whether the
-    /// channel was open. `conn` must be below [`MAX_CONNECTIONS`].
+    /// Closes the channel of a connection, drops the bytes that wait to be sent on it, and returns
+    /// whether the channel was open. `conn` must be below [`MAX_CONNECTIONS`].
     pub fn close(&mut self, conn: u8) -> bool
         requires { conn < max_connections }
         ensures answer { (acts : List ChannelAct) → AreChannels self.old acts
@@ -169,8 +169,9 @@ impl<A: Allocator> Intr<A> {
     }
 
     /// Raises a service request. For each link that has service requests enabled, in the order of
-    /// their numbers, a call is sent on the channel of the link's connection. No call is sent if
-    /// that channel is closed, if 32 calls wait on it, or if the numbers for its calls are used up.
+    /// the links' numbers, a call is appended on the channel of the link's connection. No call is
+    /// appended if that channel is closed, if 32 calls wait on it, or if the numbers for its calls
+    /// are used up.
     pub fn raise(&mut self)
         ensures stands { (acts : List ChannelAct) → AreChannels self.old acts
             → AreChannels self.new (Requested ∷ acts) }
@@ -182,8 +183,8 @@ impl<A: Allocator> Intr<A> {
         }
     }
 
-    /// The bytes that wait on the channel of a connection; none if the channel isn't open. `conn`
-    /// must be below [`MAX_CONNECTIONS`].
+    /// The bytes that wait to be sent on the channel of a connection; none if the channel isn't
+    /// open. `conn` must be below [`MAX_CONNECTIONS`].
     pub fn waiting(&self, conn: u8) -> &[u8]
         requires { conn < max_connections }
         ensures same { result.now ≡ bytes_of self.now conn }
@@ -199,8 +200,8 @@ impl<A: Allocator> Intr<A> {
         }
     }
 
-    /// Drops the first `count` of the bytes that wait on the channel of a connection, because the
-    /// peer took them. At least `count` bytes must wait, and `conn` must be below
+    /// Drops the first `count` of the bytes that wait to be sent on the channel of a connection,
+    /// because the peer took them. At least `count` bytes must wait, and `conn` must be below
     /// [`MAX_CONNECTIONS`].
     pub fn take(&mut self, conn: u8, count: usize)
         requires within { conn < max_connections }

@@ -29,7 +29,7 @@ pub enum CreateRefused {
     /// There are [`MAX_LINKS`] links, or no number remains for a further link (VXI-11 error 9).
     #[error("no further link may be made")]
     OutOfResources,
-    /// Out of memory.
+    /// Memory for the link was refused.
     #[error("no memory was left")]
     NoMemory,
 }
@@ -152,7 +152,7 @@ impl<A: Allocator> Links<A> {
         Some(link.conn)
     }
 
-    /// The lowest number of a connection's links; `None` if it has no link.
+    /// The lowest number of a connection's links; `None` if the connection has no link.
     pub fn lowest(&self, conn: u8) -> Option<u32>
         ensures { (acts : List LinkAct) → IsTable self.now acts → result ≡ lowest conn acts }
     {
@@ -199,8 +199,8 @@ impl<A: Allocator> Links<A> {
         self.holder
     }
 
-    /// Gives a link the lock, unless another link holds it, and returns whether it holds the lock
-    /// now. If not, nothing changes.
+    /// Gives a link the lock, unless another link holds the lock. Returns whether the link holds
+    /// the lock now. If not, nothing changes.
     pub fn lock(&mut self, lid: u32) -> bool
         ensures answer { (acts : List LinkAct) → IsTable self.old acts
             → result ≡ not (is_locked_out (holder acts) (Some lid)) }
@@ -216,7 +216,8 @@ impl<A: Allocator> Links<A> {
         true
     }
 
-    /// Frees the lock if this link holds it, and returns whether it did; if not, nothing changes.
+    /// Frees the lock if this link holds it, and returns whether the link held it. If not, nothing
+    /// changes.
     pub fn unlock(&mut self, lid: u32) -> bool
         ensures answer { (acts : List LinkAct) → IsTable self.old acts
             → result ≡ is_this lid (holder acts) }

@@ -9,7 +9,7 @@ use std::alloc::Allocator;
 use sv_rpc::{put_record, write_call};
 use sv_xdr::Writer;
 
-/// The procedure device_intr_srq.
+/// The number of the procedure device_intr_srq.
 const DEVICE_INTR_SRQ: u32 = 30;
 
 /// The program to which the calls on an interrupt channel are sent.

@@ -13,13 +13,14 @@ use std::marker::Model;
 /// What a suspended call waits for.
 #[derive(Clone, Copy, Debug, PartialEq, Eq)]
 pub enum Wait {
-    /// That no other link holds the lock.
+    /// The call waits until no other link holds the lock.
     Lock,
-    /// That a write is accepted.
+    /// The call waits until the device accepts a write.
     Input,
-    /// That a read is answered.
+    /// The call waits until the device answers a read.
     Response,
-    /// That the attempt to connect the interrupt channel's peer has ended.
+    /// The call waits until the server's attempt to connect to the interrupt channel's peer has
+    /// ended.
     Dial,
 }
 
@@ -32,7 +33,7 @@ pub struct Entry {
     pub lid: Option<u32>,
     /// What the call waits for.
     pub wait: Wait,
-    /// The clock at which the call times out, in milliseconds; `None` if it never does.
+    /// The time of the clock at which the call times out, in milliseconds; `None` if it never does.
     pub deadline: Option<u64>,
 }
 
@@ -51,7 +52,7 @@ pub fn is_locked_out(holder: Option<u32>, named: Option<u32>) -> bool
 }
 
 impl Entry {
-    /// Whether the call can resume: what it waits for is there.
+    /// Whether the call can resume, because what it waits for is there.
     fn is_able(&self, holder: Option<u32>, can_write: bool, can_read: bool) -> bool
         ensures { result ≡ is_there holder can_write can_read self.now.lid (Some self.now.wait) }
     {
@@ -63,7 +64,7 @@ impl Entry {
         }
     }
 
-    /// Whether the deadline of the call has come.
+    /// Whether the deadline of the call has come by the time `clock`; false if it has no deadline.
     fn has_expired(&self, clock: u64) -> bool
         ensures { result ≡ is_past clock self.now.deadline }
     {
@@ -73,7 +74,7 @@ impl Entry {
         }
     }
 
-    /// Whether the call is a create_link, which waits for the lock and has no link to name.
+    /// Whether the call is a create_link: it waits for the lock and names no link.
     fn creates(&self) -> bool
         ensures { result ≡ creates self.now }
     {
@@ -83,7 +84,8 @@ impl Entry {
         }
     }
 
-    /// Suspends the call anew if it is the call of connection `conn`.
+    /// If this is the call of connection `conn`, lets it wait for `wait` until `deadline` from now
+    /// on.
     fn renew(&mut self, conn: u8, wait: Wait, deadline: Option<u64>)
         ensures { self.new ≡ anew conn wait deadline self.old }
     {
@@ -170,8 +172,9 @@ impl<A: Allocator> Waiting<A> {
         self.entries.iter().filter(|entry| entry.creates()).count() as u8
     }
 
-    /// Suspends the call of a connection anew: it now waits for `wait`, until `deadline`. It keeps
-    /// its place in the order of arrival. If the connection has no suspended call, nothing changes.
+    /// Suspends the call of a connection anew: the call now waits for `wait`, until `deadline`, and
+    /// keeps its place in the order of arrival. If the connection has no suspended call, nothing
+    /// changes.
     pub fn again(&mut self, conn: u8, wait: Wait, deadline: Option<u64>)
         ensures value { self.new ≡ map (anew conn wait deadline) self.old }
         ensures stands { (acts : List WaitAct) → IsQueue self.old acts
@@ -186,7 +189,7 @@ impl<A: Allocator> Waiting<A> {
         }
     }
 
-    /// Ends the suspension of a connection's call.
+    /// Removes the suspended call of a connection from the queue, if there is such a call.
     pub fn leave(&mut self, conn: u8)
         ensures value { self.new ≡ without conn self.old }
         ensures stands { (acts : List WaitAct) → IsQueue self.old acts

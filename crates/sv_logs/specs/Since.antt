@@ -12,7 +12,7 @@ abbrev pub since : {A : Type 0} → (List A → Bool) → List A → List A
 since is_such [] = []
 since is_such (act ∷ acts) = if is_such (act ∷ acts) then [] else act ∷ since is_such acts
 
--- the value that `gives` returns for the newest act for which it returns one; `default` if it returns none for any act
+-- the value of `gives` for the newest act for which `gives` isn't `None`; `default` if `gives` is `None` for every act
 abbrev pub last_given : {A B : Type 0} → (A → Option B) → B → List A → B
 last_given gives default [] = default
 last_given gives default (act ∷ acts) = unwrap_or (gives act) (last_given gives default acts)

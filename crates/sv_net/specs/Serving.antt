@@ -8,8 +8,8 @@ use Rattle.sv_serve.specs.DriverView.{DriverState, Steps}
 use Rattle.sv_serve.specs.Sweep.{Sweeps}
 use Rattle.sv_net.specs.Sleep.{MaySleep}
 
--- An action of a loop: a sweep; a wait for reports, with its limit, whether reports came, and when it ended, in nanoseconds since the
--- beginning; or passing the reports to a wire, which is given in its state at that moment.
+-- An action of a loop: a sweep; a wait for reports about sockets, with its limit, whether reports came, and when it ended, in nanoseconds
+-- since the beginning; or passing the reports to a wire, given as its state at that moment.
 pub data Doing (W : Type 0) : Type 0 where
   MadeSweep : Doing W
   Waited : (limit : Option Duration) (reported : Bool) (ended : ℕ) → Doing W
@@ -25,27 +25,28 @@ swept_at [] = 0
 swept_at (MadeSweep ∷ doings) = time_of doings
 swept_at (_ ∷ doings) = swept_at doings
 
--- how many whole milliseconds lie between two nanoseconds, at most 1,000
+-- how many milliseconds pass between two times that are given in nanoseconds: each time is rounded down to a whole millisecond, and the
+-- result is at most 1,000
 abbrev pub ticks_between : ℕ → ℕ → ℕ
 ticks_between before now = min (now / 1000000 - before / 1000000) 1000
 
--- for each sweep the milliseconds that pass in it: those since the sweep before
+-- for each sweep, how many milliseconds pass in it: those since the sweep before
 abbrev pub handed_in : {W : Type 0} → List (Doing W) → List ℕ
 handed_in [] = []
 handed_in (MadeSweep ∷ doings) = ticks_between (swept_at doings) (time_of doings) ∷ handed_in doings
 handed_in (_ ∷ doings) = handed_in doings
 
--- whether the last action was a wait, so that its reports weren't passed on yet; or there was no action yet
+-- whether the loop's last action was a wait, so that its reports weren't passed to the sockets yet; or there was no action yet
 abbrev pub is_fresh : {W : Type 0} → List (Doing W) → Bool
 is_fresh = elim [ MadeSweep ∷ doings ↦ false | Told wire ∷ doings ↦ false | _ ↦ true ]
 
--- whether all reports so far were passed on
+-- whether all reports so far were passed to the sockets
 abbrev pub is_told : {W : Type 0} → List (Doing W) → Bool
 is_told = last_given (elim [ Waited limit true ended ↦ Some false | Told wire ↦ Some true | _ ↦ None ]) true
 
--- The loop leads from one state of the driver to another. In each sweep, the milliseconds since the sweep before pass. If this is at least
--- one, the reports of the last wait are passed on only after the sweep. No wait is longer than allowed, and none begins before all reports
--- were passed on.
+-- The loop leads from one state of the driver to another. In each sweep, the milliseconds since the sweep before pass. If at least one
+-- passes, the reports of the last wait are passed to the sockets only after the sweep. No wait is longer than allowed, and none begins
+-- before all reports were passed to the sockets.
 abbrev pub Serves : {W : Type 0} → (W → Heard → W → Type 0) → List (Doing W) → DriverState W → DriverState W → Type 0
 Serves hears [] start now = now ≡ start
 Serves hears (MadeSweep ∷ doings) start now = let ticks = ticks_between (swept_at doings) (time_of doings) in
@@ -55,7 +56,7 @@ Serves hears (Waited limit reported ended ∷ doings) start now =
     Serves hears doings start now × MaySleep (swept_at doings) (time_of doings) limit now × (is_told doings ≡ true)
 Serves hears (Told wire ∷ doings) start now = Serves hears doings start now × (wire ≡ now.wire)
 
--- A machine made these waits in order, and they ended as listed. The reports were passed to these wires.
+-- A machine made the waits among these actions, in order, and they ended as listed. It passed the reports to the wires that are listed.
 abbrev pub Waits : {W M : Type 0} → (M → Doing W → M → Type 0) → List (Doing W) → M → M → Type 0
 Waits answers [] start now = now ≡ start
 Waits answers (MadeSweep ∷ doings) start now = Waits answers doings start now

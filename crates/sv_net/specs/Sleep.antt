@@ -23,9 +23,10 @@ IsIdle most driving = NoneReady driving × ((config : Config) (history : List Pl
 abbrev pub left_until : ℕ → ℕ → ℕ → ℕ
 left_until ticks swept now = ticks * 1000000 - (now - swept / 1000000 * 1000000)
 
--- How long the server may sleep. Without a limit, if it is idle for as many milliseconds as a timeout may have (32 bits: VXI-11 revision
--- 1.0, B.4.4), and the scenario has no more entries. If it is idle for 100 milliseconds, at most until 100 milliseconds have passed since
--- the last sweep. Else at most until the next millisecond.
+-- How long the server is allowed to sleep. Without a limit, if the scenario has no more entries, and the server is idle for as many
+-- milliseconds as the longest timeout has (32 bits: VXI-11 revision 1.0, B.4.4). Idle means that no connection has a call to take, and
+-- nothing becomes due. If the server is idle for 100 milliseconds, it may sleep at most until 100 milliseconds have passed since the last
+-- sweep. Else it may sleep at most until the next millisecond.
 abbrev pub MaySleep : {W : Type 0} → ℕ → ℕ → Option Duration → DriverState W → Type 0
 MaySleep swept now None driving = (driving.ahead ≡ []) × IsIdle 4294967295 driving
 MaySleep swept now (Some limit) driving =

@@ -7,7 +7,7 @@ use Rattle.sv_serve.specs.declared.wire.Answer.{Answer}
 use Rattle.sv_serve.specs.declared.wire.Answer.TheVariants.{Got, Pending, Failed}
 use Rattle.sv_serve.specs.Heard.{Heard, WasAccepted, WasRead, WasProbed, WasWritten, WasDialed, PeerAnswered, WasClosed}
 
--- the number of a port's socket: connections first, then their interrupt channels
+-- the number of a port's socket: 0 to 15 for connections, then 16 to 31 for their interrupt channels
 abbrev pub socket_number : Port → ℕ
 socket_number (Conn c) = c
 socket_number (Intr c) = 16 + c
@@ -22,23 +22,24 @@ abbrev pub Skips : {S : Type 0} → (S → Option (List ℕ)) → Bool → S →
 Skips left true old new = (dropped : Answer (List ℕ)) × Gives left dropped old new
 Skips left false old new = Keeps (left old) (left new)
 
--- A write that takes `n` bytes appends the first `n` bytes to those that the stream was sent. If it takes none, the stream doesn't change.
+-- A write that took `n` bytes appends the first `n` of its bytes to those that were sent on the stream. A write that waits or failed
+-- doesn't change the stream.
 abbrev pub Takes : {S : Type 0} → (S → Option (List ℕ)) → List ℕ → Answer ℕ → S → S → Type 0
 Takes sent bytes (Got n) old new = Appends (sent old) (sent new) (take n bytes)
 Takes sent bytes answer old new = Keeps (sent old) (sent new)
 
--- The stream in this place takes the step. If there is no stream in this place, the call fails.
+-- The step is taken by the stream of a socket, if there is a stream. If there is none, the method's answer is that it failed.
 abbrev pub Does : {S A : Type 0} → (S → S → Type 0) → Answer A → Option S → Option S → Type 0
 Does step answer None after = (answer ≡ Failed) × (after ≡ None)
 Does step answer (Some old) after = (new : _) × step old new × (after ≡ Some new)
 
--- The socket with this number takes the step. All other sockets don't change.
+-- The socket with number n takes the step. No other socket changes.
 abbrev pub At : {S A : Type 0} → ℕ → (S → S → Type 0) → Answer A → List (Option S) → List (Option S) → Type 0
 At n step answer before after =
     (place : Option _) × Does step answer (slice_index_or before n None) place × (after ≡ slice_set before n place)
 
--- What a call of a wire's method, with its answer, does to the sockets: only the socket of its port changes. Of a stream two things are
--- known: the bytes that can still be read from it, and the bytes that it was sent.
+-- What a call of a wire's method, with its answer, does to the sockets: only the socket of its port changes. Two things are known of a
+-- stream: the bytes that can still be read from it (`left`), and the bytes that were written to it (`sent`).
 abbrev pub Hears : {S : Type 0} → (S → Option (List ℕ)) → (S → Option (List ℕ)) → List (Option S) → Heard → List (Option S) → Type 0
 Hears left sent before (WasAccepted role (Some c) (Got all)) after = (stream : _) × (after ≡ slice_set before c (Some stream))
 Hears left sent before (WasAccepted role number answer) after = after ≡ before

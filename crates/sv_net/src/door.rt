@@ -31,12 +31,12 @@ impl Door {
         })
     }
 
-    /// Registers the socket for reports with this token.
+    /// Registers the socket at the system, whose reports about it then have this token.
     pub(crate) fn register(&mut self, registry: &Registry, token: Token) -> io::Result<()> {
         registry.register(&mut self.listener, token, Interest::READABLE)
     }
 
-    /// Records that the system reported something about the socket.
+    /// Records a report of the system about the socket: connections may be waiting to be accepted.
     pub(crate) fn report(&self) {
         self.knocked.set(true);
     }
@@ -52,8 +52,8 @@ impl Door {
         self.knocked.get() & (self.delay.get() == 0)
     }
 
-    /// How many milliseconds to sleep before the next accept. If no connection may be waiting, 100.
-    /// Else 1, doubled after each further failure of accept, but at most 100.
+    /// Returns how many milliseconds to sleep at most before the next accept: 100 if no connection
+    /// may be waiting; else 1, doubled after each further failure of accept, but at most 100.
     pub(crate) fn patience(&self) -> u32
         ensures { result ≤ 100 }
     {
@@ -78,7 +78,7 @@ impl Door {
         }
     }
 
-    /// Returns the answer of an accept that failed with this kind of error.
+    /// Returns the wire's answer for an accept that failed with this kind of error.
     fn refused(&self, kind: ErrorKind) -> Answer<TcpStream> {
         match kind {
             ErrorKind::WouldBlock => {

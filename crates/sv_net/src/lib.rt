@@ -1,5 +1,5 @@
-//! The sockets of a server, over mio: the wire of a driver on a real machine. It answers without
-//! waiting. For this it uses what the system last reported about each socket.
+//! The sockets of a server, over mio: the wire of a driver on a real machine. Its methods don't
+//! wait: what the system last reported about a socket says whether a method has something to do.
 #![tactic(auto)]
 
 mod door;

@@ -15,7 +15,8 @@ pub(crate) trait Machine<S: Stream> {
     ghost use Rattle.sv_net.specs.Serving.{Doing, Waited, Told};
     ghost use Rattle.std.specs.Prelude.{List, Option, ⊤};
 
-    /// How a wait and its outcome change the machine. Of a real machine nothing is known.
+    /// How a wait, with its outcome, changes the machine. By default nothing is known of this, as
+    /// for a real machine.
     ghost answers: { Self → Doing (List (Option S)) → Self → Type 0 } = { λ before doing after. ⊤ };
 
     /// Waits until something is reported about a socket; but if there is a `limit`, no longer than

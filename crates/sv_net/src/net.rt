@@ -24,8 +24,8 @@ const SOCKETS: usize = 32;
 /// The sockets of sixteen connections and their interrupt channels, and three listening sockets on
 /// ports of 127.0.0.1.
 ///
-/// No method blocks. A socket that answered that it would block isn't asked again until the system
-/// reports something about it.
+/// No method blocks. After a read, write or accept that would have blocked, the socket isn't used
+/// in this way again until the system reports something about it.
 #[derive(Drop)]
 pub struct Net<N: Network + Drop, A: Allocator = Global, S: Stream = TcpStream> {
     network: N,
@@ -42,7 +42,7 @@ impl<N: Network + Drop, A: Allocator, S: Stream> Model for Net<N, A, S> {
     ghost view = { λ a. a.sockets.items };
 }
 
-/// The number of the listening socket for this role.
+/// Returns the index of the listening socket for this role.
 fn door_number(role: Role) -> usize
     ensures { result < 3 }
 {
@@ -53,7 +53,7 @@ fn door_number(role: Role) -> usize
     }
 }
 
-/// The number of a port's socket.
+/// Returns the number of a port's socket.
 fn socket_number(port: Port) -> usize
     ensures { result ≡ socket_number port }
 {
@@ -63,7 +63,7 @@ fn socket_number(port: Port) -> usize
     }
 }
 
-/// Reads from the socket at a place. Without a socket the read fails.
+/// Reads from a socket into the buffer. If `place` is `None`, the read fails.
 fn read_at<S: Stream>(place: &mut Option<Socket<S>>, buffer: &mut [u8]) -> Answer<usize>
     ensures within { IsWithin result (length buffer.old) }
     ensures gives { let answer = bytes_of result buffer.new in
@@ -75,7 +75,7 @@ fn read_at<S: Stream>(place: &mut Option<Socket<S>>, buffer: &mut [u8]) -> Answe
     }
 }
 
-/// Asks whether the socket at a place is gone.
+/// Asks whether the peer of a socket is gone. If `place` is `None`, the answer is `Failed`.
 fn probe_at<S: Stream>(place: &mut Option<Socket<S>>, drops: bool) -> Answer<()>
     ensures { Does (Skips S.remaining drops) result place.old place.new }
 {
@@ -85,7 +85,7 @@ fn probe_at<S: Stream>(place: &mut Option<Socket<S>>, drops: bool) -> Answer<()>
     }
 }
 
-/// Writes to the socket at a place. Without a socket the write fails.
+/// Writes bytes to a socket. If `place` is `None`, the write fails.
 fn write_at<S: Stream>(place: &mut Option<Socket<S>>, bytes: &[u8]) -> Answer<usize>
     ensures within { IsWithin result (length bytes.now) }
     ensures takes { Does (Takes S.contents bytes.now result) result place.old place.new }
@@ -128,7 +128,7 @@ impl<N: Network + Drop, A: Allocator, S: Stream> Net<N, A, S> {
         })
     }
 
-    /// Records a report about a socket or about a listening socket.
+    /// Records a report of the system, at the socket or listening socket that it is about.
     pub(crate) fn report(&self, event: &Event) {
         let Token(number) = event.token();
         match self.sockets.get(number) {
@@ -138,7 +138,7 @@ impl<N: Network + Drop, A: Allocator, S: Stream> Net<N, A, S> {
         }
     }
 
-    /// Records a report about a listening socket.
+    /// Records a report of the system about the listening socket with this token's number.
     fn report_door(&self, number: usize) {
         if let Some(door) = self.doors.get(number.saturating_sub(SOCKETS)) {
             door.report();
@@ -157,7 +157,7 @@ impl<N: Network + Drop, A: Allocator, S: Stream> Net<N, A, S> {
         self.doors[0].is_knocked() | self.doors[1].is_knocked() | self.doors[2].is_knocked()
     }
 
-    /// How many milliseconds to sleep before the next accept, at most 100.
+    /// Returns how many milliseconds to sleep at most before the next accept; at most 100.
     pub(crate) fn patience(&self) -> u32
         ensures { result ≤ 100 }
     {
@@ -167,7 +167,7 @@ impl<N: Network + Drop, A: Allocator, S: Stream> Net<N, A, S> {
             .min(portmap.patience())
     }
 
-    /// The socket of a connection or an interrupt channel, if there is one.
+    /// Returns the socket of a connection or an interrupt channel, if there is one.
     pub(crate) fn socket(&self, port: Port) -> Option<&Socket<S>> {
         match self.sockets.get(socket_number(port)) {
             Some(Some(socket)) => Some(socket),

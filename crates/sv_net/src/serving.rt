@@ -18,18 +18,18 @@ use std::time::{Clock, Duration};
 use sv_pace::Pace;
 use sv_serve::Driver;
 
-/// The most polls in one pause.
+/// The most polls without sleeping between two sweeps.
 const LOOKS: u32 = 1_000;
 
-/// Makes this number of sweeps. Between two sweeps it waits until something is reported about a
-/// socket, or something is due. In each sweep the whole milliseconds since the sweep before pass,
-/// at most 1,000.
+/// Makes this number of sweeps. Between two sweeps it waits until the system reports something
+/// about a socket, or something is due. In each sweep the whole milliseconds since the sweep before
+/// pass, at most 1,000.
 ///
-/// Without a report, a wait ends at the next whole millisecond, or at the latest at the hundredth
-/// if nothing becomes due before. If nothing will ever be due, and more than a million sweeps
-/// remain, only a report ends the wait. For 50 microseconds after a report it polls without
-/// sleeping, if polling was worthwhile of late. The clock is read after each wait, so that
-/// deadlines are met even while many peers send calls without a pause.
+/// If no report comes, the wait ends at the next whole millisecond; or, if nothing becomes due
+/// within 100 milliseconds, at the latest at the hundredth. If nothing will ever be due, and more
+/// than a million sweeps remain, only a report ends the wait. For 50 microseconds after a report
+/// the loop polls without sleeping, if polling found something of late. The clock is read after
+/// each wait, so that deadlines are met even while many peers send calls without a pause.
 ///
 /// # Errors
 /// If the system's clock can't be read, or a wait fails.
@@ -68,8 +68,8 @@ fn run<M: Machine<S>, N: Network + Drop, A: Allocator, S: Stream>(
     Ok(())
 }
 
-/// Makes a sweep. If milliseconds passed during the wait before, they pass in this sweep, and the
-/// sockets get the reports of the wait only after it, for the next sweep.
+/// Makes a sweep. If milliseconds have passed since the sweep before, they pass in this sweep, and
+/// the reports of the last wait are passed to the sockets only after it, for the next sweep.
 fn sweep<M: Machine<S>, N: Network + Drop, A: Allocator, S: Stream>(
     machine: &mut M,
     driver: &mut Driver<Net<N, A, S>, A>,
@@ -105,8 +105,8 @@ fn wait<M: Machine<S>, S: Stream>(
     Ok((reported, now))
 }
 
-/// Waits for the next sweep, with `left` sweeps remaining, and returns when that sweep begins. If
-/// the sweep has something to do, it begins after a single poll. If polling is worthwhile and this
+/// Waits until the next sweep is to begin, and returns the time then. `left` sweeps remain. If the
+/// next sweep has something to do, it begins after a single poll. If polling is worthwhile and this
 /// poll finds a report, there is no need to check whether the sweep has something to do.
 fn pause<M: Machine<S>, N: Network + Drop, A: Allocator, S: Stream>(
     machine: &mut M,
@@ -131,8 +131,8 @@ fn pause<M: Machine<S>, N: Network + Drop, A: Allocator, S: Stream>(
     spin(machine, driver, pace, now, left)
 }
 
-/// Polls until something is reported or the polls of this pause are used up. Sleeps as soon as
-/// polling isn't worthwhile any more. Returns when the wait ended.
+/// Polls until something is reported, or until as many polls were made as are allowed between two
+/// sweeps. If polling isn't worthwhile any more, sleeps instead. Returns when the wait ended.
 fn spin<M: Machine<S>, N: Network + Drop, A: Allocator, S: Stream>(
     machine: &mut M,
     driver: &Driver<Net<N, A, S>, A>,

@@ -15,13 +15,13 @@ use sv_serve::Answer;
 /// How many bytes one read discards at most.
 const DROPPED: usize = 1_024;
 
-/// A socket, and what was reported about it since it last answered that it would block.
+/// A socket, and what the system reported about it since a read or write last would have blocked.
 #[derive(Drop)]
 pub(crate) struct Socket<S: Stream> {
     stream: S,
     /// Bytes or the end of the stream may be waiting to be read.
     readable: Cell<bool>,
-    /// The socket may take bytes.
+    /// A write may take bytes.
     writable: Cell<bool>,
     /// The peer sends no more, so that the system won't report again that bytes can be read.
     ended: Cell<bool>,
@@ -67,7 +67,7 @@ impl<S: Stream> Socket<S> {
         }
     }
 
-    /// Registers the socket for reports with this token.
+    /// Registers the socket at the system, whose reports about it then have this token.
     pub(crate) fn register(&mut self, registry: &Registry, token: Token) -> io::Result<()>
         ensures { S.keeps self.old self.new }
     {
@@ -103,7 +103,7 @@ impl<S: Stream> Socket<S> {
         self.readable.get()
     }
 
-    /// Whether the socket may take bytes, or may have finished connecting.
+    /// Whether a write may take bytes, or the socket may have finished connecting.
     pub(crate) fn is_writable(&self) -> bool {
         self.writable.get()
     }
@@ -171,7 +171,8 @@ impl<S: Stream> Socket<S> {
         }
     }
 
-    /// Whether a socket that began to connect is connected.
+    /// Returns whether a socket that began to connect is connected: pending while the peer hasn't
+    /// answered.
     pub(crate) fn answered(&self) -> Answer<()> {
         if !self.writable.get() {
             return Answer::Pending;
@@ -187,8 +188,9 @@ impl<S: Stream> Socket<S> {
     }
 }
 
-/// Returns the answer of a call that failed: pending if the call would block. In that case the
-/// socket isn't asked again until the system reports something about it.
+/// Returns the answer of a read or write that ended with this kind of error: pending if it would
+/// have blocked. In that case clears `flag`, so that it isn't tried again until the system reports
+/// something about the socket.
 fn would_wait(flag: &Cell<bool>, kind: ErrorKind) -> Answer<usize>
     ensures { (result ≡ Answer.Pending) ⊎ (result ≡ Answer.Failed) }
 {

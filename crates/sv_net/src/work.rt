@@ -1,4 +1,4 @@
-//! Whether the next sweep has something to do even if no report comes.
+//! Whether the next sweep has something to do even if the system reports nothing about a socket.
 
 use crate::net::Net;
 use crate::socket::Socket;

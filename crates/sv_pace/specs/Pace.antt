@@ -1,4 +1,5 @@
--- When a server polls and doesn't sleep at once, depending on how its earlier waits ended. Lists of waits have the newest first.
+-- When a server polls before it sleeps, instead of sleeping at once, depending on how its earlier waits ended. Lists of waits have the
+-- newest first.
 use Rattle.std.specs.Prelude.{◌≡◌, ℕ, zero, suc, ◌-◌, ◌*◌, ◌≤◌, min, max, Bool, true, false, List, [], ◌∷◌}
 
 -- How a wait ended: polling found something (`Found`), polling found nothing in its time (`Missed`), or the server slept at once (`Slept`).
@@ -7,7 +8,7 @@ pub data Wait : Type 0 where
   Missed : Wait
   Slept : Wait
 
--- how many times polling has found nothing since it last found something
+-- how many runs of polls have found nothing since polling last found something
 abbrev pub misses : List Wait → ℕ
 misses [] = 0
 misses (Found ∷ waits) = 0
@@ -21,8 +22,8 @@ sleeps (Found ∷ waits) = 0
 sleeps (Missed ∷ waits) = 0
 sleeps (Slept ∷ waits) = suc (sleeps waits)
 
--- how many times the server sleeps at once after one more miss: 0 if this is the first miss; else twice as many as before, at least 1 and
--- at most 1,024
+-- how many times the server sleeps at once after one more run of polls that found nothing: 0 if this is the first such run; else twice as
+-- many times as after the run before, at least 1 and at most 1,024
 abbrev pub longer : Bool → ℕ → ℕ
 longer false pause = 0
 longer true pause = min (max (pause * 2) 1) 1024
@@ -32,20 +33,21 @@ abbrev pub is_any : ℕ → Bool
 is_any zero = false
 is_any (suc n) = true
 
--- how many times the server sleeps at once before it polls again, after this many misses in a row: 0, 0, 1, 2, 4 .. times
+-- how many times the server sleeps at once before it polls again, after this many runs of polls in a row that found nothing: 0, 0, 1, 2, 4
+-- .. times
 abbrev pub pause_after : ℕ → ℕ
 pause_after zero = 0
 pause_after (suc n) = longer (is_any n) (pause_after n)
 
--- The waits with one more, in which the server polled this many times before it found something or gave up. A wait that found something
--- without a poll isn't added: what it found was there already.
+-- The waits with one more added, in which the server polled this many times until it found something or gave up. A wait that found
+-- something without a poll isn't added, since it says nothing about polling: what it found was there already.
 abbrev pub after_wait : ℕ → Bool → List Wait → List Wait
 after_wait zero true waits = waits
 after_wait zero false waits = Slept ∷ waits
 after_wait (suc n) true waits = Found ∷ waits
 after_wait (suc n) false waits = Missed ∷ waits
 
--- The state: the nanosecond at which the last sweep began; the nanosecond at which something was last reported; whether the last run of
+-- The state of the policy: when the last sweep began, and when something was last reported, both in nanoseconds; whether the last run of
 -- polls found nothing; how many times the server sleeps at once after that run; and how many of these sleeps remain.
 pub record Kept : Type 0 where
   pub swept : ℕ
@@ -54,7 +56,7 @@ pub record Kept : Type 0 where
   pub pause : ℕ
   pub left : ℕ
 
--- The state stands for these waits.
+-- The state of the policy is the one to which these waits led.
 pub record StandsFor (kept : Kept) (waits : List Wait) : Type 0 where
   pub missed : kept.missed ≡ is_any (misses waits)
   pub pause : kept.pause ≡ pause_after (misses waits)

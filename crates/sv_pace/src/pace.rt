@@ -23,8 +23,8 @@ const MOST_SLEEPS: u32 = 1_024;
 /// What a loop of sweeps remembers: times, in nanoseconds since its beginning, and how its waits
 /// ended.
 ///
-/// Polling has to be worthwhile. If it found nothing of late, as on a machine whose cores are busy,
-/// the server sleeps at once, and polls again only now and then.
+/// If polling found nothing of late, as on a machine whose cores are busy, it isn't worthwhile: the
+/// server sleeps at once, and polls again only now and then.
 #[derive(Drop)]
 pub struct Pace {
     /// When the last sweep began.
@@ -56,7 +56,8 @@ impl Model for Pace {
     ghost invariant = { λ a. a.pause ≤ 1024 };
 }
 
-/// Returns how many times to sleep after one more run of polls that found nothing.
+/// Returns how many times to sleep at once after one more run of polls that found nothing. `missed`
+/// says whether the run before found nothing too, and `pause` how many sleeps followed that run.
 fn longer(missed: bool, pause: u32) -> u32
     requires { pause ≤ 1024 }
     ensures value { result ≡ longer missed pause }
@@ -70,7 +71,7 @@ fn longer(missed: bool, pause: u32) -> u32
 }
 
 impl Pace {
-    /// Makes a policy with no waits yet.
+    /// Makes the policy at the beginning of a loop, which hasn't waited yet.
     pub fn new() -> Pace
         ensures times { (result.swept ≡ 0) × (result.worked ≡ 0) }
         ensures stands { StandsFor result [] }

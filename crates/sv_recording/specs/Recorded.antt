@@ -19,7 +19,8 @@ heard_of (Dial conn dial answer) = WasDialed conn dial answer
 heard_of (Dialed conn answer) = PeerAnswered conn answer
 heard_of (Close port) = WasClosed port
 
--- the wire that answers; the calls that were recorded, the newest first; and whether all calls were recorded
+-- the state of a recorder: the wire to which it passes the calls; the calls that were recorded, the newest first; and whether all calls
+-- were recorded
 pub record Recording (W : Type 0) : Type 0 where
   pub wire : W
   pub trace : List Heard
@@ -29,7 +30,7 @@ pub record Recording (W : Type 0) : Type 0 where
 abbrev pub Keeps : {W : Type 0} → Recording W → Heard → Recording W → Type 0
 Keeps before heard after = after.is_whole ≡ true → (before.is_whole ≡ true) × (after.trace ≡ heard ∷ before.trace)
 
--- The method of the recorded wire was called, and returned this answer. The call is recorded, if all calls are.
+-- The method of the recorded wire was called, and returned this answer. The call is recorded, unless memory for some call was refused.
 abbrev pub Passes : {W : Type 0} → (W → Heard → W → Type 0) → Recording W → Heard → Recording W → Type 0
 Passes hears before heard after = hears before.wire heard after.wire × Keeps before heard after
 

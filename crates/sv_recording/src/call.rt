@@ -6,26 +6,27 @@ use sv_server::{Dial, Port, Role};
 /// One call of a wire's method, with its answer.
 #[derive(Drop)]
 pub enum Call {
-    /// Whether a connection of this role was accepted, under this number.
+    /// An accept: whether a connection of this role was accepted, under this number.
     Accept {
         role: Role,
         conn: Option<u8>,
         answer: Answer<()>,
     },
-    /// The bytes that were read from a connection, and how many bytes the read could return at
-    /// most.
+    /// A read: the bytes that were read from a connection, and how many bytes the read could return
+    /// at most.
     Read {
         conn: u8,
         most: usize,
         answer: Answer<Vec<u8>>,
     },
-    /// Whether a connection that isn't read is gone; with `drops` its bytes were discarded.
+    /// A probe: whether the peer of a connection that isn't read is gone. With `drops`, bytes that
+    /// came were discarded.
     Probe {
         conn: u8,
         drops: bool,
         answer: Answer<()>,
     },
-    /// How many of these bytes the wire took for a port.
+    /// A write: how many of these bytes the wire took for a port.
     Write {
         port: Port,
         bytes: Vec<u8>,

@@ -11,7 +11,7 @@ use sv_serve::{Answer, Wire};
 use sv_server::{Dial, Port, Role};
 
 /// A wire that records each call of its methods, in order. If memory for a call is refused, the
-/// recorder isn't whole any more.
+/// recorder isn't whole any more: calls are missing in its record.
 #[derive(Drop)]
 pub struct Recorder<W: Wire + Drop> {
     alloc: Global,
@@ -73,7 +73,7 @@ fn write_call(
 }
 
 impl<W: Wire + Drop> Recorder<W> {
-    /// Makes a recorder over this wire, which has no calls yet.
+    /// Makes a recorder that passes calls to this wire. It has recorded no calls yet.
     pub fn new(alloc: Global, wire: W) -> Recorder<W>
         ensures { result ≡ record { wire = wire; trace = []; is_whole = true } }
     {
@@ -92,7 +92,7 @@ impl<W: Wire + Drop> Recorder<W> {
         &self.wire
     }
 
-    /// The calls that were recorded, the first call first.
+    /// Returns the calls that were recorded, the oldest first.
     pub fn calls(&self) -> &[Call]
         ensures { self.now.trace ≡ reverse (map heard_of result.now) }
     {

@@ -9,10 +9,11 @@ use Rattle.sv_replay.specs.Scenario.{Tells, IsScenario}
 abbrev pub OneLine : Type 0
 OneLine = (line : List ℕ) (a b : Line) → Says line a → Says line b → a ≡ b
 
--- A text can be read in at most one way as entries of a scenario.
+-- A text can be read as at most one list of entries.
 abbrev pub OneScenario : Type 0
 OneScenario = (text : List ℕ) (a b : List Entry) → Tells 0 (parts text) a → Tells 0 (parts text) b → a ≡ b
 
--- The entries of a text are a scenario: the server accepts each of them, and the ticks never fall.
+-- If a text is read as a list of entries, the list is a scenario: the server accepts each entry, and no tick is lower than the tick before
+-- it.
 abbrev pub ToldInOrder : Type 0
 ToldInOrder = (text : List ℕ) (entries : List Entry) → Tells 0 (parts text) entries → IsScenario 0 entries

@@ -1,4 +1,4 @@
--- The meaning of a line of a replay, as a relation to its bytes.
+-- The meaning of a line of a replay, defined as a relation between the line's bytes and the meaning.
 use Rattle.std.specs.Prelude.{◌≡◌, ◌≢◌, ◌⊎◌, ℕ, ◌+◌, ◌-◌, ◌*◌, ◌<◌, ◌≤◌, ℤ, pos, negsuc, Bool, true, false, List, [], ◌∷◌, ◌++◌, length, codes, fold}
 use Rattle.std.specs.List.{AllByRecursion}
 use Rattle.sv_history.specs.declared.event.Role.{Role}
@@ -25,43 +25,43 @@ abbrev pub HasNoLeadingZero : List ℕ → Type 0
 HasNoLeadingZero (digit ∷ other ∷ digits) = digit ≢ 48
 HasNoLeadingZero digits = Unit {0}
 
--- The digits are a number without leading zeros, of at most `most`.
+-- The digits are the number `n` without leading zeros, and `n` is at most `most`.
 abbrev pub IsPlain : ℕ → List ℕ → ℕ → Type 0
 IsPlain most digits n = IsNumber digits n × HasNoLeadingZero digits × (n ≤ most)
 
--- The character is a hexadecimal digit, in either case, of this value.
+-- The character is a hexadecimal digit, in either case, whose value is `n`.
 abbrev pub IsHexDigit : ℕ → ℕ → Type 0
 IsHexDigit digit n = (n < 16) × (((n < 10) × (digit ≡ n + 48)) ⊎ (((10 ≤ n) × (digit ≡ n + 55)) ⊎ ((10 ≤ n) × (digit ≡ n + 87))))
 
--- The characters are two hexadecimal digits, and this byte is their value.
+-- The characters are two hexadecimal digits, and `byte` is their value.
 abbrev pub IsPair : ℕ → ℕ → ℕ → Type 0
 IsPair high low byte = (h l : ℕ) × IsHexDigit high h × IsHexDigit low l × (byte ≡ 16 * h + l)
 
--- The text is these bytes, at least one: two hexadecimal digits for each, with at most one space between bytes.
+-- The text is one or more bytes, each written as two hexadecimal digits, with at most one space between two bytes.
 abbrev pub IsHex : List ℕ → List ℕ → Type 0
 IsHex text [] = ⊥
 IsHex text (byte ∷ []) = (high low : ℕ) × IsPair high low byte × (text ≡ high ∷ low ∷ [])
 IsHex text (byte ∷ other ∷ bytes) = (high low : ℕ) × (rest : List ℕ) × IsPair high low byte × IsHex rest (other ∷ bytes)
     × ((text ≡ high ∷ low ∷ rest) ⊎ (text ≡ high ∷ low ∷ 32 ∷ rest))
 
--- The text is a voltage in microvolts: a minus if it is below zero (zero may have one too), and at most 18 digits, which may begin with
--- zeros.
+-- The text is a voltage in microvolts: 1 to 18 digits, with a minus sign before them if the voltage is below zero. The digits may begin
+-- with zeros, and zero may have a minus sign.
 abbrev pub IsVoltage : List ℕ → ℤ → Type 0
 IsVoltage text (pos n) = (digits : List ℕ) × IsNumber digits n × (length digits ≤ 18) × ((text ≡ digits) ⊎ ((n ≡ 0) × (text ≡ 45 ∷ digits)))
 IsVoltage text (negsuc n) = (digits : List ℕ) × IsNumber digits (n + 1) × (length digits ≤ 18) × (text ≡ 45 ∷ digits)
 
--- the word of a role
+-- the word that a line uses for a role
 abbrev pub role_word : Role → List ℕ
 role_word Core = codes "core"
 role_word Abort = codes "abort"
 role_word Portmap = codes "portmap"
 
--- the word of the result of connecting
+-- the word that a line uses for the result of connecting an interrupt channel
 abbrev pub ok_word : Bool → List ℕ
 ok_word true = codes "ok"
 ok_word false = codes "failed"
 
--- The line means this event; its words are separated by one space.
+-- The line describes this event. Between two words of a line there is one space.
 abbrev pub SaysEvent : List ℕ → PlainEvent → Type 0
 SaysEvent line (Open c role) = (number : List ℕ) × IsPlain 255 number c × (line ≡ codes "open " ++ (number ++ 32 ∷ role_word role))
 SaysEvent line (Bytes c piece) = (number hex : List ℕ) × IsPlain 255 number c × IsHex hex piece
@@ -77,7 +77,7 @@ SaysEvent line (Input channel microvolts) = (number voltage : List ℕ) × IsPla
 SaysEvent line External = line ≡ codes "external"
 SaysEvent line Tick = line ≡ codes "tick"
 
--- The line means this: nothing, one event, or a number of ticks.
+-- The line has this meaning: nothing, one event, or a number of ticks.
 abbrev pub Says : List ℕ → Line → Type 0
 Says line Blank = line ≡ []
 Says line (One event) = SaysEvent line event

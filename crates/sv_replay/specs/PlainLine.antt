@@ -1,10 +1,10 @@
--- What was read from a line, as plain data.
+-- The code's `Line`, as plain data.
 use Rattle.sv_history.specs.Event.{plain}
 use Rattle.sv_replay.specs.Line.{Line as Said, Blank, One, Ticks}
 use Rattle.sv_replay.specs.declared.line.Line.{Line}
 use Rattle.sv_replay.specs.declared.line.Line.TheVariants as lines
 
--- a line of the code, as plain data
+-- the code's `Line`, as plain data
 abbrev pub plain_line : Line → Said
 plain_line lines.Blank = Blank
 plain_line (lines.One event) = One (plain event)

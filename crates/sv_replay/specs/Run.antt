@@ -1,4 +1,4 @@
--- What a run prints of the text that it read, and what it returns.
+-- What a run of a script prints and returns, depending on the text that it read.
 use Rattle.std.specs.Prelude.{◌≡◌, ◌≢◌, ◌⊎◌, ℕ, ◌+◌, ◌<◌, List, [], ◌∷◌, ◌++◌, length, Option, Result, Ok, Err, ⊤}
 use Rattle.std.specs.Io.KnownBytes.{IsAtEnd}
 use Rattle.sv_history.specs.declared.event.Config.{Config}
@@ -9,30 +9,30 @@ use Rattle.sv_replay.specs.declared.fault.RunFault.{RunFault}
 use Rattle.sv_replay.specs.declared.fault.RunFault.TheVariants.{BadLine, Input, Output, Memory}
 use Rattle.sv_replay.specs.Script.{parts, IsScript, IsBad, Prints, Stops}
 
--- the fault of a run whose replay stops with this fault
+-- the fault with which a run stops if the replay of one of its events stops with this fault
 abbrev pub run_fault : ReplayFault → RunFault
 run_fault NoMemory = Memory
 run_fault Write = Output
 
--- the configuration of the replay's server
+-- the configuration of the server to which a run applies its events
 abbrev pub set_up : Config
 set_up = record { core = 4096; abort = 4097; clock = 0 }
 
--- The text is what a new server prints for the events of these lines.
+-- The text is what a replay on a new server prints for the events of these lines.
 abbrev pub Printed : List (List ℕ) → List ℕ → Type 0
 Printed lines text = (events after : List PlainEvent) × IsScript lines events × Prints set_up [] events text after
 
--- The text is what a new server prints for the events of these lines, up to an event at which the replay stopped with this fault.
+-- The text is what a replay on a new server prints for the events of these lines, up to an event at which the replay stops with this fault.
 abbrev pub PrintedUpTo : List (List ℕ) → ReplayFault → List ℕ → Type 0
 PrintedUpTo lines fault text = (events after : List PlainEvent) × IsScript lines events × Stops set_up [] events fault text after
 
--- A line is complete: another part follows it, or the reader is at its end.
+-- A line is complete: either lines follow it, or the reader is at its end.
 abbrev pub IsWhole : List (List ℕ) → Option (List ℕ) → Type 0
 IsWhole behind rest = (behind ≢ []) ⊎ IsAtEnd rest
 
--- What a run prints for the text that it read. Success: the print of all its lines. A bad line: that of the lines before it. The input
--- failed: that of the complete lines. Memory was refused, or the output failed, perhaps after another fault: that of some first lines, of
--- the last of them perhaps only a part.
+-- What a run prints for the text that it read. Success: the output for all lines. A bad line: the output for the lines before it. The
+-- reader failed: the output for all complete lines. Memory was refused, or the writer failed (maybe while the run stopped for another
+-- fault): the output for the first few lines, of which the part for the last line may be incomplete.
 abbrev pub Runs : List ℕ → Option (List ℕ) → Result ⊤ RunFault → List ℕ → Type 0
 Runs read rest (Ok all) text = Printed (parts read) text
 Runs read rest (Err (BadLine n)) text = (lines behind : List (List ℕ)) × (line : List ℕ) × (parts read ≡ lines ++ line ∷ behind)

@@ -1,4 +1,4 @@
--- How far a scenario was read, and what its next line does.
+-- How far the reading of a scenario has come, and which entry the next line adds.
 use Rattle.std.specs.Prelude.{◌≡◌, ◌⊎◌, ℕ, List, [], ◌∷◌, ◌++◌, length, Result, Ok, Err}
 use Rattle.sv_replay.specs.declared.entry.Entry.{Entry}
 use Rattle.sv_replay.specs.declared.scenario.ScenarioFault.{ScenarioFault}
@@ -6,15 +6,15 @@ use Rattle.sv_replay.specs.declared.scenario.ScenarioFault.TheVariants.{BadLine,
 use Rattle.sv_replay.specs.Script.{parts}
 use Rattle.sv_replay.specs.Scenario.{SaysFrom, Tells, last_tick, IsBadFrom}
 
--- What the line with this number does to the entries, if the entry before it is at the tick `least`.
+-- What the line with this number adds to the entries. The last entry before the line is at the tick `least`.
 abbrev pub Adds : ℕ → List ℕ → ℕ → List Entry → List Entry → Result ℕ ScenarioFault → Type 0
 Adds least line number old new (Ok tick) = ((line ≡ []) × (new ≡ old) × (tick ≡ least))
     ⊎ ((entry : Entry) × SaysFrom least line entry × (new ≡ old ++ entry ∷ []) × (tick ≡ entry.tick))
 Adds least line number old new (Err (BadLine n)) = (n ≡ number) × IsBadFrom least line
 Adds least line number old new (Err Memory) = (entry : Entry) × SaysFrom least line entry
 
--- The first `number` lines of the text were read. They are these entries, of which the last is at the tick `least`. `left` is the rest of
--- the text.
+-- The first `number` lines of the text were read, and `left` is the text after them. The lines describe these entries, and `least` is the
+-- tick of the last entry (0 if there is none).
 abbrev pub IsRead : List ℕ → ℕ → List Entry → ℕ → List ℕ → Type 0
 IsRead text number entries least left = (front : List (List ℕ)) × (parts text ≡ front ++ parts left) × (number ≡ length front)
     × Tells 0 front entries × (least ≡ last_tick 0 entries)

@@ -1,4 +1,4 @@
--- The script of a text: the events that its lines mean. And the print of events, one after the other.
+-- The script of a text: the events that its lines describe. Also: what a replay prints for a list of events.
 use Rattle.std.specs.Prelude.{◌≡◌, ◌⊎◌, ℕ, ◌<◌, ◌≤◌, List, [], ◌∷◌, ◌++◌, length, replicate, Result, Ok, Err, ⊤}
 use Rattle.sv_text.specs.Cut.{cut_at}
 use Rattle.sv_history.specs.declared.event.Config.{Config}
@@ -27,7 +27,7 @@ IsScript (line ∷ lines) events = (said : Line) × (others : List PlainEvent) �
 abbrev pub IsBad : List ℕ → Type 0
 IsBad line = (65536 < length line) ⊎ ((said : Line) → Says line said → ⊥)
 
--- After a history these events happen in order, and the text is their print.
+-- These events happen in order after a history, and the replay prints this text for them.
 abbrev pub Prints : Config → List PlainEvent → List PlainEvent → List ℕ → List PlainEvent → Type 0
 Prints config history [] text after = (text ≡ []) × (after ≡ history)
 Prints config history (event ∷ events) text after =
@@ -35,14 +35,15 @@ Prints config history (event ∷ events) text after =
     × Prints config middle events rest after
     × (text ≡ first ++ rest)
 
--- After a history these events happen in order, up to one at which the replay stopped. The text is their print, with what was written of
--- the print of that one.
+-- These events happen in order after a history, up to an event at which the replay stops. The text is the print of the events before that
+-- event, and then the part of that event's print that was written.
 abbrev pub Stops : Config → List PlainEvent → List PlainEvent → ReplayFault → List ℕ → List PlainEvent → Type 0
 Stops config history events fault text after = (done others : List PlainEvent) × (event : PlainEvent) × (events ≡ done ++ event ∷ others)
     × (first last : List ℕ) × (middle : List PlainEvent) × Prints config history done first middle
     × Replays config middle event (Err fault) last after × (text ≡ first ++ last)
 
--- After a history all events happen, or those up to one at which the replay stopped. The text is what was printed of them.
+-- After a history, these events happen: all of them, or those up to an event at which the replay stops. The text is what the replay printed
+-- for them.
 abbrev pub Performs : Config → List PlainEvent → List PlainEvent → Result ⊤ ReplayFault → List ℕ → List PlainEvent → Type 0
 Performs config history events (Ok all) text after = Prints config history events text after
 Performs config history events (Err fault) text after = Stops config history events fault text after

@@ -1,4 +1,4 @@
--- How far a run came, and what its next step does.
+-- How far a run has come, and what its next step does.
 use Rattle.std.specs.Prelude.{◌≡◌, ℕ, ◌+◌, ◌*◌, ◌≤◌, List, [], ◌++◌, length, Bool, true, false, Option, Result, Ok, Err, ⊤}
 use Rattle.std.specs.Io.KnownBytes.{IsAtEnd}
 use Rattle.sv_server.specs.declared.replay.ReplayFault.{ReplayFault}
@@ -12,7 +12,8 @@ use Rattle.sv_replay.specs.Script.{parts, events_of, IsScript, IsBad, Prints, St
 use Rattle.sv_replay.specs.Text.{Held}
 use Rattle.sv_replay.specs.Run.{set_up, Runs}
 
--- The first `number` lines of what was read are done, and their print was written. `left` is the rest of what was read.
+-- The first `number` lines of the text that was read are executed, and all that they print was written. `left` is the text after these
+-- lines.
 abbrev pub IsStage : State → List ℕ → ℕ → List ℕ → List ℕ → Type 0
 IsStage server left number read text = (lines : List (List ℕ)) × (events history : List PlainEvent) × (parts read ≡ lines ++ parts left)
     × (number ≡ length lines) × IsScript lines events
@@ -23,7 +24,7 @@ abbrev pub StopsAt : List ℕ → List PlainEvent → ReplayFault → List ℕ �
 StopsAt line history fault text after = (said : Line) × (length line ≤ 65536) × Says line said
     × Stops set_up history (events_of said) fault text after
 
--- What the line with this number does after a history, and what is printed for it.
+-- What the line with this number does after a history, and what the replay prints for it.
 abbrev pub LineRuns : List ℕ → ℕ → List PlainEvent → Result ⊤ RunFault → List ℕ → List PlainEvent → Type 0
 LineRuns line number history (Ok all) text after =
     (said : Line) × (length line ≤ 65536) × Says line said × Prints set_up history (events_of said) text after
@@ -32,19 +33,20 @@ LineRuns line number history (Err Input) text after = ⊥
 LineRuns line number history (Err Output) text after = StopsAt line history Write text after
 LineRuns line number history (Err Memory) text after = StopsAt line history NoMemory text after
 
--- A run goes on; or is done, because the reader is at its end; or stops with a fault.
+-- A run goes on; or it is done, because the reader is at its end; or it stops with a fault.
 abbrev pub Goes : State → List ℕ → ℕ → Option (List ℕ) → Result Bool RunFault → List ℕ → List ℕ → Type 0
 Goes server left number rest (Ok true) read text = IsStage server left number read text
 Goes server left number rest (Ok false) read text = IsAtEnd rest × Runs read rest (Ok tt) text
 Goes server left number rest (Err fault) read text = Runs read rest (Err fault) text
 
--- `fact` holds if the run goes on.
+-- If the run goes on, `fact` holds.
 abbrev pub WhileGoing : {E : Type 0} → Result Bool E → Type 0 → Type 0
 WhileGoing (Ok true) fact = fact
 WhileGoing answer fact = Unit {0}
 
--- The progress of a step that goes on: one more line is done, or one more read was made. The number of lines done and of bytes stored stays
--- within 131,072 for each read. The reader isn't read more often than allowed.
+-- The progress of a step after which the run goes on. The step executes one line, or makes one read. If the executed lines plus the stored
+-- bytes were at most 131,072 per read before the step, they are so after it. If no more reads than allowed were made before the step, this
+-- is so after it.
 pub record Progress (lines : ℕ) (held : Held) (done : ℕ) (left : Held) : Type 0 where
   pub counted : done + left.reads ≡ lines + held.reads + 1
   pub bounded : lines + length held.text ≤ 131072 * held.reads → done + length left.text ≤ 131072 * left.reads

@@ -1,47 +1,48 @@
--- The text of a replay that was read and not yet used, and how it is stored.
+-- The text of a replay that was read but isn't used yet, and how the text is stored.
 use Rattle.std.specs.Prelude.{◌≡◌, ℕ, ◌+◌, ◌==◌, ◌≤◌, Bool, true, false, List, [], ◌++◌, length, take, Option, Some, None, Result, Ok, Err, slice_range}
 use Rattle.std.specs.List.{position, position_or_len}
 use Rattle.std.specs.Io.KnownBytes.{Consumes, IsAtEnd}
 use Rattle.sv_replay.specs.declared.input.InputFault.{InputFault}
 
--- the text, and how many times a reader was read for it
+-- the text that is stored, and how many times the reader was read so far
 pub record Held : Type 0 where
   pub text : List ℕ
   pub reads : ℕ
 
--- no text, and no read
+-- nothing stored, and no read made
 abbrev pub nothing_held : Held
 nothing_held = record { text = []; reads = 0 }
 
--- the position of the first new line; `None` if there is none
+-- the position of the first new line in a text; `None` if the text has no new line
 abbrev pub first_end : List ℕ → Option ℕ
 first_end text = position (λ b. b == 10) text
 
--- At the reader's end, and after a fault, a read gave nothing; at its end the reader has nothing left.
+-- If the read found the reader's end or failed, it gave no bytes. At the reader's end no bytes remain.
 abbrev pub IsGiven : List ℕ → Option (List ℕ) → Result Bool InputFault → Type 0
 IsGiven more rest (Ok true) = Unit {0}
 IsGiven more rest (Ok false) = (more ≡ []) × IsAtEnd rest
 IsGiven more rest (Err fault) = more ≡ []
 
--- The new text is the old one, followed by what the reader gave.
+-- The new text is the old text, followed by the bytes that the reader gave.
 abbrev pub Filled : Option (List ℕ) → Option (List ℕ) → List ℕ → List ℕ → Result Bool InputFault → Type 0
 Filled before rest old new result = (more : List ℕ) × Consumes before rest more × (new ≡ old ++ more) × IsGiven more rest result
 
--- What one read put at the front of a buffer's free part: `count` bytes; or none, at the reader's end or after a fault.
+-- What one read put at the front of a buffer's free part: `count` bytes; or no bytes, at the reader's end or if the read failed.
 abbrev pub IsBehind : Option (List ℕ) → Option (List ℕ) → List ℕ → Result (Option ℕ) InputFault → Type 0
 IsBehind before rest free (Ok (Some count)) = (count ≤ length free) × Consumes before rest (take count free)
 IsBehind before rest free (Ok None) = Consumes before rest [] × IsAtEnd rest
 IsBehind before rest free (Err fault) = Consumes before rest []
 
--- the text, and the number of reads, that the fields of the buffer represent
+-- the stored text and the number of reads, computed from the fields of the buffer
 abbrev pub held_of : List ℕ → ℕ → ℕ → ℕ → Held
 held_of buffer start end reads = record { text = slice_range buffer start end; reads = reads }
 
--- how many bytes come before the first new line; all if there is none
+-- how many bytes come before the first new line; the length of the text if it has no new line
 abbrev pub line_size : List ℕ → ℕ
 line_size text = position_or_len (λ b. b == 10) text
 
--- The fields are in order, the buffer has its size, and there is no new line before `clean`.
+-- The fields of the buffer fit together: the positions are in order, the buffer has its full size, and the text has no new line before
+-- `clean`.
 pub record IsKept (buffer : List ℕ) (start clean end reads : ℕ) : Type 0 where
   pub order : (start ≤ clean) × (clean ≤ end) × (end ≤ 131072)
   pub size : length buffer ≡ 131072

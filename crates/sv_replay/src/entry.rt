@@ -1,4 +1,4 @@
-//! The entries of a scenario: what happens and when.
+//! The entries of a scenario: what happens to a server, and when.
 
 ghost use Rattle.std.specs.Prelude.{◌≡◌};
 ghost use Rattle.sv_history.specs.Event.{plain};
@@ -20,7 +20,7 @@ pub enum Stimulus {
         /// The voltage in microvolts, within plus or minus 1,000,000,000.
         microvolts: i64,
     },
-    /// The external trigger comes.
+    /// A trigger comes at the trigger input.
     External,
 }
 
@@ -51,7 +51,8 @@ impl Stimulus {
     }
 }
 
-/// Reads a line of at most 65,536 bytes: an entry whose tick is `least` or later.
+/// Reads a line as an entry. `None` if the line has more than 65,536 bytes, isn't an entry, or has
+/// a tick below `least`.
 #[tactic(auto, unfolding(crate::specs::EntryReading::entry_from))]
 pub(crate) fn timely(line: &[u8], least: u64) -> Option<Entry>
     ensures { result ≡ entry_from least line.now }
@@ -77,7 +78,7 @@ fn entry_of(line: &[u8]) -> Option<Entry>
     Some(Entry { tick, stimulus })
 }
 
-/// Reads a stimulus. It is cut at its first space into a word and a text.
+/// Reads a stimulus. The text is cut at its first space, into a word and the text after it.
 #[tactic(auto, unfolding(crate::specs::EntryReading::stimulus_at))]
 fn stimulus_of(text: &[u8]) -> Option<Stimulus>
     ensures { result ≡ stimulus_at text.now }
@@ -99,7 +100,7 @@ fn lone(word: &[u8]) -> Option<Stimulus>
     }
 }
 
-/// Reads a stimulus of several words, the first of which is `word`.
+/// Reads a stimulus of several words. `word` is the first word, and `text` is the text after it.
 #[tactic(auto, unfolding(crate::specs::EntryReading::worded_stimulus_at))]
 fn worded(word: &[u8], text: &[u8]) -> Option<Stimulus>
     ensures { result ≡ worded_stimulus_at word.now text.now }
@@ -110,7 +111,7 @@ fn worded(word: &[u8], text: &[u8]) -> Option<Stimulus>
     }
 }
 
-/// Reads the channel and the voltage of an `input`, if the server accepts them.
+/// Reads the channel and the voltage of an `input`; `None` if the server doesn't accept them.
 #[tactic(auto, unfolding(crate::specs::EntryReading::accepted_at))]
 fn accepted(text: &[u8]) -> Option<Stimulus>
     ensures { result ≡ accepted_at text.now }

@@ -10,10 +10,11 @@ use thiserror::Error;
 /// Why a replay stopped. What was printed before the fault stays printed.
 #[derive(Clone, Copy, Debug, PartialEq, Eq, Error)]
 pub enum RunFault {
-    /// The line of this number, from 1, is above 65,536 bytes, or isn't one that a replay knows.
+    /// The line with this number, counted from 1, has more than 65,536 bytes, or isn't a line of a
+    /// replay.
     #[error("bad line {0}")]
     BadLine(u64),
-    /// The input failed, or was read 4,294,967,294 times.
+    /// The input failed, or had been read 4,294,967,294 times, which is as often as allowed.
     #[error("input")]
     Input,
     /// The output failed.

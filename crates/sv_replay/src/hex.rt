@@ -17,7 +17,7 @@ fn hex_digit(digit: u8) -> Option<u8>
     }
 }
 
-/// The byte with these two hexadecimal digits.
+/// The byte that these two hexadecimal digits stand for.
 #[tactic(auto, unfolding(crate::specs::Reading::pair_at))]
 fn pair(high: u8, low: u8) -> Option<u8>
     ensures { result ≡ pair_at high low }
@@ -27,7 +27,7 @@ fn pair(high: u8, low: u8) -> Option<u8>
     Some(16 * high + low)
 }
 
-/// The text without the space before it, if there is one.
+/// The text without its first character if this is a space.
 fn skip_space(text: &[u8]) -> &[u8]
     ensures value { result.now ≡ after_space text.now }
     ensures no_longer { length result.now ≤ length text.now }
@@ -38,8 +38,8 @@ fn skip_space(text: &[u8]) -> &[u8]
     }
 }
 
-/// Reads bytes of two hexadecimal digits each, with at most one space between two bytes. Puts them
-/// at the front of `buffer`, and returns how many they are; `None` for other text.
+/// Reads bytes, written as two hexadecimal digits each, with at most one space between two bytes.
+/// Stores the bytes at the front of `buffer`, and returns their number; `None` for any other text.
 pub(crate) fn decode(text: &[u8], buffer: &mut [u8]) -> Option<usize>
     requires { length text.now ≤ length buffer.old }
     ensures exact { option_map (λ len. take len buffer.new) result ≡ hex_at text.now }

@@ -1,26 +1,26 @@
-//! The reader of a replay, and what each read gives.
+//! The reader of a replay, and what each read returns.
 
 ghost use Rattle.std.specs.Prelude.{◌<◌, length};
 ghost use Rattle.sv_replay.specs.Text.{IsBehind};
 
 use std::io::{ErrorKind, Read};
 
-/// The reader failed, or was read too many times.
+/// The reader failed, or was read as many times as allowed.
 #[derive(Clone, Copy, Debug, PartialEq, Eq)]
 pub struct InputFault;
 
-/// A reader whose reads contracts can speak of. Every reader is one; nothing is known of what the
-/// system's readers give.
+/// A reader whose reads can be named in contracts. Every reader is a `Source`. A reader of the
+/// system promises nothing about what its reads return.
 pub trait Source: Read {
     ghost use Rattle.std.specs.Prelude.{⊤};
     ghost use Rattle.sv_replay.specs.Reads.{Gave};
 
-    /// How a read changes the reader, by what it gave: a number of bytes; none, at the reader's
-    /// end; or a fault.
+    /// How a read changes the reader. The change may depend on what the read returned: a number of
+    /// bytes; `None` at the reader's end; or a fault.
     ghost gives: { Self → Gave → Self → Type 0 } = { λ before gave after. ⊤ };
 
-    /// Reads once, into a buffer with room. Returns the number of bytes; `None` at the reader's
-    /// end. An interrupted read gives no bytes, but the next read may.
+    /// Makes one read, into a buffer with room. Returns the number of bytes that came; `None` at
+    /// the reader's end. A read that a signal interrupts gives no bytes, but a later read may.
     ///
     /// # Errors
     /// If the reader fails.

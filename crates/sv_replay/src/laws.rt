@@ -12,7 +12,8 @@ pub fn one_scenario()
     ensures { OneScenario }
 {}
 
-/// What is read from a text is a scenario: the server accepts each entry, and the ticks never fall.
+/// If a text is read as a list of entries, the list is a scenario: the server accepts each entry,
+/// and no tick is lower than the tick before it.
 pub fn told_in_order()
     ensures { ToldInOrder }
 {}

@@ -1,6 +1,6 @@
-//! Scripts and scenarios. A script is replayed: its lines are read, the events that they describe
-//! are applied to a server, and the replies are printed. A scenario is read: it lists what happens
-//! to a server, and when.
+//! Scripts and scenarios. A script is replayed: its lines are read, the events that the lines
+//! describe are applied to a server, and the replies are printed. A scenario is only read: it is a
+//! list of what happens to a server, and when.
 #![tactic(auto)]
 
 mod entry;

@@ -21,19 +21,19 @@ pub enum Line<'a> {
     Ticks(u32),
 }
 
-/// Reads a line, without its new line; `None` if it isn't one that a replay knows. The bytes of a
-/// `bytes` line are put into `buffer`, which must be at least as long as the line.
+/// Reads a line without its new line; `None` if it isn't a line of a replay. The bytes of a `bytes`
+/// line are stored in `buffer`, which must be at least as long as the line.
 pub fn read_line<'a>(line: &[u8], buffer: &'a mut [u8]) -> Option<Line<'a>>
     requires { length line.now ≤ length buffer.old }
-    // The result is a meaning of the line.
+    // If there is a result, it is a meaning of the line.
     ensures found { IfSome result (λ l. Says line.now (plain_line l)) }
-    // A meaning of the line is the result.
+    // If the line has a meaning, the result is that meaning.
     ensures only { (l : Said) → Says line.now l → IsSomeAnd result (λ f. plain_line f ≡ l) }
 {
     line_of(line, buffer)
 }
 
-/// Reads a line. It is cut at its first space into a word and a text.
+/// Reads a line. The line is cut at its first space, into a word and the text after it.
 #[tactic(auto, unfolding(crate::specs::Reading::line_at))]
 fn line_of<'a>(line: &[u8], buffer: &'a mut [u8]) -> Option<Line<'a>>
     requires { length line.now ≤ length buffer.old }
@@ -45,7 +45,7 @@ fn line_of<'a>(line: &[u8], buffer: &'a mut [u8]) -> Option<Line<'a>>
     }
 }
 
-/// The text before the first space, and the text after it.
+/// The text before the first space, and the text after it; `None` if there is no space.
 pub(crate) fn cut(text: &[u8]) -> Option<(&[u8], &[u8])>
     ensures exact { option_map (λ cut. (cut.0.now, cut.1.now)) result ≡ cut_at text.now }
     ensures shorter { IfSome result (λ cut. length cut.1.now < length text.now) }
@@ -80,7 +80,8 @@ fn words<'a>(word: &[u8], text: &[u8], buffer: &'a mut [u8]) -> Option<Line<'a>>
     }
 }
 
-/// Reads an event of a connection. `word` is the first word of its line.
+/// Reads an event of a connection. `word` is the first word of the line, and `text` is the text
+/// after that word.
 #[tactic(auto, unfolding(crate::specs::Reading::event_at))]
 fn event<'a>(word: &[u8], text: &[u8], buffer: &'a mut [u8]) -> Option<Event<'a>>
     requires { length text.now ≤ length buffer.old }
@@ -94,7 +95,8 @@ fn event<'a>(word: &[u8], text: &[u8], buffer: &'a mut [u8]) -> Option<Event<'a>
     }
 }
 
-/// Reads a `bytes`, a `turn` or a `refuse`.
+/// Reads a `bytes`, a `turn` or a `refuse`. `word` is the first word of the line, and `text` is the
+/// text after that word.
 #[tactic(auto, unfolding(crate::specs::Reading::traffic_at))]
 fn traffic<'a>(word: &[u8], text: &[u8], buffer: &'a mut [u8]) -> Option<Event<'a>>
     requires { length text.now ≤ length buffer.old }
@@ -152,7 +154,7 @@ fn role(word: &[u8]) -> Option<Role>
     }
 }
 
-/// Reads a `bytes`: the connection, and the bytes, which are put into `buffer`.
+/// Reads a `bytes`: the connection and the bytes. Stores the bytes in `buffer`.
 #[tactic(auto, unfolding(crate::specs::Reading::bytes_at))]
 fn bytes<'a>(text: &[u8], buffer: &'a mut [u8]) -> Option<Event<'a>>
     requires { length text.now ≤ length buffer.old }
@@ -166,7 +168,7 @@ fn bytes<'a>(text: &[u8], buffer: &'a mut [u8]) -> Option<Event<'a>>
     })
 }
 
-/// Reads the port that closes: a connection, or its interrupt channel.
+/// Reads the port that a `close` names: a connection, or an interrupt channel.
 #[tactic(auto, unfolding(crate::specs::Reading::port_at))]
 fn port(text: &[u8]) -> Option<Port>
     ensures { result ≡ port_at text.now }

@@ -28,7 +28,7 @@ fn number(digits: &[u8], most: u64) -> Option<u64>
     Some(value)
 }
 
-/// The value of these digits, without leading zeros, if it is at most `most`.
+/// The value of these digits, if it is at most `most` and they have no leading zero.
 #[tactic(auto, unfolding(crate::specs::Reading::plain_at))]
 pub(crate) fn plain(digits: &[u8], most: u64) -> Option<u64>
     requires { most < 10 ^ 18 }
@@ -68,7 +68,7 @@ fn unsigned(digits: &[u8]) -> Option<i64>
     Some(short(digits)? as i64)
 }
 
-/// Reads a voltage of at most 18 digits, with a minus before them if it is below zero.
+/// Reads a voltage of at most 18 digits, which may have a minus sign before them.
 #[tactic(auto, unfolding(crate::specs::Reading::voltage_at))]
 pub(crate) fn voltage(text: &[u8]) -> Option<i64>
     ensures { result ≡ voltage_at text.now }

@@ -1,4 +1,4 @@
-//! Performing a line.
+//! Performs a line of a replay.
 
 ghost use Rattle.std.specs.Prelude.{◌≡◌, ℕ, List, replicate};
 ghost use Rattle.std.specs.Io.KnownBytes.{Appends};
@@ -13,7 +13,7 @@ use std::alloc::Allocator;
 use std::io::Write;
 use sv_server::{Event, ReplayFault, Server};
 
-/// Applies the events that a line describes, and writes the refusals and replies that follow.
+/// Applies the events that a line describes, and writes what the replay prints for each.
 pub fn perform<A: Allocator, W: Write>(
     server: &mut Server<A>,
     line: Line<'_>,
@@ -32,7 +32,7 @@ pub fn perform<A: Allocator, W: Write>(
     }
 }
 
-/// Applies this number of ticks, one after the other.
+/// Applies this number of ticks, each as an event of its own.
 fn pass<A: Allocator, W: Write>(
     server: &mut Server<A>,
     count: u32,

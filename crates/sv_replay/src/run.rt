@@ -19,7 +19,7 @@ use std::alloc::{AllocError, Allocator};
 use std::io::{BufWriter, Write};
 use sv_server::{Config, Server};
 
-/// The configuration of the server.
+/// The configuration of the server to which a run applies its events.
 const SET_UP: Config = Config {
     core: 4096,
     abort: 4097,
@@ -31,22 +31,22 @@ const SET_UP: Config = Config {
 struct Run<A: Allocator> {
     server: Server<A>,
     text: Text<A>,
-    /// The buffer for the bytes of a line.
+    /// The buffer in which the bytes of a `bytes` line are stored.
     bytes: Vec<u8, A>,
     /// How many lines were executed.
     lines: u64,
     ghost room: { length bytes.items ≡ 65536 },
 }
 
-/// Replays a script, which is read line by line, and prints to the writer. The writer is flushed
-/// before each read, so that a peer that waits for an answer before it sends more gets the answer;
-/// and at the end, whatever stopped the run.
+/// Replays a script: reads it line by line, and prints to the writer. The writer is flushed before
+/// each read. So a peer that waits for an answer before it sends more gets the answer. The writer
+/// is also flushed at the end, whatever stopped the run.
 ///
 /// # Errors
-/// The first of these that happens. `Memory`: memory was refused at the start or to an event.
-/// `Input`: the reader failed, or was read 4,294,967,294 times. `BadLine`: a line isn't one that a
-/// replay knows. `Output`: the writer failed; this also replaces another fault if the text printed
-/// before that fault can't be flushed.
+/// The first fault that happens is returned. `Memory`: memory was refused at the start or for an
+/// event. `Input`: the reader failed, or was read 4,294,967,294 times. `BadLine`: a line isn't a
+/// line of a replay, or has more than 65,536 bytes. `Output`: the writer failed. But if the final
+/// flush fails, `Output` is returned in place of an earlier fault.
 pub fn run_replay<A: Allocator + Copy, R: Source, W: Write + Drop, B: Allocator>(
     alloc: A,
     reader: &mut R,
@@ -58,17 +58,17 @@ pub fn run_replay<A: Allocator + Copy, R: Source, W: Write + Drop, B: Allocator>
         (writer_contents W.contents writer.new) text
         × Runs read (R.remaining reader.new) result text }
     ensures end { OnOk result (IsAtEnd (R.remaining reader.new)) }
-    // The reader is read 4,294,967,294 times at most. An input fault means that the last read
-    // failed, or that there were as many reads.
+    // The reader is read at most 4,294,967,294 times. The fault `Input` means that the last read
+    // failed, or that the reader was read that many times.
     ensures reads { IsReadOut R.gives reader.old reader.new result }
-    // Unless the output failed, nothing that was printed is left in the buffer.
+    // Unless the output failed, no printed byte remains in the writer's buffer.
     ensures flushed { result ≢ Err RunFault.Output → writer_buffer writer.new ≡ [] }
 {
     let answer = run_lines(alloc, reader, writer);
     pass_on(writer, answer)
 }
 
-/// Flushes the writer, and returns `answer`; if flushing fails, the output's fault instead.
+/// Flushes the writer. Returns `answer`, or `Output` if the flush fails.
 fn pass_on<W: Write + Drop, B: Allocator>(
     writer: &mut BufWriter<W, B>,
     answer: Result<(), RunFault>,
@@ -84,7 +84,7 @@ fn pass_on<W: Write + Drop, B: Allocator>(
     }
 }
 
-/// Runs the replay, without flushing what it printed last.
+/// Runs the replay, but doesn't flush the writer after the last lines.
 fn run_lines<A: Allocator + Copy, R: Source, W: Write>(
     alloc: A,
     reader: &mut R,
@@ -106,7 +106,7 @@ fn run_lines<A: Allocator + Copy, R: Source, W: Write>(
     Err(RunFault::Input)
 }
 
-/// A replay before its first line.
+/// A replay that has read no line yet.
 fn start<A: Allocator + Copy>(alloc: A) -> Result<Run<A>, AllocError>
     ensures { IfOk result (λ run. StandsFor run.server set_up [] × (run.text ≡ nothing_held)
         × (run.lines ≡ 0)) }
@@ -130,7 +130,7 @@ fn flush<W: Write>(writer: &mut W) -> Result<(), RunFault>
     }
 }
 
-/// Executes a line. The bytes of a `bytes` line are put into `bytes`.
+/// Executes a line. The bytes of a `bytes` line are stored in `bytes`.
 fn do_line<A: Allocator, W: Write>(
     server: &mut Server<A>,
     line: &[u8],
@@ -159,7 +159,8 @@ fn do_line<A: Allocator, W: Write>(
 }
 
 impl<A: Allocator> Run<A> {
-    /// Executes the next line, or reads on if no line is complete. Returns false at the end.
+    /// Executes the next line, or reads more if no line is complete. Returns false at the end of
+    /// the script, else true.
     fn turn<R: Source, W: Write>(
         &mut self,
         reader: &mut R,
@@ -197,7 +198,7 @@ impl<A: Allocator> Run<A> {
         }
     }
 
-    /// Reads on; at the reader's end, executes the last line. Returns false at the end.
+    /// Reads more, and returns true. At the reader's end, executes the last line and returns false.
     fn read_on<R: Source, W: Write>(
         &mut self,
         reader: &mut R,

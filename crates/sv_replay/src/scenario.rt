@@ -1,4 +1,4 @@
-//! Reading a scenario: each line of a text is empty or an entry.
+//! Reads a scenario. Each line of a scenario is an entry or empty.
 
 ghost use Rattle.std.specs.Prelude.{◌≡◌, List, [], ◌++◌, ◌∷◌, MatchResult, Ok, Err};
 ghost use Rattle.sv_replay.specs.Scenario.{Reads};
@@ -12,8 +12,8 @@ use thiserror::Error;
 /// Why a scenario can't be read.
 #[derive(Clone, Copy, Debug, PartialEq, Eq, Error)]
 pub enum ScenarioFault {
-    /// The line of this number, from 1, is above 65,536 bytes, isn't an entry, or has an earlier
-    /// tick than the line before it.
+    /// The line with this number, counted from 1, has more than 65,536 bytes, or isn't an entry, or
+    /// its entry is earlier than the entry before it.
     #[error("bad line {0}")]
     BadLine(u64),
     /// Memory was refused.
@@ -21,12 +21,12 @@ pub enum ScenarioFault {
     Memory,
 }
 
-/// Reads a scenario: each line is empty or an entry, and no entry is earlier than the one before
+/// Reads a scenario. Each line is an entry or empty, and no entry is earlier than the entry before
 /// it.
 ///
 /// # Errors
-/// The first line that fails decides: `BadLine` if it breaks this rule, `Memory` if there is no
-/// memory for its entry.
+/// The first line with a fault decides. `BadLine`: the line has more than 65,536 bytes, isn't an
+/// entry, or is too early. `Memory`: there was no memory for the entry of the line.
 pub fn read_scenario<A: Allocator + Copy>(
     alloc: A,
     text: &[u8],
@@ -47,8 +47,8 @@ pub fn read_scenario<A: Allocator + Copy>(
     Ok(entries)
 }
 
-/// Appends the entry of a line, unless the line is empty. Returns the tick of the newest entry;
-/// before this line it was `least`.
+/// Appends the entry of a line, unless the line is empty. Returns the tick of the last entry, which
+/// was `least` before this line.
 fn add<A: Allocator>(
     entries: &mut Vec<Entry, A>,
     line: &[u8],

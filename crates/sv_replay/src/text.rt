@@ -11,19 +11,20 @@ use std::marker::Model;
 
 /// How many bytes a line may have, without its new line.
 pub const LONGEST_LINE: usize = 65_536;
-/// How many bytes of text are stored: a line with its new line, and the text read after it.
+/// The size of the buffer in bytes: room for a line with its new line, and for the text that is
+/// read after it.
 const SIZE: usize = 131_072;
-/// How many times a reader may be read; a further read is an input fault.
+/// How many times a reader may be read. After that, a request for more is an input fault.
 const MOST_READS: u32 = 4_294_967_294;
 
-/// Text that was read and not yet used.
+/// Text that was read and isn't used yet.
 #[derive(Drop)]
 pub struct Text<A: Allocator = Global> {
     /// The buffer, at its full length.
     buffer: Vec<u8, A>,
     /// Where the text begins.
     start: usize,
-    /// Up to here the text is known to have no new line.
+    /// The text has no new line before this position.
     clean: usize,
     /// Where the text ends.
     end: usize,
@@ -44,14 +45,14 @@ impl<A: Allocator> Model for Text<A> {
 }
 
 impl<A: Allocator> Text<A> {
-    /// A buffer without text. It allocates all the memory that it ever uses.
+    /// Makes a buffer without text. Allocates all the memory that the buffer ever uses.
     pub fn new(alloc: A) -> Result<Text<A>, AllocError>
         ensures { IfOk result (λ text. text ≡ nothing_held) }
     {
         Ok(Text::over(vec![in alloc; 0; SIZE]?))
     }
 
-    /// A buffer without text, from memory of its full length.
+    /// Makes an empty text over a buffer, which already has its full length.
     fn over(buffer: Vec<u8, A>) -> Text<A>
         requires { length buffer.items ≡ 131072 }
         ensures { result ≡ nothing_held }
@@ -72,7 +73,8 @@ impl<A: Allocator> Text<A> {
         self.end - self.start
     }
 
-    /// The length of the first line, without its new line; `None` if its new line wasn't read yet.
+    /// The length of the first line, without its new line; `None` if that new line hasn't been read
+    /// yet.
     pub fn whole_line(&mut self) -> Option<usize>
         ensures same { self.new ≡ self.old }
         ensures value { result ≡ first_end self.old.text }
@@ -106,9 +108,9 @@ impl<A: Allocator> Text<A> {
         self.clean = self.clean.max(self.start);
     }
 
-    /// Reads once, and appends to the text. Returns whether more may come: false at the reader's
-    /// end; true also after an interrupted read, which gives no bytes. If too little of the buffer
-    /// is free after the text, the text is first moved to the front.
+    /// Makes one read, and appends its bytes to the text. Returns false at the reader's end, else
+    /// true. A read that a signal interrupts gives no bytes, and the result is true. If too little
+    /// of the buffer is free after the text, the text is first moved to the front.
     pub fn fill<R: Source>(&mut self, reader: &mut R) -> Result<bool, InputFault>
         requires { length self.old.text ≤ 65536 }
         ensures took { Filled (R.remaining reader.old)
@@ -139,8 +141,8 @@ impl<A: Allocator> Text<A> {
     }
 }
 
-/// Moves a part of a buffer to the buffer's front, if too little is free after it. Returns by how
-/// many bytes it was moved.
+/// Moves the used part of a buffer to the front, if too little is free after that part. Returns by
+/// how many bytes the part was moved.
 fn make_room(buffer: &mut [u8], start: usize, end: usize) -> usize
     requires order { (start ≤ end) × (end ≤ 131072) }
     requires size { length buffer.old ≡ 131072 }
@@ -156,8 +158,8 @@ fn make_room(buffer: &mut [u8], start: usize, end: usize) -> usize
     start
 }
 
-/// Reads once, into a buffer from place `at` on. Returns how many bytes came; `None` at the
-/// reader's end.
+/// Makes one read, into the part of a buffer that begins at `at`. Returns how many bytes came;
+/// `None` at the reader's end.
 fn read_behind<R: Source>(
     reader: &mut R,
     buffer: &mut [u8],

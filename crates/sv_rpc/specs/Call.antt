@@ -41,7 +41,7 @@ abbrev pub IsOtherVersion : List ℕ → ℕ → Type 0
 IsOtherVersion bytes xid = (version : ℕ) × (after : List ℕ) × (version ≢ 2)
     × BeginsAll bytes (Unsigned xid ∷ Unsigned 0 ∷ Unsigned version ∷ []) after
 
--- What these bytes are: this call; a call under an RPC version other than 2; or neither.
+-- What these bytes are. `Ok`: the given call. `Version`: a call under an RPC version other than 2. `BadHeader`: neither of these.
 abbrev pub CallIs : List ℕ → Result PlainCall CallFault → Type 0
 CallIs bytes (Ok call) = IsCall bytes call
 CallIs bytes (Err (Version xid)) = IsOtherVersion bytes xid
@@ -65,7 +65,7 @@ body_at xid bytes = do
   verifier ← opaque_at max_auth kind.1
   Ok (record { xid = xid; prog = prog.0; vers = vers.0; proc = proc.0; args = verifier.1 })
 
--- these bytes as a call, read from left to right
+-- the call that these bytes encode, or why they encode none; the fields are read from left to right
 unfoldable pub call_at : List ℕ → Result PlainCall CallFault
 call_at bytes = do
   xid ← unsigned_at bytes

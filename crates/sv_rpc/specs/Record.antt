@@ -4,7 +4,8 @@ use Rattle.std.specs.List.{concat, flat_map, AllByRecursion}
 use Rattle.sv_xdr.specs.Spelling.{Unsigned, spelling}
 use Rattle.sv_rpc.specs.Limits.{max_record}
 
--- the header of a fragment, a word: its top bit marks the last fragment of a record, its low 31 bits are the length of the fragment's data
+-- the header of a fragment, an encoded 32-bit number: the top bit marks the last fragment of a record, and the low 31 bits are the length
+-- of the fragment's data
 abbrev pub header_of : Bool → ℕ → List ℕ
 header_of last size = spelling (Unsigned (if last then size + 2 ^ 31 else size))
 
@@ -25,7 +26,7 @@ bytes_of sent = flat_map (fragment false) sent.front ++ fragment true sent.final
 abbrev pub record_of : Sent → List ℕ
 record_of sent = concat sent.front ++ sent.final
 
--- The record isn't too long.
+-- The record isn't longer than a record may be.
 abbrev pub IsTaken : Sent → Type 0
 IsTaken sent = length (record_of sent) ≤ max_record
 

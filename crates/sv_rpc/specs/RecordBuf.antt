@@ -6,7 +6,7 @@ use Rattle.sv_rpc.specs.declared.record_buf.RpcFault.TheVariants.{RecordTooLong}
 use Rattle.sv_rpc.specs.Limits.{capacity}
 use Rattle.sv_rpc.specs.Record.{Tail, Header, Data, TooLong, Splits}
 
--- what a buffer holds: the complete records that weren't dropped, and the tail that follows them
+-- what a buffer holds: the complete records that weren't dropped, and the tail of the stream, which is what follows its complete records
 pub record Records : Type 0 where
   pub records : List (List ℕ)
   pub tail : Tail
@@ -40,13 +40,13 @@ at_end (Header payload header) = Ok None
 at_end (Data payload missing last) = Ok None
 at_end TooLong = Err RecordTooLong
 
--- what `next` returns: the first of these records; if there is none, what `at_end` says of the tail
+-- what `next` returns for a buffer with these records and this tail: the first record; if there is none, what `at_end` returns for the tail
 abbrev pub next_among : List (List ℕ) → Tail → Result (Option (List ℕ)) RpcFault
 next_among [] tail = at_end tail
 next_among (r ∷ rs) tail = Ok (Some r)
 
--- The answer is the record that follows the first `dropped` records of the stream. If this record isn't complete, the answer is `None`; if
--- it is too long, the answer is the fault that says so.
+-- The answer is the record that follows the first `dropped` records of the stream. If this record isn't complete, the answer is `None`. If
+-- this record is too long, the answer is the fault `RecordTooLong`.
 abbrev pub IsNext : List ℕ → ℕ → Result (Option (List ℕ)) RpcFault → Type 0
 IsNext stream dropped answer = (all : List (List ℕ)) × (tail : Tail) × Splits stream all tail × (dropped ≤ length all)
     × (answer ≡ next_among (drop dropped all) tail)

@@ -22,8 +22,8 @@ tail_of place.TooLong payload header = TooLong
 abbrev pub held_of : List ℕ → List ℕ → List ℕ → Place → Records
 held_of bytes lengths header place = record { records = cut lengths bytes; tail = tail_of place (drop (sum lengths) bytes) header }
 
--- how many bytes fit beyond the counted room: 4 while the unfinished record has no data, because `used_by` counts 4 bytes for it that
--- aren't used yet
+-- how many bytes fit in addition to the room that is counted: 4 as long as the unfinished record has no data, because the 4 bytes that
+-- `used_by` counts for this record aren't used yet
 abbrev pub spare_of : List ℕ → ℕ
 spare_of [] = 4
 spare_of (b ∷ payload) = 0
@@ -44,7 +44,8 @@ begun_of place.Header header_len = header_len
 begun_of (place.Data missing last) header_len = 0
 begun_of place.TooLong header_len = capacity
 
--- The place is possible after `payload` bytes of the unfinished record's data and `header_len` bytes of an unfinished header.
+-- The `Place`, which says what the next byte belongs to, is possible if `payload` bytes of the unfinished record's data have come, and
+-- `header_len` bytes of an unfinished header.
 abbrev pub IsPlace : Place → ℕ → ℕ → Type 0
 IsPlace place.Header payload header_len = (payload ≤ max_record) × (header_len < 4)
 IsPlace (place.Data missing last) payload header_len = (0 < missing) × (payload + missing ≤ max_record) × (header_len ≡ 0)
@@ -87,8 +88,8 @@ payload_of TooLong = []
 abbrev pub finish_record : List (List ℕ) → Tail → Records
 finish_record records tail = record { records = records ++ payload_of tail ∷ []; tail = Header [] [] }
 
--- what the buffer holds after a header was completed, which says that the fragment has `size` bytes and whether it is the last of its
--- record
+-- what the buffer holds after a header was completed. The header says that its fragment has `size` bytes of data, and whether the fragment
+-- is the last of its record.
 abbrev pub after_header : List (List ℕ) → Tail → ℕ → Bool → Records
 after_header records tail size last =
     let payload = payload_of tail in

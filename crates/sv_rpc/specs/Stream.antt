@@ -9,19 +9,21 @@ use Rattle.sv_rpc.specs.Record.{Tail, Header, Data, TooLong}
 abbrev pub Reading : Type 0
 Reading = List (List ℕ) × Tail
 
--- the reading that goes on after the data of a fragment; the flag says whether this fragment was the last of its record
+-- what is read from the end of a fragment on: `payload` is the data of its record so far, the flag says whether the fragment was the last
+-- of the record, and `next` reads the bytes after the fragment
 abbrev pub read_on : (List ℕ → List ℕ → Reading) → List ℕ → Bool → List ℕ → Reading
 read_on next payload true rest = (payload ∷ (next [] rest).0, (next [] rest).1)
 read_on next payload false rest = next payload rest
 
--- the reading that goes on after a header: the record is too long; data of the fragment are missing; or the fragment is complete
+-- what is read from `rest`, the bytes after a fragment's header: the record is too long; or `rest` lacks data of the fragment; or the
+-- fragment is complete, and `next` reads the bytes after it
 abbrev pub read_data : (List ℕ → List ℕ → Reading) → List ℕ → Bool → ℕ → List ℕ → Reading
 read_data next payload last size rest =
     if nat_lt max_record (length payload + size) then ([], TooLong)
     else (if nat_lt (length rest) size then ([], Data (payload ++ rest) (size - length rest) last)
     else read_on next (payload ++ take size rest) last (drop size rest))
 
--- the reading of `bytes`, at most `n` fragments; `payload` is the data of the unfinished record before them
+-- what is read from `bytes`, at most `n` fragments; `payload` is the data of the unfinished record that came before `bytes`
 unfoldable pub read : ℕ → List ℕ → List ℕ → Reading
 read zero payload bytes = ([], TooLong)
 read (suc n) payload bytes =

@@ -58,9 +58,9 @@ impl From<XdrFault> for CallFault {
 /// whatever follows it; `BadHeader` if a later field can't be read, or if the body of the
 /// credential or verifier is longer than 400 bytes.
 pub fn read_call(bytes: &[u8]) -> Result<Call<'_>, CallFault>
-    // By `CallIs`, the bytes are what the result says.
+    // `CallIs` states that the bytes are what the result says.
     ensures found { CallIs bytes.now (plain_call_result result) }
-    // By `CallIs`, the bytes are nothing else.
+    // `CallIs` holds for no other result.
     ensures only { (outcome : Result PlainCall CallFault) → CallIs bytes.now outcome
         → plain_call_result result ≡ outcome }
     // The result as a function of the bytes. It is a call or one of two faults.

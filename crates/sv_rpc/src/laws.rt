@@ -14,8 +14,8 @@ pub fn read_as_split()
     ensures alone { ReadAlone }
 {}
 
-/// The function `call_at` returns what a record is: a call, or which fault. The function `port_at`
-/// returns the answer to the arguments of GETPORT.
+/// The function `call_at` returns what a record is: a call, or the fault that makes it none. The
+/// function `port_at` returns the answer to a GETPORT call with the given arguments.
 pub fn read_as_spelled()
     ensures call { CallAsSpelled }
     ensures port { PortAsSpelled }

@@ -20,5 +20,5 @@ pub use reply::{Reply, write_call, write_reply};
 pub use sending::put_record;
 pub use sv_xdr::Garbage;
 
-/// Out of memory.
+/// The error of an allocation: memory was refused.
 pub type NoMemory = AllocError;

@@ -9,12 +9,12 @@ use sv_xdr::{Garbage, Reader};
 const CORE: u32 = 0x0607AF;
 /// The number of the abort channel's program.
 const ABORT: u32 = 0x0607B0;
-/// The version of both programs.
+/// The version of the core channel's and of the abort channel's program.
 const VERSION: u32 = 1;
-/// The protocol TCP.
+/// The number of the protocol TCP.
 const TCP: u32 = 6;
 
-/// The ports on which the channels are served.
+/// The ports on which the core and the abort channel are served.
 #[derive(Clone, Copy, Debug, PartialEq, Eq)]
 pub struct Ports {
     /// The port of the core channel.
@@ -42,7 +42,7 @@ pub fn getport(args: &[u8], ports: Ports) -> Result<u32, Garbage>
     Ok(port_of(ports, prog, vers, prot))
 }
 
-/// The port at which a version of a program is served over a protocol; 0 if it isn't served.
+/// The port at which a version of a program is served over a protocol; 0 if there is no such port.
 fn port_of(ports: Ports, prog: u32, vers: u32, prot: u32) -> u32
     ensures { result ≡ port_for ports (record { prog = prog; vers = vers; prot = prot; port = 0 }) }
 {

@@ -23,8 +23,8 @@ const MAX_RECORD: usize = 8192;
 /// Why no further record comes.
 #[derive(Clone, Copy, Debug, PartialEq, Eq, Error)]
 pub enum RpcFault {
-    /// A fragment's header makes its record longer than a record may be. No record is read after
-    /// it.
+    /// A fragment's header makes its record longer than a record may be. No record after this one
+    /// is read.
     #[error("a record is longer than {max} bytes", max = MAX_RECORD)]
     RecordTooLong = 1,
 }
@@ -32,11 +32,12 @@ pub enum RpcFault {
 /// What the next byte of the stream belongs to.
 #[derive(Clone, Copy, Debug)]
 enum Place {
-    /// A fragment's header.
+    /// The next byte belongs to a fragment's header.
     Header,
-    /// A fragment's data, of which `missing` bytes are still to come.
+    /// The next byte belongs to a fragment's data, of which `missing` bytes are still to come.
+    /// `last` says whether the fragment is the last of its record.
     Data { missing: usize, last: bool },
-    /// Nothing: a record was too long, and no more bytes are accepted.
+    /// No more bytes are accepted, because a record was too long.
     TooLong,
 }
 
@@ -139,7 +140,7 @@ impl<A: Allocator> RecordBuf<A> {
         }
     }
 
-    /// Drops the first record.
+    /// Drops the first complete record in the buffer, which must have one.
     pub fn drop_first(&mut self)
         requires { self.old.records ≢ [] }
         ensures value { self.new ≡ record {
@@ -223,7 +224,8 @@ impl<A: Allocator> RecordBuf<A> {
         self.open((word % (1 << 31)) as usize, word >= 1 << 31);
     }
 
-    /// Begins a fragment of this size; `last` says whether it is the last of its record.
+    /// Handles a fragment's header that is complete now: the fragment has `size` bytes of data, and
+    /// `last` says whether it is the last of its record.
     fn open(&mut self, size: usize, last: bool)
         requires header { IsBeforeHeader self.old.tail }
         requires size { size < 2 ^ 31 }
@@ -242,7 +244,8 @@ impl<A: Allocator> RecordBuf<A> {
         }
     }
 
-    /// Takes in some of a fragment's data. `missing` bytes of the fragment are still to come.
+    /// Takes in `piece`, which is some or all of the `missing` bytes of data that the fragment
+    /// lacks. `last` says whether the fragment is the last of its record.
     fn take_data(&mut self, piece: &[u8], missing: usize, last: bool)
         requires data { IsInData self.old.tail missing last }
         requires some { length piece.now ≤ missing }

@@ -8,12 +8,12 @@ use Rattle.sv_scan.specs.declared.acts.ScanAnswer.TheVariants.{Done, Answered, S
 use Rattle.sv_scan.specs.Scan.{state}
 use Rattle.sv_scan.specs.Counted.{effective, is_scanning, setting_fault, init_fault, trigger_fault}
 
--- the result of an act: done, or refused with this error
+-- the result of an act: the error with which the act is refused, if an error is given; otherwise `Ok`
 abbrev pub refused_by : Option Code → Result ⊤ Code
 refused_by None = Ok tt
 refused_by (Some code) = Err code
 
--- the answer to `act` after the acts of `log`, all of which count
+-- the answer to `act` after the acts of `log`, all of which took effect
 abbrev pub answer_to : List ScanAct → ScanAct → ScanAnswer
 answer_to log (Input channel microvolts) = Done
 answer_to log (Configure setting) = Answered (refused_by (setting_fault log setting))

@@ -1,4 +1,5 @@
--- Which acts count. These don't count: an act that is refused; a sample outside a scan; an input of a channel that doesn't exist.
+-- Which acts of the scanner take effect. These don't: an act that is refused; a sample while no scan is under way; and an input of a
+-- channel that doesn't exist.
 use Rattle.std.specs.Prelude.{◌&&◌, not, Bool, true, false, List, [], ◌∷◌, Option, Some, None, is_none, if◌then◌else◌}
 use Rattle.sv_errors.specs.declared.code.Code.{Code}
 use Rattle.sv_errors.specs.declared.code.Code.TheVariants.{DataOutOfRange, SettingsConflict, TriggerIgnored, InitIgnored, TriggerDeadlock}
@@ -32,8 +33,8 @@ same_source Bus Bus = true
 same_source External External = true
 same_source _ _ = false
 
--- why a setting is refused after these acts: -222 if its value isn't possible; -221 if it can't be changed during a measurement; `None` if
--- it isn't refused
+-- why a setting is refused after these acts: -222 if its value isn't allowed; -221 if a measurement is under way, during which this setting
+-- can't be changed; `None` if the setting isn't refused
 abbrev pub setting_fault : List ScanAct → Setting → Option Code
 setting_fault log setting =
     if not (is_possible setting) then Some DataOutOfRange
@@ -49,11 +50,11 @@ abbrev pub trigger_fault : List ScanAct → Source → Option Code
 trigger_fault log from = if is_waiting (state log) && same_source (source log) from then None else Some TriggerIgnored
 
 -- why the controller can't wait for a reading: -214 if the trigger source is the bus, because the controller can't send a trigger while it
--- waits
+-- waits; `None` if it can wait
 abbrev pub read_fault : List ScanAct → Option Code
 read_fault log = if same_source (source log) Bus then Some TriggerDeadlock else None
 
--- whether `act` counts after the acts of `log`, all of which count
+-- whether `act` takes effect after the acts of `log`, all of which took effect
 abbrev pub counts : List ScanAct → ScanAct → Bool
 counts log (Input channel microvolts) = is_channel channel
 counts log (Configure setting) = is_none (setting_fault log setting)
@@ -62,7 +63,7 @@ counts log (Trigger source) = is_none (trigger_fault log source)
 counts log Sample = is_scanning (state log)
 counts log _ = true
 
--- those of the acts that count
+-- those of the acts that took effect
 abbrev pub effective : List ScanAct → List ScanAct
 effective [] = []
 effective (act ∷ acts) = if counts (effective acts) act then act ∷ effective acts else effective acts

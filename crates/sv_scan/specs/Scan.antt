@@ -1,5 +1,5 @@
--- The trigger state and the readings (SCPI-1999, volume 2, chapter 24). They are defined by searches and counts of the acts that count, the
--- newest first.
+-- The trigger state and the readings (SCPI-1999, volume 2, chapter 24). They are defined by searching and counting the acts of the scanner
+-- that took effect, the newest first.
 use Rattle.std.specs.Prelude.{ℕ, ◌-◌, ◌*◌, ◌%◌, ◌==◌, ℤ, neg_ℤ, int_lt, nat_le, unsigned_abs, Bool, true, false, List, [], ◌∷◌, ◌++◌, length, filter, Option, Some, None, slice_get, slice_index_or, if◌then◌else◌}
 use Rattle.sv_errors.specs.Limits.{most_microvolts}
 use Rattle.std.specs.Option.{option_map_or}
@@ -16,7 +16,8 @@ use Rattle.sv_scan.specs.Setting.{scan_list, count, range, input}
 abbrev pub starts_or_ends : List ScanAct → Bool
 starts_or_ends = elim [ Init ∷ log ↦ true | Abort ∷ log ↦ true | Reset ∷ log ↦ true | _ ↦ false ]
 
--- the acts before the current or last measurement was initiated; `None` if none was initiated, or if it was aborted or reset later
+-- the acts before the current or last measurement was initiated; `None` if no measurement was initiated, or if an abort or a reset came
+-- later
 abbrev pub before_init : List ScanAct → Option (List ScanAct)
 before_init log = elim (newest starts_or_ends log) [ Init ∷ before ↦ Some before | _ ↦ None ]
 
@@ -33,7 +34,8 @@ abbrev pub state_by : ℕ → ℕ → ℕ → ℕ → State
 state_by triggers samples channels scans =
     if samples == scans * channels then Idle else if samples == triggers * channels then Waiting else Scanning
 
--- the state of the measurement, with the scan list and the count that were set when it was initiated; idle if there is no measurement
+-- the state of the measurement. It depends on the scan list and the count that were set when the measurement was initiated. Without a
+-- measurement, the state is idle.
 abbrev pub state : List ScanAct → State
 state log =
     option_map_or (λ before. state_by (triggers log) (samples log) (length (scan_list before)) (count before)) (before_init log) Idle
@@ -47,11 +49,11 @@ abbrev pub is_bounded : Reading → Bool
 is_bounded (Value microvolts) = nat_le (unsigned_abs microvolts) most_microvolts
 is_bounded _ = true
 
--- the channel of the next sample, if `before` samples came before it: the list is read again and again
+-- the channel of the next sample, if `before` samples came before it. After the last channel of the list, the first channel comes again.
 abbrev pub channel_at : List ℕ → ℕ → ℕ
 channel_at channels before = slice_index_or channels (before % length channels) 0
 
--- the reading of a sample that comes after these acts: it reads the next channel, with the input and the range that are set at that moment
+-- the reading of a sample that comes after these acts: the sample reads the next channel, with the input and the range that are set then
 abbrev pub reading : List ScanAct → Reading
 reading log = reading_in (range log) (input (channel_at (option_map_or scan_list (before_init log) []) (samples log)) log)
 
@@ -61,7 +63,7 @@ readings [] = []
 readings (Sample ∷ log) = readings log ++ reading log ∷ []
 readings (act ∷ log) = if starts_or_ends (act ∷ log) then [] else readings log
 
--- the newest reading of the measurement; `None` if there is none
+-- the newest reading of the measurement; `None` if there is no reading
 abbrev pub last_reading : List ScanAct → Option Reading
 last_reading log = slice_get (readings log) (length (readings log) - 1)
 

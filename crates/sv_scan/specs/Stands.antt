@@ -17,7 +17,7 @@ pub record Run : Type 0 where
   pub scans : ℕ
   pub triggers : ℕ
 
--- the measurement that was initiated last; `None` if none was initiated, or if it was aborted or reset later
+-- the measurement that was initiated last; `None` if no measurement was initiated, or if an abort or a reset came later
 abbrev pub current_run : List ScanAct → Option Run
 current_run log = option_map (λ before. record { channels = scan_list before; scans = count before; triggers = triggers log })
     (before_init log)
@@ -37,7 +37,7 @@ pub record Contents : Type 0 where
   pub readings : List Reading
   pub touched : Touched
 
--- Each part of the contents has the value that a search of the acts that count finds.
+-- Each part of the contents has the value that the search of `log` finds. All acts of `log` took effect.
 pub record Holds (contents : Contents) (log : List ScanAct) : Type 0 where
   pub inputs : (channel : ℕ) → is_channel channel ≡ true → slice_index_or contents.inputs (channel - 1) (pos 0) ≡ input channel log
   pub list : contents.list ≡ scan_list log
@@ -52,6 +52,6 @@ pub record Holds (contents : Contents) (log : List ScanAct) : Type 0 where
   pub readings : contents.readings ≡ readings log
   pub touched : IsTouched contents.touched log
 
--- The state of the scanner stands for these acts: those of them that count determine it.
+-- The state of the scanner stands for these acts. It is determined by those of the acts that took effect.
 abbrev pub StandsFor : Contents → List ScanAct → Type 0
 StandsFor contents acts = Holds contents (effective acts)

@@ -16,9 +16,9 @@ pub enum ScanAct {
     Abort,
     /// The measurement is aborted, and every setting takes its default.
     Reset,
-    /// A trigger comes.
+    /// A trigger comes from this source.
     Trigger(Source),
-    /// The next channel is read.
+    /// The next channel of the scan list is read, if a scan is under way.
     Sample,
 }
 
@@ -29,6 +29,6 @@ pub enum ScanAnswer {
     Done,
     /// The act was done, or refused with this error.
     Answered(Result<(), Code>),
-    /// Whether a channel was read.
+    /// The answer to a sample: whether a channel was read.
     Sampled(bool),
 }

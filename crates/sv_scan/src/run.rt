@@ -62,7 +62,7 @@ impl Run {
     }
 
     /// The channel to read after this number of samples. After the last channel of the list, the
-    /// first comes again.
+    /// first channel comes again.
     pub(crate) fn channel(&self, samples: usize) -> u8
         requires { 0 < length self.now.channels }
         ensures { result ≡ channel_at self.now.channels samples }

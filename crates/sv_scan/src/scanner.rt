@@ -35,11 +35,11 @@ pub struct Scanner<A: Allocator = Global> {
     inputs: [i64; CHANNELS],
     /// The settings.
     pub(crate) settings: Settings,
-    /// The measurement that was initiated last, unless it was aborted.
+    /// The measurement that was initiated last; `None` if none was, or after an abort or a reset.
     run: Option<Run>,
     /// The readings of the measurement, oldest first; none without a measurement.
     readings: Vec<Reading, A>,
-    /// Which conditions the newest act may have changed.
+    /// Which condition words of the status registers the newest act may have changed.
     pub(crate) touched: Touched,
 }
 
@@ -80,7 +80,7 @@ impl<A: Allocator> Scanner<A> {
     }
 
     /// Sets the input of a channel to this voltage, in microvolts. If no channel has this number,
-    /// nothing changes. If the channel isn't the monitored one, no condition changes.
+    /// nothing changes. If the channel isn't the monitored channel, no condition word changes.
     pub fn input(&mut self, channel: u8, microvolts: i64)
         ensures stands { (acts : List ScanAct) → StandsFor self.old acts
             → StandsFor self.new (ScanAct.Input channel microvolts ∷ acts) }
@@ -310,7 +310,7 @@ impl<A: Allocator> Scanner<A> {
         state_in(&self.run, self.readings.len())
     }
 
-    /// The newest reading of the measurement; `None` if there is none.
+    /// The newest reading of the measurement; `None` if there is no reading.
     fn last_reading(&self) -> Option<Reading>
         ensures { (acts : List ScanAct)
             → StandsFor self.now acts → result ≡ last_of (effective acts) }
@@ -327,7 +327,7 @@ impl<A: Allocator> Scanner<A> {
         live < self.settings.lower || self.settings.upper < live
     }
 
-    /// The condition words as they are now.
+    /// The condition words of the status registers, as they are now.
     pub fn conditions(&self) -> Conditions
         ensures operation { (acts : List ScanAct) → StandsFor self.now acts
             → result.operation ≡ operation (effective acts) }

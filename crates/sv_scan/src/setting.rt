@@ -45,6 +45,6 @@ pub enum Reading {
     Value(i64),
     /// A voltage above the range.
     Over,
-    /// A voltage below the negative range.
+    /// A voltage below the negative of the range.
     Under,
 }

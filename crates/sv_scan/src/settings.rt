@@ -5,7 +5,7 @@ use crate::scan_list::ScanList;
 use crate::setting::Setting;
 use sv_errors::{MOST_MICROVOLTS, Source};
 
-/// The settings.
+/// The current settings of the scanner.
 #[derive(Drop)]
 pub(crate) struct Settings {
     /// The channels that a scan reads.

@@ -63,7 +63,7 @@ impl State {
     }
 }
 
-/// Whether two sources are the same.
+/// Whether two sources of triggers are the same.
 pub(crate) fn is_same(first: Source, second: Source) -> bool
     ensures { result ≡ same_source first second }
 {

@@ -9,21 +9,22 @@ ghost use Rattle.sv_scan.specs.Touched.{IsTouched};
 use crate::scanner::Scanner;
 use std::alloc::Allocator;
 
-/// Which condition words the newest effective act may have changed. If a field is false, the word
-/// is the same as before the act (SCPI-1999, chapter 20).
+/// Which condition words of the status registers the newest act that took effect may have changed
+/// (SCPI-1999, chapter 20). If a field is false, its word is the same as before the act.
 #[derive(Clone, Copy)]
 pub struct Touched {
-    /// The word of the operation register.
+    /// Whether the condition word of the operation register may have changed.
     pub operation: bool,
-    /// The scanner's bits of the word of the questionable register.
+    /// Whether the scanner's bits in the condition word of the questionable register may have
+    /// changed.
     pub questionable: bool,
-    /// The word of the register of limits.
+    /// Whether the condition word of the register of limits may have changed.
     pub limit: bool,
 }
 
 impl<A: Allocator> Scanner<A> {
-    /// Which condition words the last effective act may have changed. A refused act isn't
-    /// effective, and doesn't change a word.
+    /// Which condition words of the status registers the newest act that took effect may have
+    /// changed. A refused act takes no effect, and changes no word.
     pub fn touched(&self) -> Touched
         ensures value { result ≡ self.now.touched }
         ensures stands { (acts : List ScanAct) → StandsFor self.now acts

@@ -52,8 +52,9 @@ pub(crate) fn questionable_word(overload: bool) -> u16
     mask_if(OVERLOAD, overload)
 }
 
-/// The condition word of the register of limits. If the limits are on, it says whether the last
-/// reading is below or above them, and whether the live input is outside them.
+/// The condition word of the register of limits. If the limits are on, the word says whether the
+/// last reading is below or above the limits, and whether the live input is outside them. If the
+/// limits are off, the word is 0.
 pub(crate) fn limit_word(limits: bool, below: bool, above: bool, outside: bool) -> u16
     ensures { result ≡ bit 0 (limits && below) + bit 1 (limits && above) + bit 2
         (limits && outside) }

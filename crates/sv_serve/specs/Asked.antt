@@ -15,7 +15,7 @@ use Rattle.sv_serve.specs.DriverView.{DriverView}
 abbrev pub IsOpen : {W : Type 0} → Port → Config → DriverView W → Bool → Type 0
 IsOpen port config at answer = Answered (λ log. not (is_port_shut port log)) config at.history answer
 
--- The answer is for how many bytes a connection has room.
+-- The answer is the number of bytes for which a connection has room.
 abbrev pub HasRoom : {W : Type 0} → ℕ → Config → DriverView W → ℕ → Type 0
 HasRoom c config at answer = Answered (λ log. room (of c log)) config at.history answer
 
@@ -43,7 +43,7 @@ Waits port config at bytes = WaitOn port config at.history bytes
 abbrev pub NoneUsed : {W : Type 0} → ℕ → Config → DriverView W → Type 0
 NoneUsed n config at = (log : List Act) × IsLogOf config at.history log × IsUnused n log
 
--- The lowest of the numbers 0 to 15 whose connection isn't open; `None` if all 16 connections are open.
+-- The answer is the lowest of the numbers 0 to 15 whose connection isn't open; `None` if all 16 connections are open.
 abbrev pub IsLowest : {W : Type 0} → Option ℕ → Config → DriverView W → Type 0
 IsLowest (Some c) config at = (c < 16) × IsOpen (Conn c) config at false × ((d : ℕ) → d < c → IsOpen (Conn d) config at true)
 IsLowest None config at = (d : ℕ) → d < 16 → IsOpen (Conn d) config at true

@@ -6,8 +6,8 @@ use Rattle.sv_history.specs.Event.{PlainEvent}
 use Rattle.sv_server.specs.Server.State.{State, StandsFor}
 use Rattle.sv_replay.specs.declared.entry.Entry.{Entry}
 
--- The state of a driver: a server; a wire; which peer the driver dialed for the interrupt channel of each connection; the entries of the
--- scenario that are still to come; and how many milliseconds have passed.
+-- The state of a driver: its server; its wire; which peer the driver dialed for the interrupt channel of each connection; the entries of
+-- the scenario that weren't applied yet; and how many milliseconds have passed.
 pub record DriverState (W : Type 0) : Type 0 where
   pub server : State
   pub wire : W
@@ -32,13 +32,13 @@ driver_view driving history =
 abbrev pub Unchanged : {W : Type 0} → Config → DriverView W → DriverView W → Type 0
 Unchanged config before after = after ≡ before
 
--- one step, and then a second one
+-- the step that consists of one step and then a second one
 infixr 10 ◌then◌
 abbrev pub ◌then◌ : {W : Type 0} → (Config → DriverView W → DriverView W → Type 0) → (Config → DriverView W → DriverView W → Type 0)
     → Config → DriverView W → DriverView W → Type 0
 (first then next) config before after = (between : DriverView _) × first config before between × next config between after
 
--- one step for each number below n, in rising order
+-- the step that consists of n steps: one for each number below n, in rising order of the numbers
 abbrev pub ForEach : {W : Type 0} → ℕ → (ℕ → Config → DriverView W → DriverView W → Type 0) → Config → DriverView W → DriverView W → Type 0
 ForEach zero step config before after = after ≡ before
 ForEach (suc n) step config before after = (between : DriverView _) × ForEach n step config before between × step n config between after

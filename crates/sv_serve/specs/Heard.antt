@@ -6,8 +6,8 @@ use Rattle.sv_history.specs.declared.event.Dial.{Dial}
 use Rattle.sv_serve.specs.declared.wire.Answer.{Answer}
 use Rattle.sv_serve.specs.declared.wire.Answer.TheVariants.{Got, Pending, Failed}
 
--- One call of a wire's method, with its answer. `most` is how many bytes a read may return. A probe asks whether a connection that isn't
--- read is gone. With `drops` it also discards the bytes that come on the connection.
+-- One call of a wire's method, with its answer. `most` is how many bytes a read can return at most. A probe asks whether a connection that
+-- isn't read is gone. With `drops` it also discards the bytes that come on the connection.
 pub data Heard : Type 0 where
   WasAccepted : (role : Role) (conn : Option ℕ) (answer : Answer ⊤) → Heard
   WasRead : (conn : ℕ) (most : ℕ) (answer : Answer (List ℕ)) → Heard
@@ -23,12 +23,12 @@ bytes_of (Got n) buffer = Got (take n buffer)
 bytes_of Pending buffer = Pending
 bytes_of Failed buffer = Failed
 
--- At most `most` bytes were read or written.
+-- If the answer is a number of bytes, it is at most `most`.
 abbrev pub IsWithin : Answer ℕ → ℕ → Type 0
 IsWithin (Got n) most = n ≤ most
 IsWithin answer most = ⊤
 
--- At most `most` bytes were read.
+-- If the answer is bytes that were read, they are at most `most`.
 abbrev pub IsPiece : Answer (List ℕ) → ℕ → Type 0
 IsPiece (Got bytes) most = length bytes ≤ most
 IsPiece answer most = ⊤

@@ -18,14 +18,14 @@ use Rattle.sv_serve.specs.Heard.{IsWithin}
 use Rattle.sv_serve.specs.DriverView.{DriverState, DriverView, driver_view}
 use Rattle.sv_serve.specs.Asked.{Wants, Waits}
 
--- The driver takes this step from any moment of which `IsSo` holds.
+-- The driver takes this step, if `IsSo` holds of the moment at which it begins.
 abbrev pub From : {W : Type 0} → (Config → DriverView W → Type 0) → (Config → DriverView W → DriverView W → Type 0) → DriverState W
     → DriverState W → Type 0
 From IsSo step old new = (config : Config) (history : List PlainEvent) → StandsFor old.server config history
     → IsSo config (driver_view old history)
     → (after : List PlainEvent) × StandsFor new.server config after × step config (driver_view old history) (driver_view new after)
 
--- The event is one that the queries allow at this moment (`Suits`).
+-- The answers of the server's queries allow this event at this moment (`Suits`).
 abbrev pub IsSuited : {W : Type 0} → PlainEvent → Config → DriverView W → Type 0
 IsSuited event config at = (log : List Act) × (channel_log : List ChannelAct) × IsLogOf config at.history log
     × HearsOf (device_acts log) channel_log
@@ -43,7 +43,7 @@ Handed port answer config at = (bytes : List ℕ) × Waits port config at bytes 
 abbrev pub FoundNone : {W : Type 0} → ℕ → Config → DriverView W → Type 0
 FoundNone c config at = (log : List Act) × IsLogOf config at.history log × Answers config (Turn c) log (Err NoMemory)
 
--- If the result is that memory was refused, there was a call to take, and memory for it was refused.
+-- If the server's answer to a Turn is that memory was refused, there was a call to take, and memory for it was refused.
 abbrev pub MayFindNone : {W : Type 0} → ℕ → Result Did Refused → Config → DriverView W → Type 0
 MayFindNone c answer config at = answer ≡ Err NoMemory → FoundNone c config at
 

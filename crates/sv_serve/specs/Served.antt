@@ -1,4 +1,5 @@
--- The answers of a wire as events, and what a sweep does for each connection. Traces and histories have the newest item first.
+-- The answers of a wire as events, and what a sweep does for each connection. Traces (lists of the wire's answers) and histories have the
+-- newest item first.
 use Rattle.std.specs.Prelude.{◌≡◌, ◌⊎◌, ℕ, ◌<◌, not, Bool, true, false, List, [], ◌∷◌, ◌++◌, filter, flat_map, Some, Err}
 use Rattle.std.specs.List.{AllByRecursion}
 use Rattle.sv_history.specs.declared.event.Config.{Config}
@@ -35,14 +36,14 @@ event_of (PeerAnswered c Failed) = Dialed c false ∷ []
 event_of (WasClosed (Conn c)) = Close (Conn c) ∷ []
 event_of _ = []
 
--- whether an event comes from the wire; Turns, Refuses and timed events are the driver's own
+-- whether an event comes from the wire; Turns, Refuses and timed events don't: the driver makes them itself
 abbrev pub is_outer : PlainEvent → Bool
 is_outer (Turn c) = false
 is_outer (Refuse c) = false
 is_outer event = not (is_timed event)
 
--- The connection has a Turn. If memory for its call is refused, it has a Refuse instead. It has neither only if there is no call to take,
--- or no room for the longest reply.
+-- A sweep has a Turn of the connection. If memory for the call is refused, the sweep has a Refuse instead. It has neither only if there is
+-- no call to take, or no room for the longest reply.
 abbrev pub Takes : Config → ℕ → List Act → List PlainEvent → Type 0
 Takes config c before turn = (turn ≡ Turn c ∷ []) ⊎ (((turn ≡ Refuse c ∷ []) × Answers config (Turn c) before (Err NoMemory))
     ⊎ ((turn ≡ []) × ((is_idle (of c before) ≡ true) ⊎ (free (of c before) < longest_reply))))
@@ -52,7 +53,8 @@ abbrev pub Offers : ℕ → List Act → List Heard → Type 0
 Offers c log piece = (waiting (of c log) ≡ []) ⊎ ((more : List ℕ) × (answer : Answer ℕ) × (newer older : List Heard)
     × (piece ≡ newer ++ (WasWritten (Conn c) (waiting (of c log) ++ more) answer ∷ older)))
 
--- In a sweep a connection has its turn after all reads. The bytes that wait after the turn are passed to the wire in the same sweep.
+-- After all reads of a sweep, the next call of a connection is taken or refused, if that is possible (`Takes`). The bytes that wait on the
+-- connection then are passed to the wire in the same sweep.
 abbrev pub Serves : Config → ℕ → List PlainEvent → List PlainEvent → List Heard → Type 0
 Serves config c history events piece = (first turn behind : List PlainEvent) × (before after : List Act)
     × (events ≡ behind ++ (turn ++ first)) × AllByRecursion (λ event. (d : ℕ) (bytes : List ℕ) → event ≡ Bytes d bytes → ⊥) behind

@@ -1,5 +1,5 @@
--- The steps of a driver. In each step at most one method of the wire is called, and its answer is applied to the server. Of the events that
--- steps give to the server, only a Turn, a Tick or an entry of the scenario may be refused.
+-- The steps of a driver. In each of the smallest steps at most one method of the wire is called, or one event is given to the server. Of
+-- these events, the server can refuse only a Turn, a Tick or an entry of the scenario.
 use Rattle.std.specs.Prelude.{◌≡◌, ◌⊎◌, ℕ, ◌<◌, min, ◌==◌, ◌&&◌, ◌||◌, Bool, true, false, List, [], length, Option, Some, None, Result, Ok, Err, ⊤, slice_set, slice_index_or}
 use Rattle.sv_history.specs.declared.event.Config.{Config}
 use Rattle.sv_history.specs.declared.event.Dial.{Dial}
@@ -40,17 +40,17 @@ called_of c at = slice_index_or at.called c None
 abbrev pub Remembers : {W : Type 0} → ℕ → Option Dial → Config → DriverView W → DriverView W → Type 0
 Remembers c dial config before after = after ≡ record before { called = slice_set before.called c dial }
 
--- If a connection was accepted under a number, it opens at the server under that number.
+-- If the wire accepted a connection under a number, the connection opens at the server under this number.
 abbrev pub Opens : {W : Type 0} → Role → Option ℕ → Answer ⊤ → Config → DriverView W → DriverView W → Type 0
 Opens role (Some c) (Got all) = IsApplied (Open c role)
 Opens role number answer = Unchanged
 
--- A connection is accepted under the lowest free number. If no number is free, the connection is dropped.
+-- If a peer connects, its connection is accepted under the lowest free number. If no number is free, the connection is dropped.
 abbrev pub Accepts : {W : Type 0} → (W → Heard → W → Type 0) → Role → Config → DriverView W → DriverView W → Type 0
 Accepts hears role config before after = (number : Option ℕ) × (answer : Answer ⊤) × IsLowest number config before
     × (Hears hears (WasAccepted role number answer) then Opens role number answer) config before after
 
--- The socket of an interrupt channel is closed, if a peer was dialed for the channel.
+-- The socket of an interrupt channel is closed, if `Some` says that a peer was dialed for the channel.
 abbrev pub ClosesChannelOn : {W : Type 0} → (W → Heard → W → Type 0) → ℕ → Option Dial → Config → DriverView W → DriverView W → Type 0
 ClosesChannelOn hears c None = Unchanged
 ClosesChannelOn hears c (Some dial) = Hears hears (WasClosed (Intr c)) then Remembers c None
@@ -83,18 +83,19 @@ abbrev pub Drops : {W : Type 0} → (W → Heard → W → Type 0) → ℕ → A
 Drops hears c Failed = Closes hears c
 Drops hears c answer = Unchanged
 
--- If the flag is true, the connection is open, and the driver asks the wire whether the connection is gone.
+-- If the flag says that the connection is open, the driver asks the wire whether its peer is gone, and closes the connection if so.
 abbrev pub ProbesIf : {W : Type 0} → (W → Heard → W → Type 0) → ℕ → Bool → Config → DriverView W → DriverView W → Type 0
 ProbesIf hears c false config before after = after ≡ before
 ProbesIf hears c true config before after = (drops : Bool) × (answer : Answer ⊤) × IsOverlong c config before drops
     × (Hears hears (WasProbed c drops answer) then Drops hears c answer) config before after
 
--- An open connection without room isn't read. Instead the driver asks the wire whether the connection is gone. Bytes after a record that is
--- too long are discarded.
+-- An open connection without room isn't read. Instead the driver asks the wire whether the peer is gone, and closes the connection if so.
+-- Bytes that come after a record that is too long are discarded.
 abbrev pub Probes : {W : Type 0} → (W → Heard → W → Type 0) → ℕ → Config → DriverView W → DriverView W → Type 0
 Probes hears c config before after = (opened : Bool) × IsOpen (Conn c) config before opened × ProbesIf hears c opened config before after
 
--- If a connection has room for some bytes, at most `room` and at most 16,384 bytes are read. Without room the connection is probed.
+-- If a connection has room, at most `room` and at most 16,384 bytes are read. Without room the driver only asks the wire whether the peer
+-- is gone.
 abbrev pub ReadsUpTo : {W : Type 0} → (W → Heard → W → Type 0) → ℕ → ℕ → Config → DriverView W → DriverView W → Type 0
 ReadsUpTo hears room c config before after = ((room ≡ 0) × Probes hears c config before after)
     ⊎ ((0 < room) × (answer : Answer (List ℕ)) × IsPiece answer (min room longest_piece)
@@ -109,12 +110,12 @@ abbrev pub RefusesIf : {W : Type 0} → ℕ → Bool → Config → DriverView W
 RefusesIf c true = IsApplied (Refuse c)
 RefusesIf c false = Unchanged
 
--- A call for which memory is refused is answered with error 9, and its connection stays open.
+-- If memory is refused for the call of a Turn, the call is answered with error 9, and its connection stays open.
 abbrev pub EndsTurn : {W : Type 0} → ℕ → Result Did Refused → Config → DriverView W → DriverView W → Type 0
 EndsTurn c (Ok did) = Unchanged
 EndsTurn c (Err refused) = RefusesIf c (is_no_memory refused)
 
--- If the flag is true, there is a call, and the server is given a Turn for it.
+-- If the flag says that there is a call to take, the server is given a Turn.
 abbrev pub TurnsIf : {W : Type 0} → ℕ → Bool → Config → DriverView W → DriverView W → Type 0
 TurnsIf c false config before after = after ≡ before
 TurnsIf c true config before after = (result : Result Did Refused) × (Given (Turn c) result then EndsTurn c result) config before after
@@ -128,7 +129,7 @@ abbrev pub is_wanted : Dial → Option Dial → Bool
 is_wanted called (Some wanted) = (called.addr == wanted.addr) && (called.port == wanted.port)
 is_wanted called None = false
 
--- If the flag is true, the connection to a dialed peer stays as it is; if it is false, its socket is closed.
+-- If the flag is true, the socket of the peer that was dialed stays as it is; if it is false, the socket is closed.
 abbrev pub KeepsCall : {W : Type 0} → (W → Heard → W → Type 0) → ℕ → Bool → Config → DriverView W → DriverView W → Type 0
 KeepsCall hears c true = Unchanged
 KeepsCall hears c false = ClosesChannel hears c
@@ -145,13 +146,15 @@ CancelsUnwanted hears c (Some called) config before after = (channel : Bool) × 
 abbrev pub LetsGo : {W : Type 0} → (W → Heard → W → Type 0) → ℕ → Config → DriverView W → DriverView W → Type 0
 LetsGo hears c config before after = CancelsUnwanted hears c (called_of c before) config before after
 
--- The answer to dialing a peer: the peer is connected; it hasn't answered yet; or it can't be reached.
+-- What follows the wire's answer to dialing a peer. Unless the peer can't be reached, the driver records that it was dialed. Unless the
+-- peer hasn't answered yet, the server is told whether it is connected.
 abbrev pub ConnectResult : {W : Type 0} → ℕ → Dial → Answer ⊤ → Config → DriverView W → DriverView W → Type 0
 ConnectResult c dial (Got all) = Remembers c (Some dial) then IsApplied (Dialed c true)
 ConnectResult c dial Pending = Remembers c (Some dial)
 ConnectResult c dial Failed = IsApplied (Dialed c false)
 
--- The answer about a peer that was dialed before: the peer is connected; it still hasn't answered; or it can't be reached.
+-- What follows the wire's answer about a peer that was dialed before. If the peer is connected, the server is told so. If the peer still
+-- hasn't answered, nothing changes. If it can't be reached, its socket is closed, and the server is told so.
 abbrev pub PollResult : {W : Type 0} → (W → Heard → W → Type 0) → ℕ → Answer ⊤ → Config → DriverView W → DriverView W → Type 0
 PollResult hears c (Got all) = IsApplied (Dialed c true)
 PollResult hears c Pending = Unchanged
@@ -199,7 +202,7 @@ abbrev pub WritesTo : {W : Type 0} → (W → Heard → W → Type 0) → Port �
 WritesTo hears port config before after =
     (bytes : List ℕ) × Waits port config before bytes × WritesAll hears port bytes config before after
 
--- If the flag is true, the connection is at fault, and is closed if no bytes wait on it.
+-- If the flag says that the connection is at fault, the connection is closed if no bytes wait on it.
 abbrev pub EndsIf : {W : Type 0} → (W → Heard → W → Type 0) → ℕ → Bool → Config → DriverView W → DriverView W → Type 0
 EndsIf hears c false config before after = after ≡ before
 EndsIf hears c true config before after =

@@ -16,27 +16,27 @@ use Rattle.sv_serve.specs.Steps.{Given, Accepts, ReadsFrom, Turns, Dials, Writes
 abbrev pub Applies : {W : Type 0} → PlainEvent → Config → DriverView W → DriverView W → Type 0
 Applies event config before after = (result : Result Did Refused) × Given event result config before after
 
--- The first entry of the scenario is due, and is applied to the server.
+-- The scenario's next entry is due, and is applied to the server.
 abbrev pub PlaysOne : {W : Type 0} → Config → DriverView W → DriverView W → Type 0
 PlaysOne config before after = (entry : Entry) × (others : List Entry) × (between : DriverView _) × (before.ahead ≡ entry ∷ others)
     × (entry.tick ≤ before.ticks) × Applies (stimulus_event entry.stimulus) config before between
     × (after ≡ record between { ahead = others })
 
--- At this count of ticks the first entry isn't due yet, or there is no entry.
+-- When the driver has counted `ticks` milliseconds, the first of these entries of the scenario isn't due yet, or there is no entry.
 abbrev pub IsNoneDue : ℕ → List Entry → Type 0
 IsNoneDue ticks [] = ⊤
 IsNoneDue ticks (entry ∷ entries) = ticks < entry.tick
 
--- If the flag is true, the first entry is due and is applied; if it is false, no entry is due.
+-- If the flag is true, the scenario's next entry is due and is applied; if it is false, no entry is due.
 abbrev pub PlaysIf : {W : Type 0} → Bool → Config → DriverView W → DriverView W → Type 0
 PlaysIf true config before after = PlaysOne config before after
 PlaysIf false config before after = (after ≡ before) × IsNoneDue after.ticks after.ahead
 
--- All entries that are due are applied.
+-- All entries of the scenario that are due are applied.
 abbrev pub Plays : {W : Type 0} → Config → DriverView W → DriverView W → Type 0
 Plays config before after = (n : ℕ) × ForEach n (λ i. PlaysOne) config before after × IsNoneDue after.ticks after.ahead
 
--- the highest count of ticks that a driver can have
+-- the highest number of milliseconds that a driver can count
 abbrev pub most_ticks : ℕ
 most_ticks = 18446744073709551615
 
@@ -50,13 +50,13 @@ Counts (Err refused) config before after = after ≡ before
 abbrev pub TicksOnce : {W : Type 0} → Config → DriverView W → DriverView W → Type 0
 TicksOnce config before after = (result : Result Did Refused) × (Given Tick result then Counts result) config before after
 
--- This many milliseconds pass. The entries that are due are applied before each millisecond, and after the last one.
+-- This many milliseconds pass. The scenario's entries that are due are applied before each millisecond, and after the last one.
 abbrev pub Passes : {W : Type 0} → ℕ → Config → DriverView W → DriverView W → Type 0
 Passes ticks = ForEach ticks (λ i. Plays then TicksOnce) then Plays
 
--- A sweep, in this order: a connection is accepted on each of the three ports; each connection is read; one call of each is taken; peers
--- are dialed; time passes; the bytes that wait are written, first those of connections, then those of interrupt channels; connections at
--- fault are closed.
+-- A sweep, in this order: on each of the three listening ports a connection is accepted; each connection is read; one call of each
+-- connection is taken; the peers of interrupt channels are dialed; time passes; the bytes that wait are written, first those of
+-- connections, then those of interrupt channels; connections at fault are closed.
 abbrev pub Sweeps : {W : Type 0} → (W → Heard → W → Type 0) → ℕ → Config → DriverView W → DriverView W → Type 0
 Sweeps hears ticks = Accepts hears Core then Accepts hears Abort then Accepts hears Portmap then ForEach 16 (ReadsFrom hears)
     then ForEach 16 Turns then ForEach 16 (Dials hears) then Passes ticks then ForEach 16 (λ c. WritesTo hears (Conn c))

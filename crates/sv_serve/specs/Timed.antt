@@ -8,17 +8,17 @@ use Rattle.sv_replay.specs.declared.entry.Entry.{Entry}
 abbrev pub is_timed : PlainEvent → Bool
 is_timed = elim [ Input channel microvolts ↦ true | External ↦ true | Tick ↦ true | _ ↦ false ]
 
--- the events of the entries of this tick, the newest first
+-- the events of the scenario's entries for this millisecond, the newest first
 abbrev pub entry_events : ℕ → List Entry → List PlainEvent
 entry_events tick [] = []
 entry_events tick (entry ∷ entries) = entry_events tick entries ++ (if entry.tick == tick then stimulus_event entry.stimulus ∷ [] else [])
 
--- the events of this many milliseconds; the entries that are due come before each millisecond, and after the last one
+-- the events of this many milliseconds, the newest first; the scenario's entries that are due come before each Tick, and after the last one
 abbrev pub time_events : ℕ → List Entry → List PlainEvent
 time_events zero entries = entry_events 0 entries
 time_events (suc n) entries = entry_events (suc n) entries ++ Tick ∷ time_events n entries
 
--- how many milliseconds pass in all these sweeps together
+-- how many milliseconds pass in all these sweeps together, given those of each sweep
 abbrev pub handed_ticks : List ℕ → ℕ
 handed_ticks [] = 0
 handed_ticks (ticks ∷ passed) = handed_ticks passed + ticks

@@ -26,15 +26,16 @@ impl<W: Wire + Drop, A: Allocator> Driver<W, A> {
         self.open(role, conn, answer);
     }
 
-    /// Asks the wire to accept a connection under this number; without a number, to drop the
-    /// connection.
+    /// Tells the wire to accept a connection under the number `conn`. If that is `None`, tells the
+    /// wire to accept and drop the connection.
     fn greet(&mut self, role: Role, conn: Option<u8>) -> Answer<()>
         ensures { Steps (Hears W.hears (WasAccepted role conn result)) self.old self.new }
     {
         self.wire.accept(role, conn)
     }
 
-    /// Returns the lowest number that no open connection has.
+    /// Returns the lowest number from 0 to 15 that no open connection has; `None` if all are in
+    /// use.
     fn lowest(&self) -> Option<u8>
         ensures { (config : Config) (history : List PlainEvent)
             → StandsFor self.now.server config history

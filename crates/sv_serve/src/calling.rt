@@ -24,8 +24,8 @@ fn is_wanted(called: Dial, wanted: Option<Dial>) -> bool
 }
 
 impl<W: Wire + Drop, A: Allocator> Driver<W, A> {
-    /// For each connection: dials the peer of its interrupt channel if the channel has to be
-    /// connected, and drops a peer that isn't wanted any more.
+    /// For each connection: closes the socket of a dialed peer to which its interrupt channel
+    /// needn't be connected any more, and dials the peer to which the channel has to be connected.
     pub(crate) fn dial_each(&mut self)
         ensures { Steps (ForEach 16 (Dials W.hears)) self.old self.new }
     {
@@ -37,8 +37,8 @@ impl<W: Wire + Drop, A: Allocator> Driver<W, A> {
         }
     }
 
-    /// Dials the peer of a connection's interrupt channel, or drops a peer that isn't wanted any
-    /// more.
+    /// Closes the socket of a dialed peer to which a connection's interrupt channel needn't be
+    /// connected any more. Dials the peer to which the channel has to be connected.
     fn dial(&mut self, conn: u8)
         requires { conn < 16 }
         ensures { Steps (Dials W.hears conn) self.old self.new }
@@ -47,8 +47,8 @@ impl<W: Wire + Drop, A: Allocator> Driver<W, A> {
         self.call(conn);
     }
 
-    /// Drops the peer that was dialed for a connection, unless its channel is open or still has to
-    /// be connected to this peer.
+    /// Closes the socket of the peer that was dialed for a connection's interrupt channel, unless
+    /// the channel is open or still has to be connected to this peer.
     fn cancel_unwanted(&mut self, conn: u8)
         requires { conn < 16 }
         ensures { Steps (LetsGo W.hears conn) self.old self.new }
@@ -57,7 +57,8 @@ impl<W: Wire + Drop, A: Allocator> Driver<W, A> {
         self.cancel_if_unwanted(conn, called);
     }
 
-    /// Drops the peer `called`, which was dialed for a connection, if it isn't wanted any more.
+    /// Closes the socket of the peer `called`, if it was dialed for a connection's interrupt
+    /// channel, and the channel is neither open nor still has to be connected to this peer.
     fn cancel_if_unwanted(&mut self, conn: u8, called: Option<Dial>)
         requires { conn < 16 }
         ensures { Steps (CancelsUnwanted W.hears conn called) self.old self.new }
@@ -72,7 +73,8 @@ impl<W: Wire + Drop, A: Allocator> Driver<W, A> {
         }
     }
 
-    /// Drops the peer that was dialed for a connection, unless `keeps`.
+    /// Closes the socket of the peer that was dialed for a connection's interrupt channel, unless
+    /// `keeps`.
     fn keep_call(&mut self, conn: u8, keeps: bool)
         requires { conn < 16 }
         ensures { Steps (KeepsCall W.hears conn keeps) self.old self.new }
@@ -83,8 +85,8 @@ impl<W: Wire + Drop, A: Allocator> Driver<W, A> {
         self.close_channel(conn);
     }
 
-    /// Dials the peer to which a connection's channel has to be connected, or asks whether it has
-    /// answered.
+    /// If a connection's interrupt channel has to be connected: dials its peer, or asks the wire
+    /// whether the peer that was dialed has answered.
     fn call(&mut self, conn: u8)
         requires { conn < 16 }
         ensures { Steps (Calls W.hears conn) self.old self.new }
@@ -94,7 +96,8 @@ impl<W: Wire + Drop, A: Allocator> Driver<W, A> {
         self.call_for(conn, wanted, called);
     }
 
-    /// Dials the peer `wanted`, if no peer was dialed yet; else asks whether the peer has answered.
+    /// If there is a peer `wanted`: dials it if no peer was dialed yet, else asks the wire whether
+    /// the peer has answered.
     fn call_for(&mut self, conn: u8, wanted: Option<Dial>, called: Option<Dial>)
         requires { conn < 16 }
         ensures { From (λ (config : Config) (at : DriverView W). Wants conn config at wanted)
@@ -113,7 +116,7 @@ impl<W: Wire + Drop, A: Allocator> Driver<W, A> {
         }
     }
 
-    /// Asks the wire to dial a peer.
+    /// Tells the wire to dial a peer for the interrupt channel of a connection.
     fn start_connect(&mut self, conn: u8, dial: Dial) -> Answer<()>
         ensures { Steps (Hears W.hears (WasDialed conn dial result)) self.old self.new }
     {
@@ -127,7 +130,7 @@ impl<W: Wire + Drop, A: Allocator> Driver<W, A> {
         self.wire.dialed(conn)
     }
 
-    /// Applies the answer to dialing a peer.
+    /// Applies the wire's answer to dialing a peer for the interrupt channel of a connection.
     fn connect_result(&mut self, conn: u8, dial: Dial, answer: Answer<()>)
         requires { conn < 16 }
         ensures { From (λ (config : Config) (at : DriverView W). Wants conn config at (Some dial))
@@ -145,7 +148,7 @@ impl<W: Wire + Drop, A: Allocator> Driver<W, A> {
         }
     }
 
-    /// Records which peer was dialed for a connection.
+    /// Records which peer was dialed for the interrupt channel of a connection.
     fn remember(&mut self, conn: u8, dial: Dial)
         requires { conn < 16 }
         ensures { Steps (Remembers conn (Some dial)) self.old self.new }
@@ -154,7 +157,7 @@ impl<W: Wire + Drop, A: Allocator> Driver<W, A> {
         self.dial_limit = self.dial_limit.max(conn + 1);
     }
 
-    /// Applies the answer about a peer that was dialed before.
+    /// Applies the wire's answer whether the peer that was dialed before has answered.
     fn poll_result(&mut self, conn: u8, answer: Answer<()>)
         requires { conn < 16 }
         ensures { From (IsAwaited conn) (PollResult W.hears conn answer) self.old self.new }

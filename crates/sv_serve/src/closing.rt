@@ -29,14 +29,14 @@ impl<W: Wire + Drop, A: Allocator> Driver<W, A> {
         }
     }
 
-    /// Asks the wire to close a socket.
+    /// Tells the wire to close the socket of a port.
     fn shut(&mut self, port: Port)
         ensures { Steps (Hears W.hears (WasClosed port)) self.old self.new }
     {
         self.wire.close(port);
     }
 
-    /// Records that no peer is dialed for a connection.
+    /// Records that no peer is dialed for the interrupt channel of a connection.
     fn forget(&mut self, conn: u8)
         requires { conn < 16 }
         ensures { Steps (Remembers conn None) self.old self.new }
@@ -77,7 +77,8 @@ impl<W: Wire + Drop, A: Allocator> Driver<W, A> {
         self.end_if(conn, faulted);
     }
 
-    /// If `so`, a connection is at fault: closes it, if it has no more bytes to send.
+    /// Closes a connection if `so`, which says that it is at fault, and if it has no more bytes to
+    /// send.
     fn end_if(&mut self, conn: u8, so: bool)
         requires { conn < 16 }
         ensures { From (λ (config : Config) (at : DriverView W). IsFaulted conn config at so)

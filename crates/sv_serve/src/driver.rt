@@ -34,7 +34,7 @@ pub struct Driver<W: Wire + Drop, A: Allocator = Global> {
     pub(crate) next: usize,
     /// How many milliseconds have passed.
     pub(crate) ticks: u64,
-    /// The buffer into which bytes are read.
+    /// The buffer into which the wire reads the bytes of a connection.
     pub(crate) buffer: Vec<u8, A>,
 }
 
@@ -89,14 +89,14 @@ impl<W: Wire + Drop, A: Allocator> Driver<W, A> {
         })
     }
 
-    /// The wire of the driver.
+    /// Returns the wire of the driver.
     pub fn wire(&self) -> &W
         ensures { result.now ≡ self.now.wire }
     {
         &self.wire
     }
 
-    /// The server of the driver.
+    /// Returns the server of the driver.
     pub fn server(&self) -> &Server<A>
         ensures { result.now ≡ self.now.server }
     {
@@ -112,8 +112,8 @@ impl<W: Wire + Drop, A: Allocator> Driver<W, A> {
         conn >= self.server.connections_used()
     }
 
-    /// Whether no peer has to be dialed or dropped for any connection with this number or a higher
-    /// one.
+    /// Whether for no connection with this number or a higher one a peer has to be dialed, or the
+    /// socket of a dialed peer has to be closed.
     pub(crate) fn is_uncalled(&self, conn: u8) -> bool
         ensures { result ≡ true → (config : Config) (history : List PlainEvent)
             → StandsFor self.now.server config history
@@ -123,7 +123,8 @@ impl<W: Wire + Drop, A: Allocator> Driver<W, A> {
         self.is_unused(conn) && conn >= self.dial_limit
     }
 
-    /// Applies an event that the server's queries allow at this moment, so that it isn't refused.
+    /// Applies an event to the server. The answers of the server's queries must allow the event at
+    /// this moment: then it isn't refused.
     pub(crate) fn apply(&mut self, event: Event<'_>)
         ensures { From (IsSuited (plain event.entry)) (IsApplied (plain event.entry))
             self.old self.new }
@@ -131,7 +132,7 @@ impl<W: Wire + Drop, A: Allocator> Driver<W, A> {
         let _ = self.server.apply(event);
     }
 
-    /// Applies an event that the server may refuse.
+    /// Gives the server an event that it can refuse, and returns the server's answer.
     pub(crate) fn give(&mut self, event: Event<'_>) -> Result<Did, Refused>
         ensures { Steps (Given (plain event.entry) result) self.old self.new }
     {

@@ -14,8 +14,8 @@ pub fn carried<W: Wire>()
     ensures { Carried W.hears }
 {}
 
-/// In a sweep each connection has its turn after all reads. The bytes that wait after the turn are
-/// passed to the wire in the same sweep.
+/// After all reads of a sweep, the next call of each connection is taken, if there is one and its
+/// reply finds room. The bytes that wait then are passed to the wire in the same sweep.
 pub fn served<W: Wire>()
     ensures { Served W.hears }
 {}

@@ -46,7 +46,7 @@ impl<W: Wire + Drop, A: Allocator> Driver<W, A> {
         true
     }
 
-    /// Lets a millisecond pass.
+    /// Lets a millisecond pass at the server, and counts it.
     fn tick(&mut self)
         ensures { Steps TicksOnce self.old self.new }
     {

@@ -66,7 +66,8 @@ impl<W: Wire + Drop, A: Allocator> Driver<W, A> {
         }
     }
 
-    /// Asks whether a connection without room is gone, if the connection is open.
+    /// Asks the wire whether the peer of a connection without room is gone, if the connection is
+    /// open. Closes the connection if so.
     fn probe(&mut self, conn: u8)
         requires { conn < 16 }
         ensures { Steps (Probes W.hears conn) self.old self.new }
@@ -75,7 +76,8 @@ impl<W: Wire + Drop, A: Allocator> Driver<W, A> {
         self.probe_if(conn, opened);
     }
 
-    /// Asks whether a connection is gone, if `opened`.
+    /// Asks the wire whether the peer of a connection is gone, if the connection is open
+    /// (`opened`). Closes the connection if so.
     fn probe_if(&mut self, conn: u8, opened: bool)
         requires { conn < 16 }
         ensures { From (λ (config : Config) (at : DriverView W). IsOpen
@@ -89,7 +91,8 @@ impl<W: Wire + Drop, A: Allocator> Driver<W, A> {
         }
     }
 
-    /// Asks the wire whether a connection is gone.
+    /// Asks the wire whether the peer of a connection is gone. With `drops`, the wire discards the
+    /// bytes that come on the connection.
     fn ask(&mut self, conn: u8, drops: bool) -> Answer<()>
         ensures { Steps (Hears W.hears (WasProbed conn drops result)) self.old self.new }
     {

@@ -14,8 +14,8 @@ use std::alloc::Allocator;
 
 impl<W: Wire + Drop, A: Allocator> Driver<W, A> {
     /// Whether nothing becomes due within this number of milliseconds: no scan is under way, no
-    /// suspended call reaches its deadline, and no entry of the scenario becomes due. Then the
-    /// caller may sleep that long, and let these milliseconds pass in a later sweep.
+    /// suspended call reaches its deadline, and no entry of the scenario becomes due. If so, the
+    /// caller can sleep that long, and let these milliseconds pass in a later sweep.
     pub fn is_still(&self, ticks: u32) -> bool
         ensures { (config : Config) (history : List PlainEvent)
             → StandsFor self.now.server config history

@@ -51,7 +51,8 @@ impl<W: Wire + Drop, A: Allocator> Driver<W, A> {
         }
     }
 
-    /// Refuses the call of a Turn for which memory was refused. Its connection stays open.
+    /// If the server's answer to a Turn is that memory was refused, refuses the call with error 9.
+    /// The connection stays open.
     fn end_turn(&mut self, conn: u8, answer: Result<Did, Refused>)
         requires { conn < 16 }
         ensures { From (MayFindNone conn answer) (EndsTurn conn answer) self.old self.new }
@@ -62,7 +63,7 @@ impl<W: Wire + Drop, A: Allocator> Driver<W, A> {
         }
     }
 
-    /// Refuses the next call of a connection, if `so`.
+    /// Refuses the next call of a connection with error 9, if `so`.
     fn refuse_if(&mut self, conn: u8, so: bool)
         requires { conn < 16 }
         ensures { From (FindsNoneIf conn so) (RefusesIf conn so) self.old self.new }

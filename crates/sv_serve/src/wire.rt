@@ -4,14 +4,14 @@ ghost use Rattle.std.specs.Prelude.{length, option_map};
 
 use sv_server::{Dial, Port, Role};
 
-/// The answer of a wire's method, which returns without waiting.
+/// What a wire's method returns. The method doesn't wait.
 #[derive(Clone, Copy, Debug, PartialEq, Eq)]
 pub enum Answer<T> {
-    /// The call succeeded, with this result.
+    /// The method succeeded, with this result.
     Got(T),
-    /// There is no result yet: ask again.
+    /// There is no result yet: the caller has to call the method again later.
     Pending,
-    /// The call failed, or the stream came to its end.
+    /// The method failed, or the stream came to its end.
     Failed,
 }
 
@@ -20,8 +20,8 @@ pub trait Wire {
     ghost use Rattle.sv_serve.specs.Heard.{Heard, WasAccepted, WasRead, WasProbed, WasWritten, WasDialed, PeerAnswered, WasClosed, bytes_of, IsWithin};
     ghost use Rattle.std.specs.Prelude.{⊤};
 
-    /// How a call of a method and its answer change the wire. Of the system's sockets nothing is
-    /// known.
+    /// How a call of a method, with its answer, changes the wire. By default nothing is known of
+    /// this, as for the system's sockets.
     ghost hears: { Self → Heard → Self → Type 0 } = { λ before heard after. ⊤ };
 
     /// Accepts a connection of this role under this number. Without a number, accepts and drops the
@@ -35,9 +35,9 @@ pub trait Wire {
         ensures heard { let answer = bytes_of result buffer.new in
             hears self.old (WasRead conn (length buffer.old) answer) self.new };
 
-    /// Asks whether a connection that isn't read for lack of room is gone. The answer is `Failed`
-    /// if the connection was reset, or closed in both directions. With `drops`, its bytes are read
-    /// and discarded, and the end of its stream is `Failed` too.
+    /// Asks whether the peer of a connection that isn't read for lack of room is gone. The answer
+    /// is `Failed` if the connection was reset, or closed in both directions. With `drops`, bytes
+    /// that come are read and discarded, and the answer is `Failed` at the end of the stream too.
     fn probe(&mut self, conn: u8, drops: bool) -> Answer<()>
         ensures { hears self.old (WasProbed conn drops result) self.new };
 

@@ -1,3 +1,3 @@
--- The server: which history it stands for. Histories are defined in sv_history.
+-- What it means that a server stands for a history. Histories are defined in sv_history.
 pub mod State
 pub mod Inside

@@ -1,12 +1,12 @@
-//! The number of a connection. It is checked once, where an event or a query names it; from then on
-//! it is below 16.
+//! The number of a connection. It is checked at the place where an event or a query names a
+//! connection. After the check it is known to be below 16.
 
 ghost use Rattle.std.specs.Prelude.{◌≡◌, ◌≤◌, ◌<◌, MatchOption};
 
 /// How many connections there may be.
 pub const CONNECTIONS: usize = 16;
 
-/// The number of a connection, which was checked to be below 16.
+/// The number of a connection, known to be below 16.
 #[derive(Clone, Copy)]
 pub struct Conn {
     /// The number, below 16.
@@ -15,7 +15,7 @@ pub struct Conn {
 }
 
 impl Conn {
-    /// The connection of a number; `None` above 15.
+    /// Checks a number; `None` if it is above 15.
     pub fn new(number: u8) -> Option<Conn>
         ensures { MatchOption result (16 ≤ number) (λ conn. conn.number ≡ number) }
     {

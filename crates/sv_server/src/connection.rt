@@ -1,5 +1,5 @@
-//! A connection: its bytes in and out, the meaning of its next record, and the replies as they are
-//! sent. It knows nothing of the device, nor of other connections.
+//! A connection: the bytes that came, the bytes that wait to be sent, what its next record asks
+//! for, and how replies are written. This module uses neither the device nor other connections.
 
 ghost use Rattle.std.specs.Prelude.{◌≡◌, ◌≢◌, ◌+◌, ◌≤◌, ◌||◌, not, ◌&&◌, ℕ, List, [], ◌∷◌, length, IfOk, IsSome, Some, None, true, false, is_some, nat_lt, option_map, if◌then◌else◌};
 ghost use Rattle.sv_rpc.specs.RecordBuf.{StandsFor, room_of, no_records};
@@ -23,12 +23,12 @@ use sv_bytes::drop_front;
 use sv_history::Role;
 use sv_rpc::{RecordBuf, RpcFault};
 
-/// How many outgoing bytes may wait that the peer hasn't taken.
+/// The most outgoing bytes that may wait for the peer to take them.
 const MAX_OUTPUT: usize = 16384;
 
 /// A connection, open or not: its role, the bytes that came, and the bytes that wait to be sent. A
-/// call that was taken stays in the input until it is answered; room for the longest reply is kept
-/// free for it.
+/// call that was taken stays among the bytes that came until it is answered. Until then the output
+/// has room for the longest reply.
 #[derive(Drop)]
 pub struct Connection<A: Allocator> {
     role: Option<Role>,
@@ -63,7 +63,7 @@ impl<A: Allocator> Model for Connection<A> {
 }
 
 impl<A: Allocator + Copy> Connection<A> {
-    /// A connection that isn't open. It allocates all the memory that it ever uses.
+    /// Makes a connection that isn't open. Allocates all the memory that the connection ever uses.
     pub fn new(alloc: A) -> Result<Connection<A>, AllocError>
         ensures { IfOk result (λ connection. IsConnection connection []) }
     {
@@ -106,7 +106,7 @@ impl<A: Allocator> Connection<A> {
         }
     }
 
-    /// Opens the connection, without bytes in or out.
+    /// Opens the connection. No bytes have come, and none wait to be sent.
     pub fn open(&mut self, role: Role)
         ensures { (acts : List ConnAct) → IsConnection self.old acts
             → IsConnection self.new (Opened role ∷ acts) }
@@ -115,7 +115,7 @@ impl<A: Allocator> Connection<A> {
         self.role = Some(role);
     }
 
-    /// Closes the connection, and drops its bytes in and out.
+    /// Closes the connection, and drops the bytes that came and the bytes that wait to be sent.
     pub fn close(&mut self)
         ensures { (acts : List ConnAct) → IsConnection self.old acts
             → IsConnection self.new (PortClosed ∷ acts) }
@@ -140,7 +140,7 @@ impl<A: Allocator> Connection<A> {
         self.busy = false;
     }
 
-    /// How many bytes the connection has room for; 0 if it isn't open.
+    /// How many more incoming bytes the connection has room for; 0 if it isn't open.
     pub fn room(&self) -> usize
         ensures bounded { result ≤ room_of self.now.input }
         ensures answer { (acts : List ConnAct) → IsConnection self.now acts → result ≡ room acts }
@@ -151,7 +151,7 @@ impl<A: Allocator> Connection<A> {
         }
     }
 
-    /// Takes in bytes that came.
+    /// Appends `piece`, which came from the peer, to the input.
     pub fn push(&mut self, piece: &[u8])
         requires { length piece.now ≤ room_of self.old.input }
         ensures { (acts : List ConnAct) → IsConnection self.old acts
@@ -160,7 +160,7 @@ impl<A: Allocator> Connection<A> {
         self.input.push(piece);
     }
 
-    /// Drops the first `count` bytes that wait: the peer took them.
+    /// Drops the first `count` of the bytes that wait to be sent, since the peer took them.
     pub fn took(&mut self, count: usize)
         requires { count ≤ length self.old.output }
         ensures { (acts : List ConnAct) → IsConnection self.old acts
@@ -169,8 +169,8 @@ impl<A: Allocator> Connection<A> {
         drop_front(&mut self.output, count);
     }
 
-    /// Whether a record was taken that isn't a call, or a record is too long and all records before
-    /// it are done.
+    /// Whether the connection is at fault: a record was taken that isn't a call; or a record came
+    /// that is too long, and all records before it are finished.
     pub fn is_faulted(&self) -> bool
         ensures { (acts : List ConnAct) → IsConnection self.now acts → result ≡ is_faulted acts }
     {
@@ -180,14 +180,15 @@ impl<A: Allocator> Connection<A> {
         }
     }
 
-    /// Whether a record came that is too long. No bytes after it are taken in.
+    /// Whether a record that is too long came. The connection stores no bytes that come after that
+    /// record.
     pub fn is_overlong(&self) -> bool
         ensures { (acts : List ConnAct) → IsConnection self.now acts → result ≡ is_overlong acts }
     {
         self.input.is_overlong()
     }
 
-    /// The call to take next; `None` if there is none.
+    /// The call to take next; `None` if there is no call to take.
     pub fn next_call(&self) -> Option<&[u8]>
         ensures value { option_map (λ call. call.now) result ≡ kept_next self.now }
         ensures answer { (acts : List ConnAct) → IsConnection self.now acts
@@ -203,7 +204,8 @@ impl<A: Allocator> Connection<A> {
         self.next_call().is_none()
     }
 
-    /// The first record, unless it was taken already, or a record wasn't a call.
+    /// The first record; `None` if this record was taken already, or if a record was taken that
+    /// isn't a call.
     fn first_call(&self) -> Option<&[u8]>
         ensures { option_map (λ call. call.now) result ≡ kept_next self.now }
     {
@@ -230,8 +232,8 @@ impl<A: Allocator> Connection<A> {
         }
     }
 
-    /// The call that was taken and isn't answered, if it is one of the core channel. Its record is
-    /// read again, with the same result as when it was taken.
+    /// The call that was taken and isn't answered, if it is a call of the core channel; else
+    /// `None`. The call's record is read again, with the same result as when it was taken.
     pub fn taken_call(&self) -> Option<CoreCall<'_>>
         ensures { (acts : List ConnAct) → IsConnection self.now acts
             → option_map plain_core_call result ≡ core_call_in (pending_call acts) }
@@ -239,7 +241,7 @@ impl<A: Allocator> Connection<A> {
         core_call(self.taken()?)
     }
 
-    /// Whether there is room for the longest reply.
+    /// Whether the output has room for the longest reply.
     pub fn has_reply_room(&self) -> bool
         ensures value { result ≡ not (nat_lt max_output (length self.now.output + longest_reply)) }
         ensures answer { (acts : List ConnAct) → IsConnection self.now acts
@@ -273,8 +275,8 @@ impl<A: Allocator> Connection<A> {
         self.busy = false;
     }
 
-    /// Drops the record that was taken, if there is one. It isn't a call: the connection is at
-    /// fault.
+    /// Drops the record that was taken, if there is one. The record isn't a call, so the connection
+    /// is at fault from now on.
     pub fn fault(&mut self)
         ensures { (acts : List ConnAct) → IsConnection self.old acts → is_busy acts ≡ true
             → IsConnection self.new (Faulted ∷ acts) }

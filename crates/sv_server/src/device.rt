@@ -1,6 +1,6 @@
-//! The device is what all connections share: links, the lock, suspended calls, interrupt channels,
-//! the instrument and the clock. Here is what each call does to them. Of a connection the device
-//! knows only the number, and of a call only the arguments.
+//! The device, which all connections share: links, the lock, suspended calls, interrupt channels,
+//! the instrument and the clock. The modules below execute calls. Of a call, the device gets only
+//! the number of its connection and its arguments.
 
 ghost use Rattle.std.specs.Prelude.{◌≡◌, ◌↔◌, ◌+◌, ◌<◌, ◌≤◌, ℕ, List, [], ◌∷◌, ◌++◌, length, map, option_map, Some, None, is_some, IfOk, IfSome, IsTrue, ◌==◌, true, false};
 ghost use Rattle.sv_links.specs.Links.{closing};
@@ -73,7 +73,8 @@ impl<A: Allocator> Model for Device<A> {
 }
 
 impl<A: Allocator + Copy> Device<A> {
-    /// No link, no suspended call, no interrupt channel, no text, and the clock at its start.
+    /// Makes a device with no link, no suspended call, no interrupt channel and no bytes of a
+    /// message. Its clock begins at the configured value.
     pub fn new(alloc: A, config: Config) -> Result<Device<A>, AllocError>
         requires { config.clock ≤ 9223372036854775807 }
         ensures stands { IfOk result (λ device. IsDevice device config []) }
@@ -130,7 +131,7 @@ impl<A: Allocator> Device<A> {
         self.raise(raised);
     }
 
-    /// Sets the input of a channel to another voltage.
+    /// Sets the simulated voltage at the input of a channel.
     pub fn input(&mut self, channel: u8, microvolts: i64)
         ensures stands { (config : Config) (acts : List DeviceAct) → IsDevice self.old config acts
             → IsDevice self.new config (Applied (Scanned (Input channel microvolts)) ∷ acts) }
@@ -151,7 +152,7 @@ impl<A: Allocator> Device<A> {
         self.raise(raised);
     }
 
-    /// The ports of the configuration.
+    /// The TCP ports of the core and the abort channel, as configured.
     pub fn ports(&self) -> Ports
         ensures { (config : Config) (acts : List DeviceAct) → IsDevice self.now config acts
             → result ≡ record { core = config.core; abort = config.abort } }
@@ -206,7 +207,7 @@ impl<A: Allocator> Device<A> {
         self.waiting.expired(self.clock)
     }
 
-    /// Ends the suspension of a connection's call.
+    /// Takes the suspended call of a connection out of the queue.
     pub fn end_wait(&mut self, conn: Conn)
         ensures stands { (config : Config) (acts : List DeviceAct) → IsDevice self.old config acts
             → IsDevice self.new config (Waited (Left conn.number) ∷ acts) }
@@ -215,8 +216,8 @@ impl<A: Allocator> Device<A> {
         self.waiting.leave(conn.number);
     }
 
-    /// Sends on interrupt channels the requests for service that the instrument raised; `raised` is
-    /// their number.
+    /// Sends the requests for service that the instrument raised, on interrupt channels; `raised`
+    /// is the number of these requests.
     fn raise(&mut self, raised: u8)
         ensures stands { (config : Config) (acts : List DeviceAct) (adds : List InstrumentAct)
             → HasDone adds self.old config acts → Raise adds (instrument_acts acts) raised
@@ -230,7 +231,7 @@ impl<A: Allocator> Device<A> {
     }
 
     /// If the instrument did something (`Some`), sends the requests for service that it raised.
-    /// Returns whether it did.
+    /// Returns whether the instrument did something.
     fn raise_if(&mut self, raised: Option<u8>) -> bool
         ensures some { (count : ℕ) → raised ≡ Some count → (config : Config)
             (acts : List DeviceAct) (adds : List InstrumentAct)
@@ -250,7 +251,7 @@ impl<A: Allocator> Device<A> {
         }
     }
 
-    /// Applies an immediate trigger, if one is due. Returns whether one was.
+    /// Applies an immediate trigger, if one is due. Returns whether it applied one.
     pub fn fire(&mut self) -> bool
         ensures steps { (config : Config) (acts : List DeviceAct) → IsDevice self.old config acts
             → InstrumentSteps IsFired result config acts self.old self.new }
@@ -263,7 +264,7 @@ impl<A: Allocator> Device<A> {
         self.raise_if(fired)
     }
 
-    /// Takes a step of message exchange, if one is due. Returns whether one was.
+    /// Takes a step of message exchange, if one is due. Returns whether it took one.
     pub fn exchange(&mut self) -> bool
         ensures steps { (config : Config) (acts : List DeviceAct) → IsDevice self.old config acts
             → InstrumentSteps IsStep result config acts self.old self.new }

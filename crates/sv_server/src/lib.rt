@@ -1,9 +1,9 @@
 //! The server: events go in, and the bytes of every reply come out.
 //!
-//! It has four parts, and the first file of each says what it is for. [`device`] is what all
-//! connections share, [`connection`] is one connection, [`server`] joins them, [`replay`] prints.
-//! The first two don't use each other; both use [`conn`], the number of a connection. What the
-//! server has to do is specified in `sv_history`.
+//! The server has four parts, and the first file of each says what the part does. [`device`] is
+//! what all connections share, [`connection`] is one connection, [`server`] joins both, and
+//! [`replay`] prints. `device` and `connection` don't use each other; both use [`conn`], the number
+//! of a connection. What the server has to do is specified in `sv_history`.
 #![tactic(auto)]
 
 mod conn;

@@ -1,5 +1,5 @@
-//! The replay of an event: the event is applied, and the bytes that then wait are printed, and
-//! count as taken by the peers. It uses only what every caller of the server may use.
+//! The replay of an event: applies the event, prints the bytes that then wait to be sent, and
+//! counts them as taken by the peers. The replay uses only the public functions of the server.
 
 ghost use Rattle.std.specs.Prelude.{◌≡◌, ℕ, List};
 ghost use Rattle.std.specs.Io.KnownBytes.{Appends};
@@ -25,7 +25,7 @@ use thiserror::Error;
 /// Why a replay stopped.
 #[derive(Clone, Copy, Debug, PartialEq, Eq, Error)]
 pub enum ReplayFault {
-    /// Memory was refused to an event.
+    /// There was no memory for an event.
     #[error("no memory was left")]
     NoMemory,
     /// The writer failed.
@@ -45,13 +45,13 @@ impl From<WriteFault> for ReplayFault {
 }
 
 impl<A: Allocator> Server<A> {
-    /// Applies an event and writes what follows from it: `refused` and the number of the refusal,
-    /// if it was refused; then, for each port on which bytes wait, a line with these bytes, which
-    /// count as taken by the peer.
+    /// Applies an event and writes its results: `refused` and the number of the refusal, if the
+    /// event was refused; then, for each port on which bytes wait, a line with these bytes. Bytes
+    /// that were written count as taken by the peer.
     ///
     /// # Errors
     /// `NoMemory` if there was no memory for the event; then only `refused 1` is written. `Write`
-    /// if the writer failed; then no bytes count as taken that weren't written.
+    /// if the writer failed; then the peer counts as having taken only bytes that were written.
     pub fn replay<W: Write>(&mut self, event: Event<'_>, writer: &mut W) -> Result<(), ReplayFault>
         ensures { (config : Config) (history : List PlainEvent) → StandsFor self.old config history
             → (text : List ℕ) × (after : List PlainEvent)
@@ -75,7 +75,7 @@ impl<A: Allocator> Server<A> {
         }
     }
 
-    /// Writes the lines of all ports, and drops the bytes that they show.
+    /// Writes the lines of all ports, and drops the bytes that the lines show.
     fn show_all<W: Write>(&mut self, writer: &mut W) -> Result<(), WriteFault>
         ensures { (config : Config) (history : List PlainEvent) (channel_log : List ChannelAct)
             (log : List Act) → StandsBy self.old config history channel_log log
@@ -88,7 +88,7 @@ impl<A: Allocator> Server<A> {
         Ok(())
     }
 
-    /// Writes the line of a port, and drops the bytes that it shows.
+    /// Writes the line of a port, and drops the bytes that the line shows.
     fn show<W: Write>(&mut self, port: Port, writer: &mut W) -> Result<(), WriteFault>
         ensures { (config : Config) (history : List PlainEvent) (channel_log : List ChannelAct)
             (log : List Act) → StandsBy self.old config history channel_log log
@@ -105,15 +105,15 @@ impl<A: Allocator> Server<A> {
     }
 }
 
-/// Whether an event was refused for lack of memory.
+/// Whether an event was refused because there was no memory.
 fn is_no_memory(refused: Refused) -> bool
     ensures { result ≡ is_no_memory refused }
 {
     matches!(refused, Refused::NoMemory)
 }
 
-/// The port whose line is of this number: connections come first, and then their interrupt
-/// channels.
+/// The port whose line is printed as line `number`, counted from 0. The lines of connections come
+/// first, and then those of their interrupt channels.
 fn port_of(number: u8) -> Port
     ensures { result ≡ port_of number }
 {

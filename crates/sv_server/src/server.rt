@@ -37,12 +37,12 @@ use std::marker::Model;
 use sv_history::{Config, Did, Event, Port, Refused, Role};
 use sv_vxi::ErrorCode;
 
-/// One simulated instrument and the connections to it.
+/// One simulated instrument, and all connections of its clients.
 #[derive(Drop)]
 pub struct Server<A: Allocator = Global> {
     pub(crate) connections: Vec<Connection<A>, A>,
     pub(crate) device: Device<A>,
-    /// No connection of this number or above was ever opened.
+    /// One more than the highest number of a connection that was ever opened; 0 if none was.
     connections_used: u8,
 }
 
@@ -76,8 +76,8 @@ fn connections<A: Allocator + Copy>(alloc: A) -> Result<Vec<Connection<A>, A>, A
 }
 
 impl<A: Allocator> Server<A> {
-    /// A server with an empty history. It allocates all the memory that it ever uses, except that
-    /// of links and interrupt channels.
+    /// Makes a server with an empty history. Allocates all the memory that the server ever uses,
+    /// except the memory for links and interrupt channels.
     ///
     /// # Errors
     /// If memory is refused.
@@ -94,7 +94,7 @@ impl<A: Allocator> Server<A> {
         })
     }
 
-    /// The bytes that wait to be sent on a port, in order; none if the port isn't open.
+    /// The bytes that wait to be sent on a port, oldest first; none if the port isn't open.
     pub fn waiting(&self, port: Port) -> &[u8]
         ensures waiting { (config : Config) (history : List PlainEvent)
             → StandsFor self.now config history → WaitOn port config history result.now }
@@ -103,7 +103,7 @@ impl<A: Allocator> Server<A> {
         self.outgoing(port)
     }
 
-    /// The bytes that wait on a port.
+    /// The bytes that wait to be sent on a port; none if it isn't open.
     pub(crate) fn outgoing(&self, port: Port) -> &[u8]
         ensures exact { (config : Config) (log : List Act) (channel_log : List ChannelAct)
             → Represents self.now config log → HearsOf (device_acts log) channel_log
@@ -119,7 +119,7 @@ impl<A: Allocator> Server<A> {
         }
     }
 
-    /// How many bytes a connection has room for; 0 if it isn't open.
+    /// How many more incoming bytes a connection has room for; 0 if it isn't open.
     pub fn room(&self, conn: u8) -> u32
         ensures { (config : Config) (history : List PlainEvent) → StandsFor self.now config history
             → Answered (λ log. room (of conn log)) config history result }
@@ -130,8 +130,7 @@ impl<A: Allocator> Server<A> {
         }
     }
 
-    /// Whether a connection or an interrupt channel is open. None with a number above 15 is ever
-    /// open.
+    /// Whether a connection or an interrupt channel is open. A number above 15 is never open.
     pub fn is_open(&self, port: Port) -> bool
         ensures { (config : Config) (history : List PlainEvent) → StandsFor self.now config history
             → Answered (λ log. not (is_port_shut port log)) config history result }
@@ -153,8 +152,8 @@ impl<A: Allocator> Server<A> {
         }
     }
 
-    /// Whether there is a call for a Turn to take. The Turn is still refused if there may be no
-    /// room for its reply.
+    /// Whether a Turn of this connection would find a call to take. Even so, the Turn is refused if
+    /// the output has too little room for the longest reply.
     pub fn ready(&self, conn: u8) -> bool
         ensures { (config : Config) (history : List PlainEvent) → StandsFor self.now config history
             → Answered (λ log. not (is_idle (of conn log))) config history result }
@@ -165,8 +164,8 @@ impl<A: Allocator> Server<A> {
         }
     }
 
-    /// Whether the connection can only be closed: a record was taken that isn't a call, or a record
-    /// that is too long came and all records before it are done.
+    /// Whether the connection is at fault, and can only be closed: a record was taken that isn't a
+    /// call; or a record came that is too long, and all records before it are finished.
     pub fn faulted(&self, conn: u8) -> bool
         ensures { (config : Config) (history : List PlainEvent) → StandsFor self.now config history
             → Answered (λ log. is_faulted (of conn log)) config history result }
@@ -177,8 +176,8 @@ impl<A: Allocator> Server<A> {
         }
     }
 
-    /// Whether a record that is too long came on the connection. Nothing after it is taken in, so
-    /// there is no room any more. Complete records before it are still executed.
+    /// Whether a record that is too long came on the connection. From then on the connection has no
+    /// room for bytes. Complete records before the long one are still executed.
     pub fn overlong(&self, conn: u8) -> bool
         ensures { (config : Config) (history : List PlainEvent) → StandsFor self.now config history
             → Answered (λ log. is_overlong (of conn log)) config history result }
@@ -190,7 +189,7 @@ impl<A: Allocator> Server<A> {
     }
 
     /// One more than the highest number of a connection that was ever opened; 0 if none was.
-    /// Connections from this number on have nothing to do.
+    /// Connections with this number or a higher one have nothing to do.
     pub fn connections_used(&self) -> u8
         ensures { (config : Config) (history : List PlainEvent) → StandsFor self.now config history
             → (log : List Act) × IsLogOf config history log × IsUsed result log }
@@ -199,8 +198,8 @@ impl<A: Allocator> Server<A> {
     }
 
     /// Whether nothing becomes due within this number of milliseconds: no scan is under way, and no
-    /// suspended call reaches its deadline. Unless something else happens, these milliseconds
-    /// change nothing but the clock.
+    /// suspended call reaches its deadline. Unless another event happens, these milliseconds change
+    /// only the clock.
     pub fn is_still(&self, ticks: u32) -> bool
         ensures { (config : Config) (history : List PlainEvent) → StandsFor self.now config history
             → Decided (λ log. IsStill ticks config (device_acts log)) config history result }
@@ -208,7 +207,8 @@ impl<A: Allocator> Server<A> {
         self.device.is_still(ticks)
     }
 
-    /// The connection of this number; `None` above 15, for which nothing is ever recorded.
+    /// The connection of this number; `None` above 15. No history has acts of a connection above
+    /// 15.
     pub(crate) fn connection(&self, conn: u8) -> Option<&Connection<A>>
         ensures { (config : Config) (log : List Act) → Represents self.now config log
             → MatchOption result (of conn log ≡ [])
@@ -254,7 +254,7 @@ impl<A: Allocator> Server<A> {
         Ok(Did::Done)
     }
 
-    /// Takes in bytes of a connection.
+    /// Stores bytes that came on a connection.
     fn bytes(&mut self, conn: u8, piece: &[u8]) -> Result<Did, Refused>
         ensures within { IsEvent (Bytes conn piece.now) }
         ensures acts { (config : Config) (log : List Act) → Represents self.old config log
@@ -270,7 +270,8 @@ impl<A: Allocator> Server<A> {
         Ok(Did::Done)
     }
 
-    /// Drops bytes that the peer took.
+    /// Drops the first `count` bytes that wait to be sent on a connection, since the peer took
+    /// them.
     fn took(&mut self, conn: u8, count: u32) -> Result<Did, Refused>
         ensures acts { (config : Config) (log : List Act) → Represents self.old config log
             → Acts config (Took (Port.Conn conn) count) log result self.new }
@@ -285,8 +286,8 @@ impl<A: Allocator> Server<A> {
         Ok(Did::Done)
     }
 
-    /// Closes a connection: its links are destroyed, its interrupt channel is closed, its suspended
-    /// call and its outgoing bytes are dropped.
+    /// Closes a connection: destroys its links, closes its interrupt channel, and drops its
+    /// suspended call and its outgoing bytes.
     fn close(&mut self, conn: u8) -> Result<Did, Refused>
         ensures acts { (config : Config) (log : List Act) → Represents self.old config log
             → Acts config (Close (Port.Conn conn)) log result self.new }
@@ -312,7 +313,7 @@ impl<A: Allocator> Server<A> {
         Ok(Did::Done)
     }
 
-    /// Sets the input of a channel to another voltage.
+    /// Sets the simulated voltage at the input of a channel.
     fn input(&mut self, channel: u8, microvolts: i64) -> Result<Did, Refused>
         ensures acts { (config : Config) (log : List Act) → Represents self.old config log
             → Acts config (Input channel microvolts) log result self.new }
@@ -369,7 +370,8 @@ impl<A: Allocator> Server<A> {
         }
     }
 
-    /// Ends the suspended call of this connection by device_abort; no call if there is no number.
+    /// Ends the suspended call of connection `aborts`, since a device_abort aborts it. Does nothing
+    /// for `None`.
     fn abort(&mut self, aborts: Option<u8>)
         ensures { (config : Config) (log : List Act) → Represents self.old config log
             → ((conn : ℕ) → aborts ≡ Some conn → waits conn (wait_acts (device_acts log)) ≡ None
@@ -384,7 +386,7 @@ impl<A: Allocator> Server<A> {
         }
     }
 
-    /// Drops bytes of a port that the peer took.
+    /// Drops the first `count` bytes that wait to be sent on a port, since the peer took them.
     pub(crate) fn port_took(&mut self, port: Port, count: u32) -> Result<Did, Refused>
         ensures acts { (config : Config) (log : List Act) → Represents self.old config log
             → Acts config (Took port count) log result self.new }
@@ -408,7 +410,7 @@ impl<A: Allocator> Server<A> {
         }
     }
 
-    /// Applies an event, without the steps that follow it.
+    /// Applies an event, but doesn't take the steps that are due after it.
     fn act(&mut self, event: Event<'_>) -> Result<Did, Refused>
         ensures within { IsEvent (plain event.entry) }
         ensures acts { (config : Config) (log : List Act) → Represents self.old config log
@@ -435,15 +437,17 @@ impl<A: Allocator> Server<A> {
     /// Applies an event, or refuses it; a refused event changes nothing.
     ///
     /// # Errors
-    /// The first check that fails gives the error. `NoConn` comes first: an Open has a number above
-    /// 15, or another event names a connection or an interrupt channel that isn't open. Then an
-    /// Open may fail with `ConnInUse`, Bytes with `NoRoom`, a Took with `NotSent`, a Dialed with
-    /// `NoDial`. A Turn that finds a call fails with `NoRoom` if there is room for fewer than 8,232
-    /// bytes of replies; a Refuse fails with `NotRefusable`, then with `NoRoom` like a Turn. An
-    /// Input fails with `BadChannel`, then `BadInput`, a Tick with `TimeOver`.
+    /// The first check that fails decides. The check for `NoConn` comes first: an Open has a number
+    /// above 15, or another event names a connection or an interrupt channel that isn't open. Then
+    /// an Open may fail with `ConnInUse`, Bytes with `NoRoom`, a Took with `NotSent`, and a Dialed
+    /// with `NoDial`. A Turn that finds a call fails with `NoRoom` if there is room for fewer than
+    /// 8,232 bytes of replies. A Refuse fails with `NotRefusable`, or else with `NoRoom` like a
+    /// Turn. An Input fails with `BadChannel`, or else with `BadInput`. A Tick fails with
+    /// `TimeOver`.
     ///
-    /// If no check fails, a Turn may be refused with `NoMemory`, but only if its call makes a link,
-    /// waits for the lock to make one, or asks for an interrupt channel. It may be tried again.
+    /// If no check fails, a Turn may still be refused with `NoMemory`, but only if its call makes a
+    /// link, waits for the lock to make a link, or asks for an interrupt channel. The same Turn may
+    /// be tried again.
     pub fn apply(&mut self, event: Event<'_>) -> Result<Did, Refused>
         ensures answers { (config : Config) (history : List PlainEvent)
             → StandsFor self.old config history

@@ -1,29 +1,30 @@
-//! Plays the rows of the standard input, each with a new server over real sockets of 127.0.0.1 and
-//! with peers in the same process. Prints the title of each row, and then what the peers get.
+//! Plays the test cases, called rows, of the standard input. Each row gets a new server over real
+//! sockets of 127.0.0.1, and peers in the same process. Prints the title of each row, and then what
+//! the peers get.
 //!
-//! The server makes some sweeps between two polls of a peer. What is printed doesn't depend on the
-//! speed of the machine: only lower bounds of times are checked. The program ends with a fault if
-//! nothing comes to a peer for ten seconds.
+//! The server makes some sweeps between two checks of whether bytes have come to a peer. The output
+//! doesn't depend on the speed of the machine, since only lower bounds of times are checked. If
+//! nothing comes to a peer for ten seconds, the program ends with a fault.
 //!
-//! A row has these lines, of which most name a peer by a letter:
+//! A row has these lines. A letter such as `a` or `i` names a peer:
 //!
 //! | Line | What it says |
 //! |---|---|
-//! | `= WORDS` | the title, in front |
-//! | `0 input 1 250000` | an entry of the scenario; all entries come before the steps |
+//! | `= WORDS` | the title, which is the row's first line |
+//! | `0 input 1 250000` | an entry of the scenario; all entries come before the other lines |
 //! | `a core` | the peer connects to the core channel; `abort` and `portmap` are the other ports |
 //! | `a < 8000..` | the peer sends these bytes, which may have blanks between them |
-//! | `a > N` | N bytes come to the peer, and are printed |
-//! | `a before b` | bytes come to both peers, and to a not later than to b |
-//! | `a ends` | the peer's stream ends |
-//! | `a silent` | for a while nothing comes to the peer, and its stream doesn't end |
+//! | `a > N` | waits until N bytes have come to the peer, and prints them |
+//! | `a before b` | prints whether bytes come to peer a not later than to peer b |
+//! | `a ends` | prints whether the peer's stream ends |
+//! | `a silent` | prints whether for a while nothing comes to the peer, not even an end |
 //! | `a closes` | the peer closes its stream |
 //! | `i listens PORT` | the peer listens on a port of 127.0.0.1 |
-//! | `i accepts` | a connection comes to that port: from here on it is the peer's stream |
-//! | `a pours N 8000..` | the peer, without reading, sends these calls N times while it can |
-//! | `a drains` | the peer sends the rest, and reads the replies to all calls, which are compared |
+//! | `i accepts` | the peer accepts a connection on that port, which is its stream from then on |
+//! | `a pours N 8000..` | the peer sends these calls N times, or until the sockets are full |
+//! | `a drains N SIZE` | sends unsent calls; prints whether N replies of SIZE bytes are in order |
 //! | `start` | a time measurement starts |
-//! | `passed MILLISECONDS` | at least this many milliseconds have passed since then |
+//! | `passed MILLISECONDS` | prints whether this time has passed since `start` |
 //! | `sleep SWEEPS` | the server makes this many sweeps |
 #![tactic(auto)]
 
@@ -34,7 +35,7 @@ mod stage;
 
 use std::io::{self, BufWriter, Error, ErrorKind, Write};
 
-/// Plays each row in its order.
+/// Plays the rows in their order.
 fn main(rt: HostRuntime) -> io::Result<()> {
     let text = io::read_to_string(rt.alloc(), rt.reader())?;
     let Some(rows) = text.strip_prefix("= ") else {

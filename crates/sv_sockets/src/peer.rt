@@ -5,7 +5,7 @@ use std::alloc::Global;
 use std::io::{self, ErrorKind, Read, Write};
 use std::net::{Ipv4Addr, SocketAddr, SocketAddrV4};
 
-/// How many bytes a peer reads at once.
+/// The most bytes that a peer reads at once.
 const PIECE: usize = 65_536;
 
 /// The address of a port of 127.0.0.1.
@@ -13,7 +13,7 @@ fn local(port: u16) -> SocketAddr {
     SocketAddr::V4(SocketAddrV4::new(Ipv4Addr::LOCALHOST, port))
 }
 
-/// Whether a call failed only because it would block.
+/// Whether a read or a write failed only because it would block.
 fn would_wait(kind: ErrorKind) -> bool {
     matches!(
         kind,
@@ -28,9 +28,9 @@ pub(crate) struct Peer {
     pub(crate) name: char,
     listener: Option<TcpListener>,
     stream: Option<TcpStream>,
-    /// The bytes still to be sent.
+    /// The bytes that the peer still has to send.
     pub(crate) unsent: Vec<u8>,
-    /// The bytes that came and weren't printed yet.
+    /// The bytes that came to the peer and haven't been printed yet.
     pub(crate) came: Vec<u8>,
     /// Whether the peer's stream has ended.
     pub(crate) ended: bool,
@@ -38,7 +38,7 @@ pub(crate) struct Peer {
 }
 
 impl Peer {
-    /// A peer with neither stream nor port.
+    /// Makes a peer that has no stream and listens on no port.
     fn new(alloc: Global, name: char) -> io::Result<Peer> {
         Ok(Peer {
             name,
@@ -51,21 +51,21 @@ impl Peer {
         })
     }
 
-    /// A peer that connects to a port.
+    /// Makes a peer, and connects it to a port of the server.
     pub(crate) fn connect(rt: HostRuntime, name: char, port: u16) -> io::Result<Peer> {
         let mut peer = Peer::new(rt.alloc(), name)?;
         peer.stream = Some(TcpStream::connect(&rt, local(port))?);
         Ok(peer)
     }
 
-    /// A peer that listens on a port.
+    /// Makes a peer that listens on a port.
     pub(crate) fn listen(rt: HostRuntime, name: char, port: u16) -> io::Result<Peer> {
         let mut peer = Peer::new(rt.alloc(), name)?;
         peer.listener = Some(TcpListener::bind(&rt, local(port))?);
         Ok(peer)
     }
 
-    /// Accepts a connection, if one comes to the peer's port. Returns whether the peer has a
+    /// Accepts a connection, if one has come to the peer's port. Returns whether the peer now has a
     /// stream.
     pub(crate) fn accept(&mut self) -> io::Result<bool> {
         let Some(listener) = &self.listener else {
@@ -104,7 +104,7 @@ impl Peer {
         }
     }
 
-    /// Handles a call that failed: a stream that was reset has ended too.
+    /// Handles a failed read or write: a reset counts as the end of the stream, like a close.
     fn fault(&mut self, error: io::Error) -> io::Result<usize> {
         match error.kind() {
             ErrorKind::ConnectionReset | ErrorKind::BrokenPipe => {
@@ -115,7 +115,7 @@ impl Peer {
         }
     }
 
-    /// Reads the bytes that are waiting.
+    /// Reads the bytes that have come to the socket.
     pub(crate) fn hear(&mut self) -> io::Result<()> {
         let Some(stream) = &mut self.stream else {
             return Ok(());

@@ -4,13 +4,13 @@ use crate::stage::{Stage, bad};
 use std::alloc::Global;
 use std::io;
 
-/// After this many tries in which no byte moved, the sockets count as full.
+/// The sockets count as full after this many tries to send in a row in which no byte was sent.
 const STILL: u32 = 20;
-/// The most tries.
+/// The most tries to send that one `pours` line makes.
 const TRIES: u32 = 100_000;
 
-/// Numbers calls or replies from 1 on. Each is a record of one fragment, and its number is put
-/// right after the record mark (RFC 5531, sections 9 and 11).
+/// Numbers calls or replies from 1 on. Each call or reply is a record of one fragment. Its number
+/// replaces its xid, right after the record mark (RFC 5531, sections 9 and 11).
 fn number_records(records: &mut Vec<u8>) -> io::Result<()> {
     let (mut place, mut number) = (0usize, 0u32);
     for _ in 0..records.len() {
@@ -30,7 +30,7 @@ fn number_records(records: &mut Vec<u8>) -> io::Result<()> {
     Ok(())
 }
 
-/// Some records, repeated `count` times and numbered.
+/// Repeats `records` `count` times, and numbers the copies from 1 on.
 fn repeated(alloc: Global, records: &[u8], count: u32) -> io::Result<Vec<u8>> {
     let mut all = Vec::new(alloc);
     for _ in 0..count {
@@ -40,8 +40,8 @@ fn repeated(alloc: Global, records: &[u8], count: u32) -> io::Result<Vec<u8>> {
     Ok(all)
 }
 
-/// Lets a peer send these calls `count` times, as many as the sockets take, without reading.
-/// Returns whether the sockets are full, so that bytes wait in the server.
+/// Lets a peer send these calls `count` times, or until the sockets are full. The peer reads no
+/// reply. Returns whether the sockets got full, so that bytes wait in the server.
 pub(crate) fn pour(stage: &mut Stage, name: char, calls: &[u8], count: u32) -> io::Result<bool> {
     let calls = repeated(stage.rt.alloc(), calls, count)?;
     stage.peer(name)?.unsent.extend_from_slice(&calls)?;
@@ -61,8 +61,8 @@ pub(crate) fn pour(stage: &mut Stage, name: char, calls: &[u8], count: u32) -> i
     Ok(false)
 }
 
-/// Whether the bytes that came to a peer are `count` times the same reply, but for their numbers,
-/// which rise.
+/// Whether the bytes that came to a peer are the same reply `count` times, with xids that count up
+/// from 1.
 pub(crate) fn is_in_order(stage: &mut Stage, name: char, count: u32) -> io::Result<bool> {
     let alloc = stage.rt.alloc();
     let peer = stage.peer(name)?;

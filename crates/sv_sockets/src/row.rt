@@ -6,12 +6,12 @@ use crate::stage::{PORTS, Stage, bad};
 use std::alloc::Global;
 use std::io::{self, BufWriter, Write};
 
-/// How many sweeps are made while a peer must receive nothing.
+/// For how many sweeps nothing may come to a peer that has to be silent.
 const SILENCE: u32 = 20;
-/// How many bytes of the first of many replies are printed.
+/// How many bytes of the first reply are printed when a peer drains many replies.
 const SHOWN: usize = 64;
 
-/// A number.
+/// Reads a decimal number.
 fn number(text: &str) -> io::Result<u32> {
     match text.parse::<u32>() {
         Ok(number) => Ok(number),
@@ -19,7 +19,7 @@ fn number(text: &str) -> io::Result<u32> {
     }
 }
 
-/// The bytes of hexadecimal, which may have blanks.
+/// Reads bytes from hexadecimal digits, which may have blanks between them.
 fn bytes(alloc: Global, text: &str) -> io::Result<Vec<u8>> {
     let mut digits = String::new(alloc);
     for word in text.split(' ') {
@@ -39,7 +39,7 @@ fn letter(text: &str) -> io::Result<char> {
     }
 }
 
-/// `yes` or `no`.
+/// The word for a yes-or-no result: `yes` or `no`.
 fn word(so: bool) -> &'static str {
     if so { "yes" } else { "no" }
 }
@@ -68,7 +68,7 @@ pub(crate) fn play<W: Write + Drop>(
     Ok(())
 }
 
-/// Executes a line.
+/// Executes a line of the row.
 fn step<W: Write + Drop>(
     stage: &mut Stage,
     line: &str,
@@ -87,7 +87,7 @@ fn step<W: Write + Drop>(
     }
 }
 
-/// Executes a line of a peer.
+/// Executes a line that begins with the letter of a peer.
 fn do_as<W: Write + Drop>(
     stage: &mut Stage,
     name: char,
@@ -129,7 +129,7 @@ fn send(stage: &mut Stage, name: char, text: &str) -> io::Result<()> {
     Ok(())
 }
 
-/// Prints what comes to a peer.
+/// Executes a line of a peer that prints a result.
 fn show_of<W: Write + Drop>(
     stage: &mut Stage,
     name: char,
@@ -158,7 +158,7 @@ fn compare<W: Write + Drop>(
     writeln!(writer, "{first} before {second}: {}", word(so))
 }
 
-/// Prints this number of bytes that come to a peer.
+/// Waits until this number of bytes has come to a peer, and prints them.
 fn show_came<W: Write + Drop>(
     stage: &mut Stage,
     name: char,
@@ -175,7 +175,7 @@ fn show_came<W: Write + Drop>(
     Ok(())
 }
 
-/// Whether a peer's stream ends, with nothing more on it.
+/// Whether a peer's stream ends before any further byte comes.
 fn ends(stage: &mut Stage, name: char) -> io::Result<bool> {
     stage.wait_for(name, 1)?;
     let peer = stage.peer(name)?;
@@ -190,15 +190,16 @@ fn is_silent(stage: &mut Stage, name: char) -> io::Result<bool> {
     Ok(!peer.ended && peer.came.is_empty())
 }
 
-/// Lets a peer send calls many times, until the sockets are full. Returns whether they are full.
+/// Lets a peer send calls many times, or until the sockets are full. Returns whether the sockets
+/// got full.
 fn pours(stage: &mut Stage, name: char, text: &str) -> io::Result<bool> {
     let (count, calls) = text.split_once(' ').unwrap_or((text, ""));
     let calls = bytes(stage.rt.alloc(), calls)?;
     pour(stage, name, &calls, number(count)?)
 }
 
-/// Lets a peer read a number of replies of equal length. Prints how the first one begins, and
-/// whether all came in their order.
+/// Receives a number of replies of equal length on a peer's stream. Prints how the first reply
+/// begins, and whether all replies came in the order of their calls.
 fn drain<W: Write + Drop>(
     stage: &mut Stage,
     name: char,

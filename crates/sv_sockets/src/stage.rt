@@ -11,28 +11,29 @@ use sv_server::{Config, Port, Server};
 
 /// The ports of the core channel, the abort channel and the port mapper.
 pub(crate) const PORTS: [u16; 3] = [24196, 24197, 24198];
-/// How many seconds a peer waits at most.
+/// How many seconds a peer waits at most for bytes or for a connection.
 const PATIENCE: u64 = 10;
-/// How many times it tries to listen at most, one try every fiftieth of a second.
+/// The most tries to listen. The program sleeps 20 milliseconds after each try.
 const TRIES: u32 = 2_000;
-/// How many times it looks for bytes at most.
+/// The most times that the program looks for bytes or a connection during one wait.
 const LOOKS: u32 = 10_000_000;
-/// How many sweeps are made between two looks for bytes. Time after the last one isn\'t counted.
+/// How many sweeps the server makes between two checks of whether bytes have come to a peer.
 const SWEEPS: u32 = 2;
-/// How many sweeps are made when times are compared, so that most of the time is counted.
+/// How many sweeps the server makes between two checks of two peers, if the row compares which of
+/// them gets its bytes first.
 const MORE_SWEEPS: u32 = 4;
 
-/// The fault of a row that can't be played.
+/// The error for a row that can't be played.
 pub(crate) fn bad() -> Error {
     Error::from(ErrorKind::InvalidData)
 }
 
-/// The fault of a peer that waited too long.
+/// The error for a peer that waited too long.
 fn late() -> Error {
     Error::from(ErrorKind::TimedOut)
 }
 
-/// Listens on the ports, once no other run of this program does.
+/// Listens on the ports. Waits while another run of this program uses them.
 fn listen(rt: HostRuntime) -> io::Result<(Watch<Global>, Net<HostRuntime, Global>)> {
     for _ in 0..TRIES {
         match Watch::listen(rt, rt.alloc(), PORTS) {
@@ -53,12 +54,12 @@ pub(crate) struct Stage {
     watch: Watch<Global>,
     driver: Driver<Net<HostRuntime, Global>, Global>,
     pub(crate) peers: Vec<Peer>,
-    /// The start of a time measurement.
+    /// When the last time measurement started.
     start: Instant,
 }
 
 impl Stage {
-    /// A new server that has this scenario, without peers.
+    /// A new server with this scenario, and no peers.
     pub(crate) fn new(rt: HostRuntime, scenario: &str) -> io::Result<Stage> {
         let Ok(scenario) = read_scenario(rt.alloc(), scenario.as_bytes()) else {
             return Err(bad());
@@ -92,7 +93,7 @@ impl Stage {
         serve(&self.rt, &mut self.watch, &mut self.driver, sweeps)
     }
 
-    /// Whether bytes wait in the server that the sockets don't take.
+    /// Whether the server has bytes to send on a connection whose socket doesn't take them.
     pub(crate) fn waits(&self) -> bool {
         let server = self.driver.server();
         (0..16).any(|conn| !server.waiting(Port::Conn(conn)).is_empty())
@@ -109,8 +110,8 @@ impl Stage {
         Ok(self.start.elapsed(&self.rt)?.as_millis())
     }
 
-    /// Lets a peer send and read what it can. Returns whether this many bytes came to it, or its
-    /// stream has ended.
+    /// Lets a peer send and read what it can. Returns true if at least this many bytes have come to
+    /// the peer, or if its stream has ended.
     fn has(&mut self, name: char, count: usize) -> io::Result<bool> {
         let peer = self.peer(name)?;
         peer.send()?;
@@ -118,7 +119,7 @@ impl Stage {
         Ok(peer.ended || peer.came.len() >= count)
     }
 
-    /// Makes this number of sweeps, unless a peer that began to wait at `begun` has waited too
+    /// Makes this number of sweeps. Fails if a peer that began to wait at `begun` has waited too
     /// long.
     fn serve_on(&mut self, begun: Instant, sweeps: u32) -> io::Result<()> {
         if begun.elapsed(&self.rt)?.as_secs() >= PATIENCE {
@@ -127,7 +128,7 @@ impl Stage {
         self.serve(sweeps)
     }
 
-    /// Serves until this many bytes have come to a peer, or its stream has ended.
+    /// Makes sweeps until this many bytes have come to a peer, or until its stream has ended.
     ///
     /// # Errors
     /// If nothing comes for too long.
@@ -146,7 +147,7 @@ impl Stage {
         Err(late())
     }
 
-    /// Serves until a connection has come to a peer's port.
+    /// Makes sweeps until a connection has come to the port on which a peer listens.
     ///
     /// # Errors
     /// If that takes too long.
@@ -161,8 +162,9 @@ impl Stage {
         Err(late())
     }
 
-    /// Serves until bytes have come to the second of two peers. Returns whether some have come to
-    /// the first one too, which is checked after the second one.
+    /// Makes sweeps until bytes have come to the second peer. Returns whether bytes have come to
+    /// the first peer by then. After each sweep, the program checks the second peer before it
+    /// checks the first one.
     ///
     /// # Errors
     /// If that takes too long.

@@ -22,7 +22,7 @@ rise = last_given (elim [ SetFilter up down ↦ Some (without_top_bit up) | Pres
 abbrev pub fall : List RegisterAct → ℕ
 fall = last_given (elim [ SetFilter up down ↦ Some (without_top_bit down) | Preset ↦ Some 0 | _ ↦ None ]) 0
 
--- the enable, as last set; `start` at first and after a preset
+-- the enable of the register, as it was set last; `start` at first and after a preset
 abbrev pub enable : ℕ → List RegisterAct → ℕ
 enable start = last_given (elim [ SetEnable word ↦ Some (without_top_bit word) | Preset ↦ Some start | _ ↦ None ]) start
 
@@ -54,7 +54,7 @@ pub record Latches : Type 0 where
   pub enable : ℕ
   pub start : ℕ
 
--- The state of the register stands for the acts, if its enable is `start` at first and after a preset.
+-- The state of a register stands for the acts. The enable of this register is `start` at first and after a preset.
 pub record StandsFor (start : ℕ) (latches : Latches) (acts : List RegisterAct) : Type 0 where
   pub begins : latches.start ≡ start
   pub condition : latches.condition ≡ condition acts

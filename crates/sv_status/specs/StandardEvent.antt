@@ -23,7 +23,7 @@ Stands k acts = Since (Occurs k) NotCleared acts
 abbrev pub enable : List StandardAct → ℕ
 enable = last_given (elim [ SetEnable word ↦ Some word | _ ↦ None ]) 0
 
--- Some bit is set both in the register and in the enable.
+-- Some bit is set both in the standard event status register and in its enable.
 abbrev pub Summary : List StandardAct → Type 0
 Summary acts = (k : ℕ) × Stands k acts × (bit_at (enable acts) k ≡ 1)
 

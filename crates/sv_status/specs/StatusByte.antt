@@ -5,19 +5,19 @@ use Rattle.sv_logs.specs.Since.{Since, last_given}
 use Rattle.sv_status.specs.declared.status_byte.StatusAct.{StatusAct}
 use Rattle.sv_status.specs.declared.status_byte.StatusAct.TheVariants.{Update, Poll}
 
--- the summary bits, as last set
+-- the summary bits, as they were set last; 0 at first
 abbrev pub bits : List StatusAct → ℕ
 bits = last_given (elim [ Update word mask ↦ Some word | _ ↦ None ]) 0
 
--- the service request enable, as last set
+-- the service request enable, as it was set last; 0 at first
 abbrev pub enable : List StatusAct → ℕ
 enable = last_given (elim [ Update word mask ↦ Some mask | _ ↦ None ]) 0
 
--- Bit k is set in `word` and enabled in `mask`. It isn't bit 6, which is no summary bit.
+-- Bit k is set in `word` and enabled in `mask`. k isn't 6, because bit 6 is no summary bit.
 abbrev pub ServiceRequested : ℕ → ℕ → ℕ → Type 0
 ServiceRequested k word mask = (k ≢ 6) × (bit_at word k ≡ 1) × (bit_at mask k ≡ 1)
 
--- After these acts, bit k is a summary bit (bit 6 isn't one) that is set and enabled.
+-- After these acts, summary bit k is set and enabled. k isn't 6, because bit 6 is no summary bit.
 abbrev pub ServiceRequestedAt : ℕ → List StatusAct → Type 0
 ServiceRequestedAt k acts = ServiceRequested k (bits acts) (enable acts)
 
@@ -25,7 +25,7 @@ ServiceRequestedAt k acts = ServiceRequested k (bits acts) (enable acts)
 abbrev pub Master : List StatusAct → Type 0
 Master acts = (k : ℕ) × ServiceRequestedAt k acts
 
--- A reason for service arises at the newest act: after it, some summary bit is both set and enabled, and before it, that bit wasn't both.
+-- A reason for service arises at the newest act: some summary bit is both set and enabled after this act, and wasn't both before the act.
 abbrev pub Reason : List StatusAct → Type 0
 Reason [] = ⊥
 Reason (act ∷ before) = (k : ℕ) × ServiceRequestedAt k (act ∷ before) × (ServiceRequestedAt k before → ⊥)
@@ -39,7 +39,7 @@ Lasts acts = Master acts
 abbrev pub Request : List StatusAct → Type 0
 Request acts = Since Reason Lasts acts
 
--- A request is raised at the newest act: it is pending after that act, and none was pending before.
+-- A request for service is raised at the newest act: one is pending after this act, and none was pending before the act.
 abbrev pub IsRaised : List StatusAct → Type 0
 IsRaised [] = ⊥
 IsRaised (act ∷ before) = Request (act ∷ before) × (Request before → ⊥)

@@ -10,7 +10,7 @@ use sv_errors::Layer;
 
 /// Bit 15, which is dropped from each filter and enable that is set.
 const MASK_END: u16 = 1 << 15;
-/// The filter that passes every bit.
+/// Bits 0 to 14: a filter with this value passes each change, and an enable with it enables all.
 const ALL: u16 = 32767;
 
 /// An act of a register.
@@ -102,8 +102,9 @@ impl Register {
         }
     }
 
-    /// Sets the condition. A bit of the event register becomes set if this bit of the condition
-    /// rises and its positive filter is on, or if it falls and its negative filter is on.
+    /// Sets the condition. Bit k of the event register becomes set if bit k of the condition rises
+    /// and bit k of the positive filter is set, or if bit k of the condition falls and bit k of the
+    /// negative filter is set.
     pub fn condition(&mut self, word: u16)
         ensures { (start : ℕ) (acts : List RegisterAct) → StandsFor start self.old acts
             → StandsFor start self.new (RegisterAct.Condition word ∷ acts) }

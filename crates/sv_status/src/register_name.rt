@@ -9,7 +9,8 @@ pub enum RegisterName {
     /// What makes readings doubtful, such as an overload or a voltage outside the limits:
     /// `STATus:QUEStionable`. Its summary is bit 3 of the status byte.
     Questionable,
-    /// Which limit is passed, by a reading or by the monitored input: `STATus:QUEStionable:LIMit`.
-    /// Its summary is bit 9 of the condition of [`RegisterName::Questionable`].
+    /// Which limit is violated, by a reading or by the monitored input:
+    /// `STATus:QUEStionable:LIMit`. Its summary is bit 9 of the condition of
+    /// [`RegisterName::Questionable`].
     Limit,
 }

@@ -108,7 +108,7 @@ impl StandardEvent {
         self.enable
     }
 
-    /// Whether some bit is set both in the register and in the enable.
+    /// Whether some bit is set both in the standard event status register and in its enable.
     pub fn summary(&self) -> bool
         ensures { (acts : List StandardAct) → StandsFor self.now acts
             → (result ≡ true) ↔ Summary acts }

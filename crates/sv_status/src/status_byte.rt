@@ -63,8 +63,8 @@ impl StatusByte {
     }
 
     /// Sets the summary bits and the service request enable, and returns whether this raises a
-    /// request for service. It does if no request was pending, and some summary bit is now both set
-    /// and enabled that wasn't both before.
+    /// request for service. A request is raised if none was pending, and some summary bit that
+    /// wasn't both set and enabled before is both now.
     pub fn update(&mut self, bits: u8, enable: u8) -> bool
         ensures stands { (acts : List StatusAct) → StandsFor self.old acts
             → StandsFor self.new (StatusAct.Update bits enable ∷ acts) }
@@ -110,7 +110,8 @@ impl StatusByte {
         self.enable
     }
 
-    /// The master summary: whether some summary bit (bit 6 isn't one) is set and enabled.
+    /// The master summary: whether some summary bit is set and enabled. Bit 6 doesn't count as a
+    /// summary bit.
     pub fn mss(&self) -> bool
         ensures { (acts : List StatusAct) → StandsFor self.now acts
             → (result ≡ true) ↔ Master acts }

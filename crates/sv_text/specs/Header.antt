@@ -14,7 +14,7 @@ is_query text = option_map_or (λ b. b == 63) (slice_get text (length text - 1))
 abbrev pub unsigned : List ℕ → List ℕ
 unsigned text = if is_query text then take (length text - 1) text else text
 
--- what a header begins with: an asterisk for a common command, a colon for a header that starts at the root
+-- what a header begins with: an asterisk for a common command; a colon for a header that starts at the root of the command tree; or neither
 abbrev pub lead : List ℕ → Lead
 lead [] = Onward
 lead (b ∷ text) = if b == 42 then Common else if b == 58 then Root else Onward

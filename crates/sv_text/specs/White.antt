@@ -1,4 +1,4 @@
--- White space (IEEE 488.2, 7.4.1.2), and text without it at its ends.
+-- White space (IEEE 488.2, 7.4.1.2), and text without white space at its ends.
 use Rattle.std.specs.Prelude.{ℕ, ◌==◌, Bool, not, ◌&&◌, List, [], ◌∷◌, reverse, nat_lt, if◌then◌else◌}
 
 -- whether a byte is white space: 0 to 9 and 11 to 32

@@ -8,13 +8,14 @@ ghost use Rattle.sv_text.specs.Header.{body, is_query, lead as lead_of, unsigned
 pub enum Lead {
     /// An asterisk: a common command (IEEE 488.2, 7.6.1).
     Common,
-    /// A colon: the header starts at the root.
+    /// A colon: the header starts at the root of the command tree.
     Root,
-    /// Neither: the header continues the path of the header before it.
+    /// Neither an asterisk nor a colon: the header continues the path of the header before it.
     Onward,
 }
 
-/// A header, split into its parts. Any bytes can be split so, even if they aren't a header.
+/// The parts into which a header is split. Any bytes can be split into these, even if they aren't a
+/// header.
 #[derive(Clone, Copy, Debug)]
 pub struct Header<'a> {
     /// What the header begins with.
@@ -52,7 +53,7 @@ fn lead_in(header: &[u8]) -> Lead
     }
 }
 
-/// A header without the question mark at its end.
+/// A header without the question mark at its end, if it has one.
 fn without_sign(header: &[u8]) -> &[u8]
     ensures { result.now ≡ unsigned header.now }
 {

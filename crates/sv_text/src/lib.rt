@@ -1,7 +1,7 @@
-//! Splitting program text: white space, the first place of a byte, the parts between separators,
+//! Splitting program text: white space, the first position of a byte, the parts between separators,
 //! and the parts of a header (IEEE 488.2, 7.4).
 //!
-//! Nothing allocates: each function returns a place in the bytes or a slice of them.
+//! Nothing allocates: the functions return positions in the bytes or slices of them.
 #![tactic(auto)]
 
 mod header;

@@ -1,9 +1,9 @@
-//! The first place of a byte in text.
+//! The first position of a byte in text.
 
 ghost use Rattle.std.specs.Prelude.{◌≡◌, ◌==◌, ◌≤◌, length, position};
 ghost use Rattle.std.specs.List.{position_or_len};
 
-/// The first place of a byte; the length of the text if the byte isn't in it.
+/// The index of the first byte that equals `byte`; the length of `bytes` if no byte does.
 pub fn place_of(bytes: &[u8], byte: u8) -> usize
     ensures value { result ≡ position_or_len (λ b. b == byte) bytes.now }
     ensures within { result ≤ length bytes.now }
@@ -11,7 +11,7 @@ pub fn place_of(bytes: &[u8], byte: u8) -> usize
     position_of(bytes, byte).unwrap_or(bytes.len())
 }
 
-/// The first place of a byte; `None` if the byte isn't in the text.
+/// The index of the first byte that equals `byte`; `None` if no byte does.
 fn position_of(bytes: &[u8], byte: u8) -> Option<usize>
     ensures { result ≡ position (λ b. b == byte) bytes.now }
 {

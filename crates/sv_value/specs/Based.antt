@@ -17,7 +17,7 @@ base_of letter =
 abbrev pub begins_with_digit : ℕ → List ℕ → Bool
 begins_with_digit base digits = option_map_or (λ b. is_digit b base) (slice_get digits 0) false
 
--- the value of digits in this base, or the error; the base is `None` if no letter named one
+-- the value of digits in this base, or the error. The base is `None` if the letter in front of the digits names no base.
 abbrev pub read_digits : Option ℕ → List ℕ → Result ℤ Code
 read_digits None digits = Err SyntaxError
 read_digits (Some base) digits =

@@ -35,7 +35,7 @@ pub record Span : Type 0 where
   pub first : ℕ
   pub last : ℕ
 
--- the ends of an item, from its parts between colons; `None` if these aren't one or two numbers
+-- the ends of an item, given its parts between colons; `None` if the parts aren't one number or two
 abbrev pub span_of : List (List ℕ) → Option Span
 span_of (a ∷ []) = if is_number a then Some (record { first = number a; last = number a }) else None
 span_of (a ∷ b ∷ []) = if is_number a && is_number b then Some (record { first = number a; last = number b }) else None
@@ -50,8 +50,9 @@ abbrev pub channel_range : ℕ → ℕ → List ℕ
 channel_range first last = if nat_le first last then range_with_len first (last - first + 1) else reverse
     (range_with_len last (first - last + 1))
 
--- The channels so far, then those of the next item and of the items after it. Or the first error: -222 if an end of the item isn't a
--- channel; then -223 if the list is longer with this item than a list may be. Items of the wrong form (-171) were found by `read_items`.
+-- The channels in `before`, then those of the next item, then those that `others` adds. Or the first error that applies: -222 if an end of
+-- the item isn't a channel; -223 if this item makes the list longer than the limit; the error of `others`. Before this, `read_items`
+-- rejects items of the wrong form with -171.
 abbrev pub next : Option Span → List ℕ → (List ℕ → Result (List ℕ) Code) → Result (List ℕ) Code
 next None before others = Err InvalidExpression
 next (Some ends) before others =
@@ -59,12 +60,13 @@ next (Some ends) before others =
     else if nat_lt longest_list (length (before ++ channel_range ends.first ends.last)) then Err TooMuchData
     else others (before ++ channel_range ends.first ends.last)
 
--- the channels so far and those of all items, or the first error
+-- the channels in `before`, followed by those of all items; or the first error
 abbrev pub list_channels : List ℕ → List (List ℕ) → Result (List ℕ) Code
 list_channels before [] = Ok before
 list_channels before (item ∷ items) = next (span item) before (λ so_far. list_channels so_far items)
 
--- the channels of all items between the parentheses, or the first error; -171 if a text between commas isn't an item
+-- the channels of all items, given the text between the parentheses; or the first error: -171 if a text between commas isn't an item; else
+-- the error of the first item that has one
 abbrev pub read_items : List ℕ → Result (List ℕ) Code
 read_items text = if list_all (λ item. is_some (span item)) (cut_at 44 text) then list_channels []
     (cut_at 44 text) else Err InvalidExpression

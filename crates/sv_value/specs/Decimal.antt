@@ -54,7 +54,7 @@ is_down text = not (is_empty (exponent_in text)) && has_minus (behind_mark text)
 abbrev pub behind_exponent : List ℕ → List ℕ
 behind_exponent text = if is_empty (exponent_in text) then text else behind_digits (behind_sign (behind_mark text))
 
--- the parts of a number
+-- the parts of a decimal number: its sign, digits, exponent and suffix
 pub record Parts : Type 0 where
   pub negative : Bool
   pub whole : List ℕ
@@ -67,7 +67,7 @@ pub record Parts : Type 0 where
 abbrev pub behind_whole : List ℕ → List ℕ
 behind_whole text = behind_digits (behind_sign text)
 
--- the text after the mantissa
+-- the text after the mantissa, which is a sign, digits, and a point with digits
 abbrev pub behind_mantissa : List ℕ → List ℕ
 behind_mantissa text = behind_fraction (behind_whole text)
 

@@ -10,15 +10,15 @@ use Rattle.sv_value.specs.Decimal.{Parts, number_parts, is_spelled}
 abbrev pub nearest : ℕ → ℕ → ℕ
 nearest numerator denominator = (2 * numerator + denominator) / (2 * denominator)
 
--- by how many places the exponent moves the point to the right
+-- by how many places the exponent moves the decimal point to the right; 0 if the exponent is negative
 abbrev pub right : Parts → ℕ
 right number = if number.down then 0 else digits_value 10 number.exponent
 
--- by how many places the exponent moves the point to the left
+-- by how many places the exponent moves the decimal point to the left; 0 if the exponent isn't negative
 abbrev pub left : Parts → ℕ
 left number = if number.down then digits_value 10 number.exponent else 0
 
--- the magnitude of a number times this power of ten, rounded to a whole number
+-- the magnitude of a number times 10 to the power `power`, rounded to a whole number
 abbrev pub magnitude : ℕ → Parts → ℕ
 magnitude power number = nearest (digits_value 10 (number.whole ++ number.fraction) * 10 ^ (power + right number))
     (10 ^ (length number.fraction + left number))
@@ -31,9 +31,9 @@ signed negative n = if negative then neg_ℤ (pos n) else pos n
 abbrev pub significant_digits : List ℕ → ℕ
 significant_digits digits = length digits - position_or_len (λ b. not (b == 48)) digits
 
--- The value of a number. The first argument is the power of ten of its suffix, or `None` if the suffix isn't allowed. Or the first error
--- that applies: -121 if it isn't a number; `suffix_code` if the suffix isn't allowed; -124 for more than 255 significant digits; -123 for
--- an exponent above 32000 in magnitude.
+-- The value of a number, or the first error that applies: -121 if the parts don't spell a number; `suffix_code` if the suffix isn't
+-- allowed; -124 for more than 255 significant digits; -123 for an exponent above 32000 in magnitude. The first argument is the power of ten
+-- of the suffix, or `None` if the suffix isn't allowed.
 abbrev pub read_with : Option ℕ → Code → Parts → Result ℤ Code
 read_with None suffix_code number = if not (is_spelled number) then Err InvalidCharacterInNumber else Err suffix_code
 read_with (Some power) suffix_code number =

@@ -19,17 +19,17 @@ plain number = record {
   suffix = number.suffix.now;
 }
 
--- The amount stands for this result, which is a number and no error. The amount has the sign of the number, and its magnitude capped at 10
--- ^ 18.
+-- An `Amount` of the code represents this result, which is a number and not an error. The amount has the number's sign, and the number's
+-- magnitude, capped at 10 ^ 18.
 abbrev pub StandsFor : Amount → Result ℤ Code → Type 0
 StandsFor amount answer = (magnitude : ℕ) × (answer ≡ Ok (signed amount.negative magnitude))
     × (amount.magnitude ≡ min magnitude 1000000000000000000)
 
--- the number that a text in a channel list gives, capped at 10 ^ 18; `None` if the text isn't a number
+-- the value of a number in a channel list, capped at 10 ^ 18; `None` if the text isn't a number
 abbrev pub number_up_to : List ℕ → Option ℕ
 number_up_to text = if is_number text then Some (min (number text) 1000000000000000000) else None
 
--- the two ends of an item, each capped at 10 ^ 18
+-- the two ends of an item of a channel list, each capped at 10 ^ 18
 abbrev pub ends_up_to : Option Ends → Option Span
 ends_up_to None = None
 ends_up_to (Some ends) = Some (record { first = min ends.first 1000000000000000000; last = min ends.last 1000000000000000000 })

@@ -34,7 +34,8 @@ NoExponent text = (exponent behind digits : List ℕ) (minus : Bool) → text �
 abbrev pub IsSuffix : List ℕ → List ℕ → Type 0
 IsSuffix text suffix = (space : List ℕ) × (text ≡ space ++ suffix) × IsSpace space × (begins_well suffix ≡ true)
 
--- The text is the exponent and the suffix of these parts. Or it is their suffix alone, and doesn't begin with an exponent.
+-- The text is what follows the mantissa of a number with these parts: its exponent and its suffix. Or it is the suffix alone, and doesn't
+-- begin with an exponent.
 abbrev pub IsTail : List ℕ → Parts → Type 0
 IsTail text number = ((exponent behind : List ℕ) × (text ≡ exponent ++ behind) × IsExponent exponent number.down number.exponent
     × IsSuffix behind number.suffix)

@@ -22,15 +22,15 @@ power_of_volts suffix =
     else if is_same suffix (codes "UV") then Some 0
     else None
 
--- the power of ten of a number that has no unit: 0; `None` if it has a suffix
+-- the power of ten that the suffix of a number without a unit stands for: 0 for no suffix; `None` for any suffix, since it isn't allowed
 abbrev pub power_of_none : List ℕ → Option ℕ
 power_of_none suffix = if is_empty suffix then Some 0 else None
 
--- the error for data of a kind that the parameter can't have: -102 if the data are of no kind at all, else -104
+-- the error for data of a kind that the parameter can't have: -102 if the data are of no kind that the standard defines, else -104
 abbrev pub wrong_kind : Kind → Code
 wrong_kind = elim [ Other ↦ SyntaxError | _ ↦ DataTypeError ]
 
--- the voltage, if it is at most 1,000 V in magnitude; else -222
+-- the voltage that was read, if it is at most 1,000 V in magnitude, else -222; an error from reading is returned as it is
 abbrev pub within_volts : Result ℤ Code → Result ℤ Code
 within_volts (Err code) = Err code
 within_volts (Ok value) = if is_within value then Ok value else Err DataOutOfRange
@@ -40,13 +40,13 @@ abbrev pub read_voltage : Kind → List ℕ → Result ℤ Code
 read_voltage Number text = within_volts (read_decimal power_of_volts InvalidSuffix text)
 read_voltage kind text = Err (wrong_kind kind)
 
--- the number, if it is in this range; else -222
+-- the number that was read, if it is from `low` to `high`, else -222; an error from reading is returned as it is
 abbrev pub within : ℕ → ℕ → Result ℤ Code → Result ℕ Code
 within low high (Err code) = Err code
 within low high (Ok (negsuc n)) = Err DataOutOfRange
 within low high (Ok (pos n)) = if nat_le low n && nat_le n high then Ok n else Err DataOutOfRange
 
--- a whole number in this range, or the first error
+-- a whole number from `low` to `high`, or the first error
 abbrev pub read_whole : ℕ → ℕ → Kind → List ℕ → Result ℕ Code
 read_whole low high Number text = within low high (read_decimal power_of_none SuffixNotAllowed text)
 read_whole low high Base text = within low high (read_based text)

@@ -19,12 +19,13 @@ const MOST_DIGITS: usize = 255;
 /// The largest magnitude that an exponent may have.
 const MOST_EXPONENT: u64 = 32_000;
 
-/// A whole number, whose magnitude is capped at a bound beyond the range of every parameter.
+/// A whole number as it was read. A magnitude above [`crate::digits::MOST`], which is beyond the
+/// range of every parameter, is stored as this bound.
 #[derive(Clone, Copy, Debug)]
 pub(crate) struct Amount {
     /// Whether the number begins with a minus.
     pub(crate) negative: bool,
-    /// Its magnitude, at most [`crate::digits::MOST`].
+    /// The magnitude of the number, at most [`crate::digits::MOST`].
     pub(crate) magnitude: u64,
 }
 
@@ -61,7 +62,8 @@ impl Amount {
         })
     }
 
-    /// Returns the voltage in microvolts, if its magnitude is at most 1,000 V; else the error.
+    /// Returns this amount as a voltage in microvolts, if it is at most 1,000 V in magnitude; else
+    /// [`Code::DataOutOfRange`].
     pub(crate) fn in_volts(self) -> Result<i64, Code>
         ensures value { (answer : Result ℤ ErrorCode) → StandsFor self answer
             → result ≡ within_volts answer }
@@ -74,7 +76,7 @@ impl Amount {
         Ok(if self.negative { -value } else { value })
     }
 
-    /// Returns the number, if it is from `low` to `high`; else the error.
+    /// Returns the number, if it is from `low` to `high`; else [`Code::DataOutOfRange`].
     pub(crate) fn in_range(self, low: u16, high: u16) -> Result<u16, Code>
         ensures value { (answer : Result ℤ ErrorCode) → StandsFor self answer
             → result ≡ within low high answer }
@@ -115,7 +117,7 @@ fn zeros_in(digits: &[u8]) -> usize
     zeros_end(digits).unwrap_or(digits.len())
 }
 
-/// The place of the first byte that isn't a zero.
+/// Returns the index of the first byte that isn't the digit `0`; `None` if there is no such byte.
 fn zeros_end(digits: &[u8]) -> Option<usize>
     ensures { result ≡ position (λ b. not (b == 48)) digits.now }
 {

@@ -25,7 +25,7 @@ pub(crate) fn based(text: &[u8]) -> Result<Amount, Code>
     }
 }
 
-/// The base that a letter names.
+/// Returns the base that a letter names; `None` if it names no base.
 fn base_of(letter: u8) -> Option<u8>
     ensures value { result ≡ base_by letter }
     ensures few { IfSome result (λ base. (2 ≤ base) × (base ≤ 16)) }

@@ -32,7 +32,7 @@ pub(crate) fn channels_of(text: &[u8]) -> Result<ArrayVec<u8, LONGEST_LIST>, Cod
     }
 }
 
-/// The text between `(@` and `)`.
+/// Returns the text between `(@` and `)`; `None` if the text doesn't have this form.
 fn inner(text: &[u8]) -> Option<&[u8]>
     ensures { MatchOption result (inner_of text.now ≡ None)
         (λ found. inner_of text.now ≡ Some found.now) }
@@ -57,7 +57,7 @@ fn are_spans(items: &[u8]) -> bool
     ends_of(rest).is_some()
 }
 
-/// The channels of all items, or the error of the first faulty item.
+/// Returns the channels of all items, or the error of the first faulty item.
 fn listed(items: &[u8]) -> Result<ArrayVec<u8, LONGEST_LIST>, Code>
     ensures { MatchResult result (λ list. listed_behind [] (cut_at 44 items.now) ≡ Ok list.items)
         (λ code. listed_behind [] (cut_at 44 items.now) ≡ Err code) }
@@ -94,7 +94,7 @@ fn add(list: &mut ArrayVec<u8, LONGEST_LIST>, item: &[u8]) -> Result<(), Code>
     Ok(())
 }
 
-/// Pushes the channels from one end to the other, upwards or downwards.
+/// Appends the channels from `first` to `last`, upwards or downwards.
 fn push_run(list: &mut ArrayVec<u8, LONGEST_LIST>, first: u8, last: u8)
     requires { length list.old.items + (first - last) + (last - first) < longest_list }
     ensures { list.new.items ≡ list.old.items ++ channel_range first last }

@@ -23,7 +23,7 @@ pub(crate) struct Decimal<'a> {
     pub(crate) down: bool,
     /// The digits of the exponent; none if there is no exponent.
     pub(crate) exponent: &'a [u8],
-    /// The text after the number.
+    /// The suffix: the text after the digits, the exponent and white space.
     pub(crate) suffix: &'a [u8],
 }
 
@@ -82,7 +82,8 @@ fn signed(text: &[u8]) -> (bool, &[u8])
     }
 }
 
-/// The digits after a leading point, and the text after them.
+/// Returns the digits after a leading point, and the text after these digits; no digits and the
+/// whole text if it doesn't begin with a point.
 fn fraction(text: &[u8]) -> (&[u8], &[u8])
     ensures digits { result.0.now ≡ fraction_in text.now }
     ensures all { list_all is_ascii_digit result.0.now ≡ true }

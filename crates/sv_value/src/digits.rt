@@ -27,7 +27,8 @@ pub(crate) fn value_after(base: u8, front: u64, digits: &[u8]) -> u64
     value
 }
 
-/// The value of a byte as a digit or a letter; 36 for any other byte.
+/// Returns the value of a byte as a digit: 0 to 9 for `0` to `9`; 10 to 35 for `A` to `Z`, in upper
+/// or lower case; 36 for any other byte.
 pub(crate) fn value_of(byte: u8) -> u8
     ensures value { result ≡ digit_value byte }
     ensures most { result ≤ 36 }
@@ -40,7 +41,7 @@ pub(crate) fn value_of(byte: u8) -> u8
     }
 }
 
-/// The leading digits of a text, and the text after them.
+/// Returns the leading digits of a text, and the text after them.
 pub(crate) fn digits(text: &[u8]) -> (&[u8], &[u8])
     ensures digits { result.0.now ≡ digits_in text.now }
     ensures all { list_all is_ascii_digit result.0.now ≡ true }
@@ -57,7 +58,7 @@ fn size_of(text: &[u8]) -> usize
     end_of(text).unwrap_or(text.len())
 }
 
-/// The place of the first byte that isn't a digit.
+/// Returns the index of the first byte that isn't a digit; `None` if all bytes are digits.
 fn end_of(text: &[u8]) -> Option<usize>
     ensures { result ≡ position (λ b. not (is_ascii_digit b)) text.now }
 {

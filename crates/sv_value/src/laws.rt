@@ -14,8 +14,8 @@ pub fn read_is_channel_list()
     ensures { ReadIsChannelList }
 {}
 
-/// A text reads as a decimal number exactly if the standard's syntax allows it, and the parts that
-/// are read are the pieces of the syntax (IEEE 488.2, 7.7.2 and 7.7.3).
+/// A text is read as a decimal number exactly if the standard's syntax allows it, and it is split
+/// into the parts that this syntax gives it (IEEE 488.2, 7.7.2 and 7.7.3).
 pub fn read_as_spelled()
     ensures { ReadAsSpelled }
 {}

@@ -11,8 +11,8 @@ ghost use Rattle.sv_value.specs.Plain.{plain};
 use crate::decimal::Decimal;
 use crate::digits::{MOST, value_after, value_of};
 
-/// The magnitude of a number times 10 to the power `power`, rounded to the nearest whole number,
-/// half up; or [`MOST`] if it is more.
+/// Returns the magnitude of a number times 10 to the power `power`, rounded to the nearest whole
+/// number, half up; or [`MOST`] if the result is larger.
 pub(crate) fn magnitude(number: &Decimal<'_>, power: u64) -> u64
     requires power { power ≤ 9 }
     requires moved { digits_value 10 number.now.exponent.now ≤ 32000 }
@@ -46,7 +46,7 @@ fn moved(number: &Decimal<'_>) -> (u64, u64)
     }
 }
 
-/// A value times a power of ten, or [`MOST`] if it is more.
+/// Returns `value` times 10 to the power `tens`, or [`MOST`] if the product is larger.
 fn shifted(value: u64, tens: u64) -> u64
     requires { value ≤ 1000000000000000000 }
     ensures { result ≡ min (value * 10 ^ tens) 1000000000000000000 }
@@ -60,8 +60,8 @@ fn shifted(value: u64, tens: u64) -> u64
     MOST.min(value.saturating_mul(10_u64.pow(tens as u32)))
 }
 
-/// Returns the value of all digits but the last `left_out`, rounded half up by the digits left out;
-/// or [`MOST`] if the value is larger.
+/// Returns the value of all digits without the last `left_out` ones, which round it half up; or
+/// [`MOST`] if the value is larger.
 fn rounded(whole: &[u8], fraction: &[u8], left_out: u64) -> u64
     requires some { 1 ≤ left_out }
     requires whole { list_all is_ascii_digit whole.now ≡ true }
@@ -85,7 +85,8 @@ fn carry(digit: u8) -> u64
     if digit >= 5 { 1 } else { 0 }
 }
 
-/// The value of the first `kept` digits, or [`MOST`] if it is more; and the digit after them.
+/// Returns the value of the first `kept` digits, or [`MOST`] if the value is larger; and the digit
+/// after them.
 fn front_of(whole: &[u8], fraction: &[u8], kept: usize) -> (u64, u8)
     requires { kept < length whole.now + length fraction.now }
     ensures front { result.0 ≡ min (digits_value 10 (take kept (whole.now ++ fraction.now)))

@@ -5,8 +5,8 @@ ghost use Rattle.sv_value.specs.Value.{power_of_none, power_of_volts};
 
 use crate::choice::is_same;
 
-/// The unit of voltage that a suffix names, as a power of ten of the microvolt; `None` if the
-/// suffix names no unit of voltage. Without a suffix it is the volt.
+/// Returns the power of ten that turns the unit of a suffix into microvolts; `None` if the suffix
+/// names no unit of voltage. Without a suffix the unit is the volt.
 pub(crate) fn volts(suffix: &[u8]) -> Option<u64>
     ensures { result ≡ power_of_volts suffix.now }
 {

@@ -18,13 +18,13 @@ use arrayvec::ArrayVec;
 use sv_errors::{Code, LONGEST_LIST, Source};
 use sv_lexer::{Kind, Token};
 
-/// Reads a voltage of up to 1,000 V in magnitude, and returns it in microvolts. It is a decimal
-/// number with the suffix `V`, `KV`, `MV` (a thousandth of a volt) or `UV`, or volts without a
-/// suffix. It is rounded to the nearest microvolt, half away from zero.
+/// Reads a voltage of up to 1,000 V in magnitude, and returns it in microvolts. The text is a
+/// decimal number with the suffix `V`, `KV`, `MV` (a thousandth of a volt) or `UV`; without a
+/// suffix it is in volts. The voltage is rounded to the nearest microvolt, half away from zero.
 ///
 /// # Errors
-/// For data that aren't a number [`Code::SyntaxError`] if they are of no kind, else
-/// [`Code::DataTypeError`]. For a number the first of these that applies:
+/// For data that aren't a number: [`Code::SyntaxError`] if they are of no kind that the standard
+/// defines, else [`Code::DataTypeError`]. For a number, the first of these that applies:
 /// [`Code::InvalidCharacterInNumber`], [`Code::InvalidSuffix`], [`Code::TooManyDigits`],
 /// [`Code::ExponentTooLarge`], [`Code::DataOutOfRange`].
 pub fn microvolts(token: &Token<'_>) -> Result<i64, Code>
@@ -41,10 +41,10 @@ pub fn microvolts(token: &Token<'_>) -> Result<i64, Code>
 /// number, half away from zero; or digits in another base.
 ///
 /// # Errors
-/// For data that aren't a number [`Code::SyntaxError`] if they are of no kind, else
-/// [`Code::DataTypeError`]. For a decimal number the first of these that applies:
+/// For data that aren't a number: [`Code::SyntaxError`] if they are of no kind that the standard
+/// defines, else [`Code::DataTypeError`]. For a decimal number, the first of these that applies:
 /// [`Code::InvalidCharacterInNumber`], [`Code::SuffixNotAllowed`], [`Code::TooManyDigits`],
-/// [`Code::ExponentTooLarge`], [`Code::DataOutOfRange`]. For a number in another base the first of
+/// [`Code::ExponentTooLarge`], [`Code::DataOutOfRange`]. For a number in another base, the first of
 /// these that applies: [`Code::SyntaxError`] if the letter of a base or a digit after it is
 /// missing, [`Code::InvalidCharacterInNumber`], [`Code::DataOutOfRange`].
 pub fn whole(token: &Token<'_>, low: u16, high: u16) -> Result<u16, Code>
@@ -66,10 +66,11 @@ pub fn whole(token: &Token<'_>, low: u16, high: u16) -> Result<u16, Code>
 /// is off and every other number is on.
 ///
 /// # Errors
-/// For a number the errors of [`whole`], except [`Code::DataOutOfRange`]. For character data
+/// For a number: the errors of [`whole`], except [`Code::DataOutOfRange`]. For character data:
 /// [`Code::InvalidCharacterData`] if a byte isn't a letter, digit or underscore, else
-/// [`Code::IllegalParameterValue`]. For other data [`Code::SyntaxError`] if they are of no kind,
-/// else [`Code::DataTypeError`].
+/// [`Code::IllegalParameterValue`] if the word is neither `ON` nor `OFF`. For other data:
+/// [`Code::SyntaxError`] if they are of no kind that the standard defines, else
+/// [`Code::DataTypeError`].
 pub fn boolean(token: &Token<'_>) -> Result<bool, Code>
     ensures { result ≡ read_boolean token.now.kind token.now.text.now }
 {
@@ -89,9 +90,10 @@ pub fn boolean(token: &Token<'_>) -> Result<bool, Code>
 /// lower case.
 ///
 /// # Errors
-/// For character data [`Code::InvalidCharacterData`] if a byte isn't a letter, digit or underscore,
-/// else [`Code::IllegalParameterValue`] for a word that names no source. For other data
-/// [`Code::SyntaxError`] if they are of no kind, else [`Code::DataTypeError`].
+/// For character data: [`Code::InvalidCharacterData`] if a byte isn't a letter, digit or
+/// underscore, else [`Code::IllegalParameterValue`] if the word names no source. For other data:
+/// [`Code::SyntaxError`] if they are of no kind that the standard defines, else
+/// [`Code::DataTypeError`].
 pub fn keyword(token: &Token<'_>) -> Result<Source, Code>
     ensures { result ≡ read_source token.now.kind token.now.text.now }
 {
@@ -107,8 +109,9 @@ pub fn keyword(token: &Token<'_>) -> Result<Source, Code>
 /// # Errors
 /// [`Code::InvalidExpression`] if the expression doesn't have the form of a channel list. Else the
 /// error of the first faulty item from the left: [`Code::DataOutOfRange`] if one of its ends isn't
-/// a channel, or [`Code::TooMuchData`] if the list gets too long with it. For other data than an
-/// expression [`Code::SyntaxError`] if they are of no kind, else [`Code::DataTypeError`].
+/// a channel, or [`Code::TooMuchData`] if this item makes the list too long. For other data than an
+/// expression: [`Code::SyntaxError`] if they are of no kind that the standard defines, else
+/// [`Code::DataTypeError`].
 pub fn channel_list(token: &Token<'_>) -> Result<ArrayVec<u8, LONGEST_LIST>, Code>
     ensures value { MatchResult result (λ list. read_channels token.now.kind token.now.text.now
         ≡ Ok list.items) (λ code. read_channels token.now.kind token.now.text.now ≡ Err code) }

@@ -33,7 +33,7 @@ fn sign_of(value: i64) -> u8
     if value < 0 { b'-' } else { b'+' }
 }
 
-/// Writes a number as six digits to `out` at `place`, and returns the place after them.
+/// Writes a number as six digits to `out` from index `place`, and returns the index after them.
 #[tactic(auto, using(crate::proofs::Printed::six_short))]
 fn put_six(out: &mut [u8], place: usize, number: u64) -> usize
     requires small { number < 1000000 }
@@ -49,7 +49,7 @@ fn put_six(out: &mut [u8], place: usize, number: u64) -> usize
     put(out, behind, digits)
 }
 
-/// Writes bytes to `out` at `place`, and returns the place after them.
+/// Writes bytes to `out` from index `place`, and returns the index after them.
 fn put(out: &mut [u8], place: usize, bytes: &[u8]) -> usize
     requires { place + length bytes.now ≤ length out.old }
     ensures place { result ≡ place + length bytes.now }

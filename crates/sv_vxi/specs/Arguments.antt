@@ -9,8 +9,8 @@ use Rattle.sv_xdr.specs.declared.garbage.Garbage.{Garbage}
 use Rattle.sv_xdr.specs.Spelling.{Field, Unsigned, Signed, Boolean, Opaque, BeginsAll}
 pub use Rattle.sv_vxi.specs.Limits.{max_handle}
 
--- the arguments of a call on a link, without the link itself, as plain data. Timeouts are in milliseconds. `Generic` has the arguments of
--- five calls, Device_GenericParms.
+-- the arguments of a call on a link, without the link itself, as plain data. Timeouts are in milliseconds. `Generic` has
+-- Device_GenericParms, the arguments that five of the calls share.
 pub data LinkCall : Type 0 where
   DeviceAbort : LinkCall
   DeviceWrite : (io_timeout lock_timeout flags : ℕ) (bytes : List ℕ) → LinkCall
@@ -56,7 +56,7 @@ core_calls = 10 ∷ 11 ∷ 12 ∷ 13 ∷ 14 ∷ 15 ∷ 16 ∷ 17 ∷ 18 ∷ 19 �
 abbrev pub abort_calls : List ℕ
 abort_calls = 1 ∷ []
 
--- whether the call with number `proc` is one of these
+-- whether `proc` is one of these numbers of calls
 abbrev pub is_one_of : List ℕ → ℕ → Bool
 is_one_of calls proc = list_any (λ call. proc == call) calls
 
@@ -83,7 +83,7 @@ argument_fields (CreateIntrChan host_addr host_port prog_num prog_vers prog_fami
     Unsigned host_addr ∷ Unsigned host_port ∷ Unsigned prog_num ∷ Unsigned prog_vers ∷ Unsigned prog_family ∷ []
 argument_fields DestroyIntrChan = []
 
--- If the arguments have a handle, it has at most 40 bytes.
+-- If the arguments include a handle, this handle has at most 40 bytes.
 abbrev pub InBounds : Arguments → Type 0
 InBounds (OnLink lid (DeviceEnableSrq enable handle)) = length handle ≤ max_handle
 InBounds _ = Unit {0}

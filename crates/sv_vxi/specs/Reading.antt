@@ -17,7 +17,7 @@ pub data Kind : Type 0 where
   signed unsigned boolean : Kind
   opaque : (most : ℕ) → Kind
 
--- opaque data as long as a length field can express
+-- the kind of opaque data without a limit but that of the length field
 abbrev pub any : Kind
 any = opaque 4294967295
 
@@ -29,7 +29,8 @@ Makes (unsigned ∷ kinds) A = ℕ → Makes kinds A
 Makes (boolean ∷ kinds) A = Bool → Makes kinds A
 Makes (opaque most ∷ kinds) A = List ℕ → Makes kinds A
 
--- the value that a function makes from fields of these kinds, which are read in order; bytes after the last field are ignored
+-- the value that the function `makes` returns for fields of these kinds, which are read from bytes in order; bytes after the last field are
+-- ignored
 abbrev pub read : {A : Type 0} → (kinds : List Kind) → Makes kinds A → List ℕ → Result A Garbage
 read [] value bytes = Ok value
 read (signed ∷ kinds) makes bytes = signed_at bytes >>= λ x. read kinds (makes x.0) x.1

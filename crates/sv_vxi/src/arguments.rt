@@ -34,7 +34,8 @@ pub enum GenericCall {
 /// The arguments of a call on a link, without the link itself. Timeouts are in milliseconds.
 #[derive(Clone, Copy)]
 pub enum LinkCall<'a> {
-    /// The arguments of device_abort: none. It aborts the call that is in progress on the link.
+    /// The arguments of device_abort: none. device_abort aborts the call that is in progress on the
+    /// link.
     DeviceAbort,
     /// The arguments of device_write.
     DeviceWrite {

@@ -3,7 +3,7 @@
 ghost use Rattle.std.specs.Prelude.{◌≡◌, pos};
 ghost use Rattle.sv_vxi.specs.ErrorCode.{error_number};
 
-/// Why a call failed.
+/// Why a call failed; `NoError` if it didn't fail.
 #[derive(Clone, Copy, Debug, PartialEq, Eq)]
 pub enum ErrorCode {
     /// No error.
@@ -12,7 +12,7 @@ pub enum ErrorCode {
     NotAccessible = 3,
     /// There is no such link, or it was created on another connection.
     InvalidLink = 4,
-    /// A parameter is refused, such as a write of more than 4,096 bytes.
+    /// A parameter is refused. For example, a write has more than 4,096 bytes.
     ParameterError = 5,
     /// There is no interrupt channel.
     NotEstablished = 6,
@@ -22,7 +22,7 @@ pub enum ErrorCode {
     OutOfResources = 9,
     /// Another link holds the lock.
     Locked = 11,
-    /// The link holds no lock.
+    /// The link doesn't hold the lock.
     NoLock = 12,
     /// The call timed out.
     IoTimeout = 15,

@@ -15,8 +15,8 @@ impl Flags {
         self.0 % 2 == 1
     }
 
-    /// Whether a write has END (bit 3): its last byte ends the message; if it has no bytes, the
-    /// write itself does.
+    /// Whether a write has END (bit 3). If it has, its last byte ends the message. A write without
+    /// bytes ends the message itself.
     pub fn has_end(self) -> bool
         ensures { result ≡ (bit_at self.0 3 == 1) }
     {

@@ -26,10 +26,10 @@ const MAX_HANDLE: u32 = 40;
 /// boolean is neither 0 nor 1, a byte of padding isn't 0, or a handle is longer than 40 bytes.
 pub fn read_args(proc: u32, bytes: &[u8]) -> Result<Args<'_>, Garbage>
     requires { is_one_of (core_calls ++ abort_calls) proc ≡ true }
-    // The bytes encode the result. It is `Garbage` only if they don't encode arguments of this
-    // call.
+    // `ArgumentsAre` states that the bytes encode the result, or that the result is `Garbage` and
+    // they don't encode arguments of this call.
     ensures found { ArgumentsAre proc bytes.now (plain_reading result) }
-    // The bytes encode nothing else.
+    // `ArgumentsAre` holds for no other result.
     ensures only { (outcome : Result Arguments Garbage) → ArgumentsAre proc bytes.now outcome
         → plain_reading result ≡ outcome }
     ensures exact { plain_reading result ≡ arguments_at proc bytes.now }

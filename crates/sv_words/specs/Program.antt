@@ -6,7 +6,7 @@ use Rattle.sv_replay.specs.declared.scenario.ScenarioFault.TheVariants as scenar
 use Rattle.sv_words.specs.declared.fault.ProgramFault.{ProgramFault}
 use Rattle.sv_words.specs.declared.fault.ProgramFault.TheVariants.{BadWords, Run, Socket}
 
--- the exit status of a fault
+-- the exit status of the program when it stops with this fault
 abbrev pub status : ProgramFault → ℕ
 status BadWords = 2
 status (Run (BadLine n)) = 2

@@ -32,7 +32,7 @@ abbrev pub IfGiven : Option Text → (Text → Type 0) → Type 0
 IfGiven (Some text) P = P text
 IfGiven None P = ⊥
 
--- The values of the five options, each found by its name, say what to serve.
+-- The values of the five options, which `value` finds by their names, say what to serve.
 abbrev pub ServesBy : (Text → Option Text) → Serve → Type 0
 ServesBy value serve = IfGiven (value (codes "core")) (λ text. IsCount 65535 text serve.core)
     × IfGiven (value (codes "abort")) (λ text. IsCount 65535 text serve.abort)
@@ -45,13 +45,14 @@ abbrev pub Serves : List Text → Serve → Type 0
 Serves words serve = (Contains words (codes "--") → ⊥) × (fault_of serve_command words ≡ [])
     × ServesBy (λ name. first_of name (matches_of serve_command words)) serve
 
--- The words are the single word `replay`; or they are `serve` and its options.
+-- The words of the command line tell the program to do this: for a replay, they are the single word `replay`; for a server, they are
+-- `serve` and its options.
 abbrev pub AsksFor : List Text → Words → Type 0
 AsksFor words Replay = words ≡ codes "replay" ∷ []
 AsksFor [] (Server serve) = ⊥
 AsksFor (word ∷ words) (Server serve) = (word ≡ codes "serve") × Serves (word ∷ words) serve
 
--- What reading the words returns: what they tell the program to do; `BadWords`, if they don't tell it anything; or that memory was refused.
+-- What reading the command line returns: something of which `P` holds; `BadWords`, if `P` holds of nothing; or that memory was refused.
 abbrev pub ReadsWords : {A : Type 0} → (A → Type 0) → Result A ProgramFault → Type 0
 ReadsWords P (Ok asked) = P asked
 ReadsWords {A} P (Err BadWords) = (asked : A) → P asked → ⊥
@@ -63,6 +64,6 @@ abbrev pub Finds : {A : Type 0} → (A → Type 0) → Option A → Type 0
 Finds P (Some found) = P found
 Finds {A} P None = (other : A) → P other → ⊥
 
--- If clap's command refuses the words, the fault is that the words are bad, unless memory was refused.
+-- The fault for this kind of error of clap: that memory was refused, if that is the kind; else that the words are bad.
 abbrev pub IsUsageFault : ErrorKind → ProgramFault → Type 0
 IsUsageFault kind fault = ((kind ≡ OutOfMemory) × (fault ≡ Run Memory)) ⊎ ((kind ≡ OutOfMemory → ⊥) × (fault ≡ BadWords))

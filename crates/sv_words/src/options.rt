@@ -21,7 +21,7 @@ fn option<'a>(alloc: Global, name: &'a str) -> Arg<'a>
         .action(ArgAction::Set)
 }
 
-/// The command `serve`.
+/// Makes clap's command `serve`, with its five options.
 pub(crate) fn command<'a>(alloc: Global) -> Result<Command<'a>, AllocError>
     ensures { IfOk result (λ command. app_of command ≡ serve_command) }
 {
@@ -40,7 +40,8 @@ fn has_plus(word: &str) -> bool
     matches!(word.as_bytes(), [b'+', ..])
 }
 
-/// Returns the value of 1 to 10 digits, if it is from 1 to `most`; else `None`.
+/// Returns the value of a word of 1 to 10 digits, if it is from 1 to `most`; `None` for any other
+/// word.
 fn count(word: &str, most: u32) -> Option<u32>
     ensures { Finds (IsCount most word.now) result }
 {

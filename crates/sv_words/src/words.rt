@@ -22,7 +22,7 @@ pub enum Words<'a> {
     Server(Serve<'a>),
 }
 
-/// What to serve.
+/// What the command line says about the server to run.
 #[derive(Clone, Copy, Debug, PartialEq, Eq)]
 pub struct Serve<'a> {
     /// The port of the core channel, from 1.
@@ -84,7 +84,8 @@ fn read_serve<'a, S: AsStr>(alloc: Global, words: &'a [S]) -> Result<Serve<'a>, 
     }
 }
 
-/// Whether some word is `--`. To clap it ends the options, and it may come after them.
+/// Whether some word is `--`. Clap would accept it as the end of the options, but this program
+/// doesn't.
 fn has_end_of_options<S: AsStr>(words: &[S]) -> bool
     ensures { Decides result (Contains (map S.text words.now) (codes "--")) }
 {

@@ -12,8 +12,8 @@ abbrev pub ◌>>=◌ : {A B : Type 0} → Result A XdrFault → (A → Result B 
 (Ok x) >>= f = f x
 (Err fault) >>= f = Err fault
 
--- The code's result and the bytes that remain after it (`new`) are what a function of this file returned (`read`). `view` turns a value of
--- the code into one of the specification. After a fault all bytes remain.
+-- The code read from the bytes `old`, returned this `Result` and left the bytes `new`. Both agree with `read`, which a function of this
+-- file returned for `old`. `view` turns a value of the code into one of the specification. After a fault all bytes remain.
 abbrev pub IsRead : {X Y : Type 0} → (X → Y) → Result X XdrFault → List ℕ → List ℕ → Result (Y × List ℕ) XdrFault → Type 0
 IsRead view (Ok x) old new read = read ≡ Ok (view x, new)
 IsRead view (Err fault) old new read = (read ≡ Err fault) × (new ≡ old)
@@ -34,7 +34,7 @@ boolean_at bytes = do
   n ← unsigned_at bytes
   if n.0 == 0 then Ok (false, n.1) else (if n.0 == 1 then Ok (true, n.1) else Err BadBool)
 
--- the first n bytes as data, and the bytes after the data and its padding
+-- n bytes of data at the front of bytes, and the bytes after the data and its padding
 unfoldable pub padded_at : ℕ → List ℕ → Result (List ℕ × List ℕ) XdrFault
 padded_at n bytes =
     if nat_lt (length bytes) (n + pad_len n) then Err Short

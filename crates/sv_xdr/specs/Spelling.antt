@@ -3,7 +3,7 @@ use Rattle.std.specs.Prelude.{◌≡◌, ℕ, ◌+◌, ◌-◌, ◌*◌, ◌%◌
 use Rattle.std.specs.Int.{w32, to_be_bytes, cast_unsigned, from_bool}
 use Rattle.std.specs.List.{AllByRecursion}
 
--- a field, of the kinds that are used here
+-- a field of XDR, of one of the kinds that the server uses
 pub data Field : Type 0 where
   Unsigned : ℕ → Field
   Signed : ℤ → Field
@@ -15,7 +15,8 @@ abbrev pub IsWord : List ℕ → ℕ → Type 0
 IsWord (a ∷ b ∷ c ∷ d ∷ []) n = (a < 256) × (b < 256) × (c < 256) × (d < 256) × (n ≡ ((a * 256 + b) * 256 + c) * 256 + d)
 IsWord _ n = ⊥
 
--- The word n encodes this signed integer in two's complement (4.1): n is the integer itself, or the integer plus 2 ^ 32 if it is negative.
+-- The 32-bit number n encodes a signed integer in two's complement (4.1): n is the integer itself, or, if the integer is negative, the
+-- integer plus 2 ^ 32.
 abbrev pub IsTwosComplement : ℕ → ℤ → Type 0
 IsTwosComplement n (pos k) = (k < 2 ^ 31) × (n ≡ k)
 IsTwosComplement n (negsuc k) = (k < 2 ^ 31) × (n + (k + 1) ≡ 2 ^ 32)

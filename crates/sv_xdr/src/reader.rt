@@ -8,8 +8,8 @@ ghost use Rattle.sv_xdr.specs.Reader.{IsRead, unsigned_at, signed_at, boolean_at
 use crate::fault::XdrFault;
 use std::marker::Model;
 
-/// A place in bytes, from which fields are read in order. Contracts see it as the bytes from that
-/// place on.
+/// A position in bytes, from which fields are read in order. Contracts see a reader as the bytes
+/// from its position on.
 #[derive(Debug, Drop)]
 pub struct Reader<'a> {
     rest: &'a [u8],
@@ -31,7 +31,7 @@ impl<'a> Reader<'a> {
         Reader { rest: bytes }
     }
 
-    /// The bytes from the reader's place on.
+    /// The bytes from the reader's position on.
     pub fn rest(&self) -> &'a [u8]
         ensures { result.now ≡ self.now }
     {
@@ -43,7 +43,7 @@ impl<'a> Reader<'a> {
     /// # Errors
     /// `Short` if fewer than 4 bytes are left. The reader then doesn't move.
     pub fn u32(&mut self) -> Result<u32, XdrFault>
-        // The bytes begin with the encoding of the field that is read.
+        // If the result is `Ok`, the bytes began with the encoding of the field that was read.
         ensures found { IfOk result (λ n. Begins self.old (Unsigned n) self.new) }
         // If the encoding of a field comes next, this field is read.
         ensures only { (n : ℕ) (after : List ℕ) → Begins self.old (Unsigned n) after
@@ -77,8 +77,8 @@ impl<'a> Reader<'a> {
     /// Reads a boolean (RFC 4506, section 4.4).
     ///
     /// # Errors
-    /// `Short` if fewer than 4 bytes are left, then `BadBool` if the number is neither 0 nor 1. The
-    /// reader then doesn't move.
+    /// `Short` if fewer than 4 bytes are left; `BadBool` if the number in the first 4 bytes is
+    /// neither 0 nor 1. The reader then doesn't move.
     #[tactic(auto, unfolding(crate::specs::Reader::boolean_at))]
     pub fn boolean(&mut self) -> Result<bool, XdrFault>
         ensures found { IfOk result (λ b. Begins self.old (Boolean b) self.new) }

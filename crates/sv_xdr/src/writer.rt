@@ -109,7 +109,7 @@ impl<'b> Writer<'b> {
         Ok(())
     }
 
-    /// Writes these bytes, if there is room.
+    /// Writes these bytes, if they fit into the rest of the buffer.
     fn bytes(&mut self, bytes: &[u8]) -> Result<(), XdrFault>
         ensures same_buffer { self.new.out.ghost_name ≡ self.old.out.ghost_name }
         ensures exact { Writes bytes.now result self.old self.new }

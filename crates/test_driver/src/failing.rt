@@ -1,4 +1,5 @@
-//! Rows of peers: what each gets, and what each gets if a call of the wire fails.
+//! Rows of peers: what each peer gets, and whether it still gets everything if a call of the wire
+//! fails.
 
 use crate::peers::{Call, Peer, Peers};
 use crate::row::{bad, number};
@@ -7,10 +8,10 @@ use std::io::{self, BufWriter, Write};
 use sv_serve::Driver;
 use sv_server::{Config, Server};
 
-/// The most calls of a row.
+/// For each kind of call, a row makes fewer calls of the wire than this.
 const MOST: u64 = 1_000;
 
-/// The number of sweeps, and the peers, a line of hexadecimal each.
+/// A row: the number of its sweeps, and a line of hexadecimal for each of its peers.
 #[derive(Clone, Copy)]
 struct Row<'a> {
     sweeps: u64,
@@ -20,7 +21,7 @@ struct Row<'a> {
 /// The driver of a row.
 type Played = Driver<Peers, Global>;
 
-/// The calls that fail in turn, each with its word.
+/// The kinds of calls of the wire that are made to fail, each with the word for it.
 const CALLS: [(Call, &str); 5] = [
     (Call::Accept, "accept"),
     (Call::Read, "read"),
@@ -29,7 +30,7 @@ const CALLS: [(Call, &str); 5] = [
     (Call::Dialed, "dialed"),
 ];
 
-/// The peers of a row, a line of hexadecimal each.
+/// Makes the peers of a row. Each line has the bytes that one peer sends, in hexadecimal.
 fn peers(alloc: Global, lines: &str) -> io::Result<Vec<Peer>> {
     let mut peers = Vec::new(alloc);
     for line in lines.lines() {
@@ -41,7 +42,8 @@ fn peers(alloc: Global, lines: &str) -> io::Result<Vec<Peer>> {
     Ok(peers)
 }
 
-/// The driver after this number of sweeps, each of a millisecond.
+/// Makes a driver over this wire, and lets it make this number of sweeps. A millisecond passes in
+/// each sweep.
 fn played(alloc: Global, sweeps: u64, wire: Peers) -> io::Result<Played> {
     let config = Config {
         core: 4096,
@@ -73,7 +75,7 @@ fn show<W: Write + Drop>(
     writeln!(writer)
 }
 
-/// How the bytes that came to a peer compare with a run without a failure.
+/// The word for what a peer got in a run with a failure, compared with the run without a failure.
 fn outcome(peer: &Peer, whole: &Peer) -> &'static str {
     if peer.struck {
         "struck"
@@ -84,8 +86,8 @@ fn outcome(peer: &Peer, whole: &Peer) -> &'static str {
     }
 }
 
-/// Prints for each peer whether a call for it failed, or else whether it got every byte. Prints
-/// nothing if no call failed. Returns whether one did.
+/// For each peer: prints whether a call for it failed and, if none did, whether the peer got every
+/// byte. If no call failed at all, prints nothing. Returns whether a call failed.
 fn compare<W: Write + Drop>(
     peers: &Peers,
     whole: &Peers,
@@ -103,7 +105,8 @@ fn compare<W: Write + Drop>(
     Ok(true)
 }
 
-/// Plays a row with one call failing. Returns whether the row has that call.
+/// Plays the row while one call of the wire fails. Prints the result for each peer. Returns whether
+/// the call that fails was made.
 fn fail_once<W: Write + Drop>(
     alloc: Global,
     row: Row<'_>,
@@ -117,7 +120,7 @@ fn fail_once<W: Write + Drop>(
     compare(driver.wire(), whole, (word, left), writer)
 }
 
-/// Plays a row with each call of a kind failing in turn.
+/// For each call of this kind: plays the row while that call fails.
 fn fail_each<W: Write + Drop>(
     alloc: Global,
     row: Row<'_>,
@@ -133,7 +136,7 @@ fn fail_each<W: Write + Drop>(
     Err(bad())
 }
 
-/// Plays a row with each call of each kind failing in turn.
+/// For each kind of call, and for each call of that kind: plays the row while that call fails.
 fn fail_all<W: Write + Drop>(
     alloc: Global,
     row: Row<'_>,
@@ -155,8 +158,8 @@ fn show_each<W: Write + Drop>(peers: &Peers, writer: &mut BufWriter<W>) -> io::R
     Ok(())
 }
 
-/// Plays a row, whose first line is the number of sweeps. Prints what each peer gets, and then the
-/// result of each failure of the wire.
+/// Plays a row, whose first line is the number of sweeps. Prints what each peer gets, and then, for
+/// each call of the wire, the result of a run in which that call fails.
 pub(crate) fn play<W: Write + Drop>(
     alloc: Global,
     text: &str,
@@ -172,7 +175,8 @@ pub(crate) fn play<W: Write + Drop>(
     report(alloc, row, whole.wire(), writer)
 }
 
-/// Prints what each peer gets, and then the result of each failure of the wire.
+/// Prints what each peer gets, and then, for each call of the wire, the result of a run in which
+/// that call fails.
 fn report<W: Write + Drop>(
     alloc: Global,
     row: Row<'_>,

@@ -1,43 +1,46 @@
-//! Plays the rows of the standard input, each with a new driver over a wire whose answers are
-//! lines. Prints the title of each row, and then the calls of the wire that a recorder recorded:
-//! this is the trace that the laws of `sv_serve` speak of (`sv_recording`).
+//! Plays the test cases, called rows, of the standard input. Each row gets a new driver over a wire
+//! whose answers are given by the lines of the row. Prints the title of each row, and then the
+//! driver's calls of the wire, which a recorder recorded. These calls are the trace of which the
+//! laws of `sv_serve` speak (`sv_recording`).
 //!
 //! A row has these lines:
 //!
 //! | Line | What it says |
 //! |---|---|
-//! | `= WORDS` | the title, in front |
+//! | `= WORDS` | the title, which is the row's first line |
 //! | `clock MILLISECONDS` | the clock at the beginning; 0 without this line |
-//! | `memory N` | when the driver is made, its Nth allocation fails |
+//! | `memory N` | the Nth allocation that is made to create the driver fails |
 //! | `0 input 1 250000` | an entry of a scenario; all entries come before the sweeps |
 //! | `sweep TICKS` | a sweep in which this many milliseconds pass |
-//! | `sweep TICKS memory N` | such a sweep, and the Nth allocation from then on fails |
-//! | `CALL: ANSWER` | after a sweep: the wire's answer to a call in it |
-//! | `still N` | after a sweep: prints whether nothing becomes due within N milliseconds |
-//! | `played` | after a sweep: prints whether the scenario is at its end |
+//! | `sweep TICKS memory N` | the same; the Nth allocation from the sweep's beginning on fails |
+//! | `CALL: ANSWER` | below a sweep: the wire's answer to this call in the sweep |
+//! | `still N` | below a sweep: prints whether nothing becomes due within N milliseconds |
+//! | `played` | below a sweep: prints whether the scenario is at its end |
 //!
 //! A row whose first line is `peers N` makes N sweeps. It has a line of hexadecimal for each peer,
-//! which sends these bytes on the core channel. It prints what each peer gets on its connection and
-//! its interrupt channel, as `c0 80..` and `i0 80..`. Then it is played again and again, with the
-//! first, second, .. accept, read, write, dial and question whether a dialed peer answered failing
-//! in turn. Each time it prints whether a call for the peer failed (`struck`), or the peer got
-//! every byte all the same (`whole`).
+//! which sends these bytes on the core channel. The row prints what each peer gets on its
+//! connection and on its interrupt channel, as `c0 80..` and `i0 80..`. Then the row is played once
+//! for each call of the wire, and that call fails: the first accept, the second accept, and so on;
+//! and likewise for `read`, `write`, `dial` and `dialed`. Each time, the row prints for each peer:
+//! `struck` if a call for the peer failed; else `whole` if the peer got every byte; else `lacks
+//! bytes`.
 //!
-//! A row whose first line is `pace` asks for the decisions of a loop of sweeps. Times are in
-//! nanoseconds since its beginning. `ticks NOW`: how many milliseconds pass. `sleep_time NOW
-//! TICKS`: how long the loop may sleep. `work NOW`: something is reported. `eager NOW`: whether the
-//! loop polls again without sleeping. `found N` and `nothing N`: a wait ends, after N polls, with a
-//! report or without. `vain N`: N runs of polls find nothing, each as soon as the loop may poll
-//! again; this prints how many times it sleeps at once before each.
+//! A row whose first line is `pace` queries the decisions of a loop of sweeps. Times are in
+//! nanoseconds since the loop began. `ticks NOW` prints how many milliseconds pass. `sleep_time NOW
+//! TICKS` prints how long the loop may sleep. `eager NOW` prints whether the loop polls again
+//! without sleeping. Three lines print nothing: `work NOW` tells the loop that a poll at NOW
+//! reported something; `found N` and `nothing N` tell it that a wait ends after N polls, with a
+//! report or without one. `vain N` makes N runs of polls that find nothing. Each run begins as soon
+//! as the loop may poll again, and the row prints how many times the loop sleeps before the run.
 //!
-//! Each call is printed as a line: `core 0` for a connection that may come under number 0, and
-//! `core -` if it is to be dropped; `read 0`; `probe 0`, with ` drops` if the bytes are to be
+//! Each call of the wire is printed as a line: `core 0` accepts a connection as number 0, and
+//! `core -` accepts one that is dropped; `read 0`; `probe 0`, with ` drops` if bytes that come are
 //! dropped; `write c0 80..` with the bytes in hexadecimal, or `write i0 80..` for an interrupt
-//! channel; `dial 0 7f000001:4242`; `dialed 0`; `close c0`. Before an answer, a call is written
-//! without what comes after its number or port, and `core` without a number. The answer `yes` means
-//! that a connection comes, or a peer answers; `fails` is a fault; `later` means that there is
-//! nothing yet; a number is how many bytes are taken; bytes that come are in hexadecimal. Without
-//! such a line, a write takes all bytes, and every other call is pending.
+//! channel; `dial 0 7f000001:4242`; `dialed 0`; `close c0`. A line `CALL: ANSWER` names the call in
+//! the same way, but without what follows its number or port; `core` has no number. The answer
+//! `yes` means that a connection comes, or that a peer answers; `fails` is a fault; `later` means
+//! that there is nothing yet; a number is how many bytes are taken; hexadecimal digits are bytes
+//! that come. A call without such a line is pending, except that a write takes all bytes.
 #![tactic(auto)]
 
 mod failing;
@@ -49,7 +52,7 @@ mod shown;
 
 use std::io::{self, BufWriter, Error, ErrorKind, Write};
 
-/// Plays each row in its order.
+/// Plays the rows in their order.
 fn main(rt: HostRuntime) -> io::Result<()> {
     let text = io::read_to_string(rt.alloc(), rt.reader())?;
     let Some(rows) = text.strip_prefix("= ") else {

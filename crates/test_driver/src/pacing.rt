@@ -1,10 +1,10 @@
-//! Rows of the decisions of a loop of sweeps, by times and counts.
+//! Rows that query the decisions of a loop of sweeps: when it polls, and how long it sleeps.
 
 use crate::row::{bad, number};
 use std::io::{self, BufWriter, Write};
 use sv_pace::Pace;
 
-/// The most sleeps of a row.
+/// The loop sleeps fewer times than this before it may poll again.
 const MOST: u32 = 10_000;
 
 /// A number of polls or of milliseconds.
@@ -12,7 +12,7 @@ fn count_of(number: u64) -> u32 {
     number.min(u64::from(u32::MAX)) as u32
 }
 
-/// Sleeps at once until polling is due again, and returns how many times it slept.
+/// Lets the loop sleep until it may poll again without sleeping. Returns how many times it slept.
 fn sleeps(pace: &mut Pace, now: u64) -> io::Result<u32> {
     for count in 0..MOST {
         if pace.is_spinning(now) {
@@ -23,8 +23,8 @@ fn sleeps(pace: &mut Pace, now: u64) -> io::Result<u32> {
     Err(bad())
 }
 
-/// Polls in vain `count` times, each time as soon as polling is due. Prints how many times it
-/// sleeps before each.
+/// Makes `count` runs of polls that find nothing, each as soon as the loop may poll again. For each
+/// run, prints how many times the loop sleeps before it.
 fn miss<W: Write + Drop>(pace: &mut Pace, count: u64, writer: &mut BufWriter<W>) -> io::Result<()> {
     for _ in 0..count {
         pace.work(0);
@@ -55,7 +55,7 @@ fn step<W: Write + Drop>(pace: &mut Pace, line: &str, writer: &mut BufWriter<W>)
     }
 }
 
-/// Executes a line that prints nothing.
+/// Executes a line that prints nothing: `work`, `found` or `nothing`.
 fn keep(pace: &mut Pace, word: &str, number: u64) -> io::Result<()> {
     match word {
         "work" => pace.work(number),

@@ -20,22 +20,22 @@ pub(crate) enum Call {
 /// A peer of the core channel.
 #[derive(Drop)]
 pub(crate) struct Peer {
-    /// The bytes that it sends, and how many of them were read.
+    /// The bytes that the peer sends, and how many of these bytes were read.
     sends: Vec<u8>,
     read: usize,
-    /// The number of its connection, as long as this is open.
+    /// The number of the peer's connection, as long as the connection is open.
     conn: Option<u8>,
-    /// Whether it has come.
+    /// Whether the peer has connected.
     came: bool,
-    /// Whether a call for it failed.
+    /// Whether a call for the peer failed.
     pub(crate) struck: bool,
-    /// The bytes that it got on its connection, and on its interrupt channel.
+    /// The bytes that the peer got on its connection, and those on its interrupt channel.
     pub(crate) got: Vec<u8>,
     pub(crate) called: Vec<u8>,
 }
 
 impl Peer {
-    /// A peer that is to come.
+    /// A peer that hasn't connected yet.
     pub(crate) fn new(alloc: Global, sends: Vec<u8>) -> Peer {
         Peer {
             sends,
@@ -48,7 +48,7 @@ impl Peer {
         }
     }
 
-    /// Puts the bytes that the peer sends into a buffer, as many as there is room for.
+    /// Copies the next bytes that the peer sends into a buffer, as many as the buffer has room for.
     fn give(&mut self, buffer: &mut [u8]) -> Answer<usize>
         ensures { IsWithin result (length buffer.old) }
     {
@@ -62,7 +62,7 @@ impl Peer {
         Answer::Got(count)
     }
 
-    /// Takes the bytes that are sent to the peer.
+    /// Stores the bytes that the server sends to the peer on this port.
     fn take(&mut self, port: Port, bytes: &[u8]) -> Answer<usize>
         ensures { IsWithin result (length bytes.now) }
     {
@@ -77,16 +77,17 @@ impl Peer {
     }
 }
 
-/// A wire of peers, of which one call fails.
+/// A wire to peers. One of its calls fails.
 #[derive(Drop)]
 pub(crate) struct Peers {
     pub(crate) peers: Vec<Peer>,
     fails: Call,
-    /// How many calls of that kind are left, up to the one that fails and with it.
+    /// How many calls of the kind `fails` remain up to and including the one that fails; 0 after
+    /// that call was made.
     left: u64,
 }
 
-/// The number of a port.
+/// The number of the connection to which a port belongs.
 fn number(port: Port) -> u8 {
     match port {
         Port::Conn(conn) => conn,
@@ -95,17 +96,18 @@ fn number(port: Port) -> u8 {
 }
 
 impl Peers {
-    /// A wire of which one call fails: the one with this number among the calls of this kind.
+    /// Makes a wire to these peers. Of the calls of the kind `fails`, the one with the number
+    /// `left` fails, counted from 1.
     pub(crate) fn new(peers: Vec<Peer>, fails: Call, left: u64) -> Peers {
         Peers { peers, fails, left }
     }
 
-    /// Whether the failure is still to come.
+    /// Whether the call that fails hasn't been made yet.
     pub(crate) fn is_whole(&self) -> bool {
         self.left > 0
     }
 
-    /// Whether this call fails.
+    /// Counts a call of this kind, and returns whether it fails.
     fn strikes(&mut self, call: Call) -> bool {
         if call != self.fails || self.left == 0 {
             return false;
@@ -119,7 +121,8 @@ impl Peers {
         self.peers.iter_mut().find(|peer| peer.conn == Some(conn))
     }
 
-    /// Whether this call for a peer fails.
+    /// Counts a call for the peer of this connection, and returns whether the call fails. If it
+    /// fails, marks the peer as struck.
     fn strikes_at(&mut self, call: Call, conn: u8) -> bool {
         let fails = self.strikes(call);
         if fails {
@@ -130,7 +133,8 @@ impl Peers {
         fails
     }
 
-    /// Lets the next peer come under this number. Returns whether one came.
+    /// Connects the next peer, as the connection with this number. Returns whether there was such a
+    /// peer.
     fn come(&mut self, conn: u8) -> bool {
         match self.peers.iter_mut().find(|peer| !peer.came) {
             Some(peer) => {

@@ -11,18 +11,18 @@ use sv_replay::{Entry, read_scenario};
 use sv_serve::Driver;
 use sv_server::{Config, Server};
 
-/// The text after a sweep's number, if memory is refused in it.
+/// The text between the milliseconds of a sweep and the number of the allocation that it refuses.
 const MEMORY: &str = " memory ";
 
 /// The driver of a row.
 type Played<'a> = Driver<Recorder<Scripted>, &'a FailingAllocator<Global>>;
 
-/// The fault of a row that can't be played.
+/// The error for a row that can't be played.
 pub(crate) fn bad() -> Error {
     Error::from(ErrorKind::InvalidData)
 }
 
-/// A number.
+/// Reads a decimal number.
 pub(crate) fn number(text: &str) -> io::Result<u64> {
     match text.parse::<u64>() {
         Ok(number) => Ok(number),
@@ -30,8 +30,8 @@ pub(crate) fn number(text: &str) -> io::Result<u64> {
     }
 }
 
-/// The number in the first line, if that begins with `word`, and the lines after it; else 0, and
-/// all lines.
+/// If the first line begins with `word`: the number in this line, and the lines after it. Else 0,
+/// and all lines.
 fn setting<'a>(word: &str, text: &'a str) -> io::Result<(u64, &'a str)> {
     match text.strip_prefix(word) {
         Some(rest) => {
@@ -42,8 +42,8 @@ fn setting<'a>(word: &str, text: &'a str) -> io::Result<(u64, &'a str)> {
     }
 }
 
-/// The first lines of a row, before its sweeps: the clock, which allocation fails, and the
-/// entries of the scenario.
+/// Reads the lines of a row before its sweeps: the clock, the number of the allocation that fails,
+/// and the entries of the scenario.
 fn front(row: &str) -> io::Result<(u64, u64, &str)> {
     let (front, _) = row.split_once("\nsweep ").unwrap_or((row, ""));
     let (_, settings) = front.split_once('\n').unwrap_or((front, ""));
@@ -63,7 +63,7 @@ fn scenario<'a>(
     }
 }
 
-/// The driver of a row; the row may limit its memory.
+/// Makes the driver of a row. The row may say which allocation of the driver is refused.
 fn made<'a>(
     alloc: Global,
     heap: &'a FailingAllocator<Global>,
@@ -83,7 +83,7 @@ fn made<'a>(
     Ok(Driver::new(heap, server, wire, scenario)?)
 }
 
-/// Makes a sweep, and prints the calls of the wire in it.
+/// Makes a sweep, and prints the driver's calls of the wire in this sweep.
 fn sweep<W: Write + Drop>(
     heap: &FailingAllocator<Global>,
     driver: &mut Played<'_>,
@@ -156,7 +156,7 @@ fn sweep_each<W: Write + Drop>(
     Ok(())
 }
 
-/// Plays the sweeps of a row, or prints `memory` if there was none for its driver.
+/// Plays the sweeps of a row, or prints `memory` if there was no memory for its driver.
 fn play_sweeps<W: Write + Drop>(
     alloc: Global,
     row: &str,
@@ -186,7 +186,7 @@ pub(crate) fn play<W: Write + Drop>(
     play_sweeps(alloc, row, writer)
 }
 
-/// Prints that memory was refused; any other fault is passed on.
+/// Prints `memory` if the fault is that memory was refused. Returns any other fault.
 fn told<W: Write + Drop>(fault: Error, writer: &mut BufWriter<W>) -> io::Result<()> {
     match fault.kind() {
         ErrorKind::OutOfMemory => writeln!(writer, "memory"),

@@ -1,4 +1,4 @@
-//! A wire whose answers are lines.
+//! A wire whose answers are given by the lines of a row.
 
 ghost use Rattle.std.specs.Prelude.{length};
 ghost use Rattle.sv_serve.specs.Heard.{IsWithin};
@@ -10,19 +10,19 @@ use std::fmt::Write;
 use sv_serve::{Answer, Wire};
 use sv_server::{Dial, Port, Role};
 
-/// A wire that answers by the lines of a sweep.
+/// A wire whose answers in a sweep are given by the row's lines below that sweep.
 #[derive(Drop)]
 pub(crate) struct Scripted {
     alloc: Global,
-    /// A row: the sweeps follow lines `sweep`.
+    /// The text of a row. Each of its sweeps begins with a line `sweep ..`.
     row: String,
-    /// Which sweep is under way, from 1.
+    /// The number of the sweep that is under way, counted from 1.
     pub(crate) sweep: Cell<usize>,
-    /// The call that the wire is asked for, as it is written before an answer.
+    /// The call that is made now, as a line of the row writes it before its answer.
     asked: String,
 }
 
-/// Whether something comes, by an answer.
+/// Whether a connection comes or a peer answers, according to the answer in the row.
 fn comes(answer: Option<&str>) -> Answer<()> {
     match answer {
         Some("yes") => Answer::Got(()),
@@ -31,7 +31,7 @@ fn comes(answer: Option<&str>) -> Answer<()> {
     }
 }
 
-/// How many of `most` bytes are taken, by an answer.
+/// How many of `most` bytes the wire takes, according to the answer in the row.
 fn takes(answer: Option<&str>, most: usize) -> Answer<usize>
     ensures { IsWithin result most }
 {
@@ -45,7 +45,7 @@ fn takes(answer: Option<&str>, most: usize) -> Answer<usize>
     }
 }
 
-/// Puts bytes at the front of a buffer, as many as it has room for.
+/// Copies bytes to the front of a buffer, as many as the buffer has room for.
 fn put(bytes: &[u8], buffer: &mut [u8]) -> Answer<usize>
     ensures { IsWithin result (length buffer.old) }
 {
@@ -55,7 +55,7 @@ fn put(bytes: &[u8], buffer: &mut [u8]) -> Answer<usize>
 }
 
 impl Scripted {
-    /// A wire that answers by the lines of a row.
+    /// Makes a wire that gives the answers in a row.
     pub(crate) fn new(alloc: Global, row: String) -> Scripted {
         Scripted {
             alloc,

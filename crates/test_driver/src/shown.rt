@@ -1,4 +1,4 @@
-//! Calls of a wire as lines.
+//! The calls of a wire, printed as lines.
 
 use std::io::{self, BufWriter, Write};
 use sv_recording::Call;
@@ -21,7 +21,7 @@ pub(crate) fn name(port: Port) -> (char, u8) {
     }
 }
 
-/// Prints a port and the bytes that the wire was given for it.
+/// Prints a port, and the bytes that the driver asked the wire to write on this port.
 fn show_written<W: Write + Drop>(
     port: Port,
     bytes: &[u8],

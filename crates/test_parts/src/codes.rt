@@ -1,9 +1,9 @@
-//! The errors by their numbers.
+//! Finding an error by its number.
 
 use crate::line::{Fault, put, value_of};
 use sv_errors::Code;
 
-/// All codes.
+/// All error codes.
 const CODES: [Code; 28] = [
     Code::NoError,
     Code::InvalidCharacter,
@@ -35,14 +35,14 @@ const CODES: [Code; 28] = [
     Code::QueryDeadlocked,
 ];
 
-/// Prints the name and the text of the error with a number.
+/// Prints the name and the text of the error that has this number.
 pub(crate) fn put_code(out: &mut String, text: &str) -> Result<(), Fault> {
     let code = code_of(text)?;
     put(out, code)?;
     put(out, code.text())
 }
 
-/// The error with a number.
+/// The error that has this number.
 pub(crate) fn code_of(text: &str) -> Result<Code, Fault> {
     let number = value_of(text)?;
     for code in CODES {

@@ -1,12 +1,12 @@
-//! Fields, and the headers of calls.
+//! XDR fields, and the headers of RPC calls.
 
 use crate::line::{Fault, bytes_of, cut, put, put_bytes, put_text, value_of};
 use std::alloc::Global;
 use sv_rpc::read_call;
 use sv_xdr::{Reader, Writer};
 
-/// Reads a field, and prints it and how many bytes are left. A kind that is a number means opaque
-/// data of at most that many bytes.
+/// Reads an XDR field. Prints the field, and how many bytes remain after it. If the word for the
+/// kind of field is a number, the field is opaque data of at most that many bytes.
 pub(crate) fn put_read(alloc: Global, out: &mut String, text: &str) -> Result<(), Fault> {
     let (kind, digits) = cut(text);
     let bytes = bytes_of(alloc, digits)?;
@@ -23,7 +23,7 @@ pub(crate) fn put_read(alloc: Global, out: &mut String, text: &str) -> Result<()
     put(out, reader.rest().len())
 }
 
-/// Writes a field into 12 bytes, and prints them.
+/// Writes an XDR field into a buffer of 12 bytes. Prints the written bytes, or the fault.
 pub(crate) fn put_written(alloc: Global, out: &mut String, text: &str) -> Result<(), Fault> {
     let (kind, value) = cut(text);
     let mut buffer = [0xEE; 12];
@@ -41,7 +41,7 @@ pub(crate) fn put_written(alloc: Global, out: &mut String, text: &str) -> Result
     }
 }
 
-/// Prints the header of a call.
+/// Prints the header of an RPC call.
 pub(crate) fn put_call(alloc: Global, out: &mut String, text: &str) -> Result<(), Fault> {
     let bytes = bytes_of(alloc, text)?;
     put(out, read_call(bytes.as_slice()))

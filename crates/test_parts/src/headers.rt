@@ -3,7 +3,8 @@
 use crate::line::{Fault, put};
 use sv_header::{Path, Table};
 
-/// Prints the command that each header of a message names, after the headers before it.
+/// For each header of a message: prints the command that the header names, given the headers before
+/// it.
 pub(crate) fn put_commands(out: &mut String, table: &Table, text: &str) -> Result<(), Fault> {
     let mut path = Path::root();
     for header in text.split(';') {

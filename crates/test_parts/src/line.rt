@@ -1,4 +1,4 @@
-//! Words of a line, and its answer.
+//! Reading the words of a line, and writing its answer.
 
 use std::alloc::{AllocError, Global};
 use std::fmt::Debug;
@@ -7,7 +7,7 @@ use std::str::FromStr;
 /// Why a line can't be answered.
 #[derive(Debug, Drop)]
 pub(crate) enum Fault {
-    /// It isn't a line of a test.
+    /// The line isn't a line of a test.
     Unknown,
     /// Memory was refused.
     Memory,
@@ -32,7 +32,7 @@ where
     text.parse().map_err(|_| Fault::Unknown)
 }
 
-/// The bytes of hexadecimal digits.
+/// The bytes that these hexadecimal digits stand for.
 pub(crate) fn bytes_of(alloc: Global, digits: &str) -> Result<Vec<u8>, Fault> {
     hex::decode(alloc, digits).map_err(|_| Fault::Unknown)
 }

@@ -1,32 +1,33 @@
-//! Reads lines from the standard input, and prints each with its answer. A line asks one part of
-//! the instrument, or the whole. Empty lines and those that begin with `#` are skipped.
+//! Reads lines from the standard input, and prints each with its answer. A line is a question to
+//! one part of the instrument, or to the whole instrument. Empty lines and lines that begin with
+//! `#` are skipped.
 //!
 //! | Line | Answer |
 //! |---|---|
-//! | `new` | nothing: new parts replace those on which acts are performed |
+//! | `new` | none; acts after this line are performed on new parts |
 //! | `times N LINE` | the answers of the line, which is executed N times |
-//! | `white TEXT` | of each byte, whether it is white space |
-//! | `trim TEXT` | the text without white space at both ends, in front, and at the end |
-//! | `cut BYTE TEXT` | the first place of the byte, and the text before it and after |
+//! | `white TEXT` | for each byte, whether it is white space |
+//! | `trim TEXT` | three texts, without white space: at both ends, in front, at the end |
+//! | `cut BYTE TEXT` | the first place of the byte, and the texts before and after it |
 //! | `parts TEXT` | the parts of a header |
 //! | `unit TEXT` | the header and the parameters of a unit, each with its place and its kind |
 //! | `headers TEXT` | the commands that the headers of a message name, with `;` between two |
-//! | `orders MESSAGE` | what each unit of a message asks for, after those before it |
+//! | `orders MESSAGE` | what each unit of a message asks for |
 //! | `arity HEADER` | how many parameters the header's command takes at most |
 //! | `voltage UNIT`, `boolean UNIT`, `keyword UNIT`, `channels UNIT` | a unit's first parameter |
 //! | `whole LOW HIGH UNIT` | a unit's first parameter, as a whole number |
-//! | `print MICROVOLTS` | a voltage as it is printed |
-//! | `response voltage UNIT` | the value of a unit's first parameter, printed as response data |
-//! | `response channels UNIT`, `response source UNIT` | a channel list or a source, likewise |
-//! | `response overload BELOW`, `response switch ON` | what is `true` or `false`, likewise |
-//! | `response whole NUMBER`, `response error NUMBER` | a number or an error, likewise |
+//! | `print MICROVOLTS` | the voltage, printed as response data |
+//! | `response voltage UNIT` | the unit's first parameter, printed as response data |
+//! | `response channels UNIT`, `response source UNIT` | a channel list or a source, the same way |
+//! | `response overload BELOW`, `response switch ON` | `true` or `false`, the same way |
+//! | `response whole NUMBER`, `response error NUMBER` | a number or an error, the same way |
 //! | `code NUMBER` | the name and the text of an error |
 //! | `queue ACT`, `register ACT`, `standard ACT`, `status ACT` | the answer to an act |
 //! | `scan ACT` | the scanner's answer to an act |
-//! | `session ACT` | the whole instrument's answer, and how many requests it raised, as `+1` |
+//! | `session ACT` | the whole instrument's answer; `+1` if it raised one request for service |
 //! | `records ACT` | the answer of a buffer of records |
-//! | `read KIND HEX` | a field that is read, and how many bytes are left |
-//! | `write KIND VALUE` | a field as it is written |
+//! | `read KIND HEX` | the field that is read from these bytes, and how many bytes remain |
+//! | `write KIND VALUE` | the bytes of the field |
 //! | `call HEX` | the header of a call |
 //!
 //! The text of `white`, `trim`, `unit`, `orders`, `session tell` and `session say` may have
@@ -53,7 +54,7 @@ use parts::Parts;
 use std::io;
 use std::process::ExitCode;
 
-/// Answers all lines, up to the first bad one, which is reported with exit status 2.
+/// Answers all lines up to the first bad line. A bad line is reported, with exit status 2.
 fn main(rt: HostRuntime) -> ExitCode {
     match answer_each(&rt) {
         Ok(()) => ExitCode::SUCCESS,

@@ -9,7 +9,7 @@ use sv_header::{Path, Table};
 use sv_lexer::unit;
 use sv_scan::{ScanList, Setting};
 
-/// Prints what each unit of a message asks for after those before it, or its first fault.
+/// Prints what each unit of a message asks for, or the unit's first fault.
 pub(crate) fn put_orders(
     alloc: Global,
     out: &mut String,
@@ -36,7 +36,7 @@ fn put_order(out: &mut String, order: &Result<Order, Code>) -> Result<(), Fault>
     }
 }
 
-/// Prints a setting that is changed.
+/// Prints an order that changes a setting.
 fn put_setting(out: &mut String, setting: &Setting) -> Result<(), Fault> {
     match setting {
         Setting::List(list) => write!(out, " Ok(Set(List({:?})))", list.channels())?,
@@ -45,7 +45,7 @@ fn put_setting(out: &mut String, setting: &Setting) -> Result<(), Fault> {
     Ok(())
 }
 
-/// Prints an order that has a list of channels, or none.
+/// Prints an order that may have a list of channels; `word` names the order.
 fn put_list(out: &mut String, word: &str, list: &Option<ScanList>) -> Result<(), Fault> {
     match list {
         Some(list) => write!(out, " Ok({word}(Some({:?})))", list.channels())?,
@@ -54,7 +54,7 @@ fn put_list(out: &mut String, word: &str, list: &Option<ScanList>) -> Result<(),
     Ok(())
 }
 
-/// Prints another order: its word and its values.
+/// Prints an order without a list of channels: its word and its values.
 fn put_values(out: &mut String, order: &Order) -> Result<(), Fault> {
     match order {
         Order::Do(action) => write!(out, " Ok(Do({action:?}))")?,

@@ -1,4 +1,4 @@
-//! The lines, and the parts on which acts are performed.
+//! Answering lines, with the parts on which their acts are performed.
 
 use crate::codes::put_code;
 use crate::fields::{put_call, put_read, put_written};
@@ -67,7 +67,7 @@ impl Parts {
         Ok(())
     }
 
-    /// Appends the answer of a line that is executed once.
+    /// Executes a line one time, and appends its answer.
     fn put_one(&mut self, alloc: Global, out: &mut String, line: &str) -> Result<(), Fault> {
         let (word, text) = cut(line);
         match word {

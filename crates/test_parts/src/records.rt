@@ -4,8 +4,8 @@ use crate::line::{Fault, bytes_of, cut, put, put_bytes, value_of};
 use std::alloc::Global;
 use sv_rpc::RecordBuf;
 
-/// Prints the answer of a buffer of records. An act that changes the buffer is answered with the
-/// room that is left.
+/// Prints the answer of a buffer of records to an act. If the act changes the buffer, the answer is
+/// for how many bytes the buffer then has room.
 pub(crate) fn put_records(
     alloc: Global,
     out: &mut String,

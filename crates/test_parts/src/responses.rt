@@ -1,4 +1,4 @@
-//! Response data as they are printed.
+//! Printing values as response data.
 
 use crate::codes::code_of;
 use crate::line::{Fault, cut, put_text, value_of};
@@ -10,7 +10,7 @@ use sv_value::printing::{
 };
 use sv_value::{channel_list, keyword, microvolts};
 
-/// Room for any response: the longest list of channels, each of three digits.
+/// The most bytes of a response: the longest list of channels, with three digits for each channel.
 const MOST: usize = 3 + 4 * LONGEST_LIST;
 
 /// Prints a value as response data.

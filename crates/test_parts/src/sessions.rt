@@ -2,12 +2,13 @@
 //!
 //! | Act | Answer |
 //! |---|---|
-//! | `tell TEXT`, `say TEXT` | nothing: a write, with END after it or without; or `waits` |
-//! | `read` | up to 256 bytes of the response; or `waits`, or `unterminated` if there is none |
-//! | `read N` | likewise up to N bytes, with the reasons why they end there |
+//! | `tell TEXT` | none; writes the text with END; `waits` if the write has to wait |
+//! | `say TEXT` | none; writes the text without END; `waits` if the write has to wait |
+//! | `read` | up to 256 bytes of the response, or `unterminated`; `waits` if the read has to wait |
+//! | `read N` | up to N bytes of the response, and the reasons why they end there |
 //! | `poll` | the status byte |
-//! | `ticks N` | nothing: N milliseconds pass |
-//! | `input CHANNEL MICROVOLTS`, `external`, `trigger`, `clear` | nothing |
+//! | `ticks N` | none; N milliseconds pass |
+//! | `input CHANNEL MICROVOLTS`, `external`, `trigger`, `clear` | none |
 
 ghost use Rattle.std.specs.Prelude.{◌<◌, OnSome};
 ghost use Rattle.sv_instrument.specs.Representation.{instrument_measure};
@@ -18,13 +19,13 @@ use std::alloc::Global;
 use sv_exchange::Read;
 use sv_instrument::Instrument;
 
-/// How many bytes are written at once, at most.
+/// The most bytes that one write sends.
 const MOST_WRITTEN: usize = 4096;
-/// How many bytes a read asks for, if the line doesn't say.
+/// The most bytes of a `read` without a number.
 const MOST_READ: u32 = 256;
 
-/// Prints the instrument's answer to an act; and how many requests for service were raised, if any,
-/// by the act and by all steps that are due after it.
+/// Prints the instrument's answer to an act. If the act, or the steps that are due after it, raised
+/// requests for service, prints how many.
 pub(crate) fn put_session(
     alloc: Global,
     out: &mut String,
@@ -50,8 +51,8 @@ pub(crate) fn put_session(
     Ok(())
 }
 
-/// Takes the steps that are due, until none is. Like all functions below, returns how many requests
-/// for service were raised.
+/// Takes the steps that are due, until none is. Returns how many requests for service were raised.
+/// Each function below that returns a number returns how many requests for service it raised.
 fn settle(instrument: &mut Instrument) -> u64 {
     let mut sum = 0u64;
     while let Some(raised) = step(instrument) {
@@ -60,7 +61,8 @@ fn settle(instrument: &mut Instrument) -> u64 {
     sum
 }
 
-/// Takes the step that is due; a trigger comes before a step of message exchange.
+/// Takes the step that is due, if there is one. An immediate trigger comes before a step of message
+/// exchange.
 fn step(instrument: &mut Instrument) -> Option<u8>
     ensures { OnSome result (instrument_measure instrument.new
         < instrument_measure instrument.old) }
@@ -71,7 +73,8 @@ fn step(instrument: &mut Instrument) -> Option<u8>
     }
 }
 
-/// Writes a text, with END after its last byte or without; or prints that the write has to wait.
+/// Writes a text, with or without END after its last byte. If the write has to wait, prints
+/// `waits`.
 fn tell(
     alloc: Global,
     out: &mut String,
@@ -91,8 +94,8 @@ fn tell(
     }
 }
 
-/// Reads at most `most` bytes, and prints the reasons why they end there; or, without `most`, 256
-/// bytes and no reasons; or prints that the read has to wait.
+/// Reads at most `most` bytes. Prints these bytes and the reasons why they end there. For `None`,
+/// reads at most 256 bytes and prints no reasons. If the read has to wait, prints `waits`.
 fn read(out: &mut String, instrument: &mut Instrument, most: Option<u32>) -> Result<u64, Fault> {
     if !instrument.can_read() {
         out.push_str(" waits")?;
@@ -139,7 +142,7 @@ fn tick(instrument: &mut Instrument, count: u16) -> u64 {
     sum
 }
 
-/// Performs another act on the instrument.
+/// Performs an act that has no answer.
 fn apply(instrument: &mut Instrument, name: &str, words: &str) -> Result<u64, Fault> {
     let raised = match (name, words) {
         ("external", "") => instrument.external(),

@@ -5,7 +5,7 @@ use crate::line::{Fault, cut, put, value_of};
 use sv_errors::{ErrorQueue, Layer, QueueAct};
 use sv_status::{Register, RegisterAct, StandardAct, StandardEvent, StatusAct, StatusByte};
 
-/// Prints the answer of the error queue.
+/// Prints the error queue's answer to an act.
 pub(crate) fn put_queue(out: &mut String, queue: &mut ErrorQueue, text: &str) -> Result<(), Fault> {
     let act = match cut(text) {
         ("report", number) => QueueAct::Report(code_of(number)?),
@@ -17,7 +17,7 @@ pub(crate) fn put_queue(out: &mut String, queue: &mut ErrorQueue, text: &str) ->
     put(out, queue.act(act))
 }
 
-/// Prints the answer of a status register.
+/// Prints a status register's answer to an act.
 pub(crate) fn put_register(
     out: &mut String,
     register: &mut Register,
@@ -38,7 +38,7 @@ pub(crate) fn put_register(
     put(out, register.act(act))
 }
 
-/// Prints the answer of the standard event register.
+/// Prints the standard event register's answer to an act.
 pub(crate) fn put_standard(
     out: &mut String,
     standard: &mut StandardEvent,
@@ -54,7 +54,7 @@ pub(crate) fn put_standard(
     put(out, standard.act(act))
 }
 
-/// Prints the answer of the status byte.
+/// Prints the status byte's answer to an act.
 pub(crate) fn put_status(
     out: &mut String,
     status: &mut StatusByte,

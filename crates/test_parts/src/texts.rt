@@ -1,11 +1,11 @@
-//! The cutting of text.
+//! Cutting text: white space, separators, the parts of a header.
 
 use crate::line::{Fault, cut, put, put_text};
 use bstr::ByteVec;
 use std::alloc::Global;
 use sv_text::{first_part, header_parts, is_space, place_of, trim, without_end, without_start};
 
-/// Prints of each byte whether it is white space.
+/// For each byte of a text: prints whether the byte is white space.
 pub(crate) fn put_white(alloc: Global, out: &mut String, text: &str) -> Result<(), Fault> {
     for byte in Vec::unescape_bytes(alloc, text)?.as_slice() {
         put(out, is_space(*byte))?;
@@ -13,7 +13,8 @@ pub(crate) fn put_white(alloc: Global, out: &mut String, text: &str) -> Result<(
     Ok(())
 }
 
-/// Prints a text without white space at both ends, in front, and at the end.
+/// Prints a text three times: without the white space at both ends, without the white space in
+/// front, and without the white space at the end.
 pub(crate) fn put_trimmed(alloc: Global, out: &mut String, text: &str) -> Result<(), Fault> {
     let bytes = Vec::unescape_bytes(alloc, text)?;
     put_text(out, trim(bytes.as_slice()))?;
@@ -21,7 +22,7 @@ pub(crate) fn put_trimmed(alloc: Global, out: &mut String, text: &str) -> Result
     put_text(out, without_end(bytes.as_slice()))
 }
 
-/// Prints the first place of a byte in a text, and the text before it and after.
+/// Prints the first place of a byte in a text, and the texts before and after it.
 pub(crate) fn put_cut(out: &mut String, text: &str) -> Result<(), Fault> {
     let (separator, text) = cut(text);
     let [separator] = separator.as_bytes() else {

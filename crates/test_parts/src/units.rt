@@ -1,4 +1,4 @@
-//! Units in their parts.
+//! Printing the parts of a unit.
 
 use crate::line::{Fault, put, put_text};
 use bstr::ByteVec;
@@ -20,7 +20,8 @@ pub(crate) fn put_unit(alloc: Global, out: &mut String, text: &str) -> Result<()
     }
 }
 
-/// Prints each parameter. The index after the last is tried too, and should give nothing.
+/// Prints each parameter of a unit. The index after the last parameter is also tried; it must give
+/// none.
 fn put_parameters(out: &mut String, parameters: &Params<'_>) -> Result<(), Fault> {
     for index in 0..=parameters.count() {
         if let Some(token) = parameters.get(index) {

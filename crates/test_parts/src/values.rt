@@ -4,10 +4,10 @@ use crate::line::{Fault, cut, put, put_text, value_of};
 use sv_lexer::{Token, unit};
 use sv_value::{boolean, channel_list, keyword, microvolts, whole, write_microvolts};
 
-/// The most microvolts that are printed.
+/// The greatest magnitude of a voltage that can be printed, in microvolts.
 const MOST: u64 = 1_000_000_000;
 
-/// Prints the value of a parameter, or a voltage as it is printed.
+/// Prints the value of a unit's first parameter. For `print`, prints a voltage as response data.
 pub(crate) fn put_value(out: &mut String, word: &str, text: &str) -> Result<(), Fault> {
     match word {
         "voltage" => put(out, microvolts(&parameter(text)?)),
@@ -31,7 +31,8 @@ pub(crate) fn parameter(text: &str) -> Result<Token<'_>, Fault> {
     parameters.get(0).ok_or(Fault::Unknown)
 }
 
-/// Prints a whole number; the text begins with the lowest and the highest that it may be.
+/// Prints a parameter as a whole number. The text begins with the lowest and the highest number
+/// that are allowed.
 fn put_whole(out: &mut String, text: &str) -> Result<(), Fault> {
     let (low, text) = cut(text);
     let (high, text) = cut(text);

@@ -1,18 +1,19 @@
-//! Events at a server, and questions whose answers a replay doesn't print. A text has these lines:
+//! Events at a server, and queries whose answers a replay doesn't print. A text has these lines:
 //!
 //! | Line | What it says |
 //! |---|---|
-//! | `clock MILLISECONDS` | before all others: the clock at the start; 0 without this line |
+//! | `clock MILLISECONDS` | as first line: the clock at the start; 0 without this line |
 //! | a line of a replay, other than `tick N` | this event happens |
 //! | `took c0 44` | the peer takes 44 bytes of a port |
-//! | `memory N` | from here on the Nth allocation is refused |
-//! | `memory ?` | whether that allocation was asked for |
-//! | `times N` | the lines up to the next such line are executed N times |
-//! | `ask 0` | the server's answers about a connection |
-//! | `show c0` | the bytes that wait on a port |
-//! | `used` | how many numbers of connections were used |
+//! | `memory N` | the Nth allocation after this line is refused |
+//! | `memory ?` | prints whether that Nth allocation was made |
+//! | `times N` | the lines up to the next `times` are executed N times |
+//! | `ask 0` | prints the server's answers about a connection |
+//! | `show c0` | prints the bytes that wait on a port |
+//! | `used` | prints one more than the highest number of a connection that was used |
 //!
-//! After an event, `idle` or the number of its refusal is printed; nothing if the event was done.
+//! For an event that was refused, the number of the refusal is printed. For a Turn that found no
+//! call, `idle` is printed. For any other event nothing is printed.
 
 use crate::words::{bad, number};
 use failing_alloc::FailingAllocator;
@@ -21,18 +22,18 @@ use std::io::{self, BufWriter, Write};
 use sv_replay::{Line, read_line};
 use sv_server::{Config, Did, Event, Port, Server};
 
-/// The longest line.
+/// The most bytes that a line may have.
 const LONGEST: usize = 32_800;
 
-/// The server of a row, whose memory the row may refuse.
+/// The server of a row. The row may refuse memory to this server.
 type Played<'a> = Server<&'a FailingAllocator<Global>>;
 
-/// A connection's number.
+/// Reads the number of a connection.
 fn conn_of(text: &str) -> io::Result<u8> {
     Ok(number(text)?.min(255) as u8)
 }
 
-/// A port, as `c0` or `i0`.
+/// Reads a port, such as `c0` or `i0`.
 fn port_of(text: &str) -> io::Result<Port> {
     if let Some(conn) = text.strip_prefix('c') {
         return Ok(Port::Conn(conn_of(conn)?));
@@ -43,7 +44,7 @@ fn port_of(text: &str) -> io::Result<Port> {
     }
 }
 
-/// Applies an event, and prints its result, unless it is `Done`.
+/// Applies an event, and prints the result, unless the result is `Done`.
 fn apply<W: Write + Drop>(
     server: &mut Played<'_>,
     event: Event<'_>,
@@ -56,7 +57,7 @@ fn apply<W: Write + Drop>(
     }
 }
 
-/// Applies the event of a replay's line.
+/// Applies the event that a line of a replay describes.
 fn replayed<W: Write + Drop>(
     server: &mut Played<'_>,
     line: &str,
@@ -110,7 +111,7 @@ fn show<W: Write + Drop>(
     writeln!(writer)
 }
 
-/// Refuses an allocation, or prints whether the refused one was asked for.
+/// Chooses the allocation that is refused. For `?`, prints whether the chosen allocation was made.
 fn ration<W: Write + Drop>(
     heap: &FailingAllocator<Global>,
     text: &str,
@@ -162,7 +163,7 @@ fn steps<W: Write + Drop>(
     Ok(())
 }
 
-/// Executes lines repeatedly. The first line says how many times.
+/// Executes the lines of a section repeatedly. The first line of the section says how many times.
 fn repeat<W: Write + Drop>(
     heap: &FailingAllocator<Global>,
     server: &mut Played<'_>,

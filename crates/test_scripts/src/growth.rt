@@ -1,5 +1,6 @@
-//! Scripts on a server, each of whose allocations is refused in turn. An event that finds no memory
-//! is tried again, or is refused by the caller and then sent again.
+//! Scripts that are played again and again on a new server: first the server's first allocation is
+//! refused, then its second, and so on. An event that finds no memory is tried again; or its call
+//! is refused, and sent again.
 
 use crate::turns::each;
 use crate::words::bad;
@@ -10,12 +11,12 @@ use std::io::{self, BufWriter, Write};
 use sv_replay::{Line, read_line};
 use sv_server::{Config, Event, Port, Refused, Server};
 
-/// The longest line.
+/// The most bytes that a line may have.
 const LONGEST: usize = 1_024;
 /// How many connections there may be.
 const CONNECTIONS: u8 = 16;
 
-/// The server of a script, whose memory may be refused.
+/// The server of a script. Memory may be refused to this server.
 type Played<'a> = Server<&'a FailingAllocator<Global>>;
 
 /// The configuration of the script's server.
@@ -25,17 +26,18 @@ const SET_UP: Config = Config {
     clock: 0,
 };
 
-/// A script that is played, and what it printed.
+/// A script that is being played, and what it has printed so far.
 #[derive(Drop)]
 struct Growing<'a> {
     alloc: Global,
-    /// Whether an event without memory is refused by the caller, and then sent again.
+    /// Whether a call that finds no memory is refused, and then sent again.
     refuses: bool,
     server: Played<'a>,
     told: String,
 }
 
-/// Appends bytes, if there are any, to a text as a line of a replay.
+/// Appends bytes to `told`, as the line that a replay prints for them. Appends nothing if there are
+/// no bytes.
 fn tell(told: &mut String, letter: char, conn: u8, bytes: &[u8]) -> io::Result<()> {
     if bytes.is_empty() {
         return Ok(());
@@ -48,7 +50,7 @@ fn tell(told: &mut String, letter: char, conn: u8, bytes: &[u8]) -> io::Result<(
 }
 
 impl Growing<'_> {
-    /// The server's answers about all connections.
+    /// Asks the server about each connection, and returns the answers as text.
     fn asked(&self) -> io::Result<String> {
         let mut asked = String::new(self.alloc);
         for conn in 0..CONNECTIONS {
@@ -61,7 +63,7 @@ impl Growing<'_> {
         Ok(asked)
     }
 
-    /// Appends the bytes that wait on a port, and takes them.
+    /// Appends the bytes that wait on a port to the output, and lets the peer take them.
     fn take(&mut self, letter: char, conn: u8, port: Port) -> io::Result<()> {
         let bytes = self.server.waiting(port);
         tell(&mut self.told, letter, conn, bytes)?;
@@ -70,7 +72,7 @@ impl Growing<'_> {
         Ok(())
     }
 
-    /// Appends the bytes that wait on each connection, and takes them.
+    /// Appends the bytes that wait on each connection to the output, and lets the peers take them.
     fn take_connections(&mut self) -> io::Result<()> {
         for conn in 0..CONNECTIONS {
             self.take('c', conn, Port::Conn(conn))?;
@@ -78,7 +80,8 @@ impl Growing<'_> {
         Ok(())
     }
 
-    /// Appends the bytes that wait on each interrupt channel, and takes them.
+    /// Appends the bytes that wait on each interrupt channel to the output, and lets the peers take
+    /// them.
     fn take_channels(&mut self) -> io::Result<()> {
         for conn in 0..CONNECTIONS {
             self.take('i', conn, Port::Intr(conn))?;
@@ -86,7 +89,8 @@ impl Growing<'_> {
         Ok(())
     }
 
-    /// Applies the event of a line, and appends its result. Returns true if it found no memory.
+    /// Applies the event of a line, and appends its result to the output. Returns true if the event
+    /// found no memory.
     fn apply(&mut self, line: &str) -> io::Result<bool> {
         let mut buffer = [0; LONGEST];
         if line.len() > LONGEST {
@@ -105,8 +109,9 @@ impl Growing<'_> {
         Ok(found_none)
     }
 
-    /// Goes on after an event that found no memory. `line` is the event's line, and `brought` the
-    /// line that brought the bytes of its call.
+    /// Handles an event that found no memory: tries the event again; or refuses its call, and sends
+    /// the call again. `line` is the line of the event. `brought` is the `bytes` line that brought
+    /// the call.
     fn go_on(&mut self, brought: &str, line: &str) -> io::Result<()> {
         if self.refuses {
             let conn = line.strip_prefix("turn ").unwrap_or("");
@@ -120,7 +125,8 @@ impl Growing<'_> {
         Ok(())
     }
 
-    /// Executes a line. If it finds no memory, it must not have changed anything.
+    /// Executes a line. If its event finds no memory and yet changed the server's answers, appends
+    /// `changed` to the output.
     fn step(&mut self, brought: &str, line: &str) -> io::Result<()> {
         let before = self.asked()?;
         if !self.apply(line)? {
@@ -133,7 +139,8 @@ impl Growing<'_> {
     }
 }
 
-/// A play before its first line. If memory is refused to its server, the server is made again.
+/// Begins a play of a script: makes a new server, and executes no line yet. If memory for the
+/// server is refused, makes the server again.
 fn start<'a>(
     alloc: Global,
     heap: &'a FailingAllocator<Global>,
@@ -155,7 +162,7 @@ fn start<'a>(
     })
 }
 
-/// The print of a script.
+/// What a script prints when it is played.
 fn outcome(
     alloc: Global,
     heap: &FailingAllocator<Global>,
@@ -173,7 +180,8 @@ fn outcome(
     Ok(play.told.clone()?)
 }
 
-/// Prints the outcome of a script, with each allocation refused in turn.
+/// Prints the outcomes of a script: first the server's first allocation is refused, then its
+/// second, and so on.
 pub(crate) fn play<W: Write + Drop>(
     alloc: Global,
     refuses: bool,

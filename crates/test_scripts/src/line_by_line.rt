@@ -1,5 +1,5 @@
-//! A replay whose input gives a line at each read, so that the replies to a line come before the
-//! next.
+//! A replay whose input gives one line at each read. The replies to a line have to be printed
+//! before the next line is read.
 
 use crate::words::bad;
 use failing_alloc::FailingAllocator;
@@ -8,7 +8,7 @@ use std::cell::RefCell;
 use std::io::{self, BufWriter, Read, Write};
 use sv_replay::run_replay;
 
-/// Appends bytes to those that were noted.
+/// Appends bytes to the notes.
 fn note(noted: &RefCell<Vec<u8>>, bytes: &[u8]) -> io::Result<()> {
     match noted.try_borrow_mut() {
         Ok(mut all) => {
@@ -19,7 +19,7 @@ fn note(noted: &RefCell<Vec<u8>>, bytes: &[u8]) -> io::Result<()> {
     }
 }
 
-/// A reader that gives a line at each read, and notes it.
+/// A reader that gives one line at each read, and notes the line.
 #[derive(Drop)]
 struct Lines<'a> {
     rest: &'a [u8],
@@ -43,7 +43,7 @@ impl Read for Lines<'_> {
     }
 }
 
-/// A writer that notes the bytes that it takes.
+/// A writer that takes bytes, and notes them.
 #[derive(Drop)]
 struct Answers<'a> {
     noted: &'a RefCell<Vec<u8>>,
@@ -60,8 +60,8 @@ impl Write for Answers<'_> {
     }
 }
 
-/// Prints the lines that were given, each after `> `, and the bytes that the output took, in their
-/// order.
+/// Prints the lines that the input gave, each after `> `, and the bytes that the output took, in
+/// the order in which they were given and taken.
 pub(crate) fn play<W: Write + Drop>(
     alloc: Global,
     script: &str,

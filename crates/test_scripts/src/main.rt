@@ -1,38 +1,46 @@
-//! Plays the rows of the standard input, each with parts of its own. Prints the title of each row,
-//! and then its results.
+//! Plays the test cases, called rows, of the standard input. Each row gets parts of its own. Prints
+//! the title of each row, and then its results.
 //!
-//! A title is a line `= WORDS`. The text after it reaches to the next title, without the new line
-//! before that. So a text that ends in a new line has an empty line after it, and one without shows
-//! how a replay ends in the midst of a line. A text is a script of a replay, unless its first line
-//! begins with `! `:
+//! A title is a line `= WORDS`. The text of a row begins after its title and ends before the next
+//! title. The new line right before that title doesn't belong to the text. So an empty line before
+//! the next title means that the text ends in a new line; without it the text ends in the middle of
+//! a line. The first line of a text may begin with `! `. It then says what the text is and what is
+//! printed:
 //!
-//! - none: a script; prints what its replay prints, and the fault of the replay if it has one;
-//! - `! line by line`: a script whose lines come one at each read; prints the lines, each after `>
-//!   `, and the bytes that the output took, in the order in which they were given and taken;
-//! - `! singly`: a script whose bytes come and go singly, each after an interruption; prints as
-//!   without this line;
-//! - `! reads`: a script as with `! singly`, whose first, second, .. read fails in turn; prints for
-//!   each how many times the input was read, what the output took, and the fault; then the same
-//!   with no failing read;
+//! - no such line: a script; prints what its replay prints, and the fault of the replay if there is
+//!   one;
+//! - `! line by line`: a script whose lines come one at each read; prints these lines, with a `>`
+//!   and a space before each, and the bytes that the output took, in the order in which they were
+//!   given and taken;
+//! - `! singly`: a script whose bytes are read and written one by one, and an interrupted read or
+//!   write comes before each byte; prints the same as without this line;
+//! - `! reads`: a script as for `! singly`, played again and again: first its first read fails,
+//!   then its second, and so on; for each run, prints how many times the input was read, what the
+//!   output took, and the fault; at last prints the same for a run in which no read fails;
 //! - `! input fails`: a script at whose end the input fails; prints what the output took, and the
 //!   fault, on a line of its own;
-//! - `! output takes N`, `! output stops at N`: a script whose output takes N bytes and then fails,
-//!   or takes no more without a fault; prints how many bytes it took, and as for `! input fails`;
+//! - `! output takes N`: a script whose output takes N bytes and then fails; prints how many bytes
+//!   it took, and then as for `! input fails`;
+//! - `! output stops at N`: as for `! output takes N`, but after N bytes the output takes no more
+//!   bytes and reports no fault;
 //! - `! without TEXT`: a script; prints the lines of its replay that don't end in this text;
-//! - `! closed`: a script of three connections; prints what its replay prints with a close of each
-//!   of them after each number of its lines;
-//! - `! memory`, `! memory, output takes N`: a script, with each allocation of its replay refused
-//!   in turn; prints each outcome that differs from the one before it, `again` after one that came
-//!   more than once in a row, and after `all` the outcome with all memory;
-//! - `! growth`: a script on a server, with each of the server's allocations refused in turn; an
-//!   event that finds no memory is tried again; prints each outcome as for `! memory`, with `no
-//!   server` if a server had to be made again, `changed` if a refusal changed the server's answers,
-//!   and `twice` if the second try found no memory either;
-//! - `! growth, refused`: as `! growth`, but the caller refuses a call that finds no memory, and
-//!   sends it again;
-//! - `! events`: events and questions, a line each (`events.rt`); prints the result of each;
+//! - `! closed`: a script of three connections; for each connection and each n, prints what the
+//!   replay prints if that connection is closed after the first n lines;
+//! - `! memory`, `! memory, output takes N`: a script, played again and again: first the first
+//!   allocation of its replay is refused, then the second, and so on; prints each outcome that
+//!   differs from the outcome before it, `again` if an outcome came more than once in a row, and
+//!   after `all` the outcome with all memory;
+//! - `! growth`: a script on a server, played again and again: first the server's first allocation
+//!   is refused, then its second, and so on; the event that finds no memory is tried again; prints
+//!   each outcome as for `! memory`, with `no server` if a server had to be made again, `changed`
+//!   if a refusal changed the server's answers, and `twice` if the second try found no memory
+//!   either;
+//! - `! growth, refused`: as for `! growth`, but a call that finds no memory is refused, and then
+//!   sent again;
+//! - `! events`: events and queries, a line each (`events.rt`); prints the result of each;
 //! - `! scenario`: a scenario; prints its entries, or its fault;
-//! - `! scenario, memory`: a scenario, with each allocation of its reading refused in turn.
+//! - `! scenario, memory`: a scenario, read again and again: first the first allocation is refused,
+//!   then the second, and so on; prints as for `! memory`.
 #![tactic(auto)]
 
 mod events;
@@ -48,7 +56,7 @@ use std::alloc::Global;
 use std::io::{self, BufWriter, Error, ErrorKind, Write};
 use sv_replay::run_replay;
 
-/// Plays each row in its order.
+/// Plays the rows in their order.
 fn main(rt: HostRuntime) -> io::Result<()> {
     let text = io::read_to_string(rt.alloc(), rt.reader())?;
     let Some(rows) = text.strip_prefix("= ") else {
@@ -74,7 +82,7 @@ fn show<W: Write + Drop>(alloc: Global, row: &str, writer: &mut BufWriter<W>) ->
     }
 }
 
-/// Prints what the replay of a script prints. If the replay fails, its fault is printed.
+/// Replays a script. Prints the output of the replay, and its fault if the replay fails.
 fn replay<W: Write + Drop>(alloc: Global, text: &str, writer: &mut BufWriter<W>) -> io::Result<()> {
     match run_replay(alloc, &mut text.as_bytes(), writer) {
         Ok(()) => Ok(()),

@@ -1,4 +1,5 @@
-//! Replays whose reader or writer gives little, takes little or fails, or whose memory is refused.
+//! Replays whose reader gives few bytes or fails, whose writer takes few bytes or fails, or whose
+//! memory is refused.
 
 use crate::streams::{Manner, Sink, Source};
 use crate::turns::each;
@@ -8,10 +9,10 @@ use std::alloc::Global;
 use std::io::{self, BufWriter, Write};
 use sv_replay::{RunFault, run_replay};
 
-/// The most reads of a row.
+/// The reader of a `! reads` row is read fewer times than this.
 const MOST_READS: u64 = 1_000;
 
-/// The manner that these words describe.
+/// How the reader and the writer behave, according to these words of the first line.
 fn manner_of(words: &str) -> io::Result<Manner> {
     let ample = Manner::ample();
     if let Some(count) = words.strip_prefix("output takes ") {
@@ -41,7 +42,8 @@ fn manner_of(words: &str) -> io::Result<Manner> {
     }
 }
 
-/// The bytes that the writer took, and the fault, if there is one, on a line of its own.
+/// What is printed for a replay: the bytes that the writer took, and the fault, if there is one, on
+/// a line of its own.
 fn told(
     alloc: Global,
     taken: &[u8],
@@ -67,7 +69,7 @@ fn told(
     Ok(outcome)
 }
 
-/// The print of a replay, and its fault, if it has one.
+/// What a replay prints, and its fault, if it has one.
 fn outcome(
     alloc: Global,
     heap: &FailingAllocator<Global>,
@@ -77,7 +79,7 @@ fn outcome(
     Ok(read_out(alloc, heap, manner, script)?.0)
 }
 
-/// The print of a replay, and its fault, if it has one; and how many times the reader was read.
+/// What a replay prints, its fault, if it has one, and how many times the reader was read.
 fn read_out(
     alloc: Global,
     heap: &FailingAllocator<Global>,
@@ -102,7 +104,7 @@ fn read_out(
     Ok((told, source.reads))
 }
 
-/// Prints the outcome of a script in the manner of these words.
+/// Prints the outcome of a script whose reader and writer behave as these words say.
 pub(crate) fn play<W: Write + Drop>(
     alloc: Global,
     words: &str,
@@ -139,7 +141,7 @@ pub(crate) fn play_without<W: Write + Drop>(
     Ok(())
 }
 
-/// A script with a close of this connection after `place` lines.
+/// The script with one more line after its first `place` lines: this line closes connection `conn`.
 fn closed(alloc: Global, script: &str, conn: u8, place: usize) -> io::Result<String> {
     let mut made = String::new(alloc);
     for (number, line) in script.lines().enumerate() {
@@ -153,7 +155,8 @@ fn closed(alloc: Global, script: &str, conn: u8, place: usize) -> io::Result<Str
     Ok(made)
 }
 
-/// Prints what a script prints with a close of this connection after each number of lines.
+/// For each n: plays the script with this connection closed after the first n lines, and prints the
+/// output.
 fn play_closes<W: Write + Drop>(
     alloc: Global,
     script: &str,
@@ -169,8 +172,8 @@ fn play_closes<W: Write + Drop>(
     Ok(())
 }
 
-/// Prints what a script prints with a close of each of three connections after each number of
-/// lines.
+/// For each of three connections and each n: plays the script with that connection closed after the
+/// first n lines, and prints the output.
 pub(crate) fn play_closed<W: Write + Drop>(
     alloc: Global,
     script: &str,
@@ -182,8 +185,8 @@ pub(crate) fn play_closed<W: Write + Drop>(
     Ok(())
 }
 
-/// Prints what a script prints if its first, second, .. read fails, each time after the number of
-/// its reads; at the end what it prints if no read fails.
+/// Plays a script again and again: first its first read fails, then its second, and so on; at last
+/// no read fails. For each run, prints the number of reads and the output.
 pub(crate) fn play_reads<W: Write + Drop>(
     alloc: Global,
     script: &str,

@@ -44,7 +44,8 @@ pub(crate) fn show<W: Write + Drop>(
     write!(writer, "{outcome}")
 }
 
-/// Prints the entries of a scenario, or its fault, with each allocation refused in turn.
+/// Reads a scenario again and again: first its first allocation is refused, then its second, and so
+/// on. Prints the outcomes.
 pub(crate) fn show_each<W: Write + Drop>(
     alloc: Global,
     text: &str,

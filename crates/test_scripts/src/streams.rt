@@ -1,24 +1,25 @@
-//! Readers and writers that give little, take little or fail.
+//! Readers that give few bytes or fail, and writers that take few bytes or fail.
 
 use std::io::{Error, ErrorKind, Read, Result, Write};
 
-/// How a reader gives its bytes, and a writer takes them.
+/// How a reader gives bytes, and how a writer takes bytes.
 #[derive(Clone, Copy)]
 pub(crate) struct Manner {
-    /// Whether each byte comes and goes by itself, after an interruption.
+    /// Whether bytes are read and written one by one, with an interrupted read or write before each
+    /// byte.
     pub(crate) singly: bool,
     /// Whether the reader fails at its end.
     pub(crate) input_fails: bool,
     /// The number of the read that fails; 0 if none fails.
     pub(crate) fails_at: u64,
-    /// How many bytes the writer takes.
+    /// How many bytes the writer takes before it is full.
     pub(crate) room: usize,
-    /// Whether the writer then takes no more bytes, but reports no fault.
+    /// Whether a full writer reports no fault and takes no bytes. If false, a full writer fails.
     pub(crate) is_silent: bool,
 }
 
 impl Manner {
-    /// The manner in which all comes and goes at once, and without a fault.
+    /// The manner in which all bytes are read and written at once, and nothing fails.
     pub(crate) fn ample() -> Manner {
         Manner {
             singly: false,
@@ -29,7 +30,7 @@ impl Manner {
         }
     }
 
-    /// How many bytes come or go at once.
+    /// The most bytes that one read gives, or one write takes.
     fn most(self) -> usize {
         if self.singly { 1 } else { usize::MAX }
     }
@@ -41,7 +42,7 @@ pub(crate) struct Source<'a> {
     pub(crate) rest: &'a [u8],
     pub(crate) manner: Manner,
     pub(crate) was_interrupted: bool,
-    /// How many times it was read.
+    /// How many times the reader was read.
     pub(crate) reads: u64,
 }
 

@@ -1,16 +1,17 @@
-//! Each allocation refused in turn.
+//! Doing something again and again: first its first allocation is refused, then its second, and so
+//! on.
 
 use crate::words::bad;
 use failing_alloc::FailingAllocator;
 use std::alloc::Global;
 use std::io::{self, BufWriter, Write};
 
-/// The most allocations of a row.
+/// `make` makes fewer allocations than this.
 const MOST: u64 = 1000;
 
-/// Makes something once for each of its allocations, which is then refused. Prints each outcome
-/// that differs from the one before it, `again` after one that came more than once in a row, and
-/// after `all` the one with all memory.
+/// Calls `make` again and again: first its first allocation is refused, then its second, and so on;
+/// at last none is refused. Prints each outcome that differs from the outcome before it, `again` if
+/// an outcome came more than once in a row, and after `all` the outcome with all memory.
 pub(crate) fn each<W: Write + Drop, F: Fn(&FailingAllocator<Global>) -> io::Result<String>>(
     alloc: Global,
     make: F,

@@ -2,12 +2,12 @@
 
 use std::io::{self, Error, ErrorKind};
 
-/// The fault of a row that can't be played.
+/// The error for a row that can't be played.
 pub(crate) fn bad() -> Error {
     Error::from(ErrorKind::InvalidData)
 }
 
-/// A number.
+/// Reads a decimal number.
 pub(crate) fn number(text: &str) -> io::Result<u64> {
     match text.parse::<u64>() {
         Ok(number) => Ok(number),

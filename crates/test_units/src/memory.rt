@@ -1,4 +1,5 @@
-//! Each part is made with each of its allocations refused in turn.
+//! Each part is made again and again: first its first allocation is refused, then its second, and
+//! so on.
 
 use crate::same::same;
 use failing_alloc::FailingAllocator;
@@ -20,8 +21,9 @@ const CONFIG: Config = Config {
     clock: 0,
 };
 
-/// Makes something with each of its allocations refused in turn, which must fail, and then with all
-/// memory, which must succeed. Returns how many allocations there are.
+/// Calls `make` again and again: first its first allocation is refused, then its second, and so on.
+/// Each of these calls must fail, and a repetition with all memory must succeed. At last no
+/// allocation is refused, and the call must succeed. Returns how many allocations `make` makes.
 fn refusals<'a, T: Drop, F: Fn(&'a FailingAllocator<Global>) -> Result<T, AllocError>>(
     heap: &'a FailingAllocator<Global>,
     make: F,
@@ -42,9 +44,10 @@ fn refusals<'a, T: Drop, F: Fn(&'a FailingAllocator<Global>) -> Result<T, AllocE
     Err(Fail::new("each making was refused an allocation"))
 }
 
-/// The layers are a message exchange, an error queue and a scanner. The instrument also has the
-/// table of commands and the answer of a unit. The server has 16 connections, each with a buffer
-/// for the bytes that come and one for those that are sent.
+/// Why the test expects these numbers of allocations: the layers are a message exchange, an error
+/// queue and a scanner. The instrument also has the table of commands and the answer of a unit. The
+/// server has 16 connections, each with a buffer for the bytes that come and a buffer for the bytes
+/// that are sent.
 #[test]
 fn each_part_is_made_once_memory_is_there(rt: HostRuntime) -> Result<(), Fail> {
     let heap = FailingAllocator::new(rt.alloc());

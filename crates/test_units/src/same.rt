@@ -1,10 +1,9 @@
-//! Comparisons for the helpers of tests: a difference is returned as a failure.
+//! Comparisons for the helpers of tests. A difference is returned as a failure.
 
 use std::fmt::{Debug, Display};
 use std::test::Fail;
 
-/// Fails unless the value found is the wanted one. The failure has both, and says what they are
-/// values of.
+/// Fails unless `found` is the wanted value. The failure shows both values, and says what they are.
 pub(crate) fn same<T: Copy + Debug + PartialEq, W: Display + Drop>(
     found: T,
     wanted: T,

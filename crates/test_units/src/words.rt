@@ -1,4 +1,4 @@
-//! Tests of the program's words, texts and statuses.
+//! Tests of the program's command line, texts and exit statuses.
 
 use std::alloc::Global;
 use std::test::Fail;
@@ -21,7 +21,7 @@ fn faults_have_their_texts_and_statuses(rt: HostRuntime) -> Result<(), Fail> {
     Ok(())
 }
 
-/// Fails unless the words of a text, which have a space between them, are read as wanted.
+/// Fails unless the words of a text, separated by one space, are read as wanted.
 fn are_read(
     alloc: Global,
     text: &'static str,

@@ -1,39 +1,39 @@
-"""A session with `scanvolt serve`, from its capture, replayed.
+"""Replays a session with `scanvolt serve` from its capture.
 
     scanvolt-capture compare CAPTURE [--scenario FILE] [--start SECONDS]
     scanvolt-capture virtual CAPTURE [--scenario FILE] [--start SECONDS]
     scanvolt-capture script CAPTURE > session.replay
 
-CAPTURE is a pcap or pcapng file, as `tshark -i lo -f tcp -w CAPTURE` writes it, from the start of
-the server on. `script` makes the script of docs/REPLAY.md that tells the same to `scanvolt replay`.
-`compare` replays it and compares each reply, and each call on an interrupt channel, byte by byte.
-It tells the first that differs, by the bytes around it and their text. `virtual` compares, and does the
-same calls again by `scanvolt.virtual`: the replies have to be the same bytes, and the service requests
-the same ones in the same order. `tshark` is needed, from Debian's package of that name; it also puts
-the bytes of each connection together.
+CAPTURE is a pcap or pcapng file, as `tshark -i lo -f tcp -w CAPTURE` writes it; start that before the
+server. `script` writes the script of docs/REPLAY.md with which `scanvolt replay` repeats the session.
+`compare` replays it and compares each reply, and each call on an interrupt channel, byte by byte. It shows
+the first reply or call that differs: the bytes around the place, and their text. `virtual` does what
+`compare` does, and then makes the same calls by `scanvolt.virtual`: the replies have to be the same bytes,
+and the service requests the same ones in the same order. All three need `tshark`, from Debian's package of
+that name; it also puts the bytes of each connection together.
 
-What is exact: the bytes of each connection, the order of calls and replies, who closes what. Ports
-in the replies of create_link and GETPORT are told as 4096 and 4097, as a replay has them.
+These are exact: the bytes of each connection, the order of calls and replies, and who closes what. Ports in
+the replies of create_link and GETPORT are shown as 4096 and 4097, as a replay has them.
 
-What isn't: a capture has no ticks. They are put where the times of the packets and --start say they
-lay, which may be wrong by one or two milliseconds. Replies that depend on that are those that tell
-whether a scan, an entry of the scenario or a deadline had come: a status byte, the error of a
-timeout, a live voltage. So `compare` tries other ticks at the call whose reply differs, up to --slack
-milliseconds off. With a scenario it tries other starts too: each up to 100 milliseconds off, and
-those farther off at which a line of the scenario comes about then, up to 150 of triggers and of
-voltages each, for a minute. Give the start that `make serve` tells, and none has to be tried. Of two
-connections whose calls came within 3 milliseconds and waited, as for the lock, it tries the other
-order. It tells what it moved. With --slack 0 it moves nothing, as `script` without --program. A
-server that stood still for more than a second lost the rest of that time, which a capture doesn't
-show. Replies that the replay sends in the last 50 milliseconds of the capture, and that the capture
-doesn't have, are no difference: it may have ended between a call and its reply.
+Ticks aren't exact, since a capture has none. They are put where the times of the packets and --start
+suggest, which may be wrong by one or two milliseconds. Some replies depend on that: those that show whether
+a scan, an entry of the scenario or a deadline had come, such as a status byte, the error of a timeout, or a
+live voltage. So `compare` tries other ticks at the call whose reply differs, up to --slack milliseconds
+off. With a scenario it also tries other starts of the server: each up to 100 milliseconds off; and of those
+farther off, the ones at which a line of the scenario comes about the time of that reply, up to 150 for
+triggers and 150 for voltages. It does so for at most a minute. Give the start that `make serve` prints, and
+no other has to be tried. If the calls of two connections came within 3 milliseconds and waited, as for the
+lock, it tries the other order. It says what it moved. With --slack 0 it moves nothing; nor does `script`
+without --program. A server that stood still for more than a second lost the rest of that time, which a
+capture doesn't show. Replies that the replay sends in the last 50 milliseconds of the capture may be
+missing in the capture, which may have ended between a call and its reply: they count as equal.
 
-An interrupt channel that its peer closed counts as closed once a reply says so. A channel whose
-connection isn't in the capture isn't compared; what became of it is taken from the reply.
+If its peer closed an interrupt channel, the channel counts as closed after a reply says so. A channel whose
+connection isn't in the capture isn't compared; the reply to its call says whether it was made.
 
-Status: 0 a script was written, or all replies are equal; 1 one differs; 2 it can't be done, as where
-the capture is cut off, isn't one or lacks bytes, where tshark is missing, or where the program that
-replays ends early. Standard error has the reason then.
+Status: 0 a script was written, or all replies are equal; 1 a reply differs; 2 it can't be done: the file
+isn't a capture, is cut off or lacks bytes; tshark is missing; or the program that replays ends early.
+Standard error has the reason then.
 """
 import argparse
 import signal
@@ -54,20 +54,21 @@ NAME = "scanvolt-capture"
 
 
 def words(given: Optional[List[str]]) -> argparse.Namespace:
-    """The words of the command line."""
+    """The arguments of the command line."""
     parser = argparse.ArgumentParser(
         prog=NAME, description=__doc__, formatter_class=argparse.RawDescriptionHelpFormatter)
     parser.add_argument("mode", choices=("script", "compare", "virtual"))
     parser.add_argument("capture", metavar="CAPTURE")
-    parser.add_argument("--program", help="the scanvolt that replays; for `compare` the one that SCANVOLT or PATH or "
-                        "the checkout has, without it; a script is then that of the comparison, with what it moved")
+    parser.add_argument("--program", help="the scanvolt that replays. Without it, `compare` and `virtual` take the one "
+                        "that SCANVOLT, PATH or the checkout has, and `script` moves no ticks; with it, `script` "
+                        "compares too, and writes the ticks that it moved")
     parser.add_argument("--scenario", help="the scenario of the session")
     parser.add_argument("--start", help="when the server was ready, in seconds since 1970; "
                         "without it, the time of the first packet")
-    parser.add_argument("--slack", type=int, default=3, help="milliseconds; 3 without it")
-    parser.add_argument("--core", type=int, default=4096, help="its port; 4096 without it")
-    parser.add_argument("--abort", type=int, default=4097, help="its port; 4097 without it")
-    parser.add_argument("--portmap", type=int, help="its port; %d or 4111 without it" % PORT)
+    parser.add_argument("--slack", type=int, default=3, help="how many milliseconds ticks may be moved; 3 without it")
+    parser.add_argument("--core", type=int, default=4096, help="the port of the core channel; 4096 without it")
+    parser.add_argument("--abort", type=int, default=4097, help="the port of the abort channel; 4097 without it")
+    parser.add_argument("--portmap", type=int, help="the port of the port mapper; %d or 4111 without it" % PORT)
     return parser.parse_args(given)
 
 
@@ -86,7 +87,7 @@ def session_of(given: argparse.Namespace) -> Session:
 
 
 def compare(session: Session, entries: List[Scheduled], given: argparse.Namespace) -> int:
-    """Compares, and tells; the status."""
+    """Compares, and prints the outcome. Returns the status."""
     comparison = Comparison(session, entries, given.program or find_program())
     difference, ticks = comparison.settle(given.slack)
     printing()
@@ -94,7 +95,7 @@ def compare(session: Session, entries: List[Scheduled], given: argparse.Namespac
     if difference is None:
         print("capture: all equal in the replay, " + moves(comparison, ticks))
         return again(session, ticks, given) if given.mode == "virtual" else 0
-    print("capture: the first that differs, with ticks tried up to %s otherwise:" %
+    print("capture: the first difference, with ticks tried up to %s earlier or later:" %
           counted(given.slack, "millisecond"))
     print("\n".join(told(session, difference)))
     if entries:
@@ -103,7 +104,7 @@ def compare(session: Session, entries: List[Scheduled], given: argparse.Namespac
 
 
 def again(session: Session, ticks: List[int], given: argparse.Namespace) -> int:
-    """Does the calls again in virtual time, and tells; the status."""
+    """Makes the same calls in virtual time, and prints the outcome. Returns the status."""
     found = Again(session, ticks, given.program, given.scenario)
     told_again = found.differences()
     print("\n".join("capture: " + line for line in told_again or [found.summary()]))
@@ -111,12 +112,12 @@ def again(session: Session, ticks: List[int], given: argparse.Namespace) -> int:
 
 
 def printing() -> None:
-    """From here on, whoever reads what is printed may end; the program that replays may end before."""
+    """From here on, a reader of the output that ends (SIGPIPE) ends this too; before, the replaying program may end."""
     signal.signal(signal.SIGPIPE, signal.SIG_DFL)
 
 
 def main(given_words: Optional[List[str]] = None) -> int:
-    """The command; its status."""
+    """Runs the command. Returns its status."""
     given = words(given_words)
     try:
         entries = scenario(given.scenario) if given.scenario else []

@@ -1,4 +1,4 @@
-"""What a replay sends, beside what the capture has; and ticks that lie a bit otherwise."""
+"""Compares what a replay sends with what the capture has, and tries other ticks where they differ."""
 import re
 import subprocess
 import time
@@ -11,18 +11,18 @@ from .packets import Fault
 from .script import MARKED, Scheduled, script
 from .session import Session
 
-NEAR = 100              # each start so many milliseconds off is tried
-STARTS = 150            # and so many farther off for each kind of entry of the scenario
-BEFORE, BEHIND = 16, 2  # milliseconds by which such an entry comes before or behind a reply
-PATIENCE = 60           # seconds for which other starts are tried, at one difference
-ENDING = 50_000_000     # nanoseconds in front of the capture's end whose replies it may lack
+NEAR = 100              # starts up to this many milliseconds off are tried
+STARTS = 150            # starts farther off: this many are tried for each kind of entry of the scenario
+BEFORE, BEHIND = 16, 2  # milliseconds by which an entry may come before a reply, or after it
+PATIENCE = 60           # seconds for which other starts are tried, for one difference
+ENDING = 50_000_000     # nanoseconds before the capture's end: replies in them may be missing
 LINE = re.compile(r"refused \d+|[ci]\d+ (?:[0-9a-f]{2})+")
 
 
 @dataclass
 class Difference:
-    """The first difference: `differs`, `missing`, `more` or `refused`, at a byte of a flow that was met at this
-    point, and what the replay has there.
+    """The first difference. `kind` is `differs`, `missing`, `more` or `refused`. `point` is where it was found,
+    `flow` and `place` the byte that differs, and `found` what the replay has there.
     """
 
     kind: str
@@ -33,7 +33,7 @@ class Difference:
 
 
 def replies(program: str, lines: List[str], count: int) -> List[List[List[str]]]:
-    """What the replay prints behind each of so many points."""
+    """What the replay prints after each point. `count` is how many points there are."""
     text = "".join(line + "\n" for line in lines).encode()
     try:
         told = subprocess.run([program, "replay"], input=text, capture_output=True, check=False)
@@ -51,7 +51,7 @@ def replies(program: str, lines: List[str], count: int) -> List[List[List[str]]]
         else:
             raise Fault("%s replay prints what no replay does: %s" % (program, line[:60]))
     if len(blocks) <= count:
-        raise Fault("%s replay ended early, behind %d of %d events, with status 0" % (
+        raise Fault("%s replay ended early, after %d of %d events, with status 0" % (
             program, len(blocks) - 1, count))
     return blocks[:-1]
 
@@ -61,17 +61,17 @@ class Comparison:
 
     def __init__(self, session: Session, entries: List[Scheduled], program: str) -> None:
         self.points = session.points
-        self.told = session.told    # whether the start was told
+        self.told = session.told    # whether --start was given
         self.ending = session.end - session.start - ENDING
         self.entries = entries
         self.program = program
         self.found: Dict[int, bytearray] = {}
-        self.early = 0          # how many milliseconds the start is taken earlier than told
-        self.swapped = 0        # calls that are taken later than told
-        self.farthest = 0       # how many milliseconds off a start was tried
+        self.early = 0          # by how many milliseconds the start is taken earlier than the session says
+        self.swapped = 0        # how many calls are taken later than the capture suggests
+        self.farthest = 0       # the start tried that is farthest off, in milliseconds
 
     def first(self, ticks: List[int], last: Optional[int] = None) -> Optional[Difference]:
-        """The first difference, up to the last point, with so many ticks in front of each."""
+        """The first difference up to the point `last`. `ticks` says how many ticks pass before each point."""
         points = self.points if last is None else self.points[:last + 1]
         lines = script(points, ticks, self.entries, mark=True)
         blocks = replies(self.program, lines, len(points))
@@ -113,8 +113,8 @@ class Comparison:
         return Difference("more", number, flow, len(flow.wanted), bytes(found))
 
     def settle(self, slack: int) -> Tuple[Optional[Difference], List[int]]:
-        """The first difference that remains where each point may have its ticks up to so many
-        earlier or later, and the ticks of each point.
+        """The first difference that remains if the ticks of each point may be up to `slack` earlier or
+        later; and the ticks of each point.
         """
         ticks = [point.ticks for point in self.points]
         while True:
@@ -127,8 +127,8 @@ class Comparison:
             ticks = trial
 
     def better(self, ticks: List[int], difference: Difference, slack: int) -> Optional[List[int]]:
-        """Ticks with which there is no difference up to this one's point, if some are found: those
-        of one point moved, or the start.
+        """Ticks with which there is no difference up to the point of `difference`, if some are found: one
+        point is moved, or the start.
         """
         if slack and self.reorder(ticks, difference):
             return ticks
@@ -147,10 +147,10 @@ class Comparison:
         return None
 
     def starts(self, difference: Difference) -> List[int]:
-        """How many milliseconds earlier the server may have started, the least first, where a
-        scenario tells the time: each that is near, and those at which an entry of the scenario
-        comes about the time of the reply that differs. A start that wasn't told was no later than
-        the first packet.
+        """By how many milliseconds the server may have started earlier, the least first. Without a scenario
+        none is tried. With one, each start that is near, and those at which an entry of the scenario comes
+        about the time of the reply that differs. Without --start, the server started no later than the
+        first packet.
         """
         if not self.entries:
             return []
@@ -163,12 +163,12 @@ class Comparison:
         return self.farther(found)
 
     def farther(self, steps: Iterable[int]) -> List[int]:
-        """Those that are farther off than the start that is taken, the least first."""
+        """Those of `steps` that are farther off than the start taken now, the least first."""
         found = [step for step in steps if abs(step) > abs(self.early) and (step > 0 or self.told)]
         return sorted(found, key=lambda step: (abs(step), -step))
 
     def reorder(self, ticks: List[int], difference: Difference) -> bool:
-        """Whether the difference is gone once a call is taken behind another connection's."""
+        """Whether the difference is gone if a call is taken after another connection's call."""
         flow = difference.flow
         if flow is None:
             return False
@@ -180,7 +180,7 @@ class Comparison:
         return False
 
     def trials(self, ticks: List[int], difference: Difference, slack: int) -> Iterator[List[int]]:
-        """Ticks of which one point has some more or fewer: that of the turn, that of the reply."""
+        """Ticks with one point moved, earlier or later: the point of the call's turn, or that of its reply."""
         reply = reply_at(difference.flow, difference.place) if difference.flow else None
         places = [difference.point]
         if reply is not None:
@@ -199,7 +199,7 @@ class Comparison:
                    for count, point in zip(ticks, self.points))
 
     def moved(self, ticks: List[int], place: int, step: int) -> Optional[List[int]]:
-        """The ticks with some more or fewer at a point; others give way."""
+        """The ticks with `step` more or fewer at a point. Points before and after it are moved if order wants it."""
         count = ticks[place] + step
         if count < 0:
             return None

@@ -5,28 +5,28 @@ from typing import Dict, List, Optional, Tuple
 from ..vxi11 import CallMessage, Record, Records, XdrError, name_of, read_call
 from .streams import Stream
 
-ROOM = 16384        # bytes that the server keeps of a connection
+ROOM = 16384        # bytes of a connection that the server has room for
 LONGEST = 8192      # bytes of a record
 
 
 @dataclass
 class Point:
-    """A moment of the session: how many ticks passed before it, the lines of what happens then, and whose are
-    the names of connections (c0) and interrupt channels (i0) in what the replay prints.
+    """A moment of the session: how many ticks passed before it, the lines of what happens then, and for each
+    name in what the replay prints, a connection (c0) or an interrupt channel (i0), the flow that it means.
     """
 
     time: int
     ticks: int
     lines: List[str] = field(default_factory=list)
     owners: "Dict[str, Flow]" = field(default_factory=dict)
-    # What has to be there by now: a flow, and how many of its bytes.
+    # What the replay has to have sent by now: a flow, and how many of its bytes.
     due: "List[Tuple[Flow, int]]" = field(default_factory=list)
 
 
 @dataclass
 class Reply:
     """A reply, or a call on an interrupt channel: where it lies in its flow, the name of the call, the points
-    of its turn and of its reply, and the call, where there is one.
+    of its turn and of its reply, and the call itself if there is one.
     """
 
     start: int
@@ -45,19 +45,18 @@ class Flow:
         self.wanted = bytearray()
         self.records = Records()
         self.replies: List[Reply] = []
-        # What comes behind these bytes isn't looked at: the capture doesn't have the stream, or
-        # the peer closed it.
+        # Bytes after these aren't compared: the capture doesn't have the stream, or the peer closed it.
         self.loose = loose
 
     def push(self, data: bytes, point: Point) -> List[Record]:
-        """Takes bytes that were sent at this point; the records that are complete now."""
+        """Takes bytes that were sent at this point. Returns the records that are complete now."""
         self.wanted += data
         point.due.append((self, len(self.wanted)))
         return self.records.push(data)
 
 
 class Connection:
-    """A connection that the server has: what came on it, and which of its calls were taken."""
+    """A connection to the server: what came on it, and which of its calls were taken."""
 
     def __init__(self, stream: Stream, number: int, role: str) -> None:
         self.stream = stream
@@ -69,10 +68,10 @@ class Connection:
         self.records: List[Record] = []
         self.calls: List[CallMessage] = []
         self.turns: List[int] = []              # the point of each turn
-        self.channel: Optional[Flow] = None     # that of its interrupt channel
+        self.channel: Optional[Flow] = None     # the flow of its interrupt channel
 
     def room(self) -> int:
-        """How many bytes the server takes of it (docs/RULES.md has the count: sv_rpc RecordBuf)."""
+        """How many more bytes of the connection the server takes (docs/RULES.md says how: sv_rpc RecordBuf)."""
         left = self.asks.left
         if left is not None and len(self.asks.body) + left > LONGEST:
             return 0
@@ -81,7 +80,7 @@ class Connection:
         return max(0, ROOM - kept - self.asks.held())
 
     def feed(self, data: bytes, lines: List[str]) -> None:
-        """Gives the server bytes, as far as it has room; the rest follows later."""
+        """Gives the server as many bytes as it has room for; the others follow later."""
         self.backlog += data
         while self.backlog and self.room():
             piece, self.backlog = self.backlog[:self.room()], self.backlog[self.room():]
@@ -95,13 +94,13 @@ class Connection:
         return len(self.turns) == len(self.flow.replies) < len(self.calls)
 
     def turn(self, place: int, lines: List[str]) -> None:
-        """Has its next call taken, at the point of this place."""
+        """Takes the connection's next call, at the point of this place."""
         self.turns.append(place)
         lines.append("turn %d" % self.number)
 
 
 def call_of(body: bytes) -> CallMessage:
-    """The call that a record says; one of no program where it says none."""
+    """The call in a record; a call of program 0 if there is none."""
     try:
         return read_call(body)
     except XdrError:

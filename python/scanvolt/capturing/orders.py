@@ -1,23 +1,23 @@
 """Calls of two connections that may have been taken the other way round.
 
-A call that came while the server swept was taken in the next sweep, behind calls that came later on
-connections of lower numbers. A capture doesn't show that of calls that had to wait, as for the lock.
+A call that came while the server swept was taken in the next sweep, after calls that came later on
+connections of lower numbers. A capture doesn't show the order in which waiting calls were taken, as for the lock.
 """
 from typing import Dict, Iterator, List, Optional, Tuple
 
 from .flows import Flow, Point, Reply, reply_at
 
-NEAR = 3_000_000        # how many nanoseconds such calls are apart
+NEAR = 3_000_000        # such calls came at most this many nanoseconds apart
 
 
 def turn_of(points: List[Point], flow: Flow, place: int) -> Optional[str]:
-    """The line that takes the call of a reply, if it is a call of a connection."""
+    """The line that takes the call of a reply, if the flow is that of a connection."""
     return next(("turn " + name[1:] for name, one in points[place].owners.items()
                  if one is flow and name[0] == "c"), None)
 
 
 def ahead(points: List[Point], found: Dict[int, bytearray], place: int, own: Flow) -> Iterator[Tuple[Flow, Reply]]:
-    """Replies that the replay sent before this point, and the capture has later."""
+    """Replies that the replay sent before this point and that come later in the capture."""
     due: Dict[int, int] = {}
     for point in points[:place + 1]:
         for flow, count in point.due:
@@ -32,8 +32,8 @@ def ahead(points: List[Point], found: Dict[int, bytearray], place: int, own: Flo
 
 def later(points: List[Point], found: Dict[int, bytearray], place: int, own: Flow,
           reply: Optional[Reply]) -> Iterator[None]:
-    """Puts a call that the replay answered too early behind the one of this flow whose reply differs at this
-    point, one trial after the other; each is undone before the next.
+    """Moves a call that the replay answered too early after the call of `own` whose reply differs at this
+    point. Yields one trial after the other; each is undone before the next.
     """
     line = reply and turn_of(points, own, reply.turn)
     if reply is None or not line:

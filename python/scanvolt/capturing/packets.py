@@ -6,7 +6,7 @@ from typing import List, Sequence, Tuple
 
 FIELDS = ("frame.number", "frame.time_epoch", "tcp.stream", "ip.src", "tcp.srcport", "ip.dst", "tcp.dstport",
           "tcp.seq", "tcp.ack", "tcp.flags", "tcp.len", "frame.len", "frame.cap_len")
-# TCP alone, with sequence numbers that begin with 0.
+# TCP alone. Sequence numbers begin with 0.
 PLAIN = ("-o", "tcp.desegment_tcp_streams:FALSE", "-o", "tcp.relative_sequence_numbers:TRUE",
          "-o", "tcp.analyze_sequence_numbers:TRUE", "--disable-protocol", "rpc")
 FIN, SYN, RST, ACK = 1, 2, 4, 16
@@ -19,8 +19,8 @@ class Fault(Exception):
 
 @dataclass(frozen=True)
 class Packet:
-    """A packet. The time is in nanoseconds since 1970; an end is an address and a port; size is how many bytes
-    of the stream it has.
+    """A packet. The time is in nanoseconds since 1970, source and target are an address and a port, and size
+    is how many bytes of the stream it has.
     """
 
     number: int
@@ -35,7 +35,7 @@ class Packet:
 
 
 def nanoseconds(text: str) -> int:
-    """Seconds in decimal, as nanoseconds."""
+    """A decimal number of seconds, in nanoseconds."""
     whole, _, part = text.partition(".")
     if not (whole + part).isascii() or not (whole + part).isdigit():
         raise Fault("not a time in seconds: %r" % text)
@@ -43,7 +43,7 @@ def nanoseconds(text: str) -> int:
 
 
 def tshark(path: str, words: Sequence[str]) -> List[str]:
-    """The lines that tshark prints of a capture."""
+    """The lines that tshark prints for a capture."""
     if not os.path.isfile(path):
         raise Fault("there is no capture %s" % path)
     try:
@@ -58,7 +58,7 @@ def tshark(path: str, words: Sequence[str]) -> List[str]:
 
 
 def packet(line: str) -> Packet:
-    """The packet of a line that tshark printed."""
+    """The packet that a line of tshark's output describes."""
     number, time, stream, source, from_port, target, to_port, seq, ack, flags, size, length, kept = line.split("\t")
     if kept != length:
         raise Fault("packet %s has %s of its %s bytes: capture whole packets" % (number, kept, length))

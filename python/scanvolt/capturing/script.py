@@ -1,12 +1,12 @@
-"""The lines of a replay script: what happens, ticks, and what a scenario brings."""
+"""The lines of a replay script: events, ticks, and the entries of a scenario."""
 from typing import List, Tuple
 
 from ..stimulus import read_scenario
 from .flows import Point
 from .packets import Fault
 
-MOST = 1_000_000        # ticks of a line
-# A line that is refused and changes nothing: it tells how far the replay is.
+MOST = 1_000_000        # ticks of one line
+# A line that is refused and changes nothing: its output shows how far the replay is.
 MARK, MARKED = "input 0 0", "refused 8"
 Scheduled = Tuple[int, str]
 
@@ -22,7 +22,7 @@ def scenario(path: str) -> List[Scheduled]:
 
 
 class Clock:
-    """Writes ticks, and in front of and behind each what is due of the scenario."""
+    """Writes ticks, and before and after each tick the entries of the scenario that are due."""
 
     def __init__(self, entries: List[Scheduled]) -> None:
         self.entries = entries
@@ -35,7 +35,7 @@ class Clock:
             self.next += 1
 
     def reach(self, ticks: int, lines: List[str]) -> None:
-        """Lets the time pass until so many ticks."""
+        """Lets time pass until this many ticks have passed since the start."""
         self.due(lines)
         while self.ticks < ticks:
             count = min(ticks - self.ticks, MOST)
@@ -47,7 +47,7 @@ class Clock:
 
 
 def script(points: List[Point], ticks: List[int], entries: List[Scheduled], mark: bool = False) -> List[str]:
-    """The lines of these points, with so many ticks in front of each."""
+    """The lines of these points. `ticks` says how many ticks pass before each."""
     clock = Clock(entries)
     lines: List[str] = []
     for point, count in zip(points, ticks):

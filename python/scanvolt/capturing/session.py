@@ -1,9 +1,9 @@
 """A session as scanvolt met it: which events, in which order, and at which tick.
 
-A sweep of `scanvolt serve` takes connections, reads them, takes one call of each, dials, lets the
-whole milliseconds pass that are over, and writes. So a call is taken where its last byte came, or
-behind the reply of the call before it. Milliseconds that were over when something came have passed
-in front of it: a sweep of their own has them, where the server slept meanwhile.
+A sweep of `scanvolt serve` accepts connections, reads them, takes one call of each, dials, lets the whole
+milliseconds pass that are over, and writes. So a call is taken when its last byte came, or after the reply
+to the call before it. Milliseconds that were over when something came have passed before it: if the server
+slept meanwhile, they were passed in a sweep of their own.
 """
 from typing import Dict, List, Optional, Set
 
@@ -16,10 +16,10 @@ from .streams import Happening, Stream
 MILLISECOND = 10 ** 6
 WRITING = 100_000       # from the beginning of a sweep to its write
 READING = 50_000        # from a write to the next sweep's reads
-TOGETHER = 500_000      # what comes within so many nanoseconds may have met one sweep
+TOGETHER = 500_000      # what comes within this many nanoseconds may be handled in one sweep
 CONNECTIONS = 16
-TOLD = {"core": 4096, "abort": 4097}     # the ports that the server of a replay tells
-# Where a result has a port: in the words of create_link's, of GETPORT's.
+TOLD = {"core": 4096, "abort": 4097}     # the ports that the replaying server puts into replies
+# Where a port begins in a result of create_link, and in one of GETPORT.
 LINK_PORT, ASKED_PORT = len(words(0, 0)), 0
 
 
@@ -32,7 +32,7 @@ class Session:
         self.points: List[Point] = []
         self.numbers: Dict[int, Connection] = {}        # the connections that are open, by number
         self.connections: List[Connection] = []
-        self.dropped = 0        # connections beyond the sixteenth
+        self.dropped = 0        # connections that the server dropped: it has room for sixteen
         self.by_stream: Dict[int, Connection] = {}
         self.channels: Dict[int, Flow] = {}             # the flows of interrupt channels, by their streams
         self.unseen = 0         # interrupt channels that the capture doesn't have
@@ -63,7 +63,7 @@ class Session:
         return len(self.points) - 1
 
     def play(self, happenings: List[Happening]) -> None:
-        """Tells the happenings; calls that came together are taken as their replies came."""
+        """Plays what happened. Calls that came together are taken in the order of their replies."""
         burst: List[Happening] = []
         for place, what in enumerate(happenings):
             server = self.roles[id(what.stream)]
@@ -79,7 +79,7 @@ class Session:
         self.bring(burst, [])
 
     def one(self, what: Happening, server: Optional[str]) -> None:
-        """Tells what the server did, or what happened on an interrupt channel."""
+        """Plays what the server did, or what happened on an interrupt channel."""
         if not server:
             self.on_channel(what)
         elif id(what.stream) in self.by_stream:
@@ -90,7 +90,7 @@ class Session:
                 self.close(connection, what)
 
     def bring(self, burst: List[Happening], order: List[Stream]) -> None:
-        """Connections open and bytes come, and calls are taken."""
+        """Plays a burst: connections open, bytes come, and calls are taken."""
         if not burst:
             return
         point = self.point(burst[0].time)
@@ -105,7 +105,7 @@ class Session:
         self.swept = max(self.swept, burst[-1].time)
 
     def in_order(self, burst: List[Happening]) -> List[Connection]:
-        """The connections on which bytes came, by the last of them."""
+        """The connections on which bytes came, ordered by when their last bytes came."""
         found: List[Connection] = []
         for what in burst:
             connection = self.by_stream.get(id(what.stream))
@@ -117,7 +117,7 @@ class Session:
         return found
 
     def open(self, stream: Stream, point: Point) -> None:
-        """A connection opens, under the lowest free number; without one it is dropped."""
+        """A connection opens under the lowest free number. If no number is free, it is dropped."""
         free = [number for number in range(CONNECTIONS) if number not in self.numbers]
         if not free:
             self.dropped += 1
@@ -139,13 +139,13 @@ class Session:
         del self.by_stream[id(what.stream)]
 
     def answer(self, connection: Connection, what: Happening) -> None:
-        """The server sent bytes; calls that waited behind a reply are taken."""
+        """The server sent bytes. A call that waited for the reply is taken."""
         point = self.point(what.time - WRITING)
         for record in connection.flow.push(what.data, point):
             self.reply(connection, record, point)
         lines: List[str] = []
         connection.feed(b"", lines)
-        # A sweep that reads the end of the stream closes it, and takes no call.
+        # A sweep that reads the end of the stream closes the connection, and takes no call.
         left = connection.stream.left
         ends = not lines and left is not None and left <= what.time + READING
         if lines or connection.is_ready() and not ends:
@@ -155,7 +155,7 @@ class Session:
                 connection.turn(self.here(), point.lines)
 
     def reply(self, connection: Connection, record: Record, point: Point) -> None:
-        """A reply is complete. What it tells of ports and channels is put in."""
+        """A reply is complete. Handles what it says about ports and interrupt channels."""
         place, flow = len(connection.flow.replies), connection.flow
         turn = connection.turns[place] if place < len(connection.turns) else self.here()
         if place >= len(connection.calls):
@@ -172,7 +172,7 @@ class Session:
             self.on_dial(connection, call, error_of(record.body, call.xid), point)
 
     def tell_port(self, flow: Flow, place: int) -> None:
-        """In place of a port of this session, the one that the server of a replay has."""
+        """Puts the port of the replaying server in place of a port of this session."""
         for role, port in TOLD.items():
             for told in map(words, self.ports[role]):
                 if flow.wanted[place:place + len(told)] == told:
@@ -180,13 +180,13 @@ class Session:
                     return
 
     def on_dial(self, connection: Connection, call: CallMessage, error: Optional[int], point: Point) -> None:
-        """What became of an interrupt channel, by the reply of a call about it."""
+        """What became of an interrupt channel, as the reply to a call about it says."""
         number = connection.number
         turn = self.points[connection.turns[len(connection.flow.replies) - 1]]
         creates = call.procedure == calls.CREATE_INTR_CHAN
         opens = creates and error == 0
         if connection.channel and (opens or not creates and error == NOT_ESTABLISHED):
-            # The server met a failed write before this call.
+            # The server noticed a failed write before this call.
             turn.lines.insert(turn.lines.index("turn %d" % number), "close i%d" % number)
         if opens:
             point.lines.append("dialed %d ok" % number)
@@ -226,7 +226,7 @@ class Session:
 
 
 def error_of(body: bytes, xid: int) -> Optional[int]:
-    """The error that a reply begins its result with, if it has a result."""
+    """The error at the start of a reply's result, if the reply has a result."""
     try:
         return Reader(read_reply(body, xid)).signed()
     except (RpcError, XdrError):
@@ -244,7 +244,7 @@ def answers(happenings: List[Happening]) -> List[Stream]:
 
 
 def as_answered(ready: List[Connection], order: List[Stream]) -> List[Connection]:
-    """Connections in the order in which they were answered; others keep their places."""
+    """The connections in the order in which they were answered. Those not in `order` keep their places."""
     places = {id(stream): place for place, stream in reversed(list(enumerate(order)))}
     answered = [one for one in ready if id(one.stream) in places]
     answered.sort(key=lambda one: places[id(one.stream)])

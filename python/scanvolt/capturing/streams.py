@@ -1,4 +1,4 @@
-"""TCP streams, whose bytes tshark put together: what happened on each, as the server met it."""
+"""TCP streams, whose bytes tshark put together: what happened on each, as the server saw it."""
 import base64
 import binascii
 import re
@@ -8,15 +8,15 @@ from typing import Dict, Iterable, List, Optional, Set
 
 from .packets import ACK, FIN, RST, SYN, End, Fault, Packet, tshark
 
-AT_ONCE = 200           # streams that one tshark follows
-# What tshark puts in where it has no bytes.
+AT_ONCE = 200           # streams that one run of tshark follows
+# What tshark writes in place of bytes that it doesn't have.
 LACKS = re.compile(rb"\[[0-9]+ bytes missing in capture file\]\0?")
 
 
 @dataclass
 class Happening:
-    """What happened on a stream: it was `opened`, its caller `sent` or its callee `answered` bytes, it was
-    `closed` by its callee, or `reset` by its caller.
+    """What happened on a stream: it was `opened`; its caller `sent` bytes; its callee `answered` with bytes; it
+    was `closed` by its callee; or it was `reset` by its caller.
     """
 
     time: int
@@ -28,7 +28,7 @@ class Happening:
 
 @dataclass
 class Stream:
-    """A stream: who called, whom, and what happened on it; `left` is when its caller sent its end."""
+    """A stream: who connected to whom, and what happened on it. `left` is when the caller ended its direction (FIN)."""
 
     caller: End
     callee: End
@@ -42,7 +42,7 @@ class Stream:
 
 @dataclass
 class Piece:
-    """Bytes of the caller or of its callee, in order: the packet that brought them, and what tshark has there."""
+    """Bytes of the caller or of the callee, in order: the packet that brought them, and the bytes that tshark prints."""
 
     packet: Packet
     called: bool
@@ -62,7 +62,7 @@ def followed(path: str, packets: Dict[int, Packet], numbers: List[int]) -> Dict[
 
 
 def pieces(lines: Iterable[str], packets: Dict[int, Packet]) -> Iterable[Piece]:
-    """The pieces that the lines of a print say: `packet: NUMBER`, `peer: 0` for the caller, and behind `data:`
+    """The pieces in the lines that tshark prints: `packet: NUMBER`, `peer: 0` for the caller, and after `data:`
     lines of base64.
     """
     packet: Optional[Packet] = None
@@ -92,12 +92,12 @@ def decoded(text: str) -> bytes:
 
 
 class Direction:
-    """What one side sent: how much of it the capture has, and how much the other side acknowledged."""
+    """One direction of a stream: how much of it the capture has, and how much the other side acknowledged."""
 
     def __init__(self) -> None:
-        self.reached = 0        # the bytes up to the last that a packet had
-        self.known = 0          # the bytes that the other side has
-        self.end: Optional[Packet] = None       # the packet of the end of the direction
+        self.reached = 0        # the end of the farthest packet, in bytes
+        self.known = 0          # the bytes that the other side acknowledged
+        self.end: Optional[Packet] = None       # the packet that ended the direction
 
     def take(self, packet: Packet) -> None:
         """Takes a packet of this side. Its bytes are counted from 1: 0 is the beginning of the stream."""
@@ -112,12 +112,12 @@ class Direction:
             self.known = max(self.known, packet.ack - 1)
 
     def size(self) -> int:
-        """How many bytes there have to be."""
+        """How many bytes the direction must have."""
         return max(self.reached, self.known - (1 if self.end is not None else 0))
 
 
 class Following:
-    """A stream as its packets come."""
+    """A stream while its packets come."""
 
     def __init__(self, packet: Packet) -> None:
         self.stream = Stream(packet.source, packet.target, packet.time)
@@ -128,7 +128,7 @@ class Following:
         self.pieces: List[Piece] = []
 
     def take(self, packet: Packet) -> None:
-        """Takes a packet."""
+        """Takes a packet of the stream."""
         called = packet.source == self.stream.caller
         if packet.flags & SYN:
             self.answered = self.answered or not called
@@ -146,7 +146,7 @@ class Following:
             self.stream.left = packet.time
 
     def play(self, found: List[Piece]) -> None:
-        """What happened, with these bytes. Those of a direction come in order, whatever their packets did."""
+        """What happened, given these bytes. The bytes of a direction are in order, even if its packets weren't."""
         self.pieces = found
         if self.opened is None:
             return
@@ -165,11 +165,11 @@ class Following:
             self.tell(over, "reset" if over.source == self.stream.caller else "closed")
 
     def tell(self, packet: Packet, kind: str, data: bytes = b"") -> None:
-        """Something happened with this packet."""
+        """Adds something that happened with this packet."""
         self.stream.happenings.append(Happening(packet.time, packet.number, kind, self.stream, data))
 
     def whole(self) -> None:
-        """Sees that no byte is missing that the capture or the other side has."""
+        """Raises Fault if bytes are missing that a packet of the capture had or that the other side acknowledged."""
         for called, side in self.sides.items():
             count = 0
             for one in self.pieces:
@@ -188,8 +188,8 @@ def later(first: Packet, second: Packet) -> Packet:
 
 
 def streams(path: str, packets: List[Packet], ports: Set[int]) -> List[Stream]:
-    """The streams of a capture, in the order in which they began. Each of the server's ports has to be seen
-    from the beginning.
+    """The streams of a capture, in the order in which they began. Raises Fault if a stream of one of the server's
+    ports began before the capture.
     """
     begun: Dict[int, Following] = {}
     for packet in packets:

@@ -1,4 +1,4 @@
-"""What is told of a comparison."""
+"""What is printed about a comparison."""
 from typing import List, Optional
 
 from ..vxi11 import CallMessage, Reader, XdrError, calls
@@ -7,8 +7,8 @@ from .flows import Connection, Flow, Point, Reply, reply_at
 from .session import Session
 
 ROW = 16        # bytes of a row
-AROUND = 2      # rows that are shown in front of the one that differs, and behind it
-TEXT_MOST = 100         # characters that are shown of a message
+AROUND = 2      # rows that are shown before the one that differs, and after it
+TEXT_MOST = 100         # characters of a message that are shown
 
 
 def counted(count: int, one: str, many: Optional[str] = None) -> str:
@@ -16,7 +16,7 @@ def counted(count: int, one: str, many: Optional[str] = None) -> str:
 
 
 def summary(session: Session) -> str:
-    """What the capture has."""
+    """How many connections, calls, replies and bytes the capture has."""
     flows = session.flows()
     count = sum(len(one.calls) for one in session.connections)
     told = [counted(len(session.connections), "connection"), counted(count, "call"),
@@ -32,7 +32,7 @@ def summary(session: Session) -> str:
 
 
 def moves(comparison: Comparison, ticks: List[int]) -> str:
-    """How many points have other ticks than their times say."""
+    """How many points have other ticks than the times of their packets say, and by how much."""
     points, early = comparison.points, comparison.early
     found = [abs(max(0, point.ticks + early) - count) for point, count in zip(points, ticks)]
     count = sum(1 for one in found if one)
@@ -40,7 +40,7 @@ def moves(comparison: Comparison, ticks: List[int]) -> str:
     if early:
         start = " of a start %d ms %s" % (abs(early), "earlier" if early > 0 else "later")
     if comparison.swapped:
-        start += ", %s behind another connection's" % counted(comparison.swapped, "call")
+        start += ", %s taken after another connection's" % counted(comparison.swapped, "call")
     if not count:
         return "at the ticks of the capture's times" + start
     return "with the ticks of %d of %d events moved by at most %d ms%s" % (
@@ -48,11 +48,11 @@ def moves(comparison: Comparison, ticks: List[int]) -> str:
 
 
 def seconds(points: List[Point], place: int) -> str:
-    return "%.3f s behind the start" % (points[place].time / 1e9)
+    return "%.3f s after the start" % (points[place].time / 1e9)
 
 
 def told(session: Session, difference: Difference) -> List[str]:
-    """The lines that tell a difference."""
+    """The lines that show a difference."""
     points, flow = session.points, difference.flow
     when = seconds(points, difference.point)
     if flow is None:
@@ -82,7 +82,7 @@ def told(session: Session, difference: Difference) -> List[str]:
 
 
 def shown(where: str, data: bytes, place: int) -> List[str]:
-    """Bytes in rows around a place: each row's first byte by its number, the bytes, and their text."""
+    """Bytes in rows around a place: the number of each row's first byte, the bytes, and their text."""
     row = place // ROW
     starts = range(max(0, row - AROUND) * ROW, min(len(data), (row + AROUND + 1) * ROW), ROW)
     lines = ["  %d bytes in %s:" % (len(data), where)]
@@ -94,21 +94,21 @@ def shown(where: str, data: bytes, place: int) -> List[str]:
 
 
 def shown_byte(byte: int) -> str:
-    """A byte as text; a point where it is none."""
+    """A printable byte as text, any other as a point."""
     return chr(byte) if 32 <= byte < 127 else "."
 
 
 def messages(session: Session, flow: Flow, reply: Optional[Reply]) -> List[str]:
-    """The line of the message that was last written in front of a reply, on its link where it has one."""
+    """The line that shows the last message written before a reply, on the reply's link if its call has one."""
     connection = next((one for one in session.connections if one.flow is flow), None)
     if connection is None or reply is None or reply.call is None:
         return []
     text = written(connection, reply.call)
-    return [] if not text else ["  behind the message: " + quoted(text)]
+    return [] if not text else ["  after the message: " + quoted(text)]
 
 
 def written(connection: Connection, call: CallMessage) -> bytes:
-    """The bytes that the last device_write had, this call or one in front of it, on the same link."""
+    """The bytes of the last device_write on the same link: of this call, or of one before it."""
     place = next(number for number, one in enumerate(connection.calls) if one is call)
     for one in reversed(connection.calls[:place + 1]):
         if (one.program, one.procedure) == (calls.CORE, calls.DEVICE_WRITE):
@@ -122,21 +122,21 @@ def written(connection: Connection, call: CallMessage) -> bytes:
     return b""
 
 
-# Calls whose arguments begin with a link.
+# Calls of the core channel whose arguments begin with a link.
 ON_A_LINK = set(calls.NAMES[calls.CORE]) - {calls.CREATE_LINK, calls.CREATE_INTR_CHAN, calls.DESTROY_INTR_CHAN}
 
 
 def quoted(text: bytes) -> str:
-    """A message, whose bytes that are no text are escaped; its end, where it is long."""
+    """A message in quotes, with bytes that aren't text escaped. Of a long one, its end."""
     found = text.decode("latin-1").encode("unicode_escape").decode()
     return '"%s"' % found if len(found) <= TEXT_MOST else '.."%s"' % found[-TEXT_MOST:]
 
 
 def start_of(comparison: Comparison) -> str:
-    """That the start may be what is wrong."""
+    """A hint that the start may be wrong."""
     begin = "--start may be wrong" if comparison.told else (
         "the start may be wrong: without --start it is the time of the first packet")
-    return "%s; `make serve` tells it. Starts up to %d ms off were tried" % (begin, comparison.farthest)
+    return "%s; `make serve` prints it. Starts up to %d ms off were tried" % (begin, comparison.farthest)
 
 
 def shown_line(line: str) -> str:

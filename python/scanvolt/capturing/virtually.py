@@ -1,5 +1,5 @@
-"""The calls of a captured session, done again by `scanvolt.virtual` at the same milliseconds: whether the replies
-are the same bytes, and the service requests the same, in the same order.
+"""Makes the calls of a captured session again by `scanvolt.virtual`, at the same milliseconds, and compares: the
+replies have to be the same bytes, and the service requests the same ones in the same order.
 """
 from collections import deque
 from dataclasses import dataclass
@@ -15,12 +15,12 @@ from .packets import Fault
 from .session import Session, error_of
 from .told import counted
 
-Requested = Tuple[int, str]         # its xid, and the handle
+Requested = Tuple[int, str]         # its xid and its handle
 
 
 @dataclass(frozen=True)
 class Sent(Call[None]):
-    """A call with the bytes that were captured."""
+    """A call that is sent as the bytes that were captured."""
 
     data: bytes = b""
 
@@ -29,15 +29,15 @@ class Sent(Call[None]):
 
 
 class Again:
-    """A session in virtual time."""
+    """A captured session, made again in virtual time."""
 
     def __init__(self, session: Session, ticks: List[int], program: Optional[Name], scenario: Optional[Name]) -> None:
         self.session = session
         self.ticks = ticks
         self.open: Dict[int, Connection] = {}
         self.left: Dict[int, Deque[Tuple[CallMessage, bytes, bool]]] = {}
-        self.done: List[List[Pending[None]]] = []       # the calls of each connection, also of one that ended
-        self.place: Dict[int, int] = {}                 # where those of an open one are
+        self.done: List[List[Pending[None]]] = []       # the calls of each connection, open or ended
+        self.place: Dict[int, int] = {}                 # for each open connection, its place in `done`
         self.requests: List[Requested] = []
         self.captured = iter(session.connections)
         with Meter(program, scenario) as meter:
@@ -48,7 +48,7 @@ class Again:
                     self.play(*line.split(" ", 2))
 
     def play(self, kind: str, where: str, what: str = "") -> None:
-        """An event of the session."""
+        """Plays an event of the session."""
         if kind == "open":
             self.begin(int(where), what)
         elif kind == "turn":
@@ -59,7 +59,7 @@ class Again:
             self.meter.drop_channel(self.open[int(where[1:])])
 
     def begin(self, number: int, role: str) -> None:
-        """A connection opens, with all calls that it has."""
+        """Opens a connection, and notes all its calls, which `turn` then sends."""
         connection = self.meter.connect(role)
         if connection.number != number:
             raise Fault("in virtual time connection %d is %d" % (number, connection.number))
@@ -70,14 +70,14 @@ class Again:
         self.done.append([])
 
     def turn(self, number: int) -> None:
-        """The next call of a connection comes, and is begun with."""
+        """Sends the next call of a connection."""
         call, data, dials = self.left[number].popleft()
         self.meter.dials = dials
         again = Sent(call.program, call.procedure, call.arguments, lambda _: None, 0, data)
         self.done[self.place[number]].append(self.open[number].start(again))
 
     def differences(self) -> List[str]:
-        """What is otherwise than in the capture."""
+        """The lines that say what differs from the capture."""
         told = []
         for captured, done in zip(self.session.connections, self.done):
             flow = captured.flow
@@ -94,15 +94,15 @@ class Again:
         return told
 
     def summary(self) -> str:
-        """What was the same."""
+        """The line that says how much was the same."""
         count = sum(len(one.flow.replies) for one in self.session.connections)
         return "%s and %s are the same in virtual time" % (
             counted(count, "reply", "replies"), counted(len(self.requests), "service request"))
 
 
 def sent(captured: Captured) -> List[Tuple[CallMessage, bytes, bool]]:
-    """The calls of a connection: each with its bytes, and whether the interrupt channel that it makes is
-    established.
+    """The calls of a connection. Each comes with its bytes, and with whether the interrupt channel that it asks
+    for was established.
     """
     found = []
     for place, one in enumerate(captured.records):

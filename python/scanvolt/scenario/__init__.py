@@ -1,5 +1,5 @@
 """Scenarios for `scanvolt serve`: written, drawn and checked by `scanvolt-scenario`.
 
-shapes: what a channel does. table: columns in CSV. picture: how it looks. command: the command line.
-`scanvolt.stimulus` has the lines.
+shapes: how the voltage of a channel goes. table: voltages from a CSV file. picture: draws a scenario.
+command: the command line. `scanvolt.stimulus` reads and writes the lines.
 """

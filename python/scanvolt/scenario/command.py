@@ -1,25 +1,26 @@
 """scanvolt-scenario [OPTION..] [CHANNELS=SHAPE..] : writes a scenario for `scanvolt serve`, draws or checks it.
 
-CHANNELS is a channel, or a range of them as 1:128, 1 to 128. A shape is one of these. V is a voltage in
-volts, S a time in seconds.
+CHANNELS is a channel from 1 to 128, or a range of channels such as 1:128. A SHAPE is one of these, where V
+is a voltage in volts and S a time in seconds.
 
   V                     the same voltage all the time
-  ramp:V:V[:S]          from one voltage to another in S seconds, and again; else once, to the end
-  sine:V:V:S            around a voltage, with an amplitude and a period
-  noise:V:V:SEED        around a voltage, at most so far away; a whole number chooses the values; in a
-                        range each channel has the next one
+  ramp:V:V[:S]          from one voltage to the other in S seconds, again and again; without S once, by
+                        the end of the scenario
+  sine:V:V:S            a sine around the first voltage, with the second as amplitude and period S
+  noise:V:V:SEED        random around the first voltage, at most the second away; SEED, a whole number,
+                        chooses the values; each further channel of a range takes the next seed
   steps:V@S,V@S,..      a voltage from each of these times on
 
   --seconds S           how long it lasts; 60 seconds if not said
   --every MS            milliseconds between two values of a channel that changes; 100 if not said
-  --trigger MS          an external trigger every so many milliseconds
-  --csv FILE            values of a table: a line `time,CHANNEL,CHANNEL,..`, and then one line for
+  --trigger MS          an external trigger every MS milliseconds
+  --csv FILE            voltages from a table: a line `time,CHANNEL,CHANNEL,..`, and then one line for
                         each time, in seconds and volts; an empty field changes nothing
-  --of FILE             takes a scenario that exists, instead of shapes
-  --picture             prints a picture of it, 72 columns wide, instead of its lines
-  --check FILE          tells each bad line of a scenario that exists, and why it is one
+  --of FILE             takes an existing scenario instead of shapes
+  --picture             prints a picture of the scenario, 72 columns wide, instead of its lines
+  --check FILE          prints each bad line of an existing scenario, and what is wrong with it
 
-Status: 0; 1 where --check finds a bad line; 2 where it can't be done, and standard error says why.
+Status: 0 it is done; 1 --check found a bad line; 2 it can't be done, and standard error says why.
 """
 import getopt
 import signal
@@ -39,7 +40,7 @@ Plan = Dict[int, List[Pair]]
 
 
 def parsed(name: str) -> Tuple[Plan, List[int]]:
-    """The channels and the triggers of a scenario that exists."""
+    """The voltages and the triggers of an existing scenario."""
     plan: Plan = {}
     triggers: List[int] = []
     try:
@@ -57,7 +58,7 @@ def parsed(name: str) -> Tuple[Plan, List[int]]:
 
 
 def check(name: str) -> int:
-    """Tells the bad lines of a scenario; the status."""
+    """Prints the bad lines of a scenario. Returns the status."""
     try:
         entries, bad = checked_scenario(name)
     except OSError as error:
@@ -71,7 +72,7 @@ def check(name: str) -> int:
 
 
 def lines(plan: Plan, triggers: List[int]) -> List[str]:
-    """The lines of a scenario; a value that doesn't change has none."""
+    """The lines of a scenario. There is no line for a voltage that doesn't change."""
     events: List[Tuple[int, int, str]] = []
     for channel, pairs in plan.items():
         value: Optional[int] = None
@@ -103,7 +104,7 @@ def words_of(arguments: List[str]) -> Tuple[Dict[str, str], Dict[int, Tuple[str,
 
 
 def existing(given: Dict[str, str], shapes: Dict[int, Tuple[str, int]]) -> Tuple[Plan, List[int], int]:
-    """The channels, the triggers and the length of a scenario that exists."""
+    """The voltages, the triggers and the length of an existing scenario."""
     if shapes or "--csv" in given or "--trigger" in given:
         raise Wrong("--of takes a scenario as it is, without shapes, --csv and --trigger")
     plan, triggers = parsed(given["--of"])
@@ -112,7 +113,7 @@ def existing(given: Dict[str, str], shapes: Dict[int, Tuple[str, int]]) -> Tuple
 
 
 def made(given: Dict[str, str], shapes: Dict[int, Tuple[str, int]]) -> Tuple[Plan, List[int], int]:
-    """The channels, the triggers and the length of what is asked for."""
+    """The voltages, the triggers and the length of the scenario that the arguments ask for."""
     if "--of" in given:
         return existing(given, shapes)
     length = milliseconds(number(given["--seconds"], "--seconds", Decimal("0.001")))
@@ -133,7 +134,7 @@ def made(given: Dict[str, str], shapes: Dict[int, Tuple[str, int]]) -> Tuple[Pla
 
 
 def main(arguments: Optional[List[str]] = None) -> int:
-    """The command; its status."""
+    """Runs the command. Returns its status."""
     try:
         given, shapes = words_of(sys.argv[1:] if arguments is None else arguments)
         if "-h" in given or "--help" in given:

@@ -1,10 +1,10 @@
-"""How a scenario looks, 72 columns wide."""
+"""Draws a scenario, 72 columns wide."""
 from typing import Dict, List, Optional, Tuple
 
 from .shapes import Pair
 
-WIDTH, HEIGHT = 72, 5               # of a picture, and of a plot in it
-LABEL, COLUMNS = 14, WIDTH - 14     # of a plot's labels, and of what it shows
+WIDTH, HEIGHT = 72, 5               # the columns of a picture, and the lines of a channel in it
+LABEL, COLUMNS = 14, WIDTH - 14     # the columns of the labels, and of the plotted values
 Span = Tuple[int, int]
 
 
@@ -23,7 +23,7 @@ def spans(pairs: List[Pair], length: int, columns: int) -> List[Span]:
 
 
 def plot(channel: int, pairs: List[Pair], length: int) -> List[str]:
-    """The lines of a channel."""
+    """The lines that draw a channel."""
     found = spans(pairs, length, COLUMNS)
     low, high = min(span[0] for span in found), max(span[1] for span in found)
     height = 1 if low == high else HEIGHT
@@ -38,7 +38,7 @@ def plot(channel: int, pairs: List[Pair], length: int) -> List[str]:
 
 
 def trigger_row(triggers: List[int], length: int) -> List[str]:
-    """The lines of the external triggers."""
+    """The lines that draw the external triggers."""
     places = {tick * COLUMNS // (length + 1) for tick in triggers}
     row = "".join("^" if column in places else " " for column in range(COLUMNS))
     head = "%d external triggers, from %.3f s to %.3f s" % (
@@ -47,7 +47,7 @@ def trigger_row(triggers: List[int], length: int) -> List[str]:
 
 
 def picture(plan: Dict[int, List[Pair]], triggers: List[int], length: int) -> List[str]:
-    """The lines of a scenario's picture."""
+    """The lines that draw a scenario."""
     drawn: List[str] = []
     for channel in sorted(plan):
         drawn += plot(channel, plan[channel], length)

@@ -1,4 +1,4 @@
-"""What a channel does: shapes, as pairs of a tick and microvolts."""
+"""Shapes: how the voltage of a channel goes, as pairs of a tick and microvolts."""
 import math
 import random
 import re
@@ -12,7 +12,7 @@ Pair = Tuple[int, int]
 
 
 class Wrong(Exception):
-    """What was asked for can't be done."""
+    """The arguments ask for what can't be done."""
 
 
 def number(text: str, what: str, least: Optional[Decimal] = None) -> Decimal:
@@ -29,7 +29,7 @@ def number(text: str, what: str, least: Optional[Decimal] = None) -> Decimal:
 
 
 def whole(text: str, what: str, least: int, most: int) -> int:
-    """A whole number between two."""
+    """A whole number in this range."""
     if not (re.fullmatch("[0-9]{1,20}", text) and least <= int(text) <= most):
         raise Wrong("%s isn't a whole number from %d to %d: %s" % (what, least, most, text))
     return int(text)
@@ -40,7 +40,7 @@ def channel_of(text: str) -> int:
 
 
 def channels_of(text: str) -> List[int]:
-    """The channels that a word says: CHANNEL, or FIRST:LAST."""
+    """The channels that an argument names: CHANNEL, or FIRST:LAST."""
     first, colon, last = text.partition(":")
     begin = channel_of(first)
     end = channel_of(last) if colon else begin
@@ -50,7 +50,7 @@ def channels_of(text: str) -> List[int]:
 
 
 def microvolts(volts: Decimal) -> int:
-    """Of volts; rounded to the nearest, halves away from zero."""
+    """Volts in microvolts, rounded to the nearest, halves away from zero."""
     if abs(volts) > LIMIT:
         raise Wrong("a voltage is beyond %d V: %s" % (LIMIT, volts))
     return int((volts * 1000000).quantize(Decimal(1), ROUND_HALF_UP))
@@ -61,7 +61,7 @@ def milliseconds(seconds: Decimal) -> int:
 
 
 def fields(words: List[str], least: int, most: int, shape: str) -> List[str]:
-    """The fields of a shape, of which there have to be so many."""
+    """The fields of a shape. Raises Wrong unless there are `least` to `most`."""
     if not least <= len(words) <= most:
         raise Wrong("a shape isn't as --help has it: " + shape)
     return words
@@ -72,8 +72,8 @@ def volts(text: str) -> float:
 
 
 def function_of(kind: str, words: List[str], shape: str, length: int, place: int) -> Callable[[int], float]:
-    """What gives the voltage at a tick, of a shape that changes all the time; place is that of its channel in a
-    range.
+    """The function from a tick to the voltage, for a ramp, sine or noise. `place` is the place of the channel in
+    its range.
     """
     words = fields(words, 2 if kind == "ramp" else 3, 3, shape)
     first, second = volts(words[0]), volts(words[1])
@@ -83,13 +83,13 @@ def function_of(kind: str, words: List[str], shape: str, length: int, place: int
     period = milliseconds(number(words[2], "a time", Decimal("0.001"))) if words[2:] else length
     if kind == "sine":
         return lambda tick: first + second * math.sin(2 * math.pi * tick / period)
-    # A ramp that comes again starts anew at its period; one that doesn't arrives at the end.
+    # A repeated ramp starts again after each period. One without a period reaches the second voltage at the end.
     again = bool(words[2:])
     return lambda tick: first + (second - first) * (tick % period if again else tick) / period
 
 
 def steps(words: List[str], shape: str) -> List[Pair]:
-    """What `steps` does."""
+    """The pairs of `steps`."""
     pairs: List[Pair] = []
     for word in fields(words, 1, 1, shape)[0].split(","):
         height, at, seconds = word.partition("@")
@@ -97,13 +97,13 @@ def steps(words: List[str], shape: str) -> List[Pair]:
             raise Wrong("a step isn't VOLTS@SECONDS: " + word)
         tick = milliseconds(number(seconds, "a time", Decimal(0)))
         if pairs and tick < pairs[-1][0]:
-            raise Wrong("a step comes before the one in front of it: " + word)
+            raise Wrong("a step is earlier than the step before it: " + word)
         pairs.append((tick, microvolts(number(height, "a voltage"))))
     return pairs
 
 
 def changes(shape: str, every: int, length: int, place: int = 0) -> List[Pair]:
-    """What a shape does."""
+    """The pairs of a shape."""
     kind, *words = shape.split(":")
     if kind in ("ramp", "sine", "noise"):
         function = function_of(kind, words, shape, length, place)

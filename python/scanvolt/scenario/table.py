@@ -1,4 +1,4 @@
-"""A table in CSV, as what its channels do."""
+"""Reads voltages from a table in CSV."""
 import csv
 from decimal import Decimal
 from typing import Dict, List, Optional, Tuple
@@ -16,12 +16,12 @@ def opened(name: str) -> str:
 
 
 def table_line(row: List[str], names: List[int], last: int) -> Tuple[int, List[Pair]]:
-    """The tick of a table's line, and the channels and microvolts that it has."""
+    """The tick of a line of the table, and its channels and microvolts."""
     if len(row) != 1 + len(names):
         raise Wrong("it has %d fields and not %d" % (len(row), 1 + len(names)))
     tick = milliseconds(number(row[0].strip(), "a time", Decimal(0)))
     if tick < last:
-        raise Wrong("a time before the one in front of it: " + row[0])
+        raise Wrong("the time is earlier than that of the line before: " + row[0])
     return tick, [(channel, microvolts(number(text.strip(), "a voltage")))
                   for channel, text in zip(names, row[1:]) if text.strip()]
 

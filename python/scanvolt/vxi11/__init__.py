@@ -1,7 +1,7 @@
-"""VXI-11 (revision 1.0) over RPC (RFC 5531), for clients: `Client` and `Link` over sockets, and the bytes
-by themselves.
+"""VXI-11 (revision 1.0) over RPC (RFC 5531), for clients: `Client` and `Link` over sockets, and functions that
+write and read the bytes.
 
-`xdr`, `rpc`, `calls`, `requests` and `errors` have no sockets: they say what the bytes are.
+`xdr`, `rpc`, `calls`, `requests` and `errors` use no sockets: they define the bytes.
 """
 from .calls import (ABORT, CORE, ENDED, INTERRUPT, PORT_MAPPER, REQUEST_COUNT, TERMINATOR, Call, Made, Piece,
                     name_of)

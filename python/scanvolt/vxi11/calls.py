@@ -1,7 +1,7 @@
 """The calls of VXI-11 (revision 1.0, B.6), and GETPORT, SET and UNSET of the port mapper (RFC 1833, section 3).
 
-Each function gives a Call: its program, version, procedure and arguments, and how its result is read.
-Timeouts are milliseconds. `wait` is how long a call may take by its own timeouts, in milliseconds.
+Each function returns a Call: its program, version, procedure and arguments, and how its result is read.
+Timeouts are in milliseconds. `wait` is how long a call may take by its own timeouts, in milliseconds.
 """
 from dataclasses import dataclass
 from typing import Callable, Generic, Optional, TypeVar
@@ -35,19 +35,19 @@ NAMES = {
 }
 
 WAITLOCK, END, TERMCHRSET = 1, 8, 128               # flags of a call
-REQUEST_COUNT, TERMINATOR, ENDED = 1, 2, 4          # reasons of a read, whose sum is given
+REQUEST_COUNT, TERMINATOR, ENDED = 1, 2, 4          # reasons why a read ended; a result has their sum
 TCP, UDP = 6, 17                                    # protocols of the port mapper
-PORT = 111                                          # that of the port mapper
+PORT = 111                                          # the port of the port mapper
 LOOPBACK = 0x7F000001                               # 127.0.0.1
-BY_TCP, BY_UDP = 0, 1                               # families of an interrupt channel
-SRQ_MOST = 40                                       # bytes of a handle
+BY_TCP, BY_UDP = 0, 1                               # address families of an interrupt channel
+SRQ_MOST = 40                                       # bytes that a handle may have
 
 Value = TypeVar("Value", covariant=True)
 
 
 @dataclass(frozen=True)
 class Call(Generic[Value]):
-    """A call, and how its result is read."""
+    """An RPC call, and how its result is read."""
 
     program: int
     procedure: int
@@ -68,8 +68,8 @@ class Call(Generic[Value]):
         return encode_call(xid, self.program, self.version, self.procedure, self.arguments)
 
     def answer(self, body: bytes, xid: int) -> Value:
-        """The result that a reply's record says. Raises DeviceError, or the RpcError by which it was
-        refused.
+        """The result in a reply, given the record's bytes. Raises DeviceError for an error, and the RpcError of
+        a call that was refused.
         """
         result = read_reply(body, xid)
         try:
@@ -80,7 +80,7 @@ class Call(Generic[Value]):
 
 @dataclass(frozen=True)
 class Made:
-    """A link that was made: its number, the port of the abort channel, the most bytes of a write."""
+    """A link that was made: its number, the port of the abort channel, and the most bytes of a device_write."""
 
     link: int
     abort_port: int
@@ -89,7 +89,7 @@ class Made:
 
 @dataclass(frozen=True)
 class Piece:
-    """What a device_read gave, and the reason why it ended: the sum of REQUEST_COUNT 1, TERMINATOR 2, ENDED
+    """The bytes that a device_read returned, and why it ended: the sum of REQUEST_COUNT 1, TERMINATOR 2, ENDED
     4.
     """
 
@@ -98,12 +98,12 @@ class Piece:
 
     @property
     def ended(self) -> bool:
-        """Whether the response ended with it (END)."""
+        """Whether the response ended with this piece (END)."""
         return self.reason & ENDED != 0
 
 
 def name_of(program: int, procedure: int) -> str:
-    """The name of a procedure, by the standard."""
+    """The name of a procedure in the standard."""
     if procedure == NULL:
         return "the null procedure"
     return NAMES.get(program, {}).get(procedure, "procedure %d of program %#x" % (procedure, program))
@@ -114,7 +114,7 @@ def _nothing(_result: bytes) -> None:
 
 
 def _checked(result: bytes) -> Reader:
-    """What follows an error of 0. Raises DeviceError for another."""
+    """A reader of what follows the error, if the error is 0. Raises DeviceError if it isn't."""
     reader = Reader(result)
     number = reader.signed()
     if number != 0:
@@ -123,7 +123,7 @@ def _checked(result: bytes) -> Reader:
 
 
 def _error(result: bytes) -> None:
-    """A result that is an error alone."""
+    """Checks a result that is only an error."""
     _checked(result)
 
 
@@ -159,25 +159,25 @@ def _said(result: bytes) -> bool:
 
 
 def _flags(lock_timeout: int) -> int:
-    """A call waits for the lock where it has time to."""
+    """The flag waitlock if the lock timeout is above 0: then the call waits for the lock."""
     return WAITLOCK if lock_timeout > 0 else 0
 
 
 def null(program: int = CORE) -> Call[None]:
-    """Nothing but a reply."""
+    """Does nothing, and is answered."""
     return Call(program, NULL, b"", _nothing)
 
 
 def create_link(device: str = "inst0", lock: bool = False, lock_timeout: int = 0,
                 client: int = 0) -> Call[Made]:
-    """Makes a link; with `lock` one that has the lock, for which it waits up to lock_timeout."""
+    """Makes a link. With `lock` the link has the lock, for which the call waits up to lock_timeout."""
     arguments = words(client, lock, lock_timeout) + opaque(device.encode("latin-1"))
     return Call(CORE, CREATE_LINK, arguments, _made, lock_timeout if lock else 0)
 
 
 def device_write(link: int, data: bytes, io_timeout: int, lock_timeout: int = 0,
                  end: bool = True) -> Call[int]:
-    """Writes bytes, with END or not; how many were taken."""
+    """Writes bytes, with or without END. The result is how many were taken."""
     flags = _flags(lock_timeout) | (END if end else 0)
     arguments = words(link, io_timeout, lock_timeout, flags) + opaque(data)
     return Call(CORE, DEVICE_WRITE, arguments, _size, io_timeout + lock_timeout)
@@ -185,7 +185,7 @@ def device_write(link: int, data: bytes, io_timeout: int, lock_timeout: int = 0,
 
 def device_read(link: int, size: int, io_timeout: int, lock_timeout: int = 0,
                 termination: Optional[int] = None) -> Call[Piece]:
-    """Reads at most so many bytes, up to a termination character (0 to 255) if one is given, or to END."""
+    """Reads at most `size` bytes, up to END, or up to a termination character (0 to 255) if one is given."""
     flags = _flags(lock_timeout) | (0 if termination is None else TERMCHRSET)
     arguments = words(link, size, io_timeout, lock_timeout, flags, termination or 0)
     return Call(CORE, DEVICE_READ, arguments, _piece, io_timeout + lock_timeout)
@@ -196,7 +196,7 @@ def _generic(link: int, io_timeout: int, lock_timeout: int) -> bytes:
 
 
 def device_readstb(link: int, io_timeout: int, lock_timeout: int = 0) -> Call[int]:
-    """The status byte, 0 to 255; it clears bit 6."""
+    """Reads the status byte, 0 to 255. That clears its bit 6."""
     arguments = _generic(link, io_timeout, lock_timeout)
     return Call(CORE, DEVICE_READSTB, arguments, _status, io_timeout + lock_timeout)
 
@@ -207,22 +207,22 @@ def _simple(procedure: int, link: int, io_timeout: int, lock_timeout: int) -> Ca
 
 
 def device_trigger(link: int, io_timeout: int, lock_timeout: int = 0) -> Call[None]:
-    """A trigger from the bus."""
+    """Triggers the instrument."""
     return _simple(DEVICE_TRIGGER, link, io_timeout, lock_timeout)
 
 
 def device_clear(link: int, io_timeout: int, lock_timeout: int = 0) -> Call[None]:
-    """Drops text and response."""
+    """Clears the device: drops the text that came and the response."""
     return _simple(DEVICE_CLEAR, link, io_timeout, lock_timeout)
 
 
 def device_remote(link: int, io_timeout: int, lock_timeout: int = 0) -> Call[None]:
-    """Remote control, without local operation."""
+    """Selects remote control with local lockout."""
     return _simple(DEVICE_REMOTE, link, io_timeout, lock_timeout)
 
 
 def device_local(link: int, io_timeout: int, lock_timeout: int = 0) -> Call[None]:
-    """Local operation."""
+    """Selects local operation."""
     return _simple(DEVICE_LOCAL, link, io_timeout, lock_timeout)
 
 
@@ -237,7 +237,7 @@ def device_unlock(link: int) -> Call[None]:
 
 
 def device_enable_srq(link: int, handle: Optional[bytes]) -> Call[None]:
-    """Service requests are sent with this handle of at most 40 bytes; None turns them off."""
+    """Turns on service requests, with this handle of at most 40 bytes; None turns them off."""
     if handle is not None and len(handle) > SRQ_MOST:
         raise ValueError("a handle of %d bytes, at most %d may be" % (len(handle), SRQ_MOST))
     return Call(CORE, DEVICE_ENABLE_SRQ, words(link, handle is not None) + opaque(handle or b""), _error)
@@ -245,7 +245,7 @@ def device_enable_srq(link: int, handle: Optional[bytes]) -> Call[None]:
 
 def device_docmd(link: int, command: int, data: bytes, io_timeout: int, lock_timeout: int = 0,
                  item_size: int = 1, network_order: bool = True) -> Call[bytes]:
-    """A command that the standard leaves to the device; the data that come back."""
+    """Executes a command that the standard leaves to the device. The result is the data that it returns."""
     arguments = words(link, _flags(lock_timeout), io_timeout, lock_timeout, command, network_order, item_size)
     return Call(CORE, DEVICE_DOCMD, arguments + opaque(data), _data, io_timeout + lock_timeout)
 
@@ -257,7 +257,7 @@ def destroy_link(link: int) -> Call[None]:
 
 def create_intr_chan(address: int, port: int, program: int = INTERRUPT, version: int = 1,
                      family: int = BY_TCP, wait: int = 0) -> Call[None]:
-    """Has the instrument connect to this address and port. `wait` is what that may take, in milliseconds."""
+    """Has the instrument connect to this address and port. `wait` is how long that may take, in milliseconds."""
     return Call(CORE, CREATE_INTR_CHAN, words(address, port, program, version, family), _error, wait)
 
 
@@ -267,22 +267,22 @@ def destroy_intr_chan() -> Call[None]:
 
 
 def device_abort(link: int) -> Call[None]:
-    """Ends the call of this link that waits, by error 23. It goes over the abort channel."""
+    """Aborts the call that waits on this link, which then ends with error 23. This goes over the abort channel."""
     return Call(ABORT, DEVICE_ABORT, words(link), _error)
 
 
 def getport(program: int, version: int, protocol: int = TCP) -> Call[int]:
-    """The port of a program, 0 where there is none. It goes to the port mapper."""
+    """Asks the port mapper for the port of a program; 0 if none is registered."""
     return Call(PORT_MAPPER, GETPORT, words(program, version, protocol, 0), _port)
 
 
 def set_port(program: int, version: int, port: int, protocol: int = TCP) -> Call[bool]:
-    """Registers the port of a program; whether it was, which another registration forbids."""
+    """Registers the port of a program. The result is false if the program is already registered."""
     return Call(PORT_MAPPER, SET, words(program, version, protocol, port), _said)
 
 
 def unset_port(program: int, version: int) -> Call[bool]:
-    """Takes back all ports of a program; whether there were any."""
+    """Unregisters all ports of a program. The result is whether there were any."""
     return Call(PORT_MAPPER, UNSET, words(program, version, 0, 0), _said)
 
 
@@ -292,5 +292,5 @@ def device_intr_srq(handle: bytes) -> Call[None]:
 
 
 def read_service_request(arguments: bytes) -> bytes:
-    """The handle that the arguments of device_intr_srq say."""
+    """The handle in the arguments of device_intr_srq."""
     return Reader(arguments).opaque()

@@ -19,11 +19,11 @@ Callback = Callable[[ServiceRequest], object]
 
 
 class Channel:
-    """A connection that carries calls, one after the other; threads may share it.
+    """A connection that carries calls, one after the other. Threads may share it.
 
-    patience is seconds that a reply may take, beyond the timeouts of its call: behind it the connection is
-    closed, and ConnectionError raised. So it is where a call is interrupted, since its reply would be taken
-    for another's. Who has a socket that is connected gives it.
+    `patience` is how many seconds a reply may take beyond the timeouts of its call. After that the connection is
+    closed, and ConnectionError raised. It is also closed if a call is interrupted: its late reply would be taken
+    for the reply to the next call. `connected` is a connected socket, if the caller already has one.
     """
 
     def __init__(self, host: str, port: int, patience: float = PATIENCE,
@@ -49,7 +49,7 @@ class Channel:
         self.socket.close()
 
     def do(self, call: Call[Value]) -> Value:
-        """Does a call, and waits for its result."""
+        """Makes a call, and waits for its result."""
         with self.turn:
             self.xid = (self.xid + 1) % 2 ** 32
             try:
@@ -77,8 +77,8 @@ class Channel:
 
 
 def port_of(host: str, program: int, version: int, port: int = 111, patience: float = PATIENCE) -> int:
-    """Asks the port mapper of a host for the TCP port of a program. Raises ConnectionError where there is
-    none.
+    """Asks the port mapper of a host for the TCP port of a program. Raises ConnectionError if none is
+    registered.
     """
     with Channel(host, port, patience) as mapper:
         found = mapper.do(calls.getport(program, version))
@@ -90,8 +90,8 @@ def port_of(host: str, program: int, version: int, port: int = 111, patience: fl
 class Client(Channel, Core):
     """A connection to the core channel of an instrument.
 
-    Without a port it asks the port mapper. `with Client(host) as client, client.create_link() as link:`
-    ends all.
+    Without a port it asks the port mapper. At its end, `with Client(host) as client, client.create_link() as link:`
+    ends the link and the connection.
     """
 
     def __init__(self, host: str = "127.0.0.1", port: Optional[int] = None, patience: float = PATIENCE,
@@ -102,14 +102,14 @@ class Client(Channel, Core):
         self.requests: Optional[ServiceRequests] = None
 
     def abort(self, link: Link) -> None:
-        """Ends the call of a link that waits. It takes a connection of its own, and doesn't wait for other
+        """Aborts the call that waits on a link. It uses a connection of its own, so it doesn't wait for other
         calls.
         """
         with Channel(self.host, link.abort_port, self.patience) as channel:
             channel.do(calls.device_abort(link.number))
 
     def listen(self, callback: Optional[Callback] = None) -> "ServiceRequests":
-        """Makes the interrupt channel: service requests go to the callback, in a thread, or to a queue."""
+        """Makes the interrupt channel. Service requests go to the callback, in a thread, or else into a queue."""
         address = self.socket.getsockname()[0]
         requests = ServiceRequests(address, callback)
         try:
@@ -122,14 +122,14 @@ class Client(Channel, Core):
         return requests
 
     def close(self) -> None:
-        """Closes the connection, and what listens for its service requests."""
+        """Closes the connection, and the interrupt channel's listener."""
         super().close()
         if self.requests is not None:
             self.requests.close()
 
 
 class ServiceRequests:
-    """Listens on a port of its own for one interrupt channel, in a thread."""
+    """Listens for one interrupt channel, on a port and in a thread of its own."""
 
     def __init__(self, address: str, callback: Optional[Callback] = None) -> None:
         self.callback = callback
@@ -142,7 +142,7 @@ class ServiceRequests:
         self.thread.start()
 
     def wait(self, milliseconds: float) -> ServiceRequest:
-        """The next service request. Raises TimeoutError where none comes in so many milliseconds."""
+        """The next service request. Raises TimeoutError if none comes within this many milliseconds."""
         try:
             return self.queue.get(timeout=milliseconds / 1000)
         except queue.Empty:
@@ -158,7 +158,7 @@ class ServiceRequests:
             self.thread.join()
 
     def _serve(self) -> None:
-        """Takes the one connection, and hands on what it carries until it ends."""
+        """Accepts the one connection, and hands on what it carries until it ends."""
         with self.listener:
             channel = self._accepted()
         if channel is None:
@@ -177,7 +177,7 @@ class ServiceRequests:
                     self._hand(request)
 
     def _accepted(self) -> Optional[socket.socket]:
-        """The connection of the instrument; none if this is closed before one comes."""
+        """The connection from the instrument; None if this is closed before one comes."""
         self.listener.settimeout(0.2)
         while not self.closed:
             try:
@@ -191,7 +191,7 @@ class ServiceRequests:
         return None
 
     def _hand(self, request: ServiceRequest) -> None:
-        """A callback that raises is told as a thread's fault is, and the next request comes all the same."""
+        """Hands on a service request. If the callback raises, that is reported like an exception of a thread."""
         if self.callback is None:
             self.queue.put(request)
             return
@@ -203,7 +203,7 @@ class ServiceRequests:
 
 
 def _shut(one: socket.socket) -> None:
-    """Ends a socket that another thread waits on."""
+    """Shuts down a socket on which another thread waits."""
     try:
         one.shutdown(socket.SHUT_RDWR)
     except OSError:

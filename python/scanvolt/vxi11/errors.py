@@ -13,7 +13,7 @@ ALREADY_ESTABLISHED = 29
 
 
 class DeviceError(Exception):
-    """An error that a call answered: its number, and its name by the standard."""
+    """An error that the instrument returned: its number, and its name in the standard."""
 
     def __init__(self, number: int, name: str = "") -> None:
         self.number = number

@@ -17,16 +17,16 @@ class Carrier(Protocol):
     """What carries calls: a socket, or a connection in virtual time."""
 
     def do(self, call: Call[Value]) -> Value:
-        """Does a call of the core channel, and waits for its result."""
+        """Makes a call of the core channel, and waits for its result."""
 
     def abort(self, link: "Link") -> None:
-        """Ends the call of a link that waits, over the abort channel of the same instrument."""
+        """Aborts the call that waits on a link, over the abort channel of the same instrument."""
 
 
 @dataclass(frozen=True)
 class LinkCalls:
-    """The calls of a link with its timeouts, in milliseconds; they aren't done yet. `scanvolt.vxi11.calls`
-    has each.
+    """The calls of a link with its timeouts, in milliseconds. They are made but not sent. `scanvolt.vxi11.calls`
+    documents each.
     """
 
     link: int
@@ -71,12 +71,12 @@ class LinkCalls:
 
 
 class Link:
-    """A link to an instrument. It ends by `destroy`, and behind a `with` block.
+    """A link to an instrument. `destroy` ends it, and so does the end of a `with` block.
 
-    io_timeout and lock_timeout are milliseconds, and may be set at any time. A call waits for the lock of
-    another link where lock_timeout is above 0 (flag waitlock), else it answers error 11 at once. All
-    methods raise DeviceError for an error that the instrument answers, RpcError for a call that it refuses,
-    ConnectionError where the connection ends.
+    io_timeout and lock_timeout are in milliseconds, and may be set at any time. If another link has the lock, a
+    call waits for it if lock_timeout is above 0 (flag waitlock); else it returns error 11 at once. All methods
+    raise DeviceError for an error that the instrument returns, RpcError for a call that it refuses, and
+    ConnectionError if the connection ends.
     """
 
     def __init__(self, carrier: Carrier, made: Made, io_timeout: int = IO_TIMEOUT,
@@ -84,7 +84,7 @@ class Link:
         self.carrier = carrier
         self.number = made.link
         self.abort_port = made.abort_port
-        self.most = made.most               # bytes of one device_write
+        self.most = made.most               # bytes that one device_write may have
         self.io_timeout = io_timeout
         self.lock_timeout = lock_timeout
 
@@ -94,7 +94,7 @@ class Link:
     def __exit__(self, kind: Optional[Type[BaseException]], *_: object) -> None:
         try:
             self.destroy()
-        except ConnectionError:                         # the link has ended with it
+        except ConnectionError:                         # the link ended with the connection
             pass
         except DeviceError as fault:
             if kind is None and fault.number != INVALID_LINK:
@@ -102,12 +102,12 @@ class Link:
 
     @property
     def calls(self) -> LinkCalls:
-        """This link's calls with its timeouts as they are now, for those who do them otherwise."""
+        """This link's calls with its present timeouts, for a caller that sends them itself."""
         return LinkCalls(self.number, self.io_timeout, self.lock_timeout)
 
     def write(self, message: Union[bytes, str], end: bool = True) -> int:
-        """Writes a message, in as many writes as it takes; `end` sends END with its last byte. Its length
-        in bytes.
+        """Writes a message, in as many calls as needed. If `end` is true, END comes with the last byte. Returns
+        the message's length in bytes.
         """
         data = message.encode("latin-1") if isinstance(message, str) else bytes(message)
         place = 0
@@ -121,12 +121,11 @@ class Link:
                 raise BadReply("device_write took no byte of %d" % len(piece))
 
     def read_piece(self, size: int = READ_SIZE, termination: Optional[int] = None) -> Piece:
-        """One device_read: at most so many bytes, up to a termination character (0 to 255) or to END."""
+        """Makes one device_read: at most `size` bytes, up to END or a termination character (0 to 255)."""
         return self.carrier.do(self.calls.read(size, termination))
 
     def read(self, size: Optional[int] = None, termination: Optional[int] = None) -> bytes:
-        """Reads in pieces to END, or to the termination character, or so many bytes, whichever comes first.
-        """
+        """Makes reads up to END, up to the termination character, or up to `size` bytes, whichever comes first."""
         data = b""
         while True:
             asked = READ_SIZE if size is None else size - len(data)
@@ -142,27 +141,27 @@ class Link:
         return text[:-1] if text.endswith("\n") else text
 
     def readstb(self) -> int:
-        """The status byte. Bit 6 (64) is a request for service, which this clears."""
+        """Reads the status byte. Bit 6 (64) is the request for service, which this clears."""
         return self.carrier.do(self.calls.readstb())
 
     def trigger(self) -> None:
-        """A trigger from the bus."""
+        """Triggers the instrument."""
         self.carrier.do(self.calls.trigger())
 
     def clear(self) -> None:
-        """Device clear: text, held commands and the response are dropped."""
+        """Clears the device: drops the text that came, held commands and the response."""
         self.carrier.do(self.calls.clear())
 
     def remote(self) -> None:
-        """Remote control without local operation."""
+        """Selects remote control with local lockout."""
         self.carrier.do(self.calls.remote())
 
     def local(self) -> None:
-        """Local operation."""
+        """Selects local operation."""
         self.carrier.do(self.calls.local())
 
     def lock(self, timeout: Optional[int] = None) -> None:
-        """Takes the lock. It waits for it up to so many milliseconds; lock_timeout, if none are said."""
+        """Takes the lock. Waits for it up to `timeout` milliseconds, or lock_timeout if that isn't given."""
         self.carrier.do(calls.device_lock(self.number, self.lock_timeout if timeout is None else timeout))
 
     def unlock(self) -> None:
@@ -170,21 +169,21 @@ class Link:
         self.carrier.do(self.calls.unlock())
 
     def enable_srq(self, handle: bytes = b"") -> None:
-        """Service requests of this link are sent from now on, with this handle of at most 40 bytes."""
+        """Turns on service requests of this link, with this handle of at most 40 bytes."""
         self.carrier.do(self.calls.enable_srq(handle))
 
     def disable_srq(self) -> None:
-        """No service requests are sent for this link any more."""
+        """Turns off service requests of this link."""
         self.carrier.do(self.calls.enable_srq(None))
 
     def docmd(self, command: int, data: bytes = b"") -> bytes:
-        """A command that the standard leaves to the device."""
+        """Executes a command that the standard leaves to the device."""
         return self.carrier.do(self.calls.docmd(command, data))
 
     def abort(self) -> None:
-        """Ends this link's call that waits, in another thread say, by error 23."""
+        """Aborts the call that waits on this link, in another thread say: it ends with error 23."""
         self.carrier.abort(self)
 
     def destroy(self) -> None:
-        """Ends the link, and with it its lock and its requests."""
+        """Ends the link, and with it its lock and its service requests."""
         self.carrier.do(self.calls.destroy())

@@ -17,21 +17,21 @@ class ServiceRequest:
 
 
 class RequestStream:
-    """The service requests of an interrupt channel, whose bytes come in pieces. Records of other calls are
-    skipped.
+    """The service requests of an interrupt channel whose bytes come in pieces. Skips records that are other
+    calls.
     """
 
     def __init__(self) -> None:
         self.records = Records()
 
     def push(self, data: bytes, clock: Optional[int] = None) -> List[ServiceRequest]:
-        """Takes a piece; the service requests that are complete now."""
+        """Takes a piece. Returns the service requests that are complete now."""
         found = [_request(one.body, clock) for one in self.records.push(data)]
         return [one for one in found if one is not None]
 
 
 def _request(body: bytes, clock: Optional[int]) -> Optional[ServiceRequest]:
-    """The service request of a record, if it is one."""
+    """The service request in a record, if it is one."""
     try:
         call: CallMessage = read_call(body)
         if call.procedure != DEVICE_INTR_SRQ:

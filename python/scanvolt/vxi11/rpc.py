@@ -1,17 +1,17 @@
-"""Remote procedure calls (RFC 5531): records of a stream, headers of calls and of replies. No sockets."""
+"""Remote procedure calls (RFC 5531): the records of a stream, and the headers of calls and replies. No sockets."""
 from dataclasses import dataclass
 from typing import List, Optional
 
 from .xdr import Reader, XdrError, words
 
 CALL, REPLY = 0, 1              # types of a message
-ACCEPTED, DENIED = 0, 1         # what becomes of a call
-SUCCESS = 0                     # of one that is accepted: it was executed
-LAST = 0x80000000               # in the mark of a fragment: the record ends with it
+ACCEPTED, DENIED = 0, 1         # states of a reply: whether its call was accepted
+SUCCESS = 0                     # states of an accepted call: it was executed
+LAST = 0x80000000               # in the mark of a fragment: it is the last of its record
 AUTH_MOST = 400                 # bytes that a credential or a verifier may have
 RPC_VERSION = 2
-PROG_UNAVAIL, PROG_MISMATCH, PROC_UNAVAIL, GARBAGE_ARGS, SYSTEM_ERR = 1, 2, 3, 4, 5    # why it wasn't
-RPC_MISMATCH, AUTH_ERROR = 0, 1 # why one is denied
+PROG_UNAVAIL, PROG_MISMATCH, PROC_UNAVAIL, GARBAGE_ARGS, SYSTEM_ERR = 1, 2, 3, 4, 5    # or why it wasn't
+RPC_MISMATCH, AUTH_ERROR = 0, 1 # why a call was denied
 
 
 class RpcError(Exception):
@@ -19,15 +19,15 @@ class RpcError(Exception):
 
 
 class BadReply(RpcError):
-    """A reply that isn't one of the call, or can't be read."""
+    """A reply that belongs to another call, or can't be read."""
 
 
 class ProgramUnavailable(RpcError):
-    """There is no such program (PROG_UNAVAIL)."""
+    """The server doesn't have the program (PROG_UNAVAIL)."""
 
 
 class ProgramMismatch(RpcError):
-    """There is no such version of the program (PROG_MISMATCH): the versions from low to high are there."""
+    """The server doesn't have this version of the program, only those from low to high (PROG_MISMATCH)."""
 
     def __init__(self, low: int, high: int) -> None:
         super().__init__("versions %d to %d of the program are there" % (low, high))
@@ -39,15 +39,15 @@ class ProcedureUnavailable(RpcError):
 
 
 class GarbageArguments(RpcError):
-    """The arguments can't be read (GARBAGE_ARGS)."""
+    """The server couldn't read the arguments (GARBAGE_ARGS)."""
 
 
 class SystemFault(RpcError):
-    """The other side failed (SYSTEM_ERR)."""
+    """The server failed (SYSTEM_ERR)."""
 
 
 class RpcMismatch(RpcError):
-    """The version of RPC isn't there (RPC_MISMATCH): the versions from low to high are."""
+    """The server doesn't have this version of RPC, only those from low to high (RPC_MISMATCH)."""
 
     def __init__(self, low: int, high: int) -> None:
         super().__init__("versions %d to %d of RPC are there" % (low, high))
@@ -55,7 +55,7 @@ class RpcMismatch(RpcError):
 
 
 class AuthenticationRefused(RpcError):
-    """The credential or the verifier was refused (AUTH_ERROR), with its number."""
+    """The server refused the credential or the verifier (AUTH_ERROR). The message has the reason's number."""
 
     def __init__(self, number: int) -> None:
         super().__init__("authentication error %d" % number)
@@ -63,7 +63,7 @@ class AuthenticationRefused(RpcError):
 
 
 def mark(size: int, last: bool = True) -> bytes:
-    """The mark of a fragment of so many bytes, the last one of its record or not (section 11)."""
+    """The mark of a fragment of `size` bytes; `last` if it is the last of its record (section 11)."""
     return words((LAST if last else 0) | size)
 
 
@@ -74,7 +74,7 @@ def record(payload: bytes) -> bytes:
 
 @dataclass(frozen=True)
 class Record:
-    """A record: where it lies in its stream, in bytes, and its bytes without the marks of fragments."""
+    """A record: where it begins and ends in its stream, in bytes, and its bytes without the marks of fragments."""
 
     start: int
     end: int
@@ -82,18 +82,18 @@ class Record:
 
 
 class Records:
-    """The records of a stream, whose bytes come in pieces."""
+    """The records of a stream whose bytes come in pieces."""
 
     def __init__(self) -> None:
         self.count = 0                          # bytes that came
         self.start = 0                          # where the unfinished record begins
-        self.mark = b""                         # what came of the mark of a fragment
-        self.left: Optional[int] = None         # bytes of the fragment that are wanted still
+        self.mark = b""                         # the bytes of a fragment's mark that have come
+        self.left: Optional[int] = None         # bytes of the fragment that are still to come; None in a mark
         self.last = False
         self.body = bytearray()
 
     def push(self, data: bytes) -> List[Record]:
-        """Takes a piece; the records that are complete now."""
+        """Takes a piece. Returns the records that are complete now."""
         found = []
         while data:
             data = self._step(data)
@@ -105,7 +105,7 @@ class Records:
         return found
 
     def _step(self, data: bytes) -> bytes:
-        """Takes what belongs to the mark, or to the fragment; gives the rest."""
+        """Takes the bytes that belong to the present mark or fragment. Returns those after them."""
         if self.left is None:
             size = 4 - len(self.mark)
             self.mark += data[:size]
@@ -130,7 +130,7 @@ def encode_call(xid: int, program: int, version: int, procedure: int, arguments:
 
 
 def encode_reply(xid: int, result: bytes = b"") -> bytes:
-    """The reply to a call that was executed, as a record, without verifier."""
+    """The reply to a call that was executed, as a record with an empty verifier."""
     return record(words(xid, REPLY, ACCEPTED, 0, 0, SUCCESS) + result)
 
 
@@ -144,7 +144,7 @@ def encode_denial(xid: int, status: int, *details: int) -> bytes:
     return record(words(xid, REPLY, DENIED, status, *details))
 
 
-# Where the result of such a reply begins, in its record's bytes with its mark.
+# Where the result begins in such a reply, counted in the bytes of its record with the mark.
 RESULT_AT = len(encode_reply(0))
 
 
@@ -160,7 +160,7 @@ class CallMessage:
 
 
 def read_call(body: bytes) -> CallMessage:
-    """The call that a record's body says. Raises XdrError where it says none."""
+    """The call in the body of a record. Raises XdrError if there is none."""
     reader = Reader(body)
     xid = reader.word()
     if (reader.word(), reader.word()) != (CALL, RPC_VERSION):
@@ -173,9 +173,9 @@ def read_call(body: bytes) -> CallMessage:
 
 
 def read_reply(body: bytes, xid: int) -> bytes:
-    """The result that a reply to the call of that xid has.
+    """The result in a reply to the call with this xid.
 
-    Raises the RpcError that the reply says, BadReply where it can't be read.
+    Raises the RpcError that the reply says, and BadReply if it can't be read.
     """
     reader = Reader(body)
     try:
@@ -190,7 +190,7 @@ def read_reply(body: bytes, xid: int) -> bytes:
 
 
 def _refusal(reader: Reader) -> Optional[RpcError]:
-    """What a reply says behind its type: none where the call was executed, and the result follows."""
+    """Reads what comes after a reply's type. Returns None if the call was executed and the result follows."""
     status = reader.word()
     if status == DENIED:
         if reader.word() == RPC_MISMATCH:
@@ -204,7 +204,7 @@ def _refusal(reader: Reader) -> Optional[RpcError]:
 
 
 def _accepted(status: int, reader: Reader) -> Optional[RpcError]:
-    """What became of a call that was accepted."""
+    """Why an accepted call wasn't executed; None if it was."""
     if status == SUCCESS:
         return None
     if status == PROG_MISMATCH:

@@ -3,12 +3,11 @@ import struct
 
 
 class XdrError(ValueError):
-    """Bytes that don't say what was asked for."""
+    """The bytes aren't a value of the type that is read."""
 
 
 def words(*numbers: int) -> bytes:
-    """Words of four bytes, most significant byte first. A negative number stands as its complement to 2^32.
-    """
+    """Words of four bytes, the most significant byte first. A negative number is written in two's complement."""
     return struct.pack(">%dI" % len(numbers), *(number & 0xFFFFFFFF for number in numbers))
 
 
@@ -18,7 +17,7 @@ def opaque(data: bytes) -> bytes:
 
 
 class Reader:
-    """Reads one value after the other. Each method raises XdrError where the bytes are too few or wrong."""
+    """Reads one value after the other. Each method raises XdrError if bytes are missing or wrong."""
 
     def __init__(self, data: bytes) -> None:
         self.data = data
@@ -48,7 +47,7 @@ class Reader:
         return found == 1
 
     def opaque(self, most: int = 0xFFFFFFFF) -> bytes:
-        """Variable-length opaque data of at most so many bytes, whose pad has to be zeros."""
+        """Variable-length opaque data of at most `most` bytes. The padding has to be zeros."""
         size = self.word()
         if size > most:
             raise XdrError("%d bytes of opaque data, at most %d may be" % (size, most))
@@ -58,5 +57,5 @@ class Reader:
         return data
 
     def rest(self) -> bytes:
-        """All that wasn't read."""
+        """The bytes that haven't been read."""
         return self.take(len(self.data) - self.place)

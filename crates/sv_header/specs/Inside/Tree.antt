@@ -17,7 +17,8 @@ IsParted [] branch children siblings = ⊥
 IsParted (first ∷ behind) branch children siblings =
     (branch ≡ first) × (children ≡ take first.below behind) × (siblings ≡ drop first.below behind)
 
--- a list with the row that ends at a node, for a header with a question mark or without one; empty if no command ends there
+-- the row of the table for the headers that end at a node, with a question mark or without one: as a list, which is empty if no command has
+-- such a header
 abbrev pub ending_row : Bool → Bool → Option CommandId → List Row
 ending_row common query None = []
 ending_row common query (Some command) = row common query [] command ∷ []
@@ -25,7 +26,7 @@ ending_row common query (Some command) = row common query [] command ∷ []
 abbrev pub ending_rows : Bool → Branch → List Row
 ending_rows common branch = ending_row common false branch.plain ++ ending_row common true branch.query
 
--- a row with this node in front of its own nodes
+-- the row with this node added in front of its nodes
 abbrev pub below : Part → Row → Row
 below part row = record row { parts = part ∷ row.parts }
 

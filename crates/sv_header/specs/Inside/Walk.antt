@@ -25,7 +25,7 @@ LeadsBelow query branch Below left command = Ends left (command_of query branch)
 abbrev pub Passes : Part → (List (List ℕ) → Type 0) → List (List ℕ) → Type 0
 Passes part Behind left = ((others : List (List ℕ)) × Takes left part others × Behind others) ⊎ ((part.optional ≡ true) × Behind left)
 
--- Mnemonics lead to a command through the first of these siblings, or through a later sibling.
+-- Mnemonics lead to a command through one of these siblings: the first one, or a later one.
 abbrev pub Leads : ℕ → Bool → List Branch → List (List ℕ) → CommandId → Type 0
 Leads zero query branches left command = ⊥
 Leads (suc fuel) query [] left command = ⊥

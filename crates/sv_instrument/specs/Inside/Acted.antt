@@ -14,7 +14,8 @@ use Rattle.sv_instrument.specs.RequestCount.{Raises}
 use Rattle.sv_instrument.specs.Step.{Does, Starts, IsStep}
 use Rattle.sv_instrument.specs.Representation.{Kept, StandsFor, one_if_unheld, instrument_measure, IsHeldRight}
 
--- The layers stand for the log. Their counter has the number of requests for service that were raised since the log `start`.
+-- The layers stand for the log. Their counter has the number of requests for service that were raised since the log `start`, or 255 if
+-- there were more.
 pub record Counts (start : List Act) (layers : LayerState) (log : List Act) : Type 0 where
   pub stands : Layers layers log
   pub raised : ℕ
@@ -35,13 +36,13 @@ pub record Runs (start : List Act) (kept : Kept) (log : List Act) : Type 0 where
 abbrev pub IsApart : List Act → List Act → Type 0
 IsApart log new = exchange_acts new ≡ exchange_acts log
 
--- The current message is unchanged. The number of its units that began is one more than the number that were done before.
+-- From `log` to `new` the current message is unchanged. In `new`, one more of its units has begun than were done in `log`.
 pub record BeginsOne (log new : List Act) : Type 0 where
   pub message : message (exchange_acts new) ≡ message (exchange_acts log)
   pub begun : units_begun new ≡ units_done (current (exchange_acts log)) + 1
 
--- A unit led from `log` to a log for which `Makes` holds, and it is one more unit that began. The counter has the requests that were raised
--- since the log `start`. `awaited` is what the unit will answer, if the unit is held.
+-- A unit began, and led from `log` to a log for which `Makes` holds. The counter has the number of requests for service that were raised
+-- since the log `start`. If the unit has to wait for the end of the measurement, `awaited` is what it will answer; else `None`.
 pub record Behaves (Makes : List Act → Type 0) (start : List Act) (layers : LayerState) (awaited : Option Awaited) (log : List Act)
     : Type 0 where
   pub new : List Act
@@ -54,7 +55,8 @@ pub record Behaves (Makes : List Act → Type 0) (start : List Act) (layers : La
 abbrev pub Follows : List ℕ → List (List ℕ) → List (List ℕ) → List Act → List Act → Type 0
 Follows unit front behind log new = (outcome : Result Order Code) × IsReadAs front unit outcome behind × Does outcome log new
 
--- The measure of the steps that remain is smaller than before. If a unit is held, it is the unit that is due.
+-- A number that measures how many steps remain is smaller than before. If a unit waits for the end of the measurement, it is the unit that
+-- is due.
 pub record Advances (before after : LayerState) (held_unit : Option Awaited) : Type 0 where
   pub less : 2 * exchange_measure after.exchange + one_if_unheld held_unit < 2 * exchange_measure before.exchange + 1
   pub right : IsHeldRight held_unit after
@@ -67,7 +69,8 @@ pub record StartsUnit (start log : List Act) (kept : Kept) : Type 0 where
   pub starts : Starts unit log new
   pub runs : Runs start kept new
 
--- The step that is due was taken, and the measure of the remaining steps is smaller than before; or no step is due, and nothing changed.
+-- For `true`: the step that was due is taken, and the number that measures how many steps remain is smaller than before. For `false`: no
+-- step is due, and nothing changed.
 abbrev pub Steps : Bool → Kept → Kept → Type 0
 Steps true before after = ((log : List Act) → StandsFor before log → (new : List Act) × IsStep log new × Runs log after new)
     × (instrument_measure after < instrument_measure before)

@@ -1,6 +1,7 @@
--- The log of each layer, from the instrument's acts. An act begins with its effect on its own layer. Then it ends, in one register after
--- the next: first the register gets its new condition, and the transitions pass the filters as they were before; then the act changes the
--- register itself. In this order the summary of a nested register is known before the register above it gets its condition.
+-- The log of each layer, from the instrument's acts. An act begins with its effect on its own layer. Then one register after the next is
+-- updated, which ends the act: first the register gets its new condition, and the transitions pass the filters as they were before the act;
+-- then the act changes the register itself. A nested register is updated first, so that its summary is known when the register above it
+-- gets its condition.
 use Rattle.std.specs.Prelude.{◌≡◌, ℕ, Bool, true, false, not, ◌&&◌, List, [], ◌∷◌, if◌then◌else◌}
 use Rattle.sv_errors.specs.Code.{standard_event_of}
 use Rattle.sv_errors.specs.ErrorQueue.{is_full}
@@ -36,11 +37,12 @@ abbrev pub resets : ScanAct → Bool
 resets scan.Reset = true
 resets _ = false
 
--- the log of the standard events after a report: the event of the error's class, and bit 3 if the queue overflows
+-- the log of the standard events after an error is reported: the event of the error's class occurs, and that of bit 3 if the queue
+-- overflows
 abbrev pub report_bits : Code → Bool → List StandardAct → List StandardAct
 report_bits code overflow acts = standard.Occur (bit 3 overflow) ∷ standard.Occur (standard_event_of code) ∷ acts
 
--- what an act does to its own layer
+-- the logs after an act changed its own layer, by which it begins
 abbrev pub after_begin : Act → LayerLogs → LayerLogs
 after_begin (Exchanged act) at = record at { exchange = act ∷ at.exchange }
 after_begin Purged at = record at { exchange = Interrupted ∷ TextDropped ∷ at.exchange; waits = false }
@@ -59,7 +61,7 @@ after_begin _ at = at
 abbrev pub idles : LayerLogs → Bool
 idles at = is_idle (state (effective at.scanner))
 
--- A pending `*OPC` completes if no measurement is under way.
+-- the logs after this check: a pending `*OPC` completes if no measurement is under way
 abbrev pub after_complete : LayerLogs → LayerLogs
 after_complete at = record at {
   standard = standard.Occur (bit 0 (at.waits && idles at)) ∷ at.standard;
@@ -70,7 +72,8 @@ after_complete at = record at {
 abbrev pub where_same : RegisterName → RegisterName → RegisterAct → List RegisterAct → List RegisterAct
 where_same name other act acts = if is_same name other then act ∷ acts else acts
 
--- the acts of a register, with what an act does directly to the register in front; a change of its condition isn't part of that
+-- the acts of a register, with one more in front if the instrument's act changes this register directly. A change of its condition doesn't
+-- count as direct.
 abbrev pub own : RegisterName → Act → List RegisterAct → List RegisterAct
 own name Cleared acts = register.Clear ∷ acts
 own name Preset acts = register.Preset ∷ acts
@@ -80,7 +83,7 @@ own name (RiseSet other mask) acts = where_same name other (register.SetFilter m
 own name (FallSet other mask) acts = where_same name other (register.SetFilter (rise acts) mask) acts
 own name _ acts = acts
 
--- the acts of the standard events, with what an act does directly to them in front
+-- the acts of the standard events, with one more in front if the instrument's act changes the standard events directly
 abbrev pub own_standard : Act → List StandardAct → List StandardAct
 own_standard Cleared acts = standard.Clear ∷ acts
 own_standard StandardRead acts = standard.Read ∷ acts
@@ -92,7 +95,7 @@ abbrev pub EndsAs : Act → Act → Type 0
 EndsAs other act = ((name : RegisterName) (acts : List RegisterAct) → own name other acts ≡ own name act acts)
     × ((acts : List StandardAct) → own_standard other acts ≡ own_standard act acts)
 
--- the logs after an act ends: each register gets its condition, then what the act does directly to the register
+-- the logs after an act ends: each register gets its condition, and then the act changes the register directly, if it does so
 abbrev pub after_end : Act → List Act → LayerLogs → LayerLogs
 after_end act log at = record (after_complete at) {
   registers = λ name. own name act (register.Condition (condition name (act ∷ log)) ∷ at.registers name);

@@ -53,7 +53,7 @@ pub record IsSummary (word : ℕ) (at : LayerLogs) : Type 0 where
   pub word_is : word ≡ bit 7 operates + bit 5 happened + bit 4 (is_something (response at.exchange)) + bit 3 questioned
       + bit 2 (is_something (entries at.errors))
 
--- the acts of the status byte, with a poll in front if this act is one; the summary bits are updated afterwards
+-- the acts of the status byte, with a poll in front if this act of the instrument is a poll; `IsStatus` adds the update of the summary bits
 abbrev pub own_status : Act → List StatusAct → List StatusAct
 own_status Polled acts = Poll ∷ acts
 own_status _ acts = acts
@@ -64,7 +64,7 @@ IsStatus [] acts = acts ≡ []
 IsStatus (act ∷ log) acts = (word : ℕ) × (before : List StatusAct) × IsSummary word (layer_logs (act ∷ log)) × IsStatus log before
     × (acts ≡ Update word (layer_logs (act ∷ log)).service ∷ own_status act before)
 
--- A request for service is raised at the newest act, as the acts of the status byte determine.
+-- By the acts of the status byte, a request for service is raised at the newest act.
 abbrev pub RaisedAt : List Act → Type 0
 RaisedAt log = (acts : List StatusAct) × IsStatus log acts × IsRaisedAsTold acts
 
@@ -96,12 +96,12 @@ pub record AllRead (layered : LayerState) (log : List Act) : Type 0 where
   pub stands : StandsFor layered log
   pub none : layered.requests ≡ 0
 
--- the highest count of requests for service: the counter stops there
+-- the highest number that the counter of requests for service reaches: it stops there
 abbrev pub max_count : ℕ
 max_count = 255
 
--- The state of the layers stands for the log. The count of requests for service was `before`. It is one higher if a request was raised at
--- the newest act, but at most the highest count.
+-- The state of the layers stands for the log. The counter of requests for service was `before` the newest act. It is one higher now if a
+-- request was raised at that act, but it never exceeds `max_count`.
 pub record IsApplied (before : ℕ) (layered : LayerState) (log : List Act) : Type 0 where
   pub stands : StandsFor layered log
   pub raised : Bool

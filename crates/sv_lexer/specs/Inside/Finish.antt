@@ -1,4 +1,4 @@
--- The error of a unit that ends after the bytes read so far, and where its parts are.
+-- The error of a unit that ends after the bytes read so far, and where the parts of this unit are.
 use Rattle.std.specs.Prelude.{◌≡◌, ℕ, ◌+◌, max, List, length, Option, Some, None, nat_le, if◌then◌else◌}
 use Rattle.sv_errors.specs.declared.code.Code.{Code}
 use Rattle.sv_errors.specs.declared.code.Code.TheVariants.{InvalidCharacter, SyntaxError, ProgramMnemonicTooLong}
@@ -7,8 +7,8 @@ use Rattle.sv_lexer.specs.declared.stage.Stage.{Stage}
 use Rattle.sv_lexer.specs.declared.stage.Stage.TheVariants.{CommonMnemonic, Mnemonic, QuerySign, HeaderSeparator, ProgramData, DataSpace, Illegal}
 use Rattle.sv_lexer.specs.Partial.{Progress}
 
--- The error of a unit that ends after the bytes read so far; `None` if it has no error. `length_fault_of`: a mnemonic has more than 12
--- characters. `fault_of`: this error, an illegal byte, or a header that isn't complete or is misspelled.
+-- Two functions give the error of a unit that ends after the bytes read so far; `None` if they find no error. `length_fault_of` finds only
+-- a mnemonic of more than 12 characters. `fault_of` also finds an illegal byte, and a header that isn't complete or is misspelled.
 abbrev pub length_fault_of : Progress → Option Code
 length_fault_of p = if nat_le (max p.longest p.mnemonic) 12 then None else Some ProgramMnemonicTooLong
 
@@ -22,7 +22,8 @@ fault_of DataSpace p = length_fault_of p
 fault_of Illegal p = Some InvalidCharacter
 fault_of _ p = Some SyntaxError
 
--- where the program data of a unit that ends at this stage begin (or end); if it has no program data, the place after its header
+-- the start of the program data of a unit that ends at this stage, or their end: `in_data` if the unit has program data; otherwise
+-- `behind_header`, the place after its header
 abbrev pub data_of : Stage → (behind_header in_data : ℕ) → ℕ
 data_of ProgramData behind_header in_data = in_data
 data_of DataSpace behind_header in_data = in_data

@@ -4,13 +4,13 @@ use Rattle.sv_serve.specs.Heard.{Heard}
 use Rattle.sv_serve.specs.DriverView.{DriverState}
 use Rattle.sv_net.specs.Serving.{Doing, Waited, time_of, swept_at, ticks_between, handed_in, is_fresh, is_told, Serves, Waits}
 
--- whether the last action was a wait in which nothing was reported, and all earlier reports were passed on
+-- whether the loop's last action was a wait in which nothing was reported, and all earlier reports were passed to the sockets
 abbrev pub is_quiet : {W : Type 0} → List (Doing W) → Bool
 is_quiet (Waited limit false ended ∷ doings) = is_told doings
 is_quiet _ = false
 
--- A loop made `many` sweeps, and its waits had the answers of the machine. The last sweep began at `swept`, the time is `time`, and `is_so`
--- holds of the loop's actions.
+-- A loop made `many` sweeps, and the machine gave the answers of its waits. The last sweep began at `swept`, the time is `time`, and
+-- `is_so` holds of the loop's actions.
 pub record Running {W M : Type 0} (hears : W → Heard → W → Type 0) (answers : M → Doing W → M → Type 0) (is_so : List (Doing W) → Bool)
     (many swept time : ℕ) (old new : DriverState W) (first now : M) : Type 0 where
   pub doings : List (Doing W)
@@ -28,14 +28,14 @@ pub record Rounds {W M : Type 0} (hears : W → Heard → W → Type 0) (answers
       → Running hears answers is_fresh many swept time start old machine first
       → Running hears answers is_told (many + 1) time time start new machine now
 
--- After a sweep only waits follow. Before these waits the time was `began`, and `was` held of the loop's actions. After them the time is
--- `time`, and `is_so` holds of the loop's actions.
+-- After a sweep the loop only waits. Before these waits the time was `began`, and `was` held of the loop's actions. After these waits the
+-- time is `time`, and `is_so` holds of the loop's actions.
 pub record Pauses {W M : Type 0} (hears : W → Heard → W → Type 0) (answers : M → Doing W → M → Type 0) (driver : DriverState W)
     (was is_so : List (Doing W) → Bool) (swept began time : ℕ) (old now : M) : Type 0 where
   pub goes : (many : ℕ) (start : DriverState W) (first : M) → Running hears answers was many swept began start driver first old
       → Running hears answers is_so many swept time start driver first now
 
--- A loop made `many` sweeps, and its last action was a wait or it has done nothing. The times of sweeps and waits may be any.
+-- A loop made `many` sweeps, at any times. Its last action was a wait, or it has done nothing yet.
 abbrev pub Ran : {W M : Type 0} → (W → Heard → W → Type 0) → (M → Doing W → M → Type 0) → ℕ → DriverState W → DriverState W → M → M → Type 0
 Ran hears answers many old new first now =
     (swept : ℕ) × (time : ℕ) × Running hears answers is_fresh many swept time old new first now

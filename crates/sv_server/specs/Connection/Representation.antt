@@ -1,12 +1,12 @@
--- The state of a connection, and when it stands for the acts of the connection.
+-- The state of a connection. It also says when a state stands for the acts of a connection.
 use Rattle.std.specs.Prelude.{◌≡◌, ℕ, ◌≤◌, Bool, true, List, length, Option, slice_get, is_some}
 use Rattle.sv_rpc.specs.RecordBuf.{Records, StandsFor}
 use Rattle.sv_history.specs.declared.event.Role.{Role}
 use Rattle.sv_history.specs.Act.{ConnAct}
 use Rattle.sv_history.specs.Connection.{bytes_left, records_ended, bytes_taken, open_role, bytes_sent, stream, took_no_call, is_busy, pending_call}
 
--- the state of a connection: its role; the records that came and aren't done; the bytes that wait to be sent; whether a record was taken
--- that isn't a call; whether the first record is a call that was taken
+-- the state of a connection: its role; the records that came and aren't finished; the bytes that wait to be sent; whether a record was
+-- taken that isn't a call; whether the first record is a call that was taken already
 pub record Connection : Type 0 where
   pub role : Option Role
   pub input : Records

@@ -1,4 +1,4 @@
--- The state of the device, and when it stands for the acts of the device.
+-- The state of the device. It also says when a state stands for the acts of the device.
 use Rattle.std.specs.Prelude.{◌≡◌, ℕ, ◌+◌, ◌<◌, ◌≤◌, true, List, [], ◌++◌, length, Some}
 use Rattle.std.specs.List.{AllByRecursion}
 use Rattle.sv_links.specs.declared.waiting.Entry.{Entry}
@@ -17,7 +17,8 @@ use Rattle.sv_history.specs.Act.{DeviceAct, link_acts, wait_acts, instrument_act
 use Rattle.sv_history.specs.Requests.{HearsOf}
 use Rattle.sv_history.specs.Interrupts.{is_dialing}
 
--- the state: the table of links, the queue of suspended calls, the interrupt channels, the instrument, the configuration, the clock
+-- the state of the device: the table of links, the queue of suspended calls, the interrupt channels, the instrument, the configuration, the
+-- clock
 pub record Device : Type 0 where
   pub links : Table
   pub waiting : List Entry
@@ -26,29 +27,30 @@ pub record Device : Type 0 where
   pub config : Config
   pub clock : ℕ
 
--- There are places, and there is memory, for the links of all suspended create_links.
+-- There are places and memory for the links that all suspended create_links will make.
 abbrev pub IsReserved : Device → List DeviceAct → Type 0
 IsReserved kept acts = (length (live (link_acts acts)) + creations kept.waiting ≤ max_links) × (creations kept.waiting ≤ kept.links.spare)
 
--- There is a place, and memory, for one more link, besides those of all suspended create_links.
+-- There is a place, and memory, for one more link, besides those that all suspended create_links will make.
 abbrev pub HasPlace : Device → List DeviceAct → Type 0
 HasPlace kept acts = (length (live (link_acts acts)) + creations kept.waiting < max_links) × (creations kept.waiting < kept.links.spare)
 
--- Each link with service requests enabled exists, and its connection is the one that is stored with it.
+-- Each link with service requests enabled exists, and is owned by the connection that is stored with it.
 abbrev pub AreOwned : List Enabled → List LinkAct → Type 0
 AreOwned links acts = AllByRecursion (λ link. owner link.lid acts ≡ Some link.conn) links
 
--- The interrupt channels have the state that their log determines, and each link with service requests enabled belongs to its connection.
+-- The interrupt channels have the state that their log determines. Each link with service requests enabled is owned by the connection that
+-- is stored with it.
 abbrev pub AreTold : Channels → List DeviceAct → Type 0
 AreTold kept acts = (channel_log : List ChannelAct) × HearsOf acts channel_log × AreChannels kept channel_log
     × AreOwned kept.enabled (link_acts acts)
 
--- Each connection whose create_intr_chan is suspended has a prepared channel, which can be opened.
+-- For each connection whose create_intr_chan is suspended, a channel is prepared: it can be opened without more memory.
 abbrev pub AreReady : Channels → List WaitAct → Type 0
 AreReady kept acts = (c : ℕ) → is_dialing c acts ≡ true → IsReady kept c
 
--- The device has the state that its acts determine, under a configuration. Besides, the instrument has done the acts `adds`, which may have
--- raised service requests that weren't passed to the interrupt channels yet.
+-- The device has the state that its acts `acts` determine, except that its instrument has also done the acts `adds`. The acts `adds` may
+-- have raised service requests that aren't sent on the interrupt channels yet.
 abbrev pub HasDone : List InstrumentAct → Device → Config → List DeviceAct → Type 0
 HasDone adds kept config acts = IsTable kept.links (link_acts acts) × StandsFor kept.instrument (adds ++ instrument_acts acts)
     × (kept.config ≡ config) × (kept.clock ≡ config.clock + ticks acts) × IsQueue kept.waiting (wait_acts acts) × IsReserved kept acts

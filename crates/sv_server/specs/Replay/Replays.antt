@@ -15,9 +15,10 @@ use Rattle.sv_history.specs.History.{IsLogOf, Answers, history_after}
 use Rattle.sv_history.specs.Print.{head_of, ports_after, lines_of, with_tooks, print_of}
 use Rattle.sv_server.specs.Replay.TakenByWriter.{IsFront}
 
--- Success: the whole print was written, and the peers took all that it shows. Out of memory: the line of the refusal was written, and
--- nothing was taken. The writer failed in the line of the refusal: nothing was taken. The writer failed later: the lines of some first
--- ports were written, and the peers took what these show; then a prefix of the remaining lines was written.
+-- Success: all lines for the event were written, and the peers took all bytes that these lines show. Out of memory: the line of the refusal
+-- was written, and the peers took nothing. The writer failed in the line of the refusal: the peers took nothing. The writer failed later:
+-- the lines of the first few ports were written, and the peers took the bytes that these lines show; then a prefix of the remaining lines
+-- was written.
 abbrev pub IsReplayWritten : Result Did Refused → List ChannelAct → List Act → List PlainEvent → Result ⊤ ReplayFault → List ℕ
     → List PlainEvent
     → Type 0
@@ -29,7 +30,8 @@ IsReplayWritten did channel_log log history (Err Write) text after = (IsFront te
     ⊎ ((shown others : List Port) × (part : List ℕ) × (ports_after did ≡ shown ++ others) × IsFront part (lines_of channel_log others log)
     × (text ≡ head_of did ++ (lines_of channel_log shown log ++ part)) × (after ≡ with_tooks channel_log shown log history))
 
--- The event is applied or refused as the history requires. Then its print is written, from the log of the history after the event.
+-- The event is applied or refused, as the history requires. Then the lines for the event are written, as the log after the event determines
+-- them.
 pub record Replays (config : Config) (history : List PlainEvent) (event : PlainEvent) (result : Result ⊤ ReplayFault) (text : List ℕ)
     (after : List PlainEvent) : Type 0 where
   pub before : List Act

@@ -1,4 +1,4 @@
--- The state of the server, and when it stands for a log or a history.
+-- The state of the server. It also says when a state stands for a log or for a history.
 use Rattle.std.specs.Prelude.{◌≡◌, ℕ, ◌<◌, ◌≤◌, true, List, [], Some, slice_index_or}
 use Rattle.sv_history.specs.declared.event.Config.{Config}
 use Rattle.sv_history.specs.Event.{PlainEvent}
@@ -15,13 +15,14 @@ use Rattle.sv_history.specs.Settling.{IsSettled}
 use Rattle.sv_history.specs.Queries.{IsUsed}
 use Rattle.sv_history.specs.History.{IsLogOf}
 
--- the state: sixteen connections, the device, and one more than the highest number of a connection that was ever used (0 if none was)
+-- the state of the server: sixteen connections; the device; and one more than the highest number of a connection that was ever opened, or 0
+-- if none was
 pub record State : Type 0 where
   pub connections : List Connection
   pub device : Device
   pub connections_used : ℕ
 
--- The call of a suspended entry was taken and has no reply; if it is create_link, it waits for the lock.
+-- The call of this entry was taken and has no reply yet. If it is create_link, it waits for the lock.
 abbrev pub IsTaken : List Act → Entry → Type 0
 IsTaken log entry = (call : List ℕ) × (pending_call (of entry.conn log) ≡ Some call)
     × (creates_link (core_call call) ≡ true → creates entry ≡ true)

@@ -1,4 +1,4 @@
-//! Replies as they are sent.
+//! Writing replies, in the form in which they are sent.
 
 ghost use Rattle.std.specs.Prelude.{◌≡◌, ◌+◌, ◌≤◌, ◌++◌, [], true, length, vec_len, vec_capacity};
 ghost use Rattle.sv_xdr.specs.Writer.{text_of, rest_of};
@@ -11,20 +11,22 @@ use sv_rpc::{Reply, put_record, write_reply};
 use sv_vxi::{VxiResult, write_result};
 use sv_xdr::Writer;
 
-/// The longest reply with the header of its fragment, in bytes: ten words, and the bytes of a read.
+/// The longest reply with the header of its fragment, in bytes: ten 4-byte words, and the data of a
+/// read.
 pub const LONGEST_REPLY: usize = 40 + MAX_READ;
 /// The longest reply without the header of its fragment, in bytes: the reply's header (24), error,
-/// reason and length (4 each), and the bytes of a read.
+/// reason and length (4 each), and the data of a read.
 const LONGEST_TEXT: usize = LONGEST_REPLY - 4;
-/// The most data of a brief answer, in bytes. Every answer but a long response is brief.
+/// The most data of a brief answer, in bytes. Every answer is brief, except a long response.
 const BRIEF_DATA: usize = 256;
-/// The longest reply with a brief answer, without the header of its fragment.
+/// The longest reply with a brief answer, in bytes, without the header of its fragment.
 const BRIEF_TEXT: usize = LONGEST_TEXT - MAX_READ + BRIEF_DATA;
 
 /// The answer to a call.
 #[derive(Clone, Copy)]
 pub enum Answer<'a> {
-    /// A reply that follows from the header or the arguments of the call alone.
+    /// A reply that has only a header: it follows from the header or the arguments of the call,
+    /// without the device.
     Header(Reply),
     /// The port that GETPORT asks for.
     Port(u32),
@@ -47,8 +49,8 @@ pub fn put_reply<A: Allocator>(out: &mut Vec<u8, A>, xid: u32, answer: &Answer<'
     }
 }
 
-/// Whether an answer is known to be brief: then a smaller buffer, which takes less time to clear,
-/// has room for its reply.
+/// Whether an answer is known to be brief. The reply to a brief answer fits into a smaller buffer,
+/// which is cleared faster.
 fn is_brief(answer: &Answer<'_>) -> bool
     ensures { result ≡ true → HasAtMost 256 answer.now }
 {

@@ -1,5 +1,5 @@
-//! What a record asks for. Its header is checked; if it passes, the record is a call of the program
-//! that its connection serves.
+//! What a record asks for. The header of the record is checked first. If it passes, the record is a
+//! call of the program that its connection serves.
 
 ghost use Rattle.std.specs.Prelude.{◌≡◌, Option, Ok, None, option_map, true};
 ghost use Rattle.sv_rpc.specs.Call.{plain_call, call_at};
@@ -17,7 +17,7 @@ use sv_vxi::procedure::{
 };
 use sv_vxi::{Args, read_args};
 
-/// The null procedure, of every program.
+/// The null procedure, which every program has.
 const NULL: u32 = 0;
 /// GETPORT of the port mapper.
 const GETPORT: u32 = 3;
@@ -25,7 +25,7 @@ const GETPORT: u32 = 3;
 /// A call of the core channel.
 #[derive(Clone, Copy)]
 pub struct CoreCall<'a> {
-    /// Its transaction.
+    /// The xid of the call.
     pub xid: u32,
     /// Its arguments.
     pub args: Args<'a>,
@@ -36,9 +36,9 @@ pub struct CoreCall<'a> {
 pub enum Request<'a> {
     /// Nothing: the record isn't a call.
     NoCall,
-    /// A reply that follows from the header or the arguments of the call alone.
+    /// A call whose reply follows from its header or its arguments, without the device.
     Decided {
-        /// Its transaction.
+        /// The xid of the call.
         xid: u32,
         /// The reply.
         reply: Reply,
@@ -47,14 +47,14 @@ pub enum Request<'a> {
     Core(CoreCall<'a>),
     /// device_abort.
     Abort {
-        /// Its transaction.
+        /// The xid of the call.
         xid: u32,
         /// The link whose call is aborted.
         lid: i32,
     },
     /// GETPORT.
     Port {
-        /// Its transaction.
+        /// The xid of the call.
         xid: u32,
         /// Its arguments.
         args: &'a [u8],
@@ -62,7 +62,7 @@ pub enum Request<'a> {
 }
 
 impl Request<'_> {
-    /// The transaction; 0 if the record isn't a call.
+    /// The xid of the call; 0 if the record isn't a call.
     pub fn xid(&self) -> u32
         ensures { result ≡ xid_of (plain_request self.now) }
     {
@@ -97,7 +97,7 @@ fn version_of(role: Role) -> u32
     }
 }
 
-/// Whether a connection's program has this procedure, other than the null procedure.
+/// Whether the program of this role has this procedure. The null procedure doesn't count.
 fn has_procedure(role: Role, proc: u32) -> bool
     ensures { result ≡ is_one_of (program_for role).2 proc }
 {
@@ -108,7 +108,7 @@ fn has_procedure(role: Role, proc: u32) -> bool
     }
 }
 
-/// Whether the core channel has this procedure, other than the null procedure.
+/// Whether the core channel has this procedure. The null procedure doesn't count.
 fn is_core_call(proc: u32) -> bool
     ensures { result ≡ is_one_of core_calls proc }
 {
@@ -165,7 +165,8 @@ fn abort_request<'a>(call: &Call<'a>) -> Request<'a>
     }
 }
 
-/// What a call asks for, if the connection's program has its procedure.
+/// What a call asks for. The procedure of the call must be one of the program that this role
+/// serves.
 fn procedure_request<'a>(role: Role, call: &Call<'a>) -> Request<'a>
     requires { is_one_of (program_for role).2 call.now.proc ≡ true }
     ensures { plain_request result ≡ procedure_request_for role (plain_call call.now) }
@@ -190,8 +191,9 @@ fn decided<'a>(call: &Call<'a>, reply: Reply) -> Request<'a>
     }
 }
 
-/// What a call asks for. The first of these that applies decides the reply: another program,
-/// another version, the null procedure, an unknown procedure.
+/// What a call asks for. The first of these that applies decides the reply: not the role's program;
+/// not its version; the null procedure; an unknown procedure. If none applies, the procedure
+/// decides what the call asks for.
 fn call_request<'a>(role: Role, call: &Call<'a>) -> Request<'a>
     ensures { plain_request result ≡ call_request_for role (plain_call call.now) }
 {

@@ -19,13 +19,14 @@ use sv_vxi::{ErrorCode, VxiResult};
 /// The outcome of device_abort.
 #[derive(Clone, Copy)]
 pub struct Aborted {
-    /// Its result.
+    /// The result that the reply gives.
     pub result: VxiResult<'static>,
-    /// The connection whose suspended call device_abort ends. That call names the link.
+    /// The connection whose suspended call device_abort ends; `None` if it ends none. The suspended
+    /// call names the link that device_abort names.
     pub conn: Option<u8>,
 }
 
-/// Whether the link that a call names is this one.
+/// Whether `named`, the link that a call names, is the link `lid`.
 fn is_this(lid: u32, named: Option<u32>) -> bool
     ensures { result ≡ is_this_link lid named }
 {
@@ -36,7 +37,7 @@ fn is_this(lid: u32, named: Option<u32>) -> bool
 }
 
 impl<A: Allocator> Device<A> {
-    /// The outcome of device_abort of a link.
+    /// The outcome of a device_abort that names this link.
     pub fn abort(&self, lid: i32) -> Aborted
         ensures answer { (config : Config) (acts : List DeviceAct) → IsDevice self.now config acts
             → plain_result result.result ≡ result_of (lid_for (Some lid)) acts }
@@ -75,7 +76,7 @@ impl<A: Allocator> Device<A> {
         }
     }
 
-    /// The connection, if its call is suspended and names this link.
+    /// Returns `conn` if its call is suspended and names this link, else `None`.
     fn if_waiting(&self, conn: u8, lid: Option<u32>) -> Option<u8>
         ensures { (config : Config) (acts : List DeviceAct) → IsDevice self.now config acts
             → result ≡ where_waiting_with (Some conn) lid acts }
@@ -90,7 +91,8 @@ impl<A: Allocator> Device<A> {
         }
     }
 
-    /// The connection whose suspended call device_abort ends. That call names the link.
+    /// The connection whose suspended call device_abort ends: a call that names this link; `None`
+    /// if there is no such call.
     fn aborted(&self, lid: Option<u32>) -> Option<u8>
         ensures { (config : Config) (acts : List DeviceAct) → IsDevice self.now config acts
             → result ≡ where_waiting_with (owner_for lid acts) lid acts }
@@ -101,7 +103,7 @@ impl<A: Allocator> Device<A> {
         }
     }
 
-    /// The result of device_abort.
+    /// The result of a device_abort that names this link.
     fn abort_result(&self, lid: Option<u32>) -> VxiResult<'static>
         ensures answer { (config : Config) (acts : List DeviceAct) → IsDevice self.now config acts
             → plain_result result ≡ result_of lid acts }

@@ -1,5 +1,5 @@
-//! What a call of the core channel has to pass before it is executed (VXI-11 revision 1.0, B.4.4
-//! and B.6): its link, the lock, and what it waits for.
+//! What is checked before a call of the core channel is executed (VXI-11 revision 1.0, B.4.4 and
+//! B.6): its link, the lock, and whether it has to wait.
 
 ghost use Rattle.std.specs.Prelude.{◌≡◌, ◌<◌, ◌&&◌, ℕ, List, ◌∷◌, Some, None, option_map, is_none, is_some, IfSome, OnOk, OnErr, Option, true, false, Bool, if◌then◌else◌};
 ghost use Rattle.sv_vxi.specs.Arguments.{is_create_link as makes_link, lock_wait};
@@ -27,7 +27,8 @@ use std::alloc::{AllocError, Allocator};
 use sv_links::{Entry, MAX_LINKS, Wait, is_locked_out};
 use sv_vxi::{Args, ErrorCode, LinkCall};
 
-/// How many links there may be at once, with those that suspended create_links will make.
+/// The most links that may exist at the same time, including those that suspended create_links will
+/// make.
 const MOST_LINKS: u8 = MAX_LINKS as u8;
 
 /// What stops a call.
@@ -44,7 +45,7 @@ pub enum Stop {
     },
 }
 
-/// What stops a call while another link holds the lock; `None` if it is executed nevertheless.
+/// What stops a call while another link holds the lock; `None` if the lock doesn't stop it.
 fn lock_stop(call: &LinkCall<'_>) -> Option<Stop>
     ensures { option_map plain_stop result
         ≡ option_map lock_stop_for (lock_wait (plain_call call.now)) }
@@ -62,8 +63,9 @@ fn lock_stop(call: &LinkCall<'_>) -> Option<Stop>
     }
 }
 
-/// What stops create_intr_chan. It fails if a channel is open, the protocol isn't TCP (0), or no
-/// peer can have the address; else it is suspended until its peer is connected.
+/// What stops create_intr_chan. It fails if `there` is true (a channel is open), if the protocol
+/// isn't TCP (0), or if the address or the port isn't allowed. Else it is suspended until its peer
+/// is connected.
 fn channel_stop(there: bool, host_addr: u32, host_port: u32, prog_family: u32) -> Stop
     ensures { plain_stop result ≡ channel_stop_for there host_addr host_port prog_family }
 {
@@ -83,7 +85,8 @@ fn channel_stop(there: bool, host_addr: u32, host_port: u32, prog_family: u32) -
 }
 
 impl<A: Allocator> Device<A> {
-    /// Whether another link than this holds the lock, and the call has to wait for it.
+    /// Whether the lock stops the call: a link other than `lid` holds the lock, and the call needs
+    /// it.
     fn is_kept_out(&self, lid: Option<u32>, call: &LinkCall<'_>) -> bool
         ensures { (config : Configured) (acts : List DeviceAct) → IsDevice self.now config acts
             → result ≡ (is_some (lock_wait (plain_call call.now))
@@ -96,7 +99,8 @@ impl<A: Allocator> Device<A> {
     }
 
     /// What a call waits for besides the lock, and its timeout in milliseconds. A write waits while
-    /// a message that has ended isn't finished, a read until it can be answered.
+    /// the instrument hasn't finished a message whose end has come. A read waits until it can be
+    /// answered.
     pub(super) fn device_wait(&self, call: &LinkCall<'_>) -> Option<(Wait, u32)>
         ensures answer { (config : Configured) (acts : List DeviceAct)
             → IsDevice self.now config acts
@@ -111,7 +115,7 @@ impl<A: Allocator> Device<A> {
         }
     }
 
-    /// What a write waits for.
+    /// What a write waits for, and its timeout in milliseconds; `None` if it needn't wait.
     fn input_wait(&self, timeout: u32) -> Option<(Wait, u32)>
         ensures answer { (config : Configured) (acts : List DeviceAct)
             → IsDevice self.now config acts
@@ -126,7 +130,7 @@ impl<A: Allocator> Device<A> {
         Some((Wait::Input, timeout))
     }
 
-    /// What a read waits for.
+    /// What a read waits for, and its timeout in milliseconds; `None` if it needn't wait.
     fn response_wait(&self, timeout: u32) -> Option<(Wait, u32)>
         ensures answer { (config : Configured) (acts : List DeviceAct)
             → IsDevice self.now config acts
@@ -149,8 +153,8 @@ impl<A: Allocator> Device<A> {
         self.links.count() + self.waiting.creating() < MOST_LINKS && self.links.lids_left()
     }
 
-    /// What stops create_link: an unknown name, too many links, or, if it asks for the lock,
-    /// another link that holds it.
+    /// What stops create_link: an unknown device name; too many links; or, if it asks for the lock,
+    /// a link that holds the lock.
     fn link_stop(&self, lock_device: bool, timeout: u32, device: &[u8]) -> Option<Stop>
         ensures { (config : Configured) (acts : List DeviceAct) → IsDevice self.now config acts
             → option_map plain_stop result ≡ link_stop_for lock_device timeout device.now acts }
@@ -170,7 +174,7 @@ impl<A: Allocator> Device<A> {
         None
     }
 
-    /// What stops a call that has to wait for the device.
+    /// What stops a call that has to wait for the device; `None` if it needn't wait.
     fn device_stop(&self, call: &LinkCall<'_>) -> Option<Stop>
         ensures { (config : Configured) (acts : List DeviceAct) → IsDevice self.now config acts
             → option_map plain_stop result ≡ option_map (λ (wait : Wait × ℕ). Awaits wait.0
@@ -186,8 +190,8 @@ impl<A: Allocator> Device<A> {
         }
     }
 
-    /// What stops a call on a link. These are checked in this order: the link, the size of a write,
-    /// the lock, and what the call waits for.
+    /// What stops a call on a link. In this order, the call is checked for an invalid link, for a
+    /// write that is too long, for the lock, and for a wait for the device.
     fn call_stop(&self, conn: Conn, lid: i32, call: &LinkCall<'_>) -> Option<Stop>
         ensures { (config : Configured) (acts : List DeviceAct) → IsDevice self.now config acts
             → option_map plain_stop result
@@ -206,7 +210,7 @@ impl<A: Allocator> Device<A> {
         self.device_stop(call)
     }
 
-    /// What stops a call.
+    /// What stops a call; `None` if nothing does.
     fn stop(&self, conn: Conn, args: &Args<'_>) -> Option<Stop>
         ensures { (config : Configured) (acts : List DeviceAct) → IsDevice self.now config acts
             → option_map plain_stop result ≡ stop_of conn.number (plain_arguments args.now) acts }
@@ -229,7 +233,8 @@ impl<A: Allocator> Device<A> {
         }
     }
 
-    /// The clock at which a call times out that is suspended now; `None` without a timeout.
+    /// The value of the clock at which a call that is suspended now times out; `None` if it has no
+    /// timeout.
     pub(super) fn deadline(&self, timeout: Option<u32>) -> Option<u64>
         ensures { (config : Configured) (acts : List DeviceAct) → IsDevice self.now config acts
             → result ≡ deadline_for config timeout acts }
@@ -240,7 +245,8 @@ impl<A: Allocator> Device<A> {
         }
     }
 
-    /// Allocates the memory of a link that a call makes, if one more may be made.
+    /// If the call is create_link, allocates the memory for its link, unless no more links may be
+    /// made.
     fn reserve(&mut self, args: &Args<'_>) -> Result<(), AllocError>
         ensures ok { (config : Configured) (acts : List DeviceAct) → IsDevice self.old config acts
             → OnOk result (IsDevice self.new config acts
@@ -277,7 +283,7 @@ impl<A: Allocator> Device<A> {
         });
     }
 
-    /// Suspends a create_intr_chan until its peer is connected. No channel is open then.
+    /// Suspends a create_intr_chan until its peer is connected. The connection has no open channel.
     fn await_peer(
         &mut self,
         conn: Conn,
@@ -334,7 +340,7 @@ impl<A: Allocator> Device<A> {
         }
     }
 
-    /// Lets a call that is stopped fail, or suspends it.
+    /// Handles a call that `stop` stops: the call fails or is suspended.
     fn halt(&mut self, conn: Conn, args: &Args<'_>, stop: Stop) -> Result<CallOutcome, AllocError>
         ensures { AdmitsAt (Some (plain_stop stop)) result conn.number (plain_arguments args.now)
             self.old self.new }

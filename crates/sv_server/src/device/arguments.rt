@@ -1,4 +1,5 @@
-//! What the arguments of a call say (VXI-11 revision 1.0, section B.6).
+//! Reading the arguments of a call: link, size, termination character (VXI-11 revision 1.0, section
+//! B.6).
 
 ghost use Rattle.std.specs.Prelude.{◌≡◌};
 ghost use Rattle.sv_vxi.specs.Reading.{plain_call};

@@ -2,14 +2,15 @@
 
 use sv_vxi::VxiResult;
 
-/// The outcome of a call of the core channel, as it begins or after it was suspended.
+/// The outcome of a call of the core channel, when it begins or when it continues after a
+/// suspension.
 #[derive(Clone, Copy)]
 pub enum CallOutcome {
     /// The call has this result.
     Result(VxiResult<'static>),
     /// The call is a read, and is answered with bytes of the response.
     Reads {
-        /// The most bytes to give.
+        /// The most bytes to return.
         most: u32,
         /// The termination character, if its flag is set.
         term: Option<u8>,

@@ -1,4 +1,4 @@
-//! What each call of the core channel does, once nothing stops it (VXI-11 revision 1.0, B.6).
+//! What each call of the core channel does if nothing stops it (VXI-11 revision 1.0, B.6).
 
 ghost use Rattle.std.specs.Prelude.{◌≡◌, ◌<◌, ◌≤◌, ◌^◌, ℕ, pos, List, [], ◌∷◌, length, map, Some, None, true, false};
 ghost use Rattle.sv_vxi.specs.Arguments.{Generic, OnLink};
@@ -40,7 +40,7 @@ impl<A: Allocator> Device<A> {
         }
     }
 
-    /// The result of a create_link that made this link.
+    /// The result of a create_link that made the link `lid`.
     fn told_link(&self, lid: u32) -> VxiResult<'static>
         requires { lid < 2 ^ 31 }
         ensures told { plain_result result
@@ -55,7 +55,7 @@ impl<A: Allocator> Device<A> {
         }
     }
 
-    /// Makes a link. A place and memory for it are reserved.
+    /// Makes a link. A place and memory for it must already be reserved.
     fn make_free(&mut self, conn: Conn) -> CallOutcome
         ensures ends { (config : Configured) (acts : List DeviceAct) → IsDevice self.old config acts
             → HasPlace self.old acts
@@ -69,8 +69,8 @@ impl<A: Allocator> Device<A> {
         CallOutcome::Result(self.told_link(lid))
     }
 
-    /// Makes a link and gives it the lock, which no link holds. A place and memory for it are
-    /// reserved.
+    /// Makes a link and gives it the lock, which no link holds. A place and memory for the link
+    /// must already be reserved.
     fn make_locked(&mut self, conn: Conn) -> CallOutcome
         ensures ends { (config : Configured) (acts : List DeviceAct) → IsDevice self.old config acts
             → HasPlace self.old acts → is_locked_out (holder (link_acts acts)) None ≡ false
@@ -114,7 +114,7 @@ impl<A: Allocator> Device<A> {
         CallOutcome::Result(plain(ErrorCode::NoError))
     }
 
-    /// device_lock: the link gets the lock, unless another has it.
+    /// device_lock: the link gets the lock, unless another link holds it.
     fn device_lock(&mut self, lid: u32) -> CallOutcome
         ensures ends { (config : Configured) (acts : List DeviceAct) → IsDevice self.old config acts
             → OutcomeIs result self.new config acts (device_lock lid acts) }
@@ -127,7 +127,7 @@ impl<A: Allocator> Device<A> {
         CallOutcome::Result(plain(ErrorCode::NoError))
     }
 
-    /// device_unlock: the lock is freed, if the link holds it.
+    /// device_unlock: the link frees the lock, if it holds the lock.
     fn device_unlock(&mut self, lid: u32) -> CallOutcome
         ensures ends { (config : Configured) (acts : List DeviceAct) → IsDevice self.old config acts
             → OutcomeIs result self.new config acts (device_unlock lid acts) }
@@ -140,7 +140,7 @@ impl<A: Allocator> Device<A> {
         CallOutcome::Result(plain(ErrorCode::NoError))
     }
 
-    /// device_write: the bytes are accepted, and END ends their message.
+    /// device_write: the instrument accepts the bytes; with END, they end their message.
     fn device_write(&mut self, flags: Flags, bytes: &[u8]) -> CallOutcome
         ensures ends { (config : Configured) (acts : List DeviceAct) → IsDevice self.old config acts
             → OutcomeIs result self.new config acts (device_write flags.0 bytes.now acts) }
@@ -158,8 +158,9 @@ impl<A: Allocator> Device<A> {
         CallOutcome::Result(written(ErrorCode::NoError, bytes.len() as u32))
     }
 
-    /// device_read: gives bytes of the response. Without a response the unfinished text is dropped,
-    /// and the result is a timeout.
+    /// device_read: if the instrument has a response, the outcome is that bytes of the response are
+    /// read. If it has none, the bytes of the unfinished message are dropped, and the result is a
+    /// timeout.
     fn device_read(&mut self, most: u32, term: Option<u8>) -> CallOutcome
         ensures ends { (config : Configured) (acts : List DeviceAct) → IsDevice self.old config acts
             → OutcomeIs result self.new config acts (device_read most term acts) }
@@ -177,7 +178,7 @@ impl<A: Allocator> Device<A> {
         CallOutcome::Result(nothing_read(ErrorCode::IoTimeout))
     }
 
-    /// The bytes of the response that a read gives, and why they end there.
+    /// The bytes of the response that a read returns, and why they end there.
     pub fn peek_response(&self, most: u32, term: Option<u8>) -> Read<'_>
         ensures within { length result.bytes.now
             ≤ length (shown_by self.now.instrument.layers.exchange) }
@@ -201,7 +202,7 @@ impl<A: Allocator> Device<A> {
         self.raise(raised);
     }
 
-    /// device_readstb: gives the status byte, and ends its request for service.
+    /// device_readstb: returns the status byte, and ends the request for service.
     fn device_readstb(&mut self) -> CallOutcome
         ensures ends { (config : Configured) (polled : ℕ) (acts : List DeviceAct)
             → IsDeviceAt self.old config polled acts
@@ -216,7 +217,7 @@ impl<A: Allocator> Device<A> {
         })
     }
 
-    /// device_trigger: a trigger from the controller.
+    /// device_trigger: the instrument gets a trigger from the controller.
     fn device_trigger(&mut self) -> CallOutcome
         ensures ends { (config : Configured) (acts : List DeviceAct) → IsDevice self.old config acts
             → OutcomeIs result self.new config acts
@@ -229,7 +230,8 @@ impl<A: Allocator> Device<A> {
         CallOutcome::Result(plain(ErrorCode::NoError))
     }
 
-    /// device_clear: text, held unit and response are dropped.
+    /// device_clear: drops the bytes of messages that aren't executed yet, the held unit and the
+    /// response.
     fn device_clear(&mut self) -> CallOutcome
         ensures ends { (config : Configured) (acts : List DeviceAct) → IsDevice self.old config acts
             → OutcomeIs result self.new config acts
@@ -242,7 +244,7 @@ impl<A: Allocator> Device<A> {
         CallOutcome::Result(plain(ErrorCode::NoError))
     }
 
-    /// Executes a call on a link, if nothing stops the call.
+    /// Executes a call on a link. Nothing stops the call.
     fn link_call(&mut self, conn: Conn, lid: u32, call: &LinkCall<'_>) -> CallOutcome
         ensures ends { (config : Configured) (polled : ℕ) (acts : List DeviceAct)
             → IsDeviceAt self.old config polled acts
@@ -291,8 +293,8 @@ impl<A: Allocator> Device<A> {
         }
     }
 
-    /// Executes a call on the link of this number, if nothing stops the call. No link has a
-    /// negative number.
+    /// Executes a call on the link of this number. Nothing stops the call. No link has a negative
+    /// number.
     fn on_link(&mut self, conn: Conn, lid: i32, call: &LinkCall<'_>) -> CallOutcome
         ensures ends { (config : Configured) (polled : ℕ) (acts : List DeviceAct)
             → IsDeviceAt self.old config polled acts

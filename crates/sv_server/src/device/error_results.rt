@@ -1,4 +1,5 @@
-//! Results of calls that fail, or that only report success, in the form that each call has.
+//! Results of calls that fail, or that report only success, in the form that the protocol gives
+//! each call.
 
 ghost use Rattle.std.specs.Prelude.{◌≡◌, ℤ, pos, []};
 ghost use Rattle.sv_vxi.specs.Arguments.{OnLink};
@@ -20,7 +21,7 @@ pub fn failure(args: &Args<'_>, error: ErrorCode) -> VxiResult<'static>
     }
 }
 
-/// The result of a call on a link that fails, in the form of that call's results.
+/// The result of a call on a link, when the call fails, in the form of that call's results.
 pub fn call_failure(call: &LinkCall<'_>, error: ErrorCode) -> VxiResult<'static>
     ensures result_is { (lid : ℤ) → plain_result result
         ≡ failed (OnLink lid (plain_call call.now)) error }
@@ -64,7 +65,7 @@ pub fn written(error: ErrorCode, size: u32) -> VxiResult<'static>
     VxiResult::Size { error, size }
 }
 
-/// The result of a device_read that gives no bytes.
+/// The result of a device_read that returns no bytes.
 pub fn nothing_read(error: ErrorCode) -> VxiResult<'static>
     ensures result_is { plain_result result ≡ no_bytes error }
     ensures short { data_of (plain_result result) ≡ [] }

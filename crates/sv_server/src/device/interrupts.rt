@@ -1,4 +1,4 @@
-//! Interrupt channels, and the links that ask for service requests (VXI-11 revision 1.0, section
+//! Interrupt channels, and the links with service requests enabled (VXI-11 revision 1.0, section
 //! B.6: device_enable_srq, create_intr_chan, destroy_intr_chan).
 
 ghost use Rattle.std.specs.Prelude.{◌≡◌, ◌<◌, ◌≤◌, ℕ, List, length, [], ◌∷◌, Some, None, IfOk, IfSome, OnErr, false, true, if◌then◌else◌};
@@ -46,7 +46,7 @@ impl<A: Allocator> Device<A> {
         self.intr.is_open(conn.number)
     }
 
-    /// device_enable_srq of a link, if the connection owns it.
+    /// Executes device_enable_srq of a link, if the connection owns the link.
     pub(super) fn device_enable_srq(
         &mut self,
         conn: Conn,
@@ -104,7 +104,8 @@ impl<A: Allocator> Device<A> {
         }
     }
 
-    /// Whether a create_intr_chan of a connection is suspended until its peer is connected.
+    /// Whether the connection has a suspended create_intr_chan, which waits until its peer is
+    /// connected.
     pub fn is_dialing(&self, conn: u8) -> bool
         ensures { (config : Configured) (acts : List DeviceAct) → IsDevice self.now config acts
             → result ≡ is_dialing conn (wait_acts acts) }
@@ -112,7 +113,8 @@ impl<A: Allocator> Device<A> {
         matches!(self.waiting.waits(conn), Some(Wait::Dial))
     }
 
-    /// Ends a suspended create_intr_chan: the attempt to connect succeeded or failed.
+    /// Ends a suspended create_intr_chan; `ok` is whether the attempt to connect its peer
+    /// succeeded.
     pub(super) fn end_dial(&mut self, conn: Conn, ok: bool, args: &Args<'_>) -> CallOutcome
         ensures ends { (config : Configured) (acts : List DeviceAct)
             → IsDevice self.old config acts → is_dialing conn.number (wait_acts acts) ≡ true
@@ -141,8 +143,8 @@ impl<A: Allocator> Device<A> {
         }
     }
 
-    /// Ends a suspended create_intr_chan with this peer: the attempt to connect succeeded or
-    /// failed.
+    /// Ends a suspended create_intr_chan whose peer is `peer`; `ok` is whether the attempt to
+    /// connect it succeeded.
     fn end_channel(&mut self, conn: Conn, ok: bool, peer: Peer) -> CallOutcome
         ensures ends { (config : Configured) (acts : List DeviceAct)
             → IsDevice self.old config acts → is_dialing conn.number (wait_acts acts) ≡ true
@@ -196,8 +198,8 @@ impl<A: Allocator> Device<A> {
         self.intr.waiting(conn.number)
     }
 
-    /// Drops the first `count` bytes that wait on the open interrupt channel of a connection: the
-    /// peer took them.
+    /// Drops the first `count` of the bytes that wait on the open interrupt channel of a
+    /// connection, since the peer took them.
     pub fn channel_took(&mut self, conn: Conn, count: usize)
         requires { count ≤ length (bytes_of self.old.intr conn.number) }
         ensures stands { (config : Configured) (acts : List DeviceAct)

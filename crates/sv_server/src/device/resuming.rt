@@ -26,9 +26,9 @@ use sv_vxi::{Args, ErrorCode};
 /// Why a suspended call continues or ends.
 #[derive(Clone, Copy)]
 pub enum Cause {
-    /// The call can resume: it needn't wait for this any longer.
+    /// The call can resume, since it got what it waits for.
     Able(Wait),
-    /// The attempt to connect its peer succeeded or failed.
+    /// The attempt to connect the call's peer succeeded (`true`) or failed.
     Dialed(bool),
     /// The call fails with this error.
     Failed(ErrorCode),
@@ -60,9 +60,9 @@ impl<A: Allocator> Device<A> {
         }
     }
 
-    /// Resumes a call that waited for `wait`: it is executed. But a call that waited for the lock
-    /// and now has to wait for the device is suspended anew: it keeps its place in the order, and
-    /// its new timeout begins now.
+    /// Resumes a call that waited for `wait`, and executes it. But a call that waited for the lock
+    /// and now has to wait for the device is suspended anew. Such a call keeps its place in the
+    /// queue, and its new timeout begins now.
     fn resume(&mut self, conn: Conn, wait: Wait, args: &Args<'_>) -> CallOutcome
         requires { queue_measure (without conn.number self.old.waiting) + wait_measure wait
             ≤ queue_measure self.old.waiting }
@@ -84,7 +84,8 @@ impl<A: Allocator> Device<A> {
         }
     }
 
-    /// What a call that waited for the lock waits for next, and its timeout in milliseconds.
+    /// What a call that waited for the lock has to wait for next, and its timeout in milliseconds;
+    /// `None` if it needn't wait again.
     fn next_wait(&self, args: &Args<'_>) -> Option<(Wait, u32)>
         ensures answer { (config : Config) (acts : List DeviceAct) → IsDevice self.now config acts
             → result ≡ next_wait Wait.Lock (plain_arguments args.now) acts }
@@ -98,7 +99,7 @@ impl<A: Allocator> Device<A> {
         }
     }
 
-    /// Resumes a call that waited for the lock.
+    /// Resumes a call that waited for the lock: executes it, or suspends it anew.
     fn pass_lock(&mut self, conn: Conn, args: &Args<'_>) -> CallOutcome
         requires { queue_measure (without conn.number self.old.waiting) + 2
             ≤ queue_measure self.old.waiting }
@@ -122,7 +123,7 @@ impl<A: Allocator> Device<A> {
         self.leave(conn, args)
     }
 
-    /// Ends the suspension of a call, and executes it.
+    /// Takes a suspended call out of the queue, and executes it.
     fn leave(&mut self, conn: Conn, args: &Args<'_>) -> CallOutcome
         ensures ends { (config : Config) (polled : ℕ) (acts : List DeviceAct)
             → IsDeviceAt self.old config polled acts

@@ -9,14 +9,14 @@ ghost use Rattle.sv_server.specs.Replay.TakenByWriter.{IsTakenByWriter};
 use std::io::{ErrorKind, Write};
 use sv_history::{Port, Refused};
 
-/// How many bytes are written in hexadecimal at once.
+/// How many bytes are converted to hexadecimal for one write.
 const PIECE: usize = 256;
 
-/// The writer failed, or takes nothing more.
+/// The writer failed, or took no byte.
 #[derive(Clone, Copy, Debug, PartialEq, Eq)]
 pub struct WriteFault;
 
-/// Writes some of these bytes, and returns how many; none if a signal interrupted the write.
+/// Writes a prefix of these bytes, and returns its length; 0 if a signal interrupted the write.
 fn put_some<W: Write>(writer: &mut W, bytes: &[u8]) -> Result<usize, WriteFault>
     ensures within { IfOk result (λ n. n ≤ length bytes.now) }
     ensures taken { MatchResult result
@@ -99,7 +99,7 @@ fn put_name<W: Write>(writer: &mut W, port: Port) -> Result<(), WriteFault>
     }
 }
 
-/// Writes the line of the bytes that wait on a port; no line if none wait.
+/// Writes the line that shows the bytes that wait on a port; no line if none wait.
 pub fn put_line<W: Write>(writer: &mut W, port: Port, bytes: &[u8]) -> Result<(), WriteFault>
     ensures { IsTakenByWriter (W.contents writer.old) (W.contents writer.new) result
         (port_line port bytes.now) }

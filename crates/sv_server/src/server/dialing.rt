@@ -1,5 +1,5 @@
-//! Interrupt channels of the server: which are to be connected, and what is sent on those that are
-//! open.
+//! The interrupt channels of the server: which channels the server's driver has to connect, and
+//! which bytes wait to be sent on the open channels.
 
 ghost use Rattle.std.specs.Prelude.{◌≡◌, ◌≤◌, not, List, length, MatchResult, IfOk, OnErr, Some, None, nat_lt, true, false, if◌then◌else◌};
 ghost use Rattle.sv_vxi.specs.Reading.{plain_arguments};
@@ -24,7 +24,8 @@ use std::alloc::Allocator;
 use sv_history::{Dial, Did, Refused};
 use sv_vxi::Args;
 
-/// Where a create_intr_chan asks to connect; `None` for another call, or for a port above 65535.
+/// The address and the port to which a create_intr_chan wants its channel connected; `None` for any
+/// other call, or for a port above 65535.
 fn dial_by(args: &Args<'_>) -> Option<Dial>
     ensures { result ≡ called_by (plain_arguments args.now) }
 {
@@ -93,7 +94,7 @@ impl<A: Allocator> Server<A> {
         Ok(number)
     }
 
-    /// The bytes that wait on an interrupt channel; none if the channel isn't open.
+    /// The bytes that wait to be sent on an interrupt channel; none if the channel isn't open.
     pub(crate) fn sent(&self, conn: u8) -> &[u8]
         ensures exact { (config : Config) (log : List Act) (channel_log : List ChannelAct)
             → Represents self.now config log → HearsOf (device_acts log) channel_log
@@ -106,7 +107,7 @@ impl<A: Allocator> Server<A> {
         }
     }
 
-    /// Applies the result of connecting an interrupt channel.
+    /// Applies a Dialed event: the attempt to connect an interrupt channel succeeded or failed.
     pub(crate) fn dialed(&mut self, conn: u8, ok: bool) -> Result<Did, Refused>
         ensures acts { (config : Config) (log : List Act) → Represents self.old config log
             → Acts config (Dialed conn ok) log result self.new }
@@ -121,7 +122,8 @@ impl<A: Allocator> Server<A> {
         Ok(Did::Done)
     }
 
-    /// Drops bytes of an interrupt channel that the peer took.
+    /// Drops the first `count` bytes that wait to be sent on an interrupt channel, since the peer
+    /// took them.
     pub(crate) fn channel_took(&mut self, conn: u8, count: u32) -> Result<Did, Refused>
         ensures acts { (config : Config) (log : List Act) → Represents self.old config log
             → Acts config (Took (Intr conn) count) log result self.new }

@@ -1,4 +1,4 @@
-//! What a record that was taken does.
+//! Executes a record that was taken.
 
 ghost use Rattle.std.specs.Prelude.{◌≡◌, ℕ};
 ghost use Rattle.sv_rpc.specs.Ports.{port_at};
@@ -21,7 +21,7 @@ use sv_rpc::{Ports, Reply, getport};
 pub enum Executed {
     /// The record isn't a call, and its connection is at fault.
     NoCall,
-    /// The call is answered, and changes nothing.
+    /// The call is answered, and the device doesn't change.
     Answered(Answer<'static>),
     /// The call is a device_abort.
     Aborts(Aborted),
@@ -41,7 +41,7 @@ impl Executed {
     }
 }
 
-/// What GETPORT answers (RFC 1833, section 3).
+/// The answer to a GETPORT with these arguments (RFC 1833, section 3).
 fn port_answer(ports: Ports, args: &[u8]) -> Answer<'static>
     ensures answer { (xid : ℕ) → answer_bytes xid result ≡ port_reply xid (port_at ports args.now) }
     ensures short { IsShort result }
@@ -52,7 +52,8 @@ fn port_answer(ports: Ports, args: &[u8]) -> Answer<'static>
     }
 }
 
-/// Executes a record, without sending its reply, or ending the call that a device_abort ends.
+/// Executes a record, but doesn't send the reply. For a device_abort, returns which suspended call
+/// is aborted, but doesn't end that call.
 pub fn execute<A: Allocator>(
     device: &mut Device<A>,
     conn: Conn,

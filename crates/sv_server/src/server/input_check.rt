@@ -1,4 +1,4 @@
-//! Which voltages may be at which inputs.
+//! Which channels have an input, and which voltages an Input may set.
 
 ghost use Rattle.std.specs.Prelude.{◌≡◌};
 ghost use Rattle.sv_history.specs.History.{input_refusal as refusal_of};
@@ -7,9 +7,9 @@ ghost use Rattle.sv_server.specs.Server.Inside.Acting.{IsInput};
 use sv_errors::{MOST_MICROVOLTS, is_channel};
 use sv_history::{Did, Refused};
 
-/// Why an Input of this voltage, in microvolts, is refused: `BadChannel` if there is no such
-/// channel, else `BadInput` if the voltage is beyond plus or minus 1,000,000,000; `None` if it
-/// isn't refused.
+/// Why an Input of this voltage, in microvolts, is refused; `None` if it isn't refused. It is
+/// `BadChannel` if there is no such channel, else `BadInput` if the voltage is beyond plus or minus
+/// 1,000,000,000.
 pub fn input_refusal(channel: u8, microvolts: i64) -> Option<Refused>
     ensures { result ≡ refusal_of channel microvolts }
 {
@@ -19,7 +19,7 @@ pub fn input_refusal(channel: u8, microvolts: i64) -> Option<Refused>
     }
 }
 
-/// Whether an Input may set this voltage at this channel; else the refusal.
+/// Checks that an Input may set this voltage at this channel; if not, returns the refusal.
 pub(crate) fn may_input(channel: u8, microvolts: i64) -> Result<Did, Refused>
     ensures { IsInput channel microvolts result }
 {

@@ -25,7 +25,8 @@ fn takes_memory(args: &Args<'_>) -> bool
     matches!(*args, Args::CreateLink { .. } | Args::CreateIntrChan { .. })
 }
 
-/// A call that may be refused: its header passes its checks, and it may allocate memory.
+/// Reads a record as a call that a Refuse may answer: a call of the core channel that may allocate
+/// memory. `None` if the record isn't such a call.
 fn refusable(role: Role, bytes: &[u8]) -> Option<CoreCall<'_>>
     ensures { option_map plain_core_call result
         ≡ refusable_call (Some (request_for role (call_at bytes.now))) }
@@ -49,8 +50,8 @@ fn unless_modest(call: CoreCall<'_>) -> Option<CoreCall<'_>>
     }
 }
 
-/// Takes the next call of an open connection, if it may be refused and there is room for its reply,
-/// and answers it with error 9.
+/// Takes the next call of an open connection, and answers it with error 9. The call must be one
+/// that may be refused, and there must be room for its reply.
 pub fn refuse<A: Allocator>(connection: &mut Connection<A>, role: Role) -> Result<(), Refused>
     requires { connection.old.role ≡ Some role }
     ensures acts { (acts : List ConnAct) → IsConnection connection.old acts

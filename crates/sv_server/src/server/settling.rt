@@ -1,4 +1,4 @@
-//! The steps that follow an event.
+//! Settling: the steps that are taken after an event, until none is due.
 
 ghost use Rattle.std.specs.Prelude.{◌≡◌, ◌≢◌, ◌<◌, ◌≤◌, ◌++◌, ℕ, List, Some, None, true, false, IsTrue};
 ghost use Rattle.sv_links.specs.Waiting.{waits};
@@ -28,18 +28,19 @@ use sv_history::Event;
 use sv_links::{Entry, Wait};
 use sv_vxi::ErrorCode;
 
-/// The step that was taken.
+/// Which step was taken.
 #[derive(Clone, Copy)]
 enum Stepped {
     /// No step was due.
     Nothing,
-    /// The instrument did something.
+    /// The instrument took a step: an immediate trigger, or a step of message exchange.
     Instrument,
     /// A suspended call resumed or timed out.
     Call,
 }
 
-/// Whether an event makes no step due: a connection opens, or bytes come or go.
+/// Whether this is an event after which no step is due: a connection opens, bytes come, or a peer
+/// takes bytes.
 pub(crate) fn is_quiet(event: Event<'_>) -> bool
     ensures { result ≡ is_quiet (plain event.entry) }
 {
@@ -50,7 +51,7 @@ pub(crate) fn is_quiet(event: Event<'_>) -> bool
     }
 }
 
-/// The error of a call that times out.
+/// The error of a call that times out while it waits for `wait`.
 fn late(wait: Wait) -> ErrorCode
     ensures { result ≡ late_error wait }
 {
@@ -93,7 +94,7 @@ impl<A: Allocator> Server<A> {
         take_up(connection, &mut self.device, conn, Cause::Failed(error));
     }
 
-    /// Applies an immediate trigger, if one is due. Returns whether one was.
+    /// Applies an immediate trigger, if one is due. Returns whether it applied one.
     fn fire(&mut self) -> bool
         ensures steps { (config : Config) (log : List Act) → Represents self.old config log
             → TakesStep (λ config. InstrumentDoes IsFired) result config log self.old self.new }
@@ -106,7 +107,7 @@ impl<A: Allocator> Server<A> {
         self.device.fire()
     }
 
-    /// Takes a step of message exchange, if one is due. Returns whether one was.
+    /// Takes a step of message exchange, if one is due. Returns whether it took one.
     fn exchange(&mut self) -> bool
         ensures steps { (config : Config) (log : List Act) → Represents self.old config log
             → TakesStep (λ config. InstrumentDoes IsStep) result config log self.old self.new }
@@ -119,7 +120,7 @@ impl<A: Allocator> Server<A> {
         self.device.exchange()
     }
 
-    /// Resumes the oldest suspended call that can resume. Returns whether there was one.
+    /// Resumes the oldest suspended call that can resume. Returns whether there was such a call.
     fn resume_oldest(&mut self) -> bool
         ensures steps { (config : Config) (log : List Act) → Represents self.old config log
             → TakesStep Resumes result config log self.old self.new }
@@ -136,7 +137,8 @@ impl<A: Allocator> Server<A> {
         }
     }
 
-    /// Times out the oldest suspended call whose deadline has come. Returns whether there was one.
+    /// Times out the oldest suspended call whose deadline has come. Returns whether there was such
+    /// a call.
     fn give_up_oldest(&mut self) -> bool
         ensures steps { (config : Config) (log : List Act) → Represents self.old config log
             → TakesStep TimesOut result config log self.old self.new }
@@ -180,8 +182,8 @@ impl<A: Allocator> Server<A> {
         Stepped::Nothing
     }
 
-    /// Takes the steps that are due, up to the first in which a call resumes or times out. Returns
-    /// whether there was such a step.
+    /// Takes the steps that are due, up to and including the first step in which a call resumes or
+    /// times out. Returns whether a call resumed or timed out.
     fn settle_to_call(&mut self) -> bool
         ensures goes { (config : Config) (log : List Act) → Represents self.old config log
             → GoesTo config log (λ mid. result ≡ false → IsSettled config mid) self.new }

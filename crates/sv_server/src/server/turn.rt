@@ -29,15 +29,15 @@ use sv_vxi::{ErrorCode, Reason, VxiResult};
 pub enum Turned {
     /// Nothing: there was no call to take.
     Idle,
-    /// A call was taken, and then executed or suspended.
+    /// A call was taken. It was then executed or suspended.
     Done {
-        /// The connection whose suspended call this call ends; `None` if it ends none.
+        /// The connection whose suspended call the taken call ends; `None` if it ends none.
         aborts: Option<u8>,
     },
 }
 
-/// Takes the next call of an open connection and executes it, if there is a call, and room for its
-/// reply.
+/// Takes the next call of an open connection and executes it. Does nothing if there is no call.
+/// Refuses the Turn if the output has too little room for the longest reply.
 pub fn turn<A: Allocator>(
     connection: &mut Connection<A>,
     device: &mut Device<A>,
@@ -69,8 +69,8 @@ pub fn turn<A: Allocator>(
     })
 }
 
-/// Ends the record that was taken, unless its call is suspended: sends the reply, or drops a record
-/// that isn't a call.
+/// Finishes the record that was taken, unless its call is suspended: sends the reply, or drops the
+/// record if it isn't a call.
 fn conclude<A: Allocator>(
     xid: u32,
     executed: Executed,

@@ -1,8 +1,8 @@
--- The next call of a connection, by the state of the connection.
+-- The next call of a connection, computed from the connection's state.
 use Rattle.std.specs.Prelude.{◌||◌, ℕ, List, Option, None, slice_get, if◌then◌else◌}
 use Rattle.sv_server.specs.Connection.Representation.{Connection}
 
--- the call to take next, by the state of the connection; `None` if the connection is at fault, if its first record is a call that was taken
--- already, or if there is no record
+-- the call that the connection takes next. `None` if the connection took a record that isn't a call; if its first record is a call that it
+-- has taken already; or if no complete record is stored.
 abbrev pub kept_next : Connection → Option (List ℕ)
 kept_next kept = if kept.faulted || kept.busy then None else slice_get kept.input.records 0

@@ -1,4 +1,4 @@
--- The reply to a call, by the types of the code.
+-- The reply to a call, in terms of the code's types.
 use Rattle.std.specs.Prelude.{ℕ, ◌≤◌, List, [], ◌∷◌, ◌++◌, length, map, ⊤}
 use Rattle.std.specs.List.{concat}
 use Rattle.sv_xdr.specs.Spelling.{Unsigned, Field, spelling}
@@ -11,7 +11,8 @@ use Rattle.sv_history.specs.Reply.{reply_record}
 use Rattle.sv_server.specs.declared.connection.reply.Answer.{Answer}
 use Rattle.sv_server.specs.declared.connection.reply.Answer.TheVariants as answers
 
--- for an answer: its reply, the fields after the reply's header, its bytes, and its bytes as a record
+-- Four functions of an answer. They give its reply; the fields after the reply's header; the bytes of header and fields; and these bytes as
+-- a record.
 abbrev pub reply_of : Answer → Reply
 reply_of (answers.Header reply) = reply
 reply_of (answers.Port port) = Success
@@ -34,6 +35,6 @@ HasAtMost most (answers.Header reply) = ⊤
 HasAtMost most (answers.Port port) = ⊤
 HasAtMost most (answers.Result outcome) = length (data_of (plain_result outcome)) ≤ most
 
--- The data of the answer have room in a reply.
+-- The answer's data fit in one reply.
 abbrev pub IsShort : Answer → Type 0
 IsShort answer = HasAtMost max_read answer

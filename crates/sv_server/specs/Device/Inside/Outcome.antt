@@ -1,4 +1,4 @@
--- The outcome of a call that begins, or of one that was suspended, by the types of the code.
+-- The outcome of a call that begins, or of one that was suspended, in terms of the code's types.
 use Rattle.std.specs.Prelude.{◌≡◌, ◌⊎◌, ℕ, ◌+◌, ◌<◌, ◌≤◌, List, [], ◌∷◌, ◌++◌, map, Bool, true, false, Option, Some, None, Result, IfOk, OnErr, ⊤}
 use Rattle.sv_vxi.specs.Arguments.{Arguments, CreateLink, is_create_link}
 use Rattle.sv_vxi.specs.Results.{Outcome as VxiOutcome, plain_result, data_of}
@@ -34,22 +34,22 @@ plain_stop (stops.Awaits wait timeout) = Awaits wait timeout
 
 -- ---- the outcome of a call
 
--- The device has the state that its acts determine, and a poll after these acts would return `polled`.
+-- The device has the state that its acts determine, and a serial poll (device_readstb) after these acts would return `polled`.
 abbrev pub IsDeviceAt : Device → Config → ℕ → List DeviceAct → Type 0
 IsDeviceAt kept config polled acts = IsDevice kept config acts × IsPolled polled acts
 
--- The outcome has no data of its own. Only reading the response gives data.
+-- If the outcome is a result, this result has no data bytes. Only an outcome that reads the response returns data bytes.
 abbrev pub IsBrief : Outcome → Type 0
 IsBrief (outcomes.Result given) = data_of (plain_result given) ≡ []
 IsBrief _ = ⊤
 
--- A call has a result, and it is this one.
+-- The call has a result (it isn't suspended), and this result is `result`.
 abbrev pub IsResult : Option VxiOutcome → VxiOutcome → Type 0
 IsResult (Some encoded) result = encoded ≡ result
 IsResult None result = ⊥
 
--- The outcome in the code is this outcome of a call, and the device has the acts that it adds. If the call reads the response, this is
--- still to be read.
+-- The code's `Outcome` means the same as `what`, and the acts that `what` adds have happened to the device. Except if the call reads the
+-- response: then these acts haven't happened yet, and the device still has the whole response.
 abbrev pub OutcomeIs : Outcome → Device → Config → List DeviceAct → CallOutcome → Type 0
 OutcomeIs (outcomes.Result given) device config acts what = IsResult what.result (plain_result given)
     × IsDevice device config (what.adds ++ acts)
@@ -57,7 +57,7 @@ OutcomeIs (outcomes.Reads most term) device config acts what = (what ≡ reads (
     × IsDevice device config acts
 OutcomeIs outcomes.Suspended device config acts what = (what.result ≡ None) × IsDevice device config (what.adds ++ acts)
 
--- If the call is create_link, there is a place for its link; and if it asks for the lock, the lock is free.
+-- If the call is create_link, there are a place and memory for its link. If the create_link also requests the lock, no link holds the lock.
 abbrev pub IsGranted : Arguments → Device → List DeviceAct → Type 0
 IsGranted (CreateLink client_id lock_device lock_timeout device) kept acts =
     HasPlace kept acts × (lock_device ≡ true → is_locked_out (holder (link_acts acts)) None ≡ false)
@@ -65,16 +65,17 @@ IsGranted _ kept acts = ⊤
 
 -- ---- a call that begins
 
--- The call is suspended, in the queue after all others. If it is create_link, it waits for the lock.
+-- The call of connection `c` was suspended: its entry was appended to the queue. If the call is create_link, it waits for the lock.
 abbrev pub IsBehind : ℕ → Bool → List Entry → List Entry → Type 0
 IsBehind c makes old new =
     (entry : Entry) × (entry.conn ≡ c) × (new ≡ without c old ++ entry ∷ []) × (makes ≡ true → creates entry ≡ true)
 
--- The queue is unchanged; or `IsSuspended` holds, and the call is in the queue after all others.
+-- Either the queue of suspended calls is unchanged. Or `IsSuspended` holds, and the entry of connection `c`'s call was appended to the
+-- queue.
 abbrev pub MayWait : Type 0 → ℕ → Bool → List Entry → List Entry → Type 0
 MayWait IsSuspended c makes old new = (new ≡ old) ⊎ (IsSuspended × IsBehind c makes old new)
 
--- The result is an outcome for which `IsSo` and `IsShort` hold. Or it is out of memory: `Wants` holds, and nothing changed.
+-- Either the result is an outcome for which `IsSo` and `IsShort` hold. Or memory was refused, nothing changed, and `Wants` holds.
 pub record Does {O : Type 0} (IsSo : Config → ℕ → List DeviceAct → O → Type 0) (Wants : Config → ℕ → List DeviceAct → Type 0)
     (IsShort : O → Type 0) {E : Type 0} (result : Result O E) (old new : Device) : Type 0 where
   pub does : (config : Config) (polled : ℕ) (acts : List DeviceAct) → IsDeviceAt old config polled acts
@@ -84,7 +85,8 @@ pub record Does {O : Type 0} (IsSo : Config → ℕ → List DeviceAct → O →
   pub brief : IfOk result (λ outcome. IsShort outcome)
   pub err : OnErr result (new ≡ old)
 
--- The call begins, after acts for which `IsAt` holds: any acts (`Admits`), or those after which `stop` is what stops the call (`AdmitsAt`).
+-- What a function does that begins a call after acts for which `IsAt` holds. `Admits` says this for any acts, and `AdmitsAt` for acts after
+-- which `stop` is what stops the call.
 abbrev pub Begins : (List DeviceAct → Type 0) → {E : Type 0} → Result Outcome E → ℕ → Arguments → Device → Device → Type 0
 Begins IsAt result c arguments old new =
     Does (λ config polled acts outcome. IsAt acts
@@ -107,31 +109,32 @@ MayMake (CreateLink client_id lock_device lock_timeout device) c kept acts =
     (creations (without c kept.waiting) < creations kept.waiting) × (is_locked_out (holder (link_acts acts)) None ≡ false)
 MayMake _ c kept acts = ⊤
 
--- The resumed call is suspended again, for `wait`. Or, if it waits for nothing more, it leaves the queue and is executed.
+-- How a resumed call continues. If the first argument is `Some`, the call is suspended again, for this wait. If it is `None`, the call
+-- leaves the queue and is executed.
 abbrev pub ResumedAs : Option (Wait × ℕ) → Outcome → Device → Config → ℕ → ℕ → Arguments → List DeviceAct → Type 0
 ResumedAs (Some wait) outcome device config polled c arguments acts =
     OutcomeIs outcome device config acts (resume_outcome config polled c arguments (Some wait) acts)
 ResumedAs None outcome device config polled c arguments acts =
     OutcomeIs outcome device config (Waited (Left c) ∷ acts) (own_call config polled c arguments (Waited (Left c) ∷ acts))
 
--- The call leaves the queue; or `IsSuspended` holds, and the call waits again at its place in the queue, and makes no link.
+-- The call leaves the queue; or `IsSuspended` holds, the call isn't a create_link, and it waits again at its old place in the queue.
 abbrev pub MayWaitAnew : Type 0 → ℕ → Bool → List Entry → List Entry → Type 0
 MayWaitAnew IsSuspended c makes old new = (new ≡ without c old)
     ⊎ (IsSuspended × (wait : Wait) × (deadline : Option ℕ) × (new ≡ map (anew c wait deadline) old) × (makes ≡ false))
 
--- whether a suspended call resumes because it needn't wait any longer; otherwise its peer was called, or it fails
+-- whether the cause is that the suspended call got what it waits for
 abbrev pub is_able : Cause → Bool
 is_able (causes.Able wait) = true
 is_able _ = false
 
--- If a suspended call resumes because it needn't wait any longer, its measure and that of the other calls are at most the measure of the
--- queue.
+-- If the cause is that the call got what it waits for: the most steps that the call can still take, plus those that all other suspended
+-- calls can still take, are at most those of the whole queue.
 abbrev pub IsNearer : Cause → ℕ → List Entry → Type 0
 IsNearer (causes.Able wait) c old = queue_measure (without c old) + wait_measure wait ≤ queue_measure old
 IsNearer _ c old = ⊤
 
--- A call may resume for this cause. If it needn't wait any longer, it is suspended, and `HasPlaceOfLink` holds. If its peer was called, it
--- waits for that. If it fails, nothing is needed.
+-- What has to hold before a suspended call continues for this cause. For `Able`: the call is suspended, and `HasPlaceOfLink` holds. For
+-- `Dialed`: the call waits until its peer is connected. For `Failed`: nothing.
 abbrev pub MayResume : Cause → ℕ → Type 0 → List DeviceAct → Type 0
 MayResume (causes.Able wait) c HasPlaceOfLink acts = (waits c (wait_acts acts) ≡ None → ⊥) × HasPlaceOfLink
 MayResume (causes.Dialed ok) c HasPlaceOfLink acts = is_dialing c (wait_acts acts) ≡ true
@@ -147,7 +150,7 @@ GoesOnAs (causes.Failed error) outcome device config polled c arguments acts =
 
 -- ---- a step of the instrument
 
--- A step for which `IsSuch` holds is taken; or, if the flag is false, there is no such step, and nothing changes.
+-- If the flag is true, the instrument took a step for which `IsSuch` holds. If it is false, there is no such step, and nothing changed.
 abbrev pub InstrumentSteps : (List InstrumentAct → List InstrumentAct → Type 0) → Bool → Config → List DeviceAct → Device → Device → Type 0
 InstrumentSteps IsSuch true config acts old new = (adds : List InstrumentAct)
     × IsSuch (instrument_acts acts) (adds ++ instrument_acts acts) × IsDevice new config (map Applied adds ++ acts)

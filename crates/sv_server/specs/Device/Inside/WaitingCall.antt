@@ -3,7 +3,8 @@ use Rattle.std.specs.Prelude.{◌≡◌, ◌+◌, ◌<◌, ◌≤◌, List, Some
 use Rattle.sv_links.specs.declared.waiting.Entry.{Entry}
 use Rattle.sv_links.specs.Queue.{entry_of, without, wait_measure, queue_measure}
 
--- The call is in the queue, for a connection below 16. Its measure and that of the other calls are at most the measure of the queue.
+-- The entry is in the queue, and its connection's number is below 16. The most steps that the entry's call can still take, plus those that
+-- all other suspended calls can still take, are at most those of the whole queue.
 abbrev pub IsKept : Entry → List Entry → Type 0
 IsKept entry entries = (entry.conn < 16) × (entry_of entry.conn entries ≡ Some entry)
     × (queue_measure (without entry.conn entries) + wait_measure entry.wait ≤ queue_measure entries)

@@ -1,4 +1,4 @@
--- How the lines of ports are written, one after the other.
+-- How the lines of all ports are written, one line after the other.
 use Rattle.std.specs.Prelude.{◌≡◌, ℕ, List, [], ◌∷◌, ◌++◌, length, Result, Ok, Err, ⊤}
 use Rattle.sv_history.specs.declared.event.Config.{Config}
 use Rattle.sv_history.specs.declared.event.Port.{Port}
@@ -15,12 +15,12 @@ use Rattle.sv_server.specs.Server.State.{State, Represents}
 use Rattle.sv_history.specs.Print.{ports, port_line, lines_of, with_took, with_tooks}
 use Rattle.sv_server.specs.Replay.TakenByWriter.{IsFront}
 
--- The server stands for this history, with this log and this log of the interrupt channels.
+-- The server stands for this history. `log` is the history's log, and `channel_log` is the log of the interrupt channels.
 abbrev pub StandsBy : State → Config → List PlainEvent → List ChannelAct → List Act → Type 0
 StandsBy state config history channel_log log =
     IsLogOf config history log × Represents state config log × IsSettled config log × HearsOf (device_acts log) channel_log
 
--- the log after the peer took these bytes from a port
+-- two logs after the peer took these bytes from a port: the log, and the log of the interrupt channels
 abbrev pub log_with_took : Port → List ℕ → List Act → List Act
 log_with_took port [] log = log
 log_with_took (Conn c) (byte ∷ bytes) log = On c (BytesTaken (length (byte ∷ bytes))) ∷ log
@@ -31,8 +31,8 @@ told_with_took port [] channel_log = channel_log
 told_with_took (Conn c) (byte ∷ bytes) channel_log = channel_log
 told_with_took (Intr c) (byte ∷ bytes) channel_log = ChannelTaken c (length (byte ∷ bytes)) ∷ channel_log
 
--- The line of a port was written, and then the peer took the bytes that it shows. Or the writer failed: a prefix of the line was written,
--- and nothing was taken.
+-- The line of a port was written, and then the peer took the bytes that the line shows. Or the writer failed: a prefix of the line was
+-- written, and the peer took nothing.
 abbrev pub ShowsPort : Port → Config → List PlainEvent → List ChannelAct → List Act → Result ⊤ WriteFault → State → List ℕ → Type 0
 ShowsPort port config history channel_log log (Ok all) new text = let bytes = waiting_on channel_log port log in
     (text ≡ port_line port bytes)
@@ -40,8 +40,8 @@ ShowsPort port config history channel_log log (Ok all) new text = let bytes = wa
 ShowsPort port config history channel_log log (Err fault) new text =
     IsFront text (port_line port (waiting_on channel_log port log)) × StandsBy new config history channel_log log
 
--- All lines were written, and the bytes that they show were taken. Or the writer failed: the lines of some first ports were written and
--- their bytes were taken, and a prefix of the other lines was written.
+-- All lines were written, and the peers took the bytes that the lines show. Or the writer failed: the lines of the first few ports were
+-- written, and the peers of these ports took the bytes; then a prefix of the remaining lines was written, and the other peers took nothing.
 abbrev pub ShowsAll : Config → List PlainEvent → List ChannelAct → List Act → Result ⊤ WriteFault → State → List ℕ → Type 0
 ShowsAll config history channel_log log (Ok all) new text = (text ≡ lines_of channel_log ports log) × (after : List ChannelAct)
     × (now : List Act)

@@ -1,4 +1,4 @@
--- What a private function that executes an event leaves.
+-- In which state a private function leaves the server after it executed an event.
 use Rattle.std.specs.Prelude.{◌≡◌, ℕ, ℤ, true, Bool, false, List, [], ◌∷◌, ◌++◌, Some, None, Result, Ok, Err, Option, ⊤}
 use Rattle.sv_errors.specs.Limits.{is_channel}
 use Rattle.sv_links.specs.declared.waiting.Entry.{Entry}
@@ -30,12 +30,13 @@ use Rattle.sv_server.specs.Device.Inside.Outcome.{MayWait}
 use Rattle.sv_server.specs.Server.State.{State, Represents}
 use Rattle.sv_server.specs.Server.Inside.Ending.{Concludes}
 
--- This is the refusal of an event; `None` if the event isn't refused.
+-- `what` is the refusal of the event; `None` if the event isn't refused.
 abbrev pub IsRefusal : Config → PlainEvent → List Act → Option Refused → Type 0
 IsRefusal config event log what = (channel_log : List ChannelAct) → HearsOf (device_acts log) channel_log
     → refusal config channel_log event log ≡ what
 
--- An event adds its own acts; or memory that it needs was refused; or the event is refused.
+-- Either the event adds its own acts to the log, without those of the steps that follow it. Or the event is refused. Or memory that the
+-- event needs was refused.
 abbrev pub Acts : Config → PlainEvent → List Act → Result Did Refused → State → Type 0
 Acts config event log (Ok what) new = IsRefusal config event log None × (what ≡ did event log)
     × ((polled : ℕ) → IsPolled polled (device_acts log) → Represents new config (own_acts config polled event log ++ log))
@@ -43,14 +44,15 @@ Acts config event log (Err NoMemory) new = IsRefusal config event log None
     × ((polled : ℕ) → IsPolled polled (device_acts log) → wants_memory (device_acts (own_acts config polled event log)) ≡ true)
 Acts config event log (Err refused) new = IsRefusal config event log (Some refused)
 
--- whether an event is an Open, Bytes or a Took, which make no step due
+-- whether an event is an Open, Bytes or a Took; after such an event no step is due
 abbrev pub is_quiet : PlainEvent → Bool
 is_quiet (Open c role) = true
 is_quiet (Bytes c piece) = true
 is_quiet (Took port count) = true
 is_quiet _ = false
 
--- A Turn takes the next call of an open connection, if there is one, and `IsSo` holds of its effect.
+-- The next call of an open connection is `call`, which asks for `request`. `IsSo` holds of the effect that a Turn has when it takes this
+-- call.
 abbrev pub TakesCall : Config → ℕ → List Act → List ℕ → Request → (Effect → Type 0) → Type 0
 TakesCall config c log call request IsSo = (next_call (of c log) ≡ Some call) × (next_request (of c log) ≡ Some request)
     × ((polled : ℕ) → IsPolled polled (device_acts log) → IsSo (request_effect config polled c request (device_acts log)))
@@ -66,37 +68,37 @@ Turns config c log old (Err NoMemory) connection device = (turn_refusal (of c lo
     × TakesCall config c log call request (λ effect. wants_memory effect.adds ≡ true)
 Turns config c log old (Err refused) connection device = turn_refusal (of c log) ≡ Some refused
 
--- A Refuse of an open connection takes and answers its next call, or is refused.
+-- A Refuse of an open connection either takes the next call and answers it, or is refused.
 abbrev pub Refuses : List ConnAct → Result ⊤ Refused → Connection → Type 0
 Refuses acts (Ok done) connection = (refuse_refusal acts ≡ None) × (bytes : List ℕ) × (call : CoreCall)
     × (next_call acts ≡ Some bytes) × (refusable acts ≡ Some call)
     × IsConnection connection (Replied (refused_reply call) ∷ CallTaken bytes ∷ acts)
 Refuses acts (Err refused) connection = refuse_refusal acts ≡ Some refused
 
--- The input is possible, or this is its refusal.
+-- The Input isn't refused. Or it is refused, and the result is the refusal.
 abbrev pub IsInput : ℕ → ℤ → Result Did Refused → Type 0
 IsInput channel microvolts (Ok what) = (what ≡ DidSo) × (is_channel channel ≡ true) × (is_beyond microvolts ≡ false)
 IsInput channel microvolts (Err refused) = Some refused ≡ input_refusal channel microvolts
 
--- A step for which `IsStep` holds is taken; or, if the flag is false, there is no such step, and nothing changes.
+-- If the flag is true, a step was taken for which `IsStep` holds. If it is false, there is no such step, and nothing changed.
 abbrev pub TakesStep : (Config → List Act → List Act → Type 0) → Bool → Config → List Act → State → State → Type 0
 TakesStep IsStep true config log old new = (next : List Act) × IsStep config log next × Represents new config next
 TakesStep IsStep false config log old new = ((next : List Act) → IsStep config log next → ⊥) × (new ≡ old)
 
--- The step that is due is taken; or none is due, and the log is unchanged.
+-- The step that is due is taken. Or no step is due, and the log is unchanged.
 abbrev pub Steps : Stepped → Config → List Act → State → Type 0
 Steps Nothing config log new = IsSettled config log × Represents new config log
 Steps Instrument config log new = (next : List Act) × IsNext config log next × Represents new config next
 Steps Call config log new = (next : List Act) × IsNext config log next × Represents new config next
 
--- Whatever log the steps from `mid` settle to, the steps from `log` settle to it, too.
+-- Every log in which the steps from `mid` can end is also a log in which the steps from `log` can end.
 abbrev pub Reaches : Config → List Act → List Act → Type 0
 Reaches config log mid = (n : ℕ) (new : List Act) → SettlesIn n config mid new → (m : ℕ) × SettlesIn m config log new
 
--- Some steps that are due are taken, up to a log for which `IsEnd` holds.
+-- Some of the steps that are due were taken. They lead to a log for which `IsEnd` holds.
 abbrev pub GoesTo : Config → List Act → (List Act → Type 0) → State → Type 0
 GoesTo config log IsEnd new = (mid : List Act) × Reaches config log mid × IsEnd mid × Represents new config mid
 
--- All steps that were due are taken.
+-- All steps that are due were taken.
 abbrev pub Settled : Config → List Act → State → Type 0
 Settled config log new = (last : List Act) × Settles config log last × Represents new config last

@@ -1,4 +1,4 @@
--- How a record that was taken, or a call that was suspended, changes its connection and the device.
+-- How a connection and the device change when a record that was taken is finished, or when a suspended call continues.
 use Rattle.std.specs.Prelude.{◌≡◌, ◌⊎◌, ℕ, ◌<◌, List, [], ◌∷◌, ◌++◌, map, Bool, true, false, Option, None, Result, ⊤}
 use Rattle.sv_vxi.specs.Arguments.{is_create_link}
 use Rattle.sv_vxi.specs.Results.{plain_result, data_of}
@@ -33,7 +33,8 @@ use Rattle.sv_server.specs.Device.Inside.Outcome.{IsBrief, MayWait, MayWaitAnew,
 
 -- ---- how a call or a record ends
 
--- A call with this outcome in the code has this effect. If it reads the response, this is still to be read.
+-- A call for which the code returns this `Outcome` has this effect. But if the call reads the response, the device still has the whole
+-- response.
 abbrev pub CallEndsAs : Outcome → ℕ → Device → Config → List DeviceAct → Effect → Type 0
 CallEndsAs (outcomes.Result given) xid device config acts effect = (effect.own ≡ Replied (answer_bytes xid (Told given)) ∷ [])
     × IsDevice device config (effect.adds ++ acts)
@@ -41,7 +42,7 @@ CallEndsAs (outcomes.Reads most term) xid device config acts effect =
     (effect ≡ call_effect xid (reads (response (exchange_acts acts)) most term)) × IsDevice device config acts
 CallEndsAs outcomes.Suspended xid device config acts effect = (effect.own ≡ []) × IsDevice device config (effect.adds ++ acts)
 
--- A record that the code executed, with this outcome, has this effect.
+-- A record for which the code returns this `Executed` has this effect.
 abbrev pub EndsAs : Executed → ℕ → Device → Config → List DeviceAct → Effect → Type 0
 EndsAs executions.NoCall xid device config acts effect = (effect.own ≡ Faulted ∷ []) × IsDevice device config (effect.adds ++ acts)
 EndsAs (executions.Answered answer) xid device config acts effect = (effect.own ≡ Replied (answer_bytes xid answer) ∷ [])
@@ -50,7 +51,7 @@ EndsAs (executions.Aborts aborted) xid device config acts effect =
     (effect.own ≡ Replied (answer_bytes xid (Told aborted.result)) ∷ []) × IsDevice device config (effect.adds ++ acts)
 EndsAs (executions.Call outcome) xid device config acts effect = CallEndsAs outcome xid device config acts effect
 
--- The answer to the record has room in a reply.
+-- The answer to the record fits in one reply.
 abbrev pub IsBriefly : Executed → Type 0
 IsBriefly executions.NoCall = ⊤
 IsBriefly (executions.Answered answer) = IsShort answer
@@ -62,7 +63,7 @@ abbrev pub aborted_by : Executed → Option ℕ
 aborted_by (executions.Aborts aborted) = aborted.conn
 aborted_by _ = None
 
--- The call that was taken has this effect: it adds acts of the connection and acts of the device.
+-- The call that was taken had this effect: the effect's acts were added to the acts of the connection and of the device.
 abbrev pub Concludes : Effect → Config → List ConnAct → List DeviceAct → Connection → Device → Type 0
 Concludes effect config acts before connection device =
     IsConnection connection (effect.own ++ acts) × IsDevice device config (effect.adds ++ before)
@@ -78,7 +79,7 @@ asks_for_link _ = false
 abbrev pub IsSuspended : Executed → Request → Type 0
 IsSuspended executed request = (executed ≡ executions.Call outcomes.Suspended) × (call : CoreCall) × (request ≡ CoreRequest call)
 
--- What a record asks for is executed, or memory that it needs was refused.
+-- The code executes what a record asks for. Or memory that the execution needs was refused.
 abbrev pub Executes : Request → {E : Type 0} → Result Executed E → ℕ → Device → Device → Type 0
 Executes request result c old new =
     Does (λ config polled acts executed. EndsAs executed (xid_of request) new config acts (request_effect config polled c request acts)
@@ -93,13 +94,13 @@ abbrev pub HasPlaceOfLink : Option CoreCall → ℕ → Device → List DeviceAc
 HasPlaceOfLink call c kept acts = creates_link call ≡ true
     → (creations (without c kept.waiting) < creations kept.waiting) × (is_locked_out (holder (link_acts acts)) None ≡ false)
 
--- The effect of a suspended call that resumes for this cause.
+-- the effect of a suspended call that continues for this cause
 abbrev pub taken_up : Cause → Config → ℕ → ℕ → Option CoreCall → List DeviceAct → Effect
 taken_up (causes.Able wait) config polled c call acts = resume_effect config polled c wait call acts
 taken_up (causes.Dialed ok) config polled c call acts = connect_effect c ok call
 taken_up (causes.Failed error) config polled c call acts = failure_effect error c call
 
--- A suspended call that resumed has this effect: it ends, or waits again.
+-- A suspended call that resumed has had this effect. Either the call left the queue, or it waits again.
 abbrev pub ConcludesResumed : Effect → ℕ → Option CoreCall → Config → List ConnAct → List DeviceAct → List Entry → Connection → Device
     → Type 0
 ConcludesResumed effect c call config acts before old connection device =
