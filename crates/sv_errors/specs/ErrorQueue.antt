@@ -28,7 +28,7 @@ admit before place = if nat_lt (length (left before)) most then record before { 
 abbrev pub take_one : Counted → Counted
 take_one before = if is_some (slice_get (left before) 0) then record before { taken = before.taken + 1 } else before
 
--- after these acts: which reports since the last clearing the queue had room for, and how many of their entries were taken
+-- after these acts: the reports since the last clearing that found room in the queue, and how many of their entries were taken
 abbrev pub count_acts : List QueueAct → Counted
 count_acts [] = record { admitted = []; taken = 0 }
 count_acts (Report code ∷ acts) = admit (count_acts acts) (length acts + 1)

@@ -24,7 +24,7 @@ pub struct Touched {
 
 impl<A: Allocator> Scanner<A> {
     /// Which condition words of the status registers the newest act that took effect may have
-    /// changed. A refused act takes no effect, and changes no word.
+    /// changed. A refused act has no effect and changes no word.
     pub fn touched(&self) -> Touched
         ensures value { result ≡ self.now.touched }
         ensures stands { (acts : List ScanAct) → StandsFor self.now acts

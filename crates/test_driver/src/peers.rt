@@ -102,7 +102,7 @@ impl Peers {
         Peers { peers, fails, left }
     }
 
-    /// Whether the call that fails hasn't been made yet.
+    /// Whether the call that is to fail hasn't been made yet.
     pub(crate) fn is_whole(&self) -> bool {
         self.left > 0
     }

@@ -1,4 +1,5 @@
-//! Answering lines, with the parts on which their acts are performed.
+//! Answers the lines of a test: performs a line's act on the part of the instrument that it names,
+//! and prints the result.
 
 use crate::codes::put_code;
 use crate::fields::{put_call, put_read, put_written};
