@@ -32,7 +32,7 @@ pub enum Action {
     Wait,
     /// `*OPC?`: wait for the end of the measurement, and answer `1` (IEEE 488.2, 10.19).
     WaitAndTell,
-    /// `*TRG`: trigger the scanner, as the controller's trigger (IEEE 488.2, 10.37).
+    /// `*TRG`: trigger the scanner, as device_trigger does (IEEE 488.2, 10.37).
     Trigger,
     /// `STATus:PRESet`: preset the registers' filters and enables.
     Preset,

@@ -1,4 +1,5 @@
--- What happens to the instrument besides program messages: triggers, time, and immediate triggers.
+-- What happens to the instrument besides program messages: a trigger comes (from the controller or at the trigger input), time passes, or
+-- the scanner triggers itself (an immediate trigger).
 use Rattle.std.specs.Prelude.{◌≡◌, List, [], ◌∷◌, Option, Some, None}
 use Rattle.sv_errors.specs.declared.code.Code.{Code}
 use Rattle.sv_errors.specs.declared.source.Source.TheVariants.{Immediate, Bus, External}

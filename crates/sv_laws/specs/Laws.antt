@@ -35,9 +35,9 @@ abbrev pub NoneLate : Type 0
 NoneLate = (config : Config) (history : List PlainEvent) (log : List Act) (c : ℕ) → IsLogOf config history log
     → (IsExpired (config.clock + ticks (device_acts log)) (wait_acts (device_acts log)) c → ⊥) × (CanResume (device_acts log) c → ⊥)
 
--- The answers of the server's queries allow this event: an Open of a free number; Bytes, if there is room and they fit it; a Took of at
--- most the bytes that wait, if any wait; a Close of an open port; a Dialed while a create_intr_chan waits for it; an Input that isn't
--- refused; or the external trigger.
+-- The server's queries (its methods `is_open`, `room`, `waiting` and `dial`) allow this event by their answers: an Open of a free number;
+-- Bytes, if there is room and they fit it; a Took of at most the bytes that wait, if any wait; a Close of an open port; a Dialed while a
+-- create_intr_chan waits for it. Or it is an Input that isn't refused, or the external trigger.
 abbrev pub Suits : PlainEvent → List ChannelAct → List Act → Type 0
 Suits (Open c role) channel_log log = (c < 16) × (is_open (of c log) ≡ false)
 Suits (Bytes c piece) channel_log log = (c < 16) × (0 < room (of c log)) × (length piece ≤ room (of c log))

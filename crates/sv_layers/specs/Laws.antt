@@ -35,7 +35,7 @@ SameWords = (name : RegisterName) (log : List Act) → (register.condition (regi
 abbrev pub SameEnable : Type 0
 SameEnable = (log : List Act) → standard.enable (layer_logs log).standard ≡ standard_enable log
 
--- A bit of an event register is set by the register's own log exactly if it is set by the instrument's log.
+-- According to a register's own log, a bit of its event register is set exactly if it is set according to the instrument's log.
 abbrev pub SameEvents : Type 0
 SameEvents = (name : RegisterName) (k : ℕ) (log : List Act)
     → register.EventStands k (register_acts name (layer_logs log)) ↔ EventStands name k log

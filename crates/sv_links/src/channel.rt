@@ -164,8 +164,8 @@ impl<A: Allocator> Channel<A> {
     }
 
     /// Appends a service request (device_intr_srq) with this handle to the calls that wait for the
-    /// peer. Nothing is appended if [`MAX_CALLS`] calls wait already, or if the numbers for calls are
-    /// used up.
+    /// peer. Nothing is appended if [`MAX_CALLS`] calls wait already, or if the numbers for calls
+    /// are used up.
     fn request(&mut self, peer: Peer, handle: &[u8])
         requires open { self.old.stage ≡ Stage.Open peer }
         requires short { length handle.now ≤ max_handle }

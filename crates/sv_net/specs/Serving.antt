@@ -36,7 +36,7 @@ handed_in [] = []
 handed_in (MadeSweep ∷ doings) = ticks_between (swept_at doings) (time_of doings) ∷ handed_in doings
 handed_in (_ ∷ doings) = handed_in doings
 
--- whether the loop's last action was a wait, so that its reports weren't passed to the sockets yet; or there was no action yet
+-- whether the loop's last action was a wait (the reports of this wait weren't passed to the sockets yet), or there was no action yet
 abbrev pub is_fresh : {W : Type 0} → List (Doing W) → Bool
 is_fresh = elim [ MadeSweep ∷ doings ↦ false | Told wire ∷ doings ↦ false | _ ↦ true ]
 

@@ -106,8 +106,9 @@ fn wait<M: Machine<S>, S: Stream>(
 }
 
 /// Waits until the next sweep is to begin, and returns the time then. `left` sweeps remain. If the
-/// next sweep has something to do, it begins after a single poll. If polling is worthwhile and this
-/// poll finds a report, there is no need to check whether the sweep has something to do.
+/// next sweep has something to do, it begins after a single poll. While polling is worthwhile, this
+/// poll is made first; if it finds a report, the sweep begins without a check whether it has
+/// something to do.
 fn pause<M: Machine<S>, N: Network + Drop, A: Allocator, S: Stream>(
     machine: &mut M,
     driver: &Driver<Net<N, A, S>, A>,

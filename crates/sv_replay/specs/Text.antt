@@ -33,7 +33,7 @@ IsBehind before rest free (Ok (Some count)) = (count ≤ length free) × Consume
 IsBehind before rest free (Ok None) = Consumes before rest [] × IsAtEnd rest
 IsBehind before rest free (Err fault) = Consumes before rest []
 
--- the stored text and the number of reads, computed from the fields of the buffer
+-- the stored text and the number of reads, computed from the fields of a `Text`
 abbrev pub held_of : List ℕ → ℕ → ℕ → ℕ → Held
 held_of buffer start end reads = record { text = slice_range buffer start end; reads = reads }
 
@@ -41,7 +41,7 @@ held_of buffer start end reads = record { text = slice_range buffer start end; r
 abbrev pub line_size : List ℕ → ℕ
 line_size text = position_or_len (λ b. b == 10) text
 
--- The fields of the buffer fit together: the positions are in order, the buffer has its full size, and the text has no new line before
+-- The fields of a `Text` fit together: the positions are in order, the buffer has its full size, and the text has no new line before
 -- `clean`.
 pub record IsKept (buffer : List ℕ) (start clean end reads : ℕ) : Type 0 where
   pub order : (start ≤ clean) × (clean ≤ end) × (end ≤ 131072)

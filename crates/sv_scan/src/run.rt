@@ -14,7 +14,7 @@ use std::marker::Model;
 pub(crate) struct Run {
     /// The channels that each scan reads.
     list: ScanList,
-    /// How many scans the measurement has.
+    /// How many scans the measurement has in all.
     scans: u8,
     triggers: u8,
 }

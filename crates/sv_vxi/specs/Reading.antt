@@ -62,7 +62,7 @@ arguments_at proc =
     else (if proc == 25 then read (unsigned ∷ unsigned ∷ unsigned ∷ unsigned ∷ unsigned ∷ []) CreateIntrChan
     else read [] DestroyIntrChan))))))))))))))
 
--- a call of the code, as plain data
+-- a call on a link, turned from the code's type (`Called`) into plain data
 abbrev pub plain_call : Called → LinkCall
 plain_call calls.DeviceAbort = DeviceAbort
 plain_call (calls.DeviceWrite io_timeout lock_timeout flags bytes) = DeviceWrite io_timeout lock_timeout flags.0 bytes.now

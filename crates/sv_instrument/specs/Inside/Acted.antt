@@ -41,8 +41,8 @@ pub record BeginsOne (log new : List Act) : Type 0 where
   pub message : message (exchange_acts new) ≡ message (exchange_acts log)
   pub begun : units_begun new ≡ units_done (current (exchange_acts log)) + 1
 
--- A unit began, and led from `log` to a log for which `Makes` holds. The counter has the number of requests for service that were raised
--- since the log `start`. If the unit has to wait for the end of the measurement, `awaited` is what it will answer; else `None`.
+-- A unit began, and led from `log` to a log for which `Makes` holds. The counter in `layers` has the number of requests for service that
+-- were raised since the log `start`. If the unit has to wait for the end of the measurement, `awaited` is what it will answer; else `None`.
 pub record Behaves (Makes : List Act → Type 0) (start : List Act) (layers : LayerState) (awaited : Option Awaited) (log : List Act)
     : Type 0 where
   pub new : List Act

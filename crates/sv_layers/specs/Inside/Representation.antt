@@ -58,7 +58,8 @@ abbrev pub own_status : Act → List StatusAct → List StatusAct
 own_status Polled acts = Poll ∷ acts
 own_status _ acts = acts
 
--- These are the acts of the status byte: after each act of the instrument the status byte gets the summary bits and the enable.
+-- These are the acts of the status byte for a log of the instrument. Each act of the instrument updates the summary bits and the service
+-- request enable in the status byte; an act that polls the status byte polls it before this update.
 abbrev pub IsStatus : List Act → List StatusAct → Type 0
 IsStatus [] acts = acts ≡ []
 IsStatus (act ∷ log) acts = (word : ℕ) × (before : List StatusAct) × IsSummary word (layer_logs (act ∷ log)) × IsStatus log before

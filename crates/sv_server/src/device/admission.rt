@@ -40,7 +40,7 @@ pub enum Stop {
     Awaits {
         /// What the call waits for.
         wait: Wait,
-        /// How long the call waits at most, in milliseconds.
+        /// How long the call waits at most, in milliseconds; `None` if it waits without a deadline.
         timeout: Option<u32>,
     },
 }

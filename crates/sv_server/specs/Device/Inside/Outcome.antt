@@ -103,8 +103,7 @@ AdmitsAt stop result c arguments old new = Begins (λ acts. stop_of c arguments 
 
 -- ---- a call that was suspended
 
--- The suspended call may go on as far as its link is concerned: if it is create_link, a place is reserved for its link, and the lock is now
--- free.
+-- If the suspended call is create_link, a place is reserved for its link, and the lock is now free.
 abbrev pub MayMake : Arguments → ℕ → Device → List DeviceAct → Type 0
 MayMake (CreateLink client_id lock_device lock_timeout device) c kept acts =
     (creations (without c kept.waiting) < creations kept.waiting) × (is_locked_out (holder (link_acts acts)) None ≡ false)
