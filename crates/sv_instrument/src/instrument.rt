@@ -14,14 +14,13 @@ use sv_layers::{Awaited, Layers};
 pub struct Instrument<A: Allocator = Global> {
     /// The table in which the command of a header is looked up.
     pub(crate) table: Table<A>,
-    /// The path before the next header.
+    /// The header path from which the next unit's header is looked up (SCPI's compound headers).
     pub(crate) path: Path,
     /// Message exchange, error queue, scanner and status registers.
     pub(crate) layers: Layers<A>,
-    /// What the unit that waits for the end of the measurement (the held unit) will answer; `None`
-    /// if no unit is held.
+    /// What the held unit will answer when the measurement ends; `None` if no unit is held.
     pub(crate) held: Option<Awaited>,
-    /// The buffer for the answer of a unit, which is at most as long as a response.
+    /// The buffer into which the answer of a unit is written. It has room for the longest response.
     pub(crate) answer: Vec<u8, A>,
 }
 

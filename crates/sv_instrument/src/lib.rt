@@ -1,6 +1,6 @@
-//! The instrument: every command over all its layers (IEEE 488.2; SCPI-1999; VXI-11).
+//! The instrument: executes every command by changing its layers (IEEE 488.2; SCPI-1999; VXI-11).
 //!
-//! The driver calls a function for each thing that happens to the instrument. Then it calls
+//! The caller calls a function for each thing that happens to the instrument. Then the caller calls
 //! [`Instrument::fire`] and [`Instrument::step`], in this order, until neither of them does
 //! anything. Only [`Instrument::new`] allocates: the memory of all layers and of one answer. Each
 //! function that changes something returns how many requests for service it raised.

@@ -18,8 +18,8 @@ use sv_header::Path;
 use sv_layers::Change;
 
 impl<A: Allocator> Instrument<A> {
-    /// Whether a write is accepted now. No write is accepted after the end of a message until the
-    /// message is finished, when its units are done and its answers became the response.
+    /// Whether a write is accepted now. After the end of a message, no write is accepted until the
+    /// message is finished: its units are done, and its answers became the response.
     pub fn can_write(&self) -> bool
         ensures value { result ≡ is_open self.now.layers.exchange }
         ensures answer { (log : List Act) → StandsFor self.now log
@@ -30,8 +30,7 @@ impl<A: Allocator> Instrument<A> {
 
     /// Accepts the bytes of a write, with END at the last byte or without END (VXI-11,
     /// device_write). The caller must know that a write is accepted now, and pass at most
-    /// [`MAX_MESSAGE`] bytes. Returns how many requests for service were raised, like every
-    /// function of this file that changes the instrument.
+    /// [`MAX_MESSAGE`] bytes. Returns how many requests for service were raised.
     pub fn write(&mut self, bytes: &[u8], ended: bool) -> u8
         requires open { IsTrue (is_open self.old.layers.exchange) }
         requires short { length bytes.now ≤ max_message }
@@ -51,8 +50,8 @@ impl<A: Allocator> Instrument<A> {
         self.layers.exchange().readable()
     }
 
-    /// Whether a read can be answered now: there is a response; or no response will come, so that
-    /// the read fails at once.
+    /// Whether a read can be answered now. It can if there is a response, or if no response will
+    /// come: then the read fails at once.
     pub fn can_read(&self) -> bool
         ensures value { result ≡ (is_something (shown_by self.now.layers.exchange)
             || is_open self.now.layers.exchange) }
@@ -61,8 +60,8 @@ impl<A: Allocator> Instrument<A> {
         self.layers.exchange().readable() || self.can_write()
     }
 
-    /// Returns the next bytes of the response: at most `most`, and up to the first termination
-    /// character (VXI-11, device_read). Returns no bytes if there is no response.
+    /// Returns the next bytes of the response: at most `most`, and none after the first termination
+    /// character `term` (VXI-11, device_read). Returns no bytes if there is no response.
     pub fn peek(&self, most: u32, term: Option<u8>) -> Read<'_>
         ensures value { IsReadOf result (shown_by self.now.layers.exchange) most term }
         ensures answer { (log : List Act) → StandsFor self.now log
@@ -83,8 +82,8 @@ impl<A: Allocator> Instrument<A> {
     }
 
     /// Handles a read to which no response will come: drops the text of the unfinished message, and
-    /// reports -420 (IEEE 488.2, 6.3.2.2). It must not be called from the end of a message until
-    /// the message is finished. Returns how many requests for service were raised.
+    /// reports -420 (IEEE 488.2, 6.3.2.2). This function must not be called while a message that
+    /// has ended isn't finished. Returns how many requests for service were raised.
     pub fn unterminated(&mut self) -> u8
         requires { IsTrue (is_open self.old.layers.exchange) }
         ensures { (log : List Act) → StandsFor self.old log → Ran self.new result log

@@ -1,4 +1,4 @@
-//! Performing an order, which is a unit that was read.
+//! Performing an order: what a unit tells the instrument to do.
 
 ghost use Rattle.std.specs.Prelude.{◌≡◌, ◌≤◌, List, vec_capacity};
 ghost use Rattle.sv_exchange.specs.Contents.{IsUnitDue, next_of};
@@ -16,8 +16,9 @@ use sv_header::Action;
 use sv_layers::{Awaited, Change, Layers};
 use sv_scan::ScanAct;
 
-/// Performs the order of the unit that is due. `answer` is the buffer for its answer. If the unit
-/// has to wait for the end of the measurement, returns what it will answer then; else `None`.
+/// Performs the order of the unit that is due. `answer` is the buffer for the unit's answer. If the
+/// unit has to wait for the end of the measurement, returns what the unit will answer then; else
+/// `None`.
 pub(crate) fn perform<A: Allocator>(
     layers: &mut Layers<A>,
     answer: &mut Vec<u8, A>,

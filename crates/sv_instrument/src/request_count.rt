@@ -9,8 +9,8 @@ use crate::instrument::Instrument;
 use std::alloc::Allocator;
 
 impl<A: Allocator> Instrument<A> {
-    /// Returns how many requests for service were raised since this function last returned. Each
-    /// function of the instrument that can raise a request ends with it.
+    /// Returns how many requests for service were raised since this function was last called. Each
+    /// function of the instrument that can raise a request calls this function at its end.
     pub(crate) fn take_requests(&mut self) -> u8
         ensures ran { (start log : List Act) → Runs start self.old log → IsCountable start log
             → Ran self.new result start log }

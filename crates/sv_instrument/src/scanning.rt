@@ -37,7 +37,8 @@ pub(crate) fn trigger<A: Allocator>(layers: &mut Layers<A>) -> Option<Awaited>
     }
 }
 
-/// Returns the change to apply: the scanner's act if it is allowed, else the report of the error.
+/// Returns the change to apply: the act `act` of the scanner if `allowed` is `Ok`, else the report
+/// of the error in `allowed`.
 fn unless_refused(allowed: Result<(), Code>, act: ScanAct) -> Change
     ensures { (fault : Option Code) (log : List Act) → allowed ≡ refused_by fault
         → done_of (act_of result ∷ log) ≡ unless fault (done_of (Scanned act ∷ log)) log }
@@ -97,7 +98,7 @@ fn set_list<A: Allocator>(layers: &mut Layers<A>, list: Option<ScanList>)
 }
 
 /// Aborts the measurement and begins a new one. The unit waits until the new readings are complete.
-/// Reports -214 instead, if the new measurement would wait for a trigger from the controller.
+/// But if the new measurement would wait for a trigger from the controller, reports -214 instead.
 pub(crate) fn read<A: Allocator>(layers: &mut Layers<A>) -> Option<Awaited>
     requires { IsUnitDue (next_of layers.old.exchange) }
     ensures behaves { (start log : List Act) → Counts start layers.old log

@@ -21,8 +21,8 @@ use sv_scan::State;
 
 impl<A: Allocator> Instrument<A> {
     /// Begins the next scan, if the scanner waits for a trigger and the source of triggers is
-    /// immediate. Returns how many requests for service were raised; `None` if no trigger was due
-    /// and nothing changed.
+    /// immediate. Returns how many requests for service were raised. Returns `None` if no immediate
+    /// trigger was due: then nothing changed.
     pub fn fire(&mut self) -> Option<u8>
         ensures fires { (log : List Act) → StandsFor self.old log
             → Takes IsFired self.new result log }
@@ -39,7 +39,7 @@ impl<A: Allocator> Instrument<A> {
     /// Takes the step of message exchange that is due: a unit that waited for the end of the
     /// measurement ends; the next unit starts; an error is reported for a message that is too long;
     /// or a message that has ended is finished (IEEE 488.2, 6.1.4 and 6.3). Returns how many
-    /// requests for service were raised; `None` if no step was due and nothing changed.
+    /// requests for service were raised. Returns `None` if no step was due: then nothing changed.
     pub fn step(&mut self) -> Option<u8>
         ensures steps { (log : List Act) → StandsFor self.old log
             → Takes IsStep self.new result log }
@@ -54,7 +54,7 @@ impl<A: Allocator> Instrument<A> {
         }
     }
 
-    /// Takes the step that is due. Returns whether a step was due.
+    /// Takes the step of message exchange that is due. Returns whether a step was due.
     fn take_step(&mut self) -> bool
         ensures { Steps result self.old self.new }
     {
@@ -81,8 +81,8 @@ impl<A: Allocator> Instrument<A> {
         }
     }
 
-    /// Takes the step that is due. No unit must be waiting for the end of the measurement. Returns
-    /// whether a step was due.
+    /// Takes the step of message exchange that is due. The caller must know that no unit waits for
+    /// the end of the measurement. Returns whether a step was due.
     fn next_step(&mut self) -> bool
         requires { self.old.held ≡ None }
         ensures { Steps result self.old self.new }
@@ -109,7 +109,8 @@ impl<A: Allocator> Instrument<A> {
         self.layers.apply(Change::Report(Code::InputBufferOverrun));
     }
 
-    /// Interrupts the response of the message before, and starts the unit that is due.
+    /// Drops the response to the previous message, which the new message interrupts, and starts the
+    /// unit that is due.
     fn interrupt(&mut self)
         requires free { self.old.held ≡ None }
         requires due { next_of self.old.layers.exchange ≡ InterruptDue }

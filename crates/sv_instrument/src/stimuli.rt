@@ -17,8 +17,7 @@ use sv_scan::{ScanAct, State};
 
 impl<A: Allocator> Instrument<A> {
     /// Sets the input of a channel to this voltage, in microvolts. Nothing changes if there is no
-    /// such channel. Returns how many requests for service were raised, like each function below
-    /// that changes the instrument.
+    /// such channel. Returns how many requests for service were raised.
     pub fn input(&mut self, channel: u8, microvolts: i64) -> u8
         ensures { (log : List Act) → StandsFor self.old log
             → Ran self.new result log (Scanned (Input channel microvolts) ∷ log) }
@@ -29,7 +28,7 @@ impl<A: Allocator> Instrument<A> {
     }
 
     /// Handles a trigger at the trigger input: the next scan begins if the scanner waits for an
-    /// external trigger; else nothing happens.
+    /// external trigger; else nothing happens. Returns how many requests for service were raised.
     pub fn external(&mut self) -> u8
         ensures { (log : List Act) → StandsFor self.old log
             → Ran self.new result log (external_acts log ++ log) }
@@ -41,7 +40,8 @@ impl<A: Allocator> Instrument<A> {
     }
 
     /// Handles a trigger from the controller: the next scan begins if the scanner waits for a
-    /// trigger from the controller; else -211 is reported (VXI-11, device_trigger).
+    /// trigger from the controller; else -211 is reported (VXI-11, device_trigger). Returns how
+    /// many requests for service were raised.
     pub fn trigger(&mut self) -> u8
         ensures { (log : List Act) → StandsFor self.old log
             → Ran self.new result log (trigger_acts log ++ log) }
@@ -53,7 +53,8 @@ impl<A: Allocator> Instrument<A> {
         self.take_requests()
     }
 
-    /// Lets a millisecond pass: if a scan is under way, its next channel is read.
+    /// Lets a millisecond pass: if a scan is under way, its next channel is read. Returns how many
+    /// requests for service were raised.
     pub fn tick(&mut self) -> u8
         ensures { (log : List Act) → StandsFor self.old log
             → Ran self.new result log (tick_acts log ++ log) }
@@ -68,7 +69,7 @@ impl<A: Allocator> Instrument<A> {
         }
     }
 
-    /// Whether a scan is under way, so that a channel is read when the next millisecond passes.
+    /// Whether a scan is under way. If so, a channel is read when the next millisecond passes.
     pub fn is_scanning(&self) -> bool
         ensures { (log : List Act) → StandsFor self.now log
             → result ≡ scans (state (effective_acts log)) }

@@ -1,4 +1,4 @@
-//! How a unit ends, waits for the end of the measurement (it is held), or answers.
+//! How a unit ends, answers, or is held (waits for the end of the measurement).
 
 ghost use Rattle.std.specs.Prelude.{◌≡◌, ◌≤◌, List, ◌∷◌, None, IsTrue};
 ghost use Rattle.sv_exchange.specs.Contents.{IsUnitDue, next_of, may_respond, exchange_measure};
@@ -46,8 +46,8 @@ pub(crate) fn hold<A: Allocator>(layers: &mut Layers<A>, awaited: Awaited) -> Op
     Some(awaited)
 }
 
-/// Adds an answer to the response, if it fits; else drops all answers of the message, and reports
-/// -430.
+/// Adds an answer to the answers of the message, if there is room for it; else drops all answers of
+/// the message, and reports -430.
 fn respond<A: Allocator>(layers: &mut Layers<A>, text: &[u8])
     requires { IsTrue (may_respond layers.old.exchange) }
     ensures counts { (start log : List Act) → Counts start layers.old log

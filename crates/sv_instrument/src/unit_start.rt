@@ -17,8 +17,8 @@ use sv_errors::Code;
 use sv_header::{Path, Table};
 use sv_layers::{Awaited, Change, Layers};
 
-/// Starts the unit that is due: executes it, or reports its first fault. If its header names a
-/// command, the path for the next unit is updated.
+/// Starts the unit that is due: executes it, or reports the first fault in it. If the unit's header
+/// names a command, updates the header path from which the next unit's header is looked up.
 pub(crate) fn start<A: Allocator>(
     table: &Table<A>,
     path: &mut Path,

@@ -4,7 +4,7 @@ use sv_errors::Code;
 use sv_scan::ScanAct;
 use sv_status::RegisterName;
 
-/// What a unit that waits for the end of the measurement (a held unit) will answer then.
+/// What a held unit will answer when the measurement ends.
 #[derive(Clone, Copy)]
 pub enum Awaited {
     /// Nothing: `*WAI` (IEEE 488.2, 12.5.1).
@@ -20,7 +20,7 @@ pub enum Awaited {
 pub enum Change {
     /// An act of the scanner.
     Scan(ScanAct),
-    /// A unit has to wait for the end of the measurement, and will answer this then.
+    /// The unit that is due has to wait for the end of the measurement, and will answer this then.
     Hold(Awaited),
     /// An error is reported.
     Report(Code),
@@ -30,7 +30,7 @@ pub enum Change {
     ClearStatus,
     /// `STATus:PRESet`: enables and filters of all registers are preset.
     Preset,
-    /// `*OPC`: the operation complete event is requested, for the end of the measurement.
+    /// `*OPC`: the operation complete event is to be set when the measurement ends.
     AskComplete,
     /// The standard events are read, which clears them.
     ReadStandard,

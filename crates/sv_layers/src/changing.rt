@@ -1,4 +1,5 @@
-//! What a change does to its own layer, and how the registers and the status byte are updated.
+//! What a change does to the layer that it belongs to, and how the registers and the status byte
+//! are then updated.
 
 ghost use Rattle.std.specs.Prelude.{◌≡◌, List, ◌∷◌, Some, None, OnOk, OnErr, MatchResult};
 ghost use Rattle.sv_status.specs.declared.status_byte.StatusAct.{StatusAct};
@@ -23,7 +24,8 @@ use sv_scan::ScanAct;
 const DEVICE: u8 = 1 << 3;
 
 impl<A: Allocator> Layers<A> {
-    /// Applies a change to its own layer, then updates each register, then the status byte.
+    /// Applies a change to the layer that it belongs to, then updates each register, then the
+    /// status byte.
     pub fn apply(&mut self, change: Change)
         ensures applied { (log : List Act) → StandsFor self.old log
             → IsApplied self.old.requests self.new (act_of change ∷ log) }
@@ -34,7 +36,7 @@ impl<A: Allocator> Layers<A> {
         self.tell();
     }
 
-    /// Applies a change to its own layer.
+    /// Applies a change to the layer that it belongs to, without updating the registers.
     fn begin(&mut self, change: &Change)
         ensures stands { (at : LayerLogs) (status_log : List StatusAct)
             → Represents self.old at status_log

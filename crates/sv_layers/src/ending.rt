@@ -1,4 +1,4 @@
-//! The end of a change: one register after the next is updated.
+//! The end of a change: one status register after the other is updated.
 
 ghost use Rattle.std.specs.Prelude.{◌≡◌, ℕ, false, List, ◌∷◌};
 ghost use Rattle.sv_status.specs.declared.register.RegisterAct.{RegisterAct};
@@ -26,11 +26,11 @@ const COMPLETE: u8 = 1 << 0;
 const SUMMARY: u16 = 1 << 9;
 
 impl<A: Allocator> Layers<A> {
-    /// Ends an act, which has already changed its own layer, by updating one register after the
-    /// next. If the condition of a register may have changed, its transitions first pass the
-    /// filters as they were before the act. Then the act's own effect on the register is applied. A
-    /// nested register is updated before the register above it, whose condition contains its
-    /// summary.
+    /// Ends a change, which was already applied to the layer that it belongs to: updates one status
+    /// register after the other. If the condition of a register may have changed, the transitions
+    /// of its bits first pass the register's filters as they were before the change. Then the
+    /// change's direct effect on the register is applied. A nested register is updated before the
+    /// register whose condition contains the nested register's summary.
     pub(crate) fn end(&mut self, change: &Change)
         ensures stands { (log : List Act) (act : Act) (status_log : List StatusAct)
             → EndsAs (act_of change.now) act
@@ -56,7 +56,8 @@ impl<A: Allocator> Layers<A> {
         change_standard(&mut self.standard, change);
     }
 
-    /// Sets operation complete if an `*OPC` is pending and no measurement is under way.
+    /// Sets the standard event operation complete if an `*OPC` is pending and no measurement is
+    /// under way.
     fn complete(&mut self)
         ensures stands { (at : LayerLogs) (status_log : List StatusAct)
             → Represents self.old at status_log
@@ -78,15 +79,16 @@ fn differ(first: bool, second: bool) -> bool
     if first { !second } else { second }
 }
 
-/// Returns a word with bit 9 set if the summary of a nested register is set, else 0.
+/// Returns a value with only bit 9 set if `stands`, the summary of a nested register, is true; else
+/// 0.
 fn summary_bit(stands: bool) -> u16
     ensures { result ≡ bit 9 stands }
 {
     if stands { SUMMARY } else { 0 }
 }
 
-/// Gives a register the condition `word`, if the condition may have changed (`touched`). The
-/// transitions of its bits pass the register's filters.
+/// Sets the condition of a register to `word`, if `touched` says that the condition may have
+/// changed. The transitions of the condition bits pass the register's filters.
 fn compare(register: &mut Register, touched: bool, word: u16)
     ensures { (start : ℕ) (acts : List RegisterAct) → Registers start register.old acts
         → (touched ≡ false → word ≡ condition acts)

@@ -3,8 +3,8 @@
 
 ghost use Rattle.sv_layers.specs.Laws.{OwnActs, SameWords, SameEvents, SameWaiting, SameCompletion, SameStandardEvents, SameEnable, SameSummaries, OneAccount, SameRequests, SameRaising, SameStatus};
 
-/// Message exchange, error queue and scanner have exactly the instrument's acts of that layer in
-/// their logs. The service request enable is the one that was set last.
+/// The logs of message exchange, error queue and scanner contain exactly those of the instrument's
+/// acts that belong to the layer. The service request enable is the one that was set last.
 pub fn own_acts()
     ensures { OwnActs }
 {}
@@ -15,12 +15,14 @@ pub fn same_words()
     ensures { SameWords }
 {}
 
-/// A bit of an event register is set exactly if SCPI-1999, chapter 20, says so of the log.
+/// A bit of an event register is set exactly if the rules of SCPI-1999, chapter 20, set it after
+/// the acts of the log.
 pub fn same_events()
     ensures { SameEvents }
 {}
 
-/// An `*OPC` is pending exactly if IEEE 488.2, 12.5.2, says so of the log.
+/// An `*OPC` is pending exactly if it is pending by the rules of IEEE 488.2, 12.5.2, after the acts
+/// of the log.
 pub fn same_waiting()
     ensures { SameWaiting }
 {}
@@ -31,7 +33,8 @@ pub fn same_completion()
     ensures { SameCompletion }
 {}
 
-/// A standard event is set exactly if IEEE 488.2, 11.5.1, says so of the log.
+/// A standard event is set exactly if the rules of IEEE 488.2, 11.5.1, set it after the acts of the
+/// log.
 pub fn same_standard_events()
     ensures { SameStandardEvents }
 {}
@@ -52,12 +55,14 @@ pub fn one_account()
     ensures { OneAccount }
 {}
 
-/// A request for service is pending exactly if IEEE 488.2, 11.3, says so of the log.
+/// A request for service is pending exactly if it is pending by the rules of IEEE 488.2, 11.3,
+/// after the acts of the log.
 pub fn same_requests()
     ensures { SameRequests }
 {}
 
-/// A request for service is raised at an act exactly if IEEE 488.2, 11.3, says so of the log.
+/// An act raises a request for service exactly if it does so by the rules of IEEE 488.2, 11.3,
+/// given the log up to this act.
 pub fn same_raising()
     ensures { SameRaising }
 {}

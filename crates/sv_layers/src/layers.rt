@@ -41,7 +41,7 @@ pub struct Layers<A: Allocator = Global> {
     pub(crate) service: u8,
     /// Whether an `*OPC` is pending: it waits for the end of a measurement.
     pub(crate) waits: bool,
-    /// How many requests for service were raised since `take_requests` last returned them; 255 if
+    /// How many requests for service were raised since `take_requests` was last called; 255 if
     /// there were more.
     pub(crate) requests: u8,
 }

@@ -1,5 +1,5 @@
-//! The layers of the instrument, joined: an act changes its own layer; then one register after the
-//! next is updated; then the status byte.
+//! The layers of the instrument, joined: an act changes the layer that it belongs to; then one
+//! status register after the other is updated; then the status byte is updated.
 //!
 //! Only [`Layers::new`] allocates.
 #![tactic(auto)]

@@ -40,7 +40,7 @@ impl<A: Allocator> Layers<A> {
         self.update_status();
     }
 
-    /// Notes that the message is too long and that this error was reported.
+    /// Records that the error for a message that is too long was reported.
     pub fn overran(&mut self)
         requires { next_of self.old.exchange ≡ OverrunDue }
         ensures applied { (log : List Act) → StandsFor self.old log
@@ -76,8 +76,8 @@ impl<A: Allocator> Layers<A> {
         self.update_status();
     }
 
-    /// Adds an answer after the answers of earlier units, and returns whether it fits. If it
-    /// doesn't fit, all answers of the message are dropped.
+    /// Appends an answer to the answers of the message's earlier units, if there is room for it;
+    /// else drops all answers of the message. Returns whether there was room.
     pub fn respond(&mut self, answer: &[u8]) -> bool
         requires { IsTrue (may_respond self.old.exchange) }
         ensures fits { (log : List Act) → StandsFor self.old log

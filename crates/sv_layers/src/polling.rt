@@ -10,8 +10,8 @@ use crate::layers::Layers;
 use std::alloc::Allocator;
 
 impl<A: Allocator> Layers<A> {
-    /// Polls the status byte: returns it with the request for service in bit 6, and ends the
-    /// request (IEEE 488.2, 11.2.1). A poll raises no request for service.
+    /// Polls the status byte: returns it with bit 6 set if a request for service is pending, and
+    /// ends this request (IEEE 488.2, 11.2.1). A poll raises no request for service.
     pub fn poll(&mut self) -> u8
         ensures status { (log : List Act) → StandsFor self.old log
             → (k : ℕ) → (bit_at result k ≡ 1) ↔ PolledBit k log }

@@ -48,8 +48,8 @@ impl<A: Allocator> Layers<A> {
         self.requests = self.requests.saturating_add(u8::from(raised));
     }
 
-    /// Returns how many requests for service were raised since this function last returned; 255 if
-    /// there were more.
+    /// Returns how many requests for service were raised since this function was last called; 255
+    /// if there were more.
     pub fn take_requests(&mut self) -> u8
         ensures count { result ≡ self.old.requests }
         ensures stands { (log : List Act) → StandsFor self.old log → AllRead self.new log }

@@ -16,7 +16,7 @@ pub(crate) struct Door {
     listener: TcpListener,
     /// Connections may be waiting to be accepted.
     knocked: Cell<bool>,
-    /// How many milliseconds to wait before the next accept, if the last one failed; else 0.
+    /// How many milliseconds to wait before the next accept, if the last accept failed; else 0.
     delay: Cell<u32>,
 }
 
@@ -31,7 +31,8 @@ impl Door {
         })
     }
 
-    /// Registers the socket at the system, whose reports about it then have this token.
+    /// Registers the socket for the system's reports. Each report about the socket then has this
+    /// token.
     pub(crate) fn register(&mut self, registry: &Registry, token: Token) -> io::Result<()> {
         registry.register(&mut self.listener, token, Interest::READABLE)
     }
@@ -46,14 +47,15 @@ impl Door {
         self.knocked.get()
     }
 
-    /// Whether a connection may be waiting to be accepted, and the last accept didn't fail: the
-    /// next accept is due at once.
+    /// Whether the next accept is due at once: a connection may be waiting to be accepted, and the
+    /// last accept didn't fail.
     pub(crate) fn is_waiting(&self) -> bool {
         self.knocked.get() & (self.delay.get() == 0)
     }
 
-    /// Returns how many milliseconds to sleep at most before the next accept: 100 if no connection
-    /// may be waiting; else 1, doubled after each further failure of accept, but at most 100.
+    /// Returns how many milliseconds to sleep at most before the next accept. This is 100 if it is
+    /// known that no connection waits. Else it is 1, doubled at each accept that fails after an
+    /// earlier one failed, but at most 100.
     pub(crate) fn patience(&self) -> u32
         ensures { result ≤ 100 }
     {

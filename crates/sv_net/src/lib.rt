@@ -1,5 +1,6 @@
-//! The sockets of a server, over mio: the wire of a driver on a real machine. Its methods don't
-//! wait: what the system last reported about a socket says whether a method has something to do.
+//! The sockets of a server, over mio: the wire of a driver on a real machine. The methods of this
+//! wire don't block: what the system last reported about a socket says whether a method has
+//! something to do.
 #![tactic(auto)]
 
 mod door;

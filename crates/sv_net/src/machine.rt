@@ -15,13 +15,13 @@ pub(crate) trait Machine<S: Stream> {
     ghost use Rattle.sv_net.specs.Serving.{Doing, Waited, Told};
     ghost use Rattle.std.specs.Prelude.{List, Option, ⊤};
 
-    /// How a wait, with its outcome, changes the machine. By default nothing is known of this, as
-    /// for a real machine.
+    /// How a call of a method, with its outcome, changes the machine. By default this relation says
+    /// nothing: this default is used for a real machine.
     ghost answers: { Self → Doing (List (Option S)) → Self → Type 0 } = { λ before doing after. ⊤ };
 
-    /// Waits until something is reported about a socket; but if there is a `limit`, no longer than
-    /// that. Returns whether something was reported, and when the wait ended, in nanoseconds since
-    /// the beginning.
+    /// Waits until something is reported about a socket, or until the time `limit` has passed;
+    /// without a limit for `None`. Returns whether something was reported, and when the wait ended,
+    /// in nanoseconds since the machine was made.
     ///
     /// # Errors
     /// If the system's clock can't be read, or the wait fails.

@@ -24,8 +24,8 @@ const SOCKETS: usize = 32;
 /// The sockets of sixteen connections and their interrupt channels, and three listening sockets on
 /// ports of 127.0.0.1.
 ///
-/// No method blocks. After a read, write or accept that would have blocked, the socket isn't used
-/// in this way again until the system reports something about it.
+/// No method blocks. After a read that would have blocked, the socket isn't read again until the
+/// system reports something about the socket. The same holds for a write and for an accept.
 #[derive(Drop)]
 pub struct Net<N: Network + Drop, A: Allocator = Global, S: Stream = TcpStream> {
     network: N,
@@ -42,7 +42,7 @@ impl<N: Network + Drop, A: Allocator, S: Stream> Model for Net<N, A, S> {
     ghost view = { λ a. a.sockets.items };
 }
 
-/// Returns the index of the listening socket for this role.
+/// Returns the index of the socket that listens for connections of this role.
 fn door_number(role: Role) -> usize
     ensures { result < 3 }
 {
@@ -75,7 +75,8 @@ fn read_at<S: Stream>(place: &mut Option<Socket<S>>, buffer: &mut [u8]) -> Answe
     }
 }
 
-/// Asks whether the peer of a socket is gone. If `place` is `None`, the answer is `Failed`.
+/// Checks whether the peer of a socket is gone: then the answer is `Failed`. If `place` is `None`,
+/// the answer is `Failed` too.
 fn probe_at<S: Stream>(place: &mut Option<Socket<S>>, drops: bool) -> Answer<()>
     ensures { Does (Skips S.remaining drops) result place.old place.new }
 {
@@ -128,7 +129,7 @@ impl<N: Network + Drop, A: Allocator, S: Stream> Net<N, A, S> {
         })
     }
 
-    /// Records a report of the system, at the socket or listening socket that it is about.
+    /// Records a report of the system in the socket or listening socket that the report is about.
     pub(crate) fn report(&self, event: &Event) {
         let Token(number) = event.token();
         match self.sockets.get(number) {

@@ -21,15 +21,15 @@ use sv_serve::Driver;
 /// The most polls without sleeping between two sweeps.
 const LOOKS: u32 = 1_000;
 
-/// Makes this number of sweeps. Between two sweeps it waits until the system reports something
-/// about a socket, or something is due. In each sweep the whole milliseconds since the sweep before
-/// pass, at most 1,000.
+/// Makes this number of sweeps. Between two sweeps, waits until the system reports something about
+/// a socket, or something is due. In each sweep, as many milliseconds pass as whole milliseconds
+/// have passed since the previous sweep, but at most 1,000.
 ///
-/// If no report comes, the wait ends at the next whole millisecond; or, if nothing becomes due
-/// within 100 milliseconds, at the latest at the hundredth. If nothing will ever be due, and more
-/// than a million sweeps remain, only a report ends the wait. For 50 microseconds after a report
-/// the loop polls without sleeping, if polling found something of late. The clock is read after
-/// each wait, so that deadlines are met even while many peers send calls without a pause.
+/// If no report comes, the wait ends at the next whole millisecond. But if nothing becomes due
+/// within 100 milliseconds, it ends after 100 milliseconds at the latest. If nothing will ever be
+/// due, and more than a million sweeps remain, only a report ends the wait. For 50 microseconds
+/// after a report the loop polls without sleeping, if polling found something of late. The clock is
+/// read after each wait: thus deadlines are met even while many peers send calls without a pause.
 ///
 /// # Errors
 /// If the system's clock can't be read, or a wait fails.
@@ -68,8 +68,8 @@ fn run<M: Machine<S>, N: Network + Drop, A: Allocator, S: Stream>(
     Ok(())
 }
 
-/// Makes a sweep. If milliseconds have passed since the sweep before, they pass in this sweep, and
-/// the reports of the last wait are passed to the sockets only after it, for the next sweep.
+/// Makes a sweep. If whole milliseconds have passed since the previous sweep, they pass in this
+/// sweep, and the sockets get the reports of the last wait only after this sweep, for the next one.
 fn sweep<M: Machine<S>, N: Network + Drop, A: Allocator, S: Stream>(
     machine: &mut M,
     driver: &mut Driver<Net<N, A, S>, A>,
@@ -87,8 +87,8 @@ fn sweep<M: Machine<S>, N: Network + Drop, A: Allocator, S: Stream>(
     }
 }
 
-/// Waits for reports; but if there is a `limit`, no longer than that. Returns whether something was
-/// reported, and when the wait ended.
+/// Waits until something is reported about a socket, or until the time `limit` has passed; without
+/// a limit for `None`. Returns whether something was reported, and when the wait ended.
 fn wait<M: Machine<S>, S: Stream>(
     machine: &mut M,
     pace: &mut Pace,
@@ -107,8 +107,8 @@ fn wait<M: Machine<S>, S: Stream>(
 
 /// Waits until the next sweep is to begin, and returns the time then. `left` sweeps remain. If the
 /// next sweep has something to do, it begins after a single poll. While polling is worthwhile, this
-/// poll is made first; if it finds a report, the sweep begins without a check whether it has
-/// something to do.
+/// poll is made before the check whether the sweep has something to do. If the poll finds a report,
+/// the sweep begins without this check.
 fn pause<M: Machine<S>, N: Network + Drop, A: Allocator, S: Stream>(
     machine: &mut M,
     driver: &Driver<Net<N, A, S>, A>,
@@ -161,7 +161,8 @@ fn spin<M: Machine<S>, N: Network + Drop, A: Allocator, S: Stream>(
     Ok(now)
 }
 
-/// Sleeps until something is reported or is due, and returns when the sleep ended.
+/// Sleeps until something is reported about a socket or something is due, and returns when the
+/// sleep ended.
 fn sleep<M: Machine<S>, N: Network + Drop, A: Allocator, S: Stream>(
     machine: &mut M,
     driver: &Driver<Net<N, A, S>, A>,

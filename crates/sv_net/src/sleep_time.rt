@@ -47,9 +47,9 @@ fn longest<N: Network + Drop, A: Allocator, S: Stream>(driver: &Driver<Net<N, A,
     }
 }
 
-/// Returns how long the server may sleep, with `left` sweeps remaining; `None` if nothing will ever
-/// be due, so that no limit is needed. The timeout of a call is at most 4,294,967,295 ms (VXI-11
-/// revision 1.0, section B.4.4).
+/// Returns how long the server may sleep at most, with `left` sweeps remaining. Returns `None` (no
+/// limit) only if nothing will ever be due. The timeout of a call is at most 4,294,967,295 ms
+/// (VXI-11 revision 1.0, section B.4.4).
 pub(crate) fn sleep_time<N: Network + Drop, A: Allocator, S: Stream>(
     driver: &Driver<Net<N, A, S>, A>,
     pace: &Pace,

@@ -15,7 +15,8 @@ use sv_serve::Answer;
 /// How many bytes one read discards at most.
 const DROPPED: usize = 1_024;
 
-/// A socket, and what the system reported about it since a read or write last would have blocked.
+/// A socket, and what the system reported about it since the last read or write that would have
+/// blocked.
 #[derive(Drop)]
 pub(crate) struct Socket<S: Stream> {
     stream: S,
@@ -23,7 +24,7 @@ pub(crate) struct Socket<S: Stream> {
     readable: Cell<bool>,
     /// A write may take bytes.
     writable: Cell<bool>,
-    /// The peer sends no more, so that the system won't report again that bytes can be read.
+    /// The peer has ended its stream: the system won't report again that bytes can be read.
     ended: Cell<bool>,
     /// The socket was reset, or is closed in both directions.
     broken: Cell<bool>,
@@ -38,7 +39,8 @@ impl<S: Stream> Model for Socket<S> {
 }
 
 impl<S: Stream> Socket<S> {
-    /// Makes a connected socket, of which nothing is known until it is read or written.
+    /// Makes a connected socket. Until the first read and write, it is assumed that bytes can be
+    /// read and written.
     pub(crate) fn connected(stream: S) -> Socket<S>
         ensures { result ≡ stream }
     {
@@ -67,7 +69,8 @@ impl<S: Stream> Socket<S> {
         }
     }
 
-    /// Registers the socket at the system, whose reports about it then have this token.
+    /// Registers the socket for the system's reports. Each report about the socket then has this
+    /// token.
     pub(crate) fn register(&mut self, registry: &Registry, token: Token) -> io::Result<()>
         ensures { S.keeps self.old self.new }
     {
@@ -132,8 +135,9 @@ impl<S: Stream> Socket<S> {
         }
     }
 
-    /// Asks whether a socket that isn't read is gone: it is broken, or, with `drops`, the end of
-    /// its stream was read. With `drops`, bytes that came are discarded.
+    /// Checks whether the peer of a socket that isn't read is gone: then the answer is `Failed`.
+    /// Without `drops`, the peer is gone if the socket is broken. With `drops`, the bytes that came
+    /// are read and discarded, and the peer is gone at the end of the stream too.
     pub(crate) fn probe(&mut self, drops: bool) -> Answer<()>
         ensures { Skips S.remaining drops self.old self.new }
     {
@@ -171,8 +175,8 @@ impl<S: Stream> Socket<S> {
         }
     }
 
-    /// Returns whether a socket that began to connect is connected: pending while the peer hasn't
-    /// answered.
+    /// Returns whether a socket that began to connect is connected: `Pending` while the peer hasn't
+    /// answered, `Failed` if connecting failed.
     pub(crate) fn answered(&self) -> Answer<()> {
         if !self.writable.get() {
             return Answer::Pending;
@@ -188,9 +192,9 @@ impl<S: Stream> Socket<S> {
     }
 }
 
-/// Returns the answer of a read or write that ended with this kind of error: pending if it would
-/// have blocked. In that case clears `flag`, so that it isn't tried again until the system reports
-/// something about the socket.
+/// Returns the wire's answer for a read or write that ended with this kind of error. If the read or
+/// write would have blocked, this is `Pending`, and `flag` is cleared: then the read or write isn't
+/// tried again until the system reports something about the socket.
 fn would_wait(flag: &Cell<bool>, kind: ErrorKind) -> Answer<usize>
     ensures { (result ≡ Answer.Pending) ⊎ (result ≡ Answer.Failed) }
 {

@@ -42,8 +42,8 @@ impl<A: Allocator + Copy> Watch<A> {
 }
 
 impl<A: Allocator> Watch<A> {
-    /// Waits until something is reported; but if there is a `limit`, no longer than that. Returns
-    /// whether something was reported.
+    /// Waits until something is reported about a socket, or until the time `limit` has passed;
+    /// without a limit for `None`. Returns whether something was reported.
     ///
     /// # Errors
     /// If the wait fails.

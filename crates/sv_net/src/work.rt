@@ -9,8 +9,8 @@ use sv_serve::Driver;
 use sv_server::Port;
 
 /// Whether the next sweep has something to do on a connection even if no report comes: bytes wait
-/// and can be written; no bytes wait and a call can be taken; it will read the connection; or it
-/// has something to do on the connection's interrupt channel.
+/// to be sent and can be written; no bytes wait to be sent and a call can be taken; the connection
+/// has input; or there is something to do on the connection's interrupt channel.
 fn has_work_on<N: Network + Drop, A: Allocator, S: Stream>(
     driver: &Driver<Net<N, A, S>, A>,
     conn: u8,
@@ -27,7 +27,7 @@ fn has_work_on<N: Network + Drop, A: Allocator, S: Stream>(
     goes_on || has_input(driver, conn, socket) || has_work_for(driver, conn)
 }
 
-/// Whether the next sweep finds input on a connection: the socket is broken; or bytes may be
+/// Whether the next sweep may find input on a connection: the socket is broken; or bytes may be
 /// waiting, and the connection has room for them or discards them.
 fn has_input<N: Network + Drop, A: Allocator, S: Stream>(
     driver: &Driver<Net<N, A, S>, A>,

@@ -35,7 +35,7 @@ pub struct Pace {
     missed: bool,
     /// How many times the server sleeps between one run of polls and the next one.
     pause: u32,
-    /// How many of these sleeps remain before the next run of polls.
+    /// How many sleeps remain before the next run of polls.
     left: u32,
 }
 

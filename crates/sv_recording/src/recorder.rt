@@ -10,8 +10,9 @@ use std::marker::Model;
 use sv_serve::{Answer, Wire};
 use sv_server::{Dial, Port, Role};
 
-/// A wire that records each call of its methods, in order. If memory for a call is refused, the
-/// recorder isn't whole any more: calls are missing in its record.
+/// A wire that passes each call of its methods to the wire `wire`, and records the call with its
+/// answer, in order. If memory for a call is refused, that call isn't recorded, and `is_whole` is
+/// false from then on.
 #[derive(Drop)]
 pub struct Recorder<W: Wire + Drop> {
     alloc: Global,
@@ -73,7 +74,8 @@ fn write_call(
 }
 
 impl<W: Wire + Drop> Recorder<W> {
-    /// Makes a recorder that passes calls to this wire. It has recorded no calls yet.
+    /// Makes a recorder that passes the calls of its methods to this wire. The recorder has
+    /// recorded no calls yet.
     pub fn new(alloc: Global, wire: W) -> Recorder<W>
         ensures { result ≡ record { wire = wire; trace = []; is_whole = true } }
     {
@@ -106,7 +108,8 @@ impl<W: Wire + Drop> Recorder<W> {
         self.is_whole
     }
 
-    /// Records a call, if there was memory for it.
+    /// Records a call of a method, if there was memory for the call; else the recorder isn't whole
+    /// any more.
     fn keep_if(&mut self, call: Result<Call, AllocError>)
         ensures { (heard : Heard) → IfOk call (λ kept. heard_of kept ≡ heard)
             → Keeps self.old heard self.new × (self.new.wire ≡ self.old.wire) }

@@ -26,8 +26,8 @@ impl<W: Wire + Drop, A: Allocator> Driver<W, A> {
         self.open(role, conn, answer);
     }
 
-    /// Tells the wire to accept a connection under the number `conn`. If that is `None`, tells the
-    /// wire to accept and drop the connection.
+    /// Tells the wire to accept a connection under the number `conn`; or, if `conn` is `None`, to
+    /// accept a connection and drop it.
     fn greet(&mut self, role: Role, conn: Option<u8>) -> Answer<()>
         ensures { Steps (Hears W.hears (WasAccepted role conn result)) self.old self.new }
     {

@@ -25,7 +25,8 @@ const PIECE: usize = 16_384;
 pub struct Driver<W: Wire + Drop, A: Allocator = Global> {
     pub(crate) server: Server<A>,
     pub(crate) wire: W,
-    /// For each connection, the peer that was dialed for its interrupt channel.
+    /// For each connection, the peer that was dialed for its interrupt channel; `None` if no peer
+    /// is dialed.
     pub(crate) called: [Option<Dial>; 16],
     /// No peer was ever dialed for a connection with this number or a higher one.
     pub(crate) dial_limit: u8,
@@ -112,8 +113,8 @@ impl<W: Wire + Drop, A: Allocator> Driver<W, A> {
         conn >= self.server.connections_used()
     }
 
-    /// Whether for no connection with this number or a higher one a peer has to be dialed, or the
-    /// socket of a dialed peer has to be closed.
+    /// Whether dialing has nothing to do for connections with this number or a higher one: no peer
+    /// has to be dialed, and no socket of a dialed peer has to be closed.
     pub(crate) fn is_uncalled(&self, conn: u8) -> bool
         ensures { result ≡ true → (config : Config) (history : List PlainEvent)
             → StandsFor self.now.server config history
@@ -123,8 +124,8 @@ impl<W: Wire + Drop, A: Allocator> Driver<W, A> {
         self.is_unused(conn) && conn >= self.dial_limit
     }
 
-    /// Applies an event to the server. The answers of the server's queries must allow the event at
-    /// this moment: then it isn't refused.
+    /// Applies an event to the server. The caller must know from the server's query functions that
+    /// the server doesn't refuse the event now.
     pub(crate) fn apply(&mut self, event: Event<'_>)
         ensures { From (IsSuited (plain event.entry)) (IsApplied (plain event.entry))
             self.old self.new }

@@ -14,8 +14,9 @@ pub fn carried<W: Wire>()
     ensures { Carried W.hears }
 {}
 
-/// After all reads of a sweep, the next call of each connection is taken, if there is one and its
-/// reply finds room. The bytes that wait then are passed to the wire in the same sweep.
+/// After all reads of a sweep, the next call of each connection is taken, if there is such a call
+/// and the output has room for its reply. The bytes that then wait to be sent are passed to the
+/// wire in the same sweep.
 pub fn served<W: Wire>()
     ensures { Served W.hears }
 {}

@@ -36,7 +36,8 @@ impl<W: Wire + Drop, A: Allocator> Driver<W, A> {
         }
     }
 
-    /// Reads a connection once, if it has room.
+    /// Reads a connection once, if it has room for more bytes; else checks whether its peer is
+    /// gone.
     fn read(&mut self, conn: u8)
         requires { conn < 16 }
         ensures { Steps (ReadsFrom W.hears conn) self.old self.new }
@@ -67,7 +68,7 @@ impl<W: Wire + Drop, A: Allocator> Driver<W, A> {
     }
 
     /// Asks the wire whether the peer of a connection without room is gone, if the connection is
-    /// open. Closes the connection if so.
+    /// open. Closes the connection if the peer is gone.
     fn probe(&mut self, conn: u8)
         requires { conn < 16 }
         ensures { Steps (Probes W.hears conn) self.old self.new }
@@ -76,8 +77,8 @@ impl<W: Wire + Drop, A: Allocator> Driver<W, A> {
         self.probe_if(conn, opened);
     }
 
-    /// Asks the wire whether the peer of a connection is gone, if the connection is open
-    /// (`opened`). Closes the connection if so.
+    /// If `opened` says that the connection is open: asks the wire whether the connection's peer is
+    /// gone, and closes the connection if the peer is gone.
     fn probe_if(&mut self, conn: u8, opened: bool)
         requires { conn < 16 }
         ensures { From (λ (config : Config) (at : DriverView W). IsOpen
@@ -99,7 +100,7 @@ impl<W: Wire + Drop, A: Allocator> Driver<W, A> {
         self.wire.probe(conn, drops)
     }
 
-    /// Closes a connection, if the wire answered that it is gone.
+    /// Closes a connection, if the wire answered that the connection's peer is gone.
     fn drop_gone(&mut self, conn: u8, answer: Answer<()>)
         requires { conn < 16 }
         ensures { From (λ (config : Config) (at : DriverView W). IsOpen (Conn conn) config at true)

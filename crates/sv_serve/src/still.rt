@@ -31,7 +31,7 @@ impl<W: Wire + Drop, A: Allocator> Driver<W, A> {
         self.scenario.get(self.next).is_none()
     }
 
-    /// Whether an entry of the scenario is due within this number of milliseconds.
+    /// Whether an entry of the scenario is due now or within this number of milliseconds.
     fn is_due_within(&self, ticks: u32) -> bool
         ensures { (result ≡ false) ↔ IsNoneDue (self.now.ticks + ticks) self.now.ahead }
     {

@@ -17,10 +17,12 @@ impl<W: Wire + Drop, A: Allocator> Driver<W, A> {
     /// 2. Each connection is read, in rising order of the numbers: at most as many bytes as it has
     ///    room for.
     /// 3. One call of each connection is taken, if it has a complete one.
-    /// 4. The peer of each interrupt channel that has to be connected is dialed.
+    /// 4. The peer of each interrupt channel that has to be connected is dialed; or, if it was
+    ///    dialed before, the wire is asked whether the peer has answered.
     /// 5. Time passes. Entries of the scenario that are due are applied before each millisecond and
     ///    after the last one.
-    /// 6. The bytes that wait are written, first those of connections, then those of channels.
+    /// 6. The bytes that wait to be sent are written: first those of the connections, then those of
+    ///    the interrupt channels.
     /// 7. Each connection at fault that has no more bytes to send is closed.
     ///
     /// If reading or writing fails, the connection or the channel is closed. If there is no memory

@@ -1,4 +1,4 @@
-//! Taking calls by Turns.
+//! Taking calls: the driver gives the server a Turn event for each connection with a call to take.
 
 ghost use Rattle.std.specs.Prelude.{◌≡◌, ◌<◌};
 ghost use Rattle.sv_history.specs.Print.{is_no_memory};
@@ -51,8 +51,8 @@ impl<W: Wire + Drop, A: Allocator> Driver<W, A> {
         }
     }
 
-    /// If the server's answer to a Turn is that memory was refused, refuses the call with error 9.
-    /// The connection stays open.
+    /// If the server refused a Turn for lack of memory, answers the connection's next call with
+    /// error 9. The connection stays open.
     fn end_turn(&mut self, conn: u8, answer: Result<Did, Refused>)
         requires { conn < 16 }
         ensures { From (MayFindNone conn answer) (EndsTurn conn answer) self.old self.new }
@@ -63,7 +63,7 @@ impl<W: Wire + Drop, A: Allocator> Driver<W, A> {
         }
     }
 
-    /// Refuses the next call of a connection with error 9, if `so`.
+    /// Answers the next call of a connection with error 9, without executing the call, if `so`.
     fn refuse_if(&mut self, conn: u8, so: bool)
         requires { conn < 16 }
         ensures { From (FindsNoneIf conn so) (RefusesIf conn so) self.old self.new }

@@ -20,8 +20,8 @@ pub trait Wire {
     ghost use Rattle.sv_serve.specs.Heard.{Heard, WasAccepted, WasRead, WasProbed, WasWritten, WasDialed, PeerAnswered, WasClosed, bytes_of, IsWithin};
     ghost use Rattle.std.specs.Prelude.{⊤};
 
-    /// How a call of a method, with its answer, changes the wire. By default nothing is known of
-    /// this, as for the system's sockets.
+    /// How a call of a method, with its answer, changes the wire. By default this relation says
+    /// nothing: a wire need not define it.
     ghost hears: { Self → Heard → Self → Type 0 } = { λ before heard after. ⊤ };
 
     /// Accepts a connection of this role under this number. Without a number, accepts and drops the

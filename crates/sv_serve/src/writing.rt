@@ -48,8 +48,8 @@ impl<W: Wire + Drop, A: Allocator> Driver<W, A> {
         self.leave(port, answer);
     }
 
-    /// Tells the server how many bytes the wire took, so that it drops them. If the write failed,
-    /// closes the port.
+    /// Tells the server how many bytes the wire took; the server drops these bytes. If the write
+    /// failed, closes the port.
     fn leave(&mut self, port: Port, answer: Answer<usize>)
         requires number { port_number port < 16 }
         requires counted { (n : ℕ) → answer ≡ Answer.Got n → n < 4294967296 }

@@ -1,5 +1,6 @@
-//! A connection: the bytes that came, the bytes that wait to be sent, what its next record asks
-//! for, and how replies are written. This module uses neither the device nor other connections.
+//! A connection: the bytes that came, the bytes that wait to be sent, what the connection's next
+//! record asks for, and how replies are written. This module doesn't use the device, and a
+//! connection doesn't use other connections.
 
 ghost use Rattle.std.specs.Prelude.{◌≡◌, ◌≢◌, ◌+◌, ◌≤◌, ◌||◌, not, ◌&&◌, ℕ, List, [], ◌∷◌, length, IfOk, IsSome, Some, None, true, false, is_some, nat_lt, option_map, if◌then◌else◌};
 ghost use Rattle.sv_rpc.specs.RecordBuf.{StandsFor, room_of, no_records};
@@ -78,7 +79,7 @@ impl<A: Allocator + Copy> Connection<A> {
 }
 
 impl<A: Allocator> Connection<A> {
-    /// The role of the connection, if it is open.
+    /// The role of the connection; `None` if the connection isn't open.
     pub fn role(&self) -> Option<Role>
         ensures { result ≡ self.now.role }
     {
@@ -188,7 +189,7 @@ impl<A: Allocator> Connection<A> {
         self.input.is_overlong()
     }
 
-    /// The call to take next; `None` if there is no call to take.
+    /// The record of the call to take next; `None` if there is no call to take.
     pub fn next_call(&self) -> Option<&[u8]>
         ensures value { option_map (λ call. call.now) result ≡ kept_next self.now }
         ensures answer { (acts : List ConnAct) → IsConnection self.now acts
@@ -197,15 +198,15 @@ impl<A: Allocator> Connection<A> {
         self.first_call()
     }
 
-    /// Whether there is no call to take.
+    /// Whether the connection has no call to take.
     pub fn is_idle(&self) -> bool
         ensures { (acts : List ConnAct) → IsConnection self.now acts → result ≡ is_idle acts }
     {
         self.next_call().is_none()
     }
 
-    /// The first record; `None` if this record was taken already, or if a record was taken that
-    /// isn't a call.
+    /// The first complete record of the input; `None` if there is none, if this record was taken
+    /// already, or if the connection took a record that isn't a call.
     fn first_call(&self) -> Option<&[u8]>
         ensures { option_map (λ call. call.now) result ≡ kept_next self.now }
     {
@@ -218,7 +219,7 @@ impl<A: Allocator> Connection<A> {
         }
     }
 
-    /// The call that was taken and isn't answered; `None` if there is none.
+    /// The record of the call that was taken and isn't answered yet; `None` if there is none.
     fn taken(&self) -> Option<&[u8]>
         ensures { (acts : List ConnAct) → IsConnection self.now acts
             → option_map (λ call. call.now) result ≡ pending_call acts }
@@ -232,8 +233,8 @@ impl<A: Allocator> Connection<A> {
         }
     }
 
-    /// The call that was taken and isn't answered, if it is a call of the core channel; else
-    /// `None`. The call's record is read again, with the same result as when it was taken.
+    /// The call that was taken and isn't answered yet, if it is a call of the core channel; else
+    /// `None`. The call's record is decoded again, with the same result as when it was taken.
     pub fn taken_call(&self) -> Option<CoreCall<'_>>
         ensures { (acts : List ConnAct) → IsConnection self.now acts
             → option_map plain_core_call result ≡ core_call_in (pending_call acts) }

@@ -1,6 +1,6 @@
 //! The device, which all connections share: links, the lock, suspended calls, interrupt channels,
-//! the instrument and the clock. The modules below execute calls. Of a call, the device gets only
-//! the number of its connection and its arguments.
+//! the instrument and the clock. The submodules execute calls. Of each call, the device gets only
+//! the number of the call's connection and the call's arguments.
 
 ghost use Rattle.std.specs.Prelude.{◌≡◌, ◌↔◌, ◌+◌, ◌<◌, ◌≤◌, ℕ, List, [], ◌∷◌, ◌++◌, length, map, option_map, Some, None, is_some, IfOk, IfSome, IsTrue, ◌==◌, true, false};
 ghost use Rattle.sv_links.specs.Links.{closing};
@@ -109,7 +109,8 @@ impl<A: Allocator> Device<A> {
         self.clock == LAST_CLOCK
     }
 
-    /// Whether nothing becomes due within this number of milliseconds.
+    /// Whether nothing becomes due within this number of milliseconds: no scan is under way, and no
+    /// suspended call reaches its deadline.
     pub fn is_still(&self, ticks: u32) -> bool
         ensures { (config : Config) (acts : List DeviceAct) → IsDevice self.now config acts
             → (result ≡ true) ↔ IsStill ticks config acts }
@@ -141,7 +142,7 @@ impl<A: Allocator> Device<A> {
         self.raise(raised);
     }
 
-    /// Applies a trigger at the trigger input.
+    /// Applies a trigger at the instrument's trigger input.
     pub fn external(&mut self)
         ensures stands { (config : Config) (acts : List DeviceAct) → IsDevice self.old config acts
             → IsDevice self.new config
@@ -216,8 +217,8 @@ impl<A: Allocator> Device<A> {
         self.waiting.leave(conn.number);
     }
 
-    /// Sends the requests for service that the instrument raised, on interrupt channels; `raised`
-    /// is the number of these requests.
+    /// Sends service requests on the interrupt channels, for the requests for service that the
+    /// instrument raised. `raised` is the number of the requests that it raised.
     fn raise(&mut self, raised: u8)
         ensures stands { (config : Config) (acts : List DeviceAct) (adds : List InstrumentAct)
             → HasDone adds self.old config acts → Raise adds (instrument_acts acts) raised
@@ -230,8 +231,8 @@ impl<A: Allocator> Device<A> {
         }
     }
 
-    /// If the instrument did something (`Some`), sends the requests for service that it raised.
-    /// Returns whether the instrument did something.
+    /// If the instrument did something (`raised` is `Some`), sends the requests for service that it
+    /// raised. Returns whether the instrument did something.
     fn raise_if(&mut self, raised: Option<u8>) -> bool
         ensures some { (count : ℕ) → raised ≡ Some count → (config : Config)
             (acts : List DeviceAct) (adds : List InstrumentAct)

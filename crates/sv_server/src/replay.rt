@@ -75,7 +75,8 @@ impl<A: Allocator> Server<A> {
         }
     }
 
-    /// Writes the lines of all ports, and drops the bytes that the lines show.
+    /// Writes the lines of all ports on which bytes wait to be sent, and drops the bytes that the
+    /// lines show.
     fn show_all<W: Write>(&mut self, writer: &mut W) -> Result<(), WriteFault>
         ensures { (config : Config) (history : List PlainEvent) (channel_log : List ChannelAct)
             (log : List Act) → StandsBy self.old config history channel_log log
@@ -88,7 +89,8 @@ impl<A: Allocator> Server<A> {
         Ok(())
     }
 
-    /// Writes the line of a port, and drops the bytes that the line shows.
+    /// Writes the line of a port, if bytes wait to be sent on the port, and drops the bytes that
+    /// the line shows.
     fn show<W: Write>(&mut self, port: Port, writer: &mut W) -> Result<(), WriteFault>
         ensures { (config : Config) (history : List PlainEvent) (channel_log : List ChannelAct)
             (log : List Act) → StandsBy self.old config history channel_log log

@@ -152,8 +152,8 @@ impl<A: Allocator> Server<A> {
         }
     }
 
-    /// Whether a Turn of this connection would find a call to take. Even so, the Turn is refused if
-    /// the output has too little room for the longest reply.
+    /// Whether a Turn of this connection would find a call to take. A Turn that finds a call is
+    /// still refused if the output has too little room for the longest reply.
     pub fn ready(&self, conn: u8) -> bool
         ensures { (config : Config) (history : List PlainEvent) → StandsFor self.now config history
             → Answered (λ log. not (is_idle (of conn log))) config history result }
@@ -218,7 +218,8 @@ impl<A: Allocator> Server<A> {
         Some(&self.connections[conn.index()])
     }
 
-    /// The open connection of this number, and its role; `NoConn` if it isn't open.
+    /// The open connection of this number, and its role; `NoConn` if no connection of this number
+    /// is open.
     pub(crate) fn open_connection(&self, conn: u8) -> Result<(Conn, Role), Refused>
         ensures answer { (config : Config) (log : List Act) → Represents self.now config log
             → MatchResult result (λ found. is_shut conn log ≡ false)
@@ -356,7 +357,7 @@ impl<A: Allocator> Server<A> {
         }
     }
 
-    /// Takes the next call of a connection, and answers it with error 9.
+    /// Takes the next call of a connection, and answers it with error 9 without executing it.
     fn refuse(&mut self, conn: u8) -> Result<Did, Refused>
         ensures acts { (config : Config) (log : List Act) → Represents self.old config log
             → Acts config (Refuse conn) log result self.new }
@@ -370,8 +371,8 @@ impl<A: Allocator> Server<A> {
         }
     }
 
-    /// Ends the suspended call of connection `aborts`, since a device_abort aborts it. Does nothing
-    /// for `None`.
+    /// Ends the suspended call of connection `aborts`, which a device_abort aborts. Does nothing if
+    /// `aborts` is `None`.
     fn abort(&mut self, aborts: Option<u8>)
         ensures { (config : Config) (log : List Act) → Represents self.old config log
             → ((conn : ℕ) → aborts ≡ Some conn → waits conn (wait_acts (device_acts log)) ≡ None

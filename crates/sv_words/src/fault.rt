@@ -24,8 +24,8 @@ pub enum ProgramFault {
 impl ProgramFault {
     ghost use Rattle.sv_words.specs.Program.{status};
 
-    /// Returns the exit status of the fault: 2 for bad words and bad lines; 3 for input, output,
-    /// memory and sockets.
+    /// Returns the exit status for the fault: 2 for bad words of the command line and bad lines of
+    /// a script or scenario; 3 for faults of input, output, memory and sockets.
     pub fn status(self) -> u8
         ensures { result ≡ status self }
     {

@@ -68,7 +68,8 @@ fn within(number: u32, most: u32) -> Option<u32>
     }
 }
 
-/// Returns the number in an option's value, if it is from 1 to `most`; else `None`.
+/// Returns the number that the value of the option `name` gives, if it is from 1 to `most`; else
+/// `None`.
 fn count_of(matches: &ArgMatches<'_>, name: &str, most: u32) -> Option<u32>
     ensures { Finds (λ n. IfGiven (first_value (found_of matches.now) name.now)
         (λ text. IsCount most text n)) result }

@@ -25,8 +25,8 @@ const BRIEF_TEXT: usize = LONGEST_TEXT - MAX_READ + BRIEF_DATA;
 /// The answer to a call.
 #[derive(Clone, Copy)]
 pub enum Answer<'a> {
-    /// A reply that has only a header: it follows from the header or the arguments of the call,
-    /// without the device.
+    /// A reply that has only a header. The header or the arguments of the call decide it, without
+    /// the device.
     Header(Reply),
     /// The port that GETPORT asks for.
     Port(u32),
@@ -49,8 +49,8 @@ pub fn put_reply<A: Allocator>(out: &mut Vec<u8, A>, xid: u32, answer: &Answer<'
     }
 }
 
-/// Whether an answer is known to be brief. The reply to a brief answer fits into a smaller buffer,
-/// which is cleared faster.
+/// Whether an answer is known to be brief (at most 256 bytes of data). The reply with a brief
+/// answer fits into a smaller buffer, which is cleared faster.
 fn is_brief(answer: &Answer<'_>) -> bool
     ensures { result ≡ true → HasAtMost 256 answer.now }
 {

@@ -1,5 +1,5 @@
-//! What a record asks for. The header of the record is checked first. If it passes, the record is a
-//! call of the program that its connection serves.
+//! What a record asks for. The header of the record is checked first. If the header passes, the
+//! record is a call of the program that the record's connection serves.
 
 ghost use Rattle.std.specs.Prelude.{◌≡◌, Option, Ok, None, option_map, true};
 ghost use Rattle.sv_rpc.specs.Call.{plain_call, call_at};
@@ -36,7 +36,7 @@ pub struct CoreCall<'a> {
 pub enum Request<'a> {
     /// Nothing: the record isn't a call.
     NoCall,
-    /// A call whose reply follows from its header or its arguments, without the device.
+    /// A call whose header or arguments decide the reply, without the device.
     Decided {
         /// The xid of the call.
         xid: u32,
@@ -191,9 +191,9 @@ fn decided<'a>(call: &Call<'a>, reply: Reply) -> Request<'a>
     }
 }
 
-/// What a call asks for. The first of these that applies decides the reply: not the role's program;
-/// not its version; the null procedure; an unknown procedure. If none applies, the procedure
-/// decides what the call asks for.
+/// What a call asks for. The first of these that applies decides the reply: the call isn't for the
+/// role's program; it isn't for this program's version; it is for the null procedure; it is for an
+/// unknown procedure. If none applies, the procedure decides what the call asks for.
 fn call_request<'a>(role: Role, call: &Call<'a>) -> Request<'a>
     ensures { plain_request result ≡ call_request_for role (plain_call call.now) }
 {

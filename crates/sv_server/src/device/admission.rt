@@ -45,7 +45,8 @@ pub enum Stop {
     },
 }
 
-/// What stops a call while another link holds the lock; `None` if the lock doesn't stop it.
+/// What stops a call while a link other than the call's link holds the lock; `None` if the call
+/// doesn't need the lock.
 fn lock_stop(call: &LinkCall<'_>) -> Option<Stop>
     ensures { option_map plain_stop result
         ≡ option_map lock_stop_for (lock_wait (plain_call call.now)) }
@@ -63,9 +64,9 @@ fn lock_stop(call: &LinkCall<'_>) -> Option<Stop>
     }
 }
 
-/// What stops create_intr_chan. It fails if `there` is true (a channel is open), if the protocol
-/// isn't TCP (0), or if the address or the port isn't allowed. Else it is suspended until its peer
-/// is connected.
+/// What stops create_intr_chan. The call fails if `there` (the connection's interrupt channel is
+/// open), if `prog_family` isn't TCP (0), or if the address or the port isn't allowed. Else the
+/// call is suspended until its peer is connected.
 fn channel_stop(there: bool, host_addr: u32, host_port: u32, prog_family: u32) -> Stop
     ensures { plain_stop result ≡ channel_stop_for there host_addr host_port prog_family }
 {
@@ -85,8 +86,8 @@ fn channel_stop(there: bool, host_addr: u32, host_port: u32, prog_family: u32) -
 }
 
 impl<A: Allocator> Device<A> {
-    /// Whether the lock stops the call: a link other than `lid` holds the lock, and the call needs
-    /// it.
+    /// Whether the lock stops the call: the call needs the lock, and a link other than `lid` holds
+    /// the lock.
     fn is_kept_out(&self, lid: Option<u32>, call: &LinkCall<'_>) -> bool
         ensures { (config : Configured) (acts : List DeviceAct) → IsDevice self.now config acts
             → result ≡ (is_some (lock_wait (plain_call call.now))
@@ -98,9 +99,9 @@ impl<A: Allocator> Device<A> {
         }
     }
 
-    /// What a call waits for besides the lock, and its timeout in milliseconds. A write waits while
-    /// the instrument hasn't finished a message whose end has come. A read waits until it can be
-    /// answered.
+    /// What a call waits for besides the lock, and its timeout in milliseconds; `None` if the call
+    /// needn't wait. A write waits while the instrument hasn't finished a message whose end has
+    /// come. A read waits until it can be answered.
     pub(super) fn device_wait(&self, call: &LinkCall<'_>) -> Option<(Wait, u32)>
         ensures answer { (config : Configured) (acts : List DeviceAct)
             → IsDevice self.now config acts
@@ -115,7 +116,7 @@ impl<A: Allocator> Device<A> {
         }
     }
 
-    /// What a write waits for, and its timeout in milliseconds; `None` if it needn't wait.
+    /// What a device_write waits for, and its timeout in milliseconds; `None` if it needn't wait.
     fn input_wait(&self, timeout: u32) -> Option<(Wait, u32)>
         ensures answer { (config : Configured) (acts : List DeviceAct)
             → IsDevice self.now config acts
@@ -130,7 +131,7 @@ impl<A: Allocator> Device<A> {
         Some((Wait::Input, timeout))
     }
 
-    /// What a read waits for, and its timeout in milliseconds; `None` if it needn't wait.
+    /// What a device_read waits for, and its timeout in milliseconds; `None` if it needn't wait.
     fn response_wait(&self, timeout: u32) -> Option<(Wait, u32)>
         ensures answer { (config : Configured) (acts : List DeviceAct)
             → IsDevice self.now config acts
@@ -153,8 +154,8 @@ impl<A: Allocator> Device<A> {
         self.links.count() + self.waiting.creating() < MOST_LINKS && self.links.lids_left()
     }
 
-    /// What stops create_link: an unknown device name; too many links; or, if it asks for the lock,
-    /// a link that holds the lock.
+    /// What stops create_link: an unknown device name; too many links; or, if `lock_device` asks
+    /// for the lock, a link that holds the lock. `None` if nothing stops it.
     fn link_stop(&self, lock_device: bool, timeout: u32, device: &[u8]) -> Option<Stop>
         ensures { (config : Configured) (acts : List DeviceAct) → IsDevice self.now config acts
             → option_map plain_stop result ≡ link_stop_for lock_device timeout device.now acts }
@@ -190,8 +191,9 @@ impl<A: Allocator> Device<A> {
         }
     }
 
-    /// What stops a call on a link. In this order, the call is checked for an invalid link, for a
-    /// write that is too long, for the lock, and for a wait for the device.
+    /// What stops a call on a link; `None` if nothing does. In this order, these are checked:
+    /// whether the link is invalid, whether the call is a write that is too long, whether the lock
+    /// stops the call, and whether the call has to wait for the device.
     fn call_stop(&self, conn: Conn, lid: i32, call: &LinkCall<'_>) -> Option<Stop>
         ensures { (config : Configured) (acts : List DeviceAct) → IsDevice self.now config acts
             → option_map plain_stop result

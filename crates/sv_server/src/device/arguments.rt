@@ -9,7 +9,8 @@ ghost use Rattle.sv_history.specs.CoreChannel.{term_of as term_for};
 use sv_exchange::MAX_MESSAGE;
 use sv_vxi::{Flags, LinkCall};
 
-/// The number of the link that a call names; `None` for a negative number, which no link has.
+/// The number of the link that a call names; `None` if the call names no link, or a negative
+/// number, which no link has.
 pub fn lid_of(named: Option<i32>) -> Option<u32>
     ensures { result ≡ lid_for named }
 {
@@ -29,7 +30,8 @@ pub fn is_too_long(call: &LinkCall<'_>) -> bool
     false
 }
 
-/// The termination character, the low eight bits of `term_char`, if its flag is set.
+/// The termination character, which is the low eight bits of `term_char`; `None` if the flag
+/// termchrset isn't set.
 pub fn term_of(flags: Flags, term_char: u32) -> Option<u8>
     ensures { result ≡ term_for flags.0 term_char }
 {

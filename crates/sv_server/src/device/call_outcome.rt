@@ -12,7 +12,7 @@ pub enum CallOutcome {
     Reads {
         /// The most bytes to return.
         most: u32,
-        /// The termination character, if its flag is set.
+        /// The termination character; `None` if the call's flag termchrset isn't set.
         term: Option<u8>,
     },
     /// The call is suspended.

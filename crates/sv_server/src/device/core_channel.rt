@@ -275,7 +275,7 @@ impl<A: Allocator> Device<A> {
         }
     }
 
-    /// Executes one of the five calls with Device_GenericParms.
+    /// Executes one of the five calls whose arguments are Device_GenericParms.
     fn generic_call(&mut self, call: GenericCall) -> CallOutcome
         ensures ends { (config : Configured) (polled : ℕ) (acts : List DeviceAct)
             → IsDeviceAt self.old config polled acts → (c lid flags lock_timeout io_timeout : ℕ)
@@ -293,8 +293,8 @@ impl<A: Allocator> Device<A> {
         }
     }
 
-    /// Executes a call on the link of this number. Nothing stops the call. No link has a negative
-    /// number.
+    /// Executes a call that nothing stops, on the link with the number `lid`. For a negative `lid`,
+    /// which no link has, the result is the error for an invalid link.
     fn on_link(&mut self, conn: Conn, lid: i32, call: &LinkCall<'_>) -> CallOutcome
         ensures ends { (config : Configured) (polled : ℕ) (acts : List DeviceAct)
             → IsDeviceAt self.old config polled acts

@@ -113,7 +113,7 @@ impl<A: Allocator> Device<A> {
         matches!(self.waiting.waits(conn), Some(Wait::Dial))
     }
 
-    /// Ends a suspended create_intr_chan; `ok` is whether the attempt to connect its peer
+    /// Ends a suspended create_intr_chan. `ok` says whether the attempt to connect to its peer
     /// succeeded.
     pub(super) fn end_dial(&mut self, conn: Conn, ok: bool, args: &Args<'_>) -> CallOutcome
         ensures ends { (config : Configured) (acts : List DeviceAct)
@@ -143,8 +143,8 @@ impl<A: Allocator> Device<A> {
         }
     }
 
-    /// Ends a suspended create_intr_chan whose peer is `peer`; `ok` is whether the attempt to
-    /// connect it succeeded.
+    /// Ends a suspended create_intr_chan whose peer is `peer`. `ok` says whether the attempt to
+    /// connect to the peer succeeded.
     fn end_channel(&mut self, conn: Conn, ok: bool, peer: Peer) -> CallOutcome
         ensures ends { (config : Configured) (acts : List DeviceAct)
             → IsDevice self.old config acts → is_dialing conn.number (wait_acts acts) ≡ true
@@ -185,8 +185,8 @@ impl<A: Allocator> Device<A> {
         self.intr.cancel(conn.number);
     }
 
-    /// The bytes that wait on the interrupt channel of a connection; none if the channel isn't
-    /// open.
+    /// The bytes that wait to be sent on the interrupt channel of a connection; none if the channel
+    /// isn't open.
     pub fn channel_waiting(&self, conn: Conn) -> &[u8]
         ensures same { result.now ≡ bytes_of self.now.intr conn.number }
         ensures answer { (config : Configured) (acts : List DeviceAct)

@@ -28,14 +28,14 @@ use sv_vxi::{Args, ErrorCode};
 pub enum Cause {
     /// The call can resume, since it got what it waits for.
     Able(Wait),
-    /// The attempt to connect the call's peer succeeded (`true`) or failed.
+    /// The attempt to connect to the call's peer succeeded (`true`) or failed (`false`).
     Dialed(bool),
     /// The call fails with this error.
     Failed(ErrorCode),
 }
 
 impl<A: Allocator> Device<A> {
-    /// Continues a suspended call: it is executed, suspended anew, or ended.
+    /// Continues a suspended call: executes it, suspends it anew, or ends it, as `cause` says.
     pub fn take_up(&mut self, conn: Conn, cause: Cause, args: &Args<'_>) -> CallOutcome
         requires { IsNearer cause conn.number self.old.waiting }
         ensures ends { (config : Config) (polled : ℕ) (acts : List DeviceAct)

@@ -21,11 +21,11 @@ use sv_rpc::{Ports, Reply, getport};
 pub enum Executed {
     /// The record isn't a call, and its connection is at fault.
     NoCall,
-    /// The call is answered, and the device doesn't change.
+    /// The call has this answer, and the device doesn't change.
     Answered(Answer<'static>),
-    /// The call is a device_abort.
+    /// The call is a device_abort with this outcome.
     Aborts(Aborted),
-    /// The call is one of the core channel.
+    /// The call is a call of the core channel with this outcome.
     Call(CallOutcome),
 }
 

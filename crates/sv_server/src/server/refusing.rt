@@ -50,8 +50,8 @@ fn unless_modest(call: CoreCall<'_>) -> Option<CoreCall<'_>>
     }
 }
 
-/// Takes the next call of an open connection, and answers it with error 9. The call must be one
-/// that may be refused, and there must be room for its reply.
+/// Takes the next call of an open connection, and answers it with error 9 without executing it.
+/// Fails if the call isn't one that may be refused, or the output has no room for the reply.
 pub fn refuse<A: Allocator>(connection: &mut Connection<A>, role: Role) -> Result<(), Refused>
     requires { connection.old.role ≡ Some role }
     ensures acts { (acts : List ConnAct) → IsConnection connection.old acts

@@ -17,8 +17,8 @@ use crate::device::resuming::Cause;
 use crate::server::turn::conclude_call;
 use std::alloc::Allocator;
 
-/// Continues a suspended call: it is executed, suspended anew, or ended. Its record is read again,
-/// with the same result as when it was taken.
+/// Continues a suspended call: executes it, suspends it anew, or ends it. The call's record is
+/// decoded again, with the same result as when it was taken.
 pub fn take_up<A: Allocator>(
     connection: &mut Connection<A>,
     device: &mut Device<A>,

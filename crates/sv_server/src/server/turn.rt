@@ -31,7 +31,8 @@ pub enum Turned {
     Idle,
     /// A call was taken. It was then executed or suspended.
     Done {
-        /// The connection whose suspended call the taken call ends; `None` if it ends none.
+        /// The connection whose suspended call is ended by the call that was taken (a
+        /// device_abort); `None` if it ends none.
         aborts: Option<u8>,
     },
 }
