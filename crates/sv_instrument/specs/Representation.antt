@@ -28,12 +28,13 @@ pub record Ran (kept : Kept) (count : ℕ) (log new : List Act) : Type 0 where
   pub stands : StandsFor kept new
   pub raises : Raises log new count
 
--- For `Some count`: the step that was due is taken, and it raised `count` requests for service. For `None`: no step is due.
+-- For `Some count`: the instrument took the step that was due (`IsNext` says which), and this step raised `count` requests for service. For
+-- `None`: no step is due.
 abbrev pub Takes : (List Act → List Act → Type 0) → Kept → Option ℕ → List Act → Type 0
 Takes IsNext kept None log = (new : List Act) → IsNext log new → ⊥
 Takes IsNext kept (Some count) log = (new : List Act) × IsNext log new × Ran kept count log new
 
--- 1 if no unit waits for the end of the measurement, so that the next unit can start; else 0
+-- 1 if no unit waits for the end of the measurement; else 0. With 1, the next unit can start.
 abbrev pub one_if_unheld : Option Awaited → ℕ
 one_if_unheld None = 1
 one_if_unheld (Some awaited) = 0
@@ -44,13 +45,13 @@ waits Waiting = 1
 waits Idle = 0
 waits Scanning = 0
 
--- a number that measures how many steps remain: an immediate trigger or a step always makes it smaller, so that repeated stepping
--- terminates
+-- a number that measures how many steps of the instrument remain. Each step and each immediate trigger makes it smaller, so a loop that
+-- takes steps until none is due ends.
 abbrev pub instrument_measure : Kept → ℕ
 instrument_measure kept = 2 * (2 * exchange_measure kept.layers.exchange + one_if_unheld kept.held)
     + waits (state_by kept.layers)
 
--- If a unit waits for the end of the measurement (it is held), it is the unit that is due.
+-- If a unit waits for the end of the measurement, then the message exchange has a unit that is due, which is this one.
 abbrev pub IsHeldRight : Option Awaited → LayerState → Type 0
 IsHeldRight None layers = ⊤
 IsHeldRight (Some awaited) layers = IsUnitDue (next_of layers.exchange)

@@ -1,5 +1,5 @@
--- The acts of the instrument, and which of them are acts of message exchange, of the error queue and of the scanner. In lists of acts the
--- newest one comes first.
+-- The acts of the instrument, and which of these acts are acts of message exchange, of the error queue and of the scanner. In lists of acts
+-- the newest act comes first.
 use Rattle.std.specs.Prelude.{ℕ, List, [], ◌∷◌, Some, None}
 use Rattle.std.specs.List.{filter_map}
 use Rattle.sv_errors.specs.declared.code.Code.{Code}
@@ -17,9 +17,9 @@ pub data Act : Type 0 where
   Purged : Act
   -- an act of the scanner: its inputs, settings and trigger system
   Scanned : (act : ScanAct) → Act
-  -- a unit began that can't end until no measurement is under way: it is held
+  -- a unit began that can end only when no measurement is under way; `awaited` is what the unit will answer then
   Held : (awaited : Awaited) → Act
-  -- the acts of the error queue: an error is reported, or the oldest entry is removed
+  -- the acts of the error queue: an error is added to the queue, or the queue's oldest error is removed
   Reported : (code : Code) → Act
   EntryTaken : Act
   -- the acts of the status registers and of the status byte
@@ -35,18 +35,19 @@ pub data Act : Type 0 where
   ServiceEnabled : (mask : ℕ) → Act
   Polled : Act
 
--- the acts of message exchange; a device clear counts as two of them, which interrupt the response and drop the text
+-- the acts of message exchange in the instrument's log. A device clear counts as two of these acts: the text is dropped, then the response
+-- is interrupted.
 abbrev pub exchange_acts : List Act → List ExchangeAct
 exchange_acts [] = []
 exchange_acts (Exchanged act ∷ log) = act ∷ exchange_acts log
 exchange_acts (Purged ∷ log) = Interrupted ∷ TextDropped ∷ exchange_acts log
 exchange_acts (_ ∷ log) = exchange_acts log
 
--- the acts of the scanner
+-- the acts of the scanner in the instrument's log
 abbrev pub scan_acts : List Act → List ScanAct
 scan_acts = filter_map (elim [ Scanned act ↦ Some act | _ ↦ None ])
 
--- the acts of the error queue
+-- the acts of the error queue in the instrument's log
 abbrev pub queue_acts : List Act → List QueueAct
 queue_acts [] = []
 queue_acts (Reported code ∷ log) = queue.Report code ∷ queue_acts log

@@ -3,7 +3,7 @@ use Rattle.sv_layers.specs.declared.change.Change.{Change}
 use Rattle.sv_layers.specs.declared.change.Change.TheVariants as changes
 use Rattle.sv_layers.specs.Act.{Act, Scanned, Held, Reported, EntryTaken, Cleared, Preset, OpcAsked, StandardRead, StandardEnabled, EventRead, Enabled, RiseSet, FallSet, ServiceEnabled}
 
--- the act that a `Change` of the code makes
+-- the act of the instrument that is done when the code executes this `Change`
 abbrev pub act_of : Change → Act
 act_of (changes.Scan act) = Scanned act
 act_of (changes.Hold awaited) = Held awaited

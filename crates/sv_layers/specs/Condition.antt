@@ -11,7 +11,7 @@ use Rattle.sv_scan.specs.Condition as scan
 use Rattle.sv_layers.specs.Act.{Act, scan_acts}
 use Rattle.sv_layers.specs.Filter.{enable, has_bit, passes, leaves}
 
--- the acts of the scanner that have an effect: a refused act is in the log, but has no effect
+-- the acts of the scanner that have an effect. An act that the scanner refused is in the log, but has no effect.
 abbrev pub effective_acts : List Act → List ScanAct
 effective_acts log = effective (scan_acts log)
 

@@ -7,7 +7,7 @@ use Rattle.sv_layers.specs.Act.{Act}
 use Rattle.sv_layers.specs.Condition.{condition}
 use Rattle.sv_layers.specs.Filter.{enable, passes, leaves}
 
--- A bit of an event register is set: since the last clearing a transition of its condition bit passed its filter.
+-- Bit k of an event register is set: since the register was last cleared, a transition of condition bit k passed the transition filter.
 abbrev pub EventStands : RegisterName → ℕ → List Act → Type 0
 EventStands name k log = Since (λ place. passes (condition name) name k place ≡ true) (λ place. leaves name place ≡ true) log
 

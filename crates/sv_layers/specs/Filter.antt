@@ -18,7 +18,8 @@ is_same _ _ = false
 abbrev pub start : RegisterName → ℕ
 start = elim [ Limit ↦ 32767 | _ ↦ 0 ]
 
--- the mask without bit 15, if `name` and `other` are the same register; else `None`
+-- what an act that sets a mask of register `other` sets for register `name`: the mask without bit 15 if they are the same register; else
+-- `None`
 abbrev pub mask_for : RegisterName → RegisterName → ℕ → Option ℕ
 mask_for name other mask = if is_same name other then Some (without_top_bit mask) else None
 
@@ -38,13 +39,14 @@ enable name = last_given (elim [ Enabled other mask ↦ mask_for name other mask
 abbrev pub has_bit : ℕ → ℕ → Bool
 has_bit word k = bit_at word k == 1
 
--- whether the newest act changes bit k of the condition, and the filter for this direction (rise or fall) was on before that act
+-- whether the newest act changes bit k of the condition, and bit k of the transition filter for this direction was set before the act. The
+-- positive filter is for a change to 1, the negative one for a change to 0.
 abbrev pub passes : (List Act → ℕ) → RegisterName → ℕ → List Act → Bool
 passes condition name k [] = false
 passes condition name k (act ∷ before) =
     (not (has_bit (condition before) k) && (has_bit (condition (act ∷ before)) k && has_bit (rise name before) k))
     || (has_bit (condition before) k && (not (has_bit (condition (act ∷ before)) k) && has_bit (fall name before) k))
 
--- whether the newest act doesn't clear the event register: it is neither `*CLS` nor a read of this register
+-- whether the newest act leaves the event register uncleared: the act is neither `*CLS` nor a read of this event register
 abbrev pub leaves : RegisterName → List Act → Bool
 leaves name = elim [ EventRead other ∷ log ↦ not (is_same name other) | Cleared ∷ log ↦ false | _ ↦ true ]

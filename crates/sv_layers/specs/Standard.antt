@@ -31,15 +31,15 @@ abbrev pub Completes : List Act → Type 0
 Completes [] = ⊥
 Completes (act ∷ before) = (is_idle (act ∷ before) ≡ true) × (IsAsked (act ∷ before) ⊎ (Waits before × (cancels act ≡ false)))
 
--- An event occurs at the newest act. Bit 7: power on, which occurs before all acts. Bit 0: an operation completes. Bits 5 to 2: an error of
--- the bit's class is reported. Bit 3 also: the error queue overflows.
+-- The standard event of bit k occurs at the newest act. Bit 7: power on, which occurs before all acts. Bit 0: an `*OPC` completes. Bits 5
+-- to 2: an error of the bit's class is reported. Bit 3 also occurs if the error queue overflows.
 abbrev pub Occurs : ℕ → List Act → Type 0
 Occurs k [] = k ≡ 7
 Occurs k (Reported code ∷ log) = (bit_at (standard_event_of code) k ≡ 1) ⊎ ((k ≡ 3) × (is_full (queue_acts log) ≡ true))
     ⊎ ((k ≡ 0) × Completes (Reported code ∷ log))
 Occurs k log = (k ≡ 0) × Completes log
 
--- The newest act doesn't clear the register: it is neither `*CLS` nor `*ESR?`.
+-- The newest act doesn't clear the standard event status register: the act is neither `*CLS` nor `*ESR?`.
 abbrev pub NotCleared : List Act → Type 0
 NotCleared = elim [ StandardRead ∷ log ↦ ⊥ | Cleared ∷ log ↦ ⊥ | _ ↦ ⊤ ]
 

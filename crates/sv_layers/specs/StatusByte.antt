@@ -16,11 +16,12 @@ SummaryBit k log = ((k ≡ 7) × Summary Operation log) ⊎ ((k ≡ 5) × Standa
     ⊎ ((k ≡ 4) × (is_something (response (exchange_acts log)) ≡ true)) ⊎ ((k ≡ 3) × Summary Questionable log)
     ⊎ ((k ≡ 2) × (is_something (entries (queue_acts log)) ≡ true))
 
--- the service request enable that was set last; 0 at first. The whole mask counts: sv_command has dropped bit 6 from the mask of an `*SRE`.
+-- the service request enable that was set last; 0 at first. Bit 6 isn't removed here: sv_command has already removed it from the mask of an
+-- `*SRE`.
 abbrev pub service : List Act → ℕ
 service = last_given (elim [ ServiceEnabled mask ↦ Some mask | _ ↦ None ]) 0
 
--- A summary bit is set and enabled.
+-- Summary bit k of the status byte is set, and enabled in the service request enable.
 abbrev pub ServiceRequested : ℕ → List Act → Type 0
 ServiceRequested k log = SummaryBit k log × (bit_at (service log) k ≡ 1)
 
@@ -28,7 +29,8 @@ ServiceRequested k log = SummaryBit k log × (bit_at (service log) k ≡ 1)
 abbrev pub Master : List Act → Type 0
 Master log = (k : ℕ) × ServiceRequested k log
 
--- A reason for service arises at the newest act: some summary bit is set and enabled, and before the act it wasn't both set and enabled.
+-- A reason for service arises at the newest act: some summary bit is set and enabled after the act, and this bit wasn't both set and
+-- enabled before the act.
 abbrev pub Reason : List Act → Type 0
 Reason [] = ⊥
 Reason (act ∷ before) = (k : ℕ) × ServiceRequested k (act ∷ before) × (ServiceRequested k before → ⊥)

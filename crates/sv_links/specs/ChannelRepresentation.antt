@@ -8,8 +8,8 @@ use Rattle.sv_links.specs.declared.channel.Stage.TheVariants.{Closed, Prepared, 
 use Rattle.sv_links.specs.Limits.{max_connections, max_enabled}
 use Rattle.sv_links.specs.Channels.{ChannelAct, enabled_links, peer, bytes_taken, calls, calls_left}
 
--- the state of one channel: its stage; how many calls were appended since it was opened; how many bytes of each waiting call are still to
--- be sent; and these bytes of all waiting calls, joined
+-- the state of one interrupt channel: its stage; how many calls were appended since it was opened; for each call with bytes still to be
+-- sent, how many; and all these bytes, joined
 pub record Channel : Type 0 where
   pub stage : Stage
   pub made : ℕ
@@ -21,7 +21,7 @@ pub record Channels : Type 0 where
   pub enabled : List Enabled
   pub channels : List Channel
 
--- the program that a channel is open for; `None` if the channel isn't open
+-- the client's program to which an open channel sends its calls; `None` if the channel isn't open
 abbrev pub opened_for : Stage → Option Peer
 opened_for (Open what) = Some what
 opened_for Closed = None
@@ -49,11 +49,11 @@ abbrev pub IsChannelFor : Option Peer → Channel → ℕ → List (List ℕ) �
 IsChannelFor (Some what) kept count calls = IsQueued kept count calls
 IsChannelFor None kept count calls = ⊤
 
--- The channel of a connection has the state that the acts determine.
+-- The interrupt channel of connection `c` has the state that the acts determine.
 abbrev pub IsChannel : Channel → ℕ → List ChannelAct → Type 0
 IsChannel kept c acts = (opened_for kept.stage ≡ peer c acts) × IsChannelFor (peer c acts) kept (bytes_taken c acts) (calls c acts)
 
--- The links are in rising order of their numbers.
+-- The list of links with service requests enabled is in rising order of the links' numbers.
 abbrev pub IsSorted : List Enabled → Type 0
 IsSorted [] = ⊤
 IsSorted (link ∷ links) = AllByRecursion (λ other. link.lid < other.lid) links × IsSorted links
@@ -67,7 +67,7 @@ abbrev pub without_links : List ℕ → List Enabled → List Enabled
 without_links [] links = links
 without_links (lid ∷ lids) links = filter (λ other. not (other.lid == lid)) (without_links lids links)
 
--- the links of all connections but c
+-- the links in the list that don't belong to connection `c`
 abbrev pub of_others : ℕ → List Enabled → List Enabled
 of_others c links = filter (λ other. not (other.conn == c)) links
 
@@ -84,7 +84,8 @@ bytes_of kept c = bytes_in (slice_get kept.channels c)
 abbrev pub IsReady : Channels → ℕ → Type 0
 IsReady kept c = (other : Channel) → is_prepared (slice_index_or kept.channels c other).stage ≡ true
 
--- Links and channels have the state that the acts determine, and no connection above 15 has an open channel.
+-- The list of links with service requests enabled and the channels have the state that the acts determine. No connection above 15 has an
+-- open channel.
 pub record AreChannels (kept : Channels) (acts : List ChannelAct) : Type 0 where
   pub enabled : kept.enabled ≡ enabled_links acts
   pub each : (c : ℕ) (other : Channel) → c < max_connections → IsChannel (slice_index_or kept.channels c other) c acts

@@ -8,8 +8,8 @@ use Rattle.sv_serve.specs.DriverView.{DriverState, Steps}
 use Rattle.sv_serve.specs.Sweep.{Sweeps}
 use Rattle.sv_net.specs.Sleep.{MaySleep}
 
--- An action of a loop: a sweep; a wait for reports about sockets, with its limit, whether reports came, and when it ended, in nanoseconds
--- since the beginning; or passing the reports to a wire, given as its state at that moment.
+-- An action of a loop: a sweep; a wait for reports about sockets; or passing these reports to the wire. A wait has its limit, whether
+-- reports came, and when it ended, in nanoseconds since the beginning. The wire is given as its state when it gets the reports.
 pub data Doing (W : Type 0) : Type 0 where
   MadeSweep : Doing W
   Waited : (limit : Option Duration) (reported : Bool) (ended : ℕ) → Doing W
@@ -30,13 +30,13 @@ swept_at (_ ∷ doings) = swept_at doings
 abbrev pub ticks_between : ℕ → ℕ → ℕ
 ticks_between before now = min (now / 1000000 - before / 1000000) 1000
 
--- for each sweep, how many milliseconds pass in it: those since the sweep before
+-- for each sweep, how many milliseconds it lets pass for the server: those since the previous sweep
 abbrev pub handed_in : {W : Type 0} → List (Doing W) → List ℕ
 handed_in [] = []
 handed_in (MadeSweep ∷ doings) = ticks_between (swept_at doings) (time_of doings) ∷ handed_in doings
 handed_in (_ ∷ doings) = handed_in doings
 
--- whether the loop's last action was a wait (the reports of this wait weren't passed to the sockets yet), or there was no action yet
+-- whether the loop's last action was a wait, whose reports weren't passed to the sockets yet; true also if there was no action yet
 abbrev pub is_fresh : {W : Type 0} → List (Doing W) → Bool
 is_fresh = elim [ MadeSweep ∷ doings ↦ false | Told wire ∷ doings ↦ false | _ ↦ true ]
 
@@ -44,9 +44,9 @@ is_fresh = elim [ MadeSweep ∷ doings ↦ false | Told wire ∷ doings ↦ fals
 abbrev pub is_told : {W : Type 0} → List (Doing W) → Bool
 is_told = last_given (elim [ Waited limit true ended ↦ Some false | Told wire ↦ Some true | _ ↦ None ]) true
 
--- The loop leads from one state of the driver to another. In each sweep, the milliseconds since the sweep before pass. If at least one
--- passes, the reports of the last wait are passed to the sockets only after the sweep. No wait is longer than allowed, and none begins
--- before all reports were passed to the sockets.
+-- These actions of a loop lead from the driver's state `start` to its state `now`. Each sweep lets the milliseconds since the previous
+-- sweep pass. A sweep that lets at least one pass comes before the reports of the last wait are passed to the sockets. No wait is longer
+-- than allowed, and each wait begins after all earlier reports were passed to the sockets.
 abbrev pub Serves : {W : Type 0} → (W → Heard → W → Type 0) → List (Doing W) → DriverState W → DriverState W → Type 0
 Serves hears [] start now = now ≡ start
 Serves hears (MadeSweep ∷ doings) start now = let ticks = ticks_between (swept_at doings) (time_of doings) in
@@ -56,14 +56,15 @@ Serves hears (Waited limit reported ended ∷ doings) start now =
     Serves hears doings start now × MaySleep (swept_at doings) (time_of doings) limit now × (is_told doings ≡ true)
 Serves hears (Told wire ∷ doings) start now = Serves hears doings start now × (wire ≡ now.wire)
 
--- A machine made the waits among these actions, in order, and they ended as listed. It passed the reports to the wires that are listed.
+-- The machine made the waits among these actions, in their order and with the results that they record. It also passed the reports to the
+-- wire wherever these actions say so.
 abbrev pub Waits : {W M : Type 0} → (M → Doing W → M → Type 0) → List (Doing W) → M → M → Type 0
 Waits answers [] start now = now ≡ start
 Waits answers (MadeSweep ∷ doings) start now = Waits answers doings start now
 Waits answers (doing ∷ doings) start now = (between : _) × Waits answers doings start between × answers between doing now
 
--- A loop leads from one state of the driver to another, and `IsCount` holds of the number of its sweeps. Its sweeps alone, with the
--- milliseconds of each, also lead from the first state to the second.
+-- A loop leads from the driver's state `old` to its state `new`, and `IsCount` holds of the number of the loop's sweeps. The loop's sweeps
+-- alone, each with its milliseconds, also lead from `old` to `new`.
 abbrev pub Served : {W : Type 0} → (W → Heard → W → Type 0) → (ℕ → Type 0) → DriverState W → DriverState W → Type 0
 Served hears IsCount old new = (doings : List (Doing _)) × IsCount (length (handed_in doings)) × Serves hears doings old new
     × Swept hears (handed_in doings) old new

@@ -9,7 +9,7 @@ use Rattle.sv_serve.specs.Asked.{IsReady}
 use Rattle.sv_serve.specs.DriverView.{DriverState, driver_view}
 use Rattle.sv_serve.specs.Still.{StaysStill}
 
--- Whatever history the server had before, no connection has a call to take.
+-- No connection has a call to take, for any history that the server stands for.
 abbrev pub NoneReady : {W : Type 0} → DriverState W → Type 0
 NoneReady driving = (config : Config) (history : List PlainEvent) → StandsFor driving.server config history
     → (c : ℕ) → IsReady c config (driver_view driving history) false
@@ -23,10 +23,10 @@ IsIdle most driving = NoneReady driving × ((config : Config) (history : List Pl
 abbrev pub left_until : ℕ → ℕ → ℕ → ℕ
 left_until ticks swept now = ticks * 1000000 - (now - swept / 1000000 * 1000000)
 
--- How long the server is allowed to sleep. Without a limit, if the scenario has no more entries, and the server is idle for as many
--- milliseconds as the longest timeout has (32 bits: VXI-11 revision 1.0, B.4.4). Idle means that no connection has a call to take, and
--- nothing becomes due. If the server is idle for 100 milliseconds, it may sleep at most until 100 milliseconds have passed since the last
--- sweep. Else it may sleep at most until the next millisecond.
+-- How long the server is allowed to sleep. Idle means that no connection has a call to take, and nothing becomes due. The server may sleep
+-- without a limit if the scenario has no more entries and the server is idle for 4294967295 milliseconds, the longest timeout (32 bits:
+-- VXI-11 revision 1.0, B.4.4). If it is idle for 100 milliseconds, it may sleep at most until 100 milliseconds after the start of the
+-- millisecond in which the last sweep began. Else it may sleep at most until the millisecond after that one.
 abbrev pub MaySleep : {W : Type 0} → ℕ → ℕ → Option Duration → DriverState W → Type 0
 MaySleep swept now None driving = (driving.ahead ≡ []) × IsIdle 4294967295 driving
 MaySleep swept now (Some limit) driving =

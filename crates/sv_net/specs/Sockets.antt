@@ -1,4 +1,4 @@
--- The sockets of a wire, by number, and what each call of the wire's methods does to them.
+-- The sockets of a wire, a list in which each port has its number, and what each call of the wire's methods does to these sockets.
 use Rattle.std.specs.Prelude.{◌≡◌, ℕ, ◌+◌, Bool, true, false, List, take, Option, Some, None, slice_set, slice_index_or}
 use Rattle.std.specs.Io.KnownBytes.{Keeps, Appends, Consumes}
 use Rattle.sv_history.specs.declared.event.Port.{Port}
@@ -28,12 +28,12 @@ abbrev pub Takes : {S : Type 0} → (S → Option (List ℕ)) → List ℕ → A
 Takes sent bytes (Got n) old new = Appends (sent old) (sent new) (take n bytes)
 Takes sent bytes answer old new = Keeps (sent old) (sent new)
 
--- The step is taken by the stream of a socket, if there is a stream. If there is none, the method's answer is that it failed.
+-- If the socket has a stream, the method's step changes this stream. If the socket has no stream, the method returns that it failed.
 abbrev pub Does : {S A : Type 0} → (S → S → Type 0) → Answer A → Option S → Option S → Type 0
 Does step answer None after = (answer ≡ Failed) × (after ≡ None)
 Does step answer (Some old) after = (new : _) × step old new × (after ≡ Some new)
 
--- The socket with number n takes the step. No other socket changes.
+-- The method's step changes at most the socket with number n. No other socket changes.
 abbrev pub At : {S A : Type 0} → ℕ → (S → S → Type 0) → Answer A → List (Option S) → List (Option S) → Type 0
 At n step answer before after =
     (place : Option _) × Does step answer (slice_index_or before n None) place × (after ≡ slice_set before n place)

@@ -8,7 +8,7 @@ pub data Wait : Type 0 where
   Missed : Wait
   Slept : Wait
 
--- how many runs of polls have found nothing since polling last found something
+-- how many runs of polls have found nothing since a run of polls last found something
 abbrev pub misses : List Wait → ℕ
 misses [] = 0
 misses (Found ∷ waits) = 0
@@ -33,14 +33,14 @@ abbrev pub is_any : ℕ → Bool
 is_any zero = false
 is_any (suc n) = true
 
--- how many times the server sleeps at once before it polls again, after this many runs of polls in a row that found nothing: 0, 0, 1, 2, 4
--- .. times
+-- how many times the server sleeps at once before it polls again, if this many runs of polls in a row found nothing. After 0, 1, 2, 3, 4 ..
+-- runs these are 0, 0, 1, 2, 4 .. times.
 abbrev pub pause_after : ℕ → ℕ
 pause_after zero = 0
 pause_after (suc n) = longer (is_any n) (pause_after n)
 
--- The waits with one more added, in which the server polled this many times until it found something or gave up. A wait that found
--- something without a poll isn't added, since it says nothing about polling: what it found was there already.
+-- The list of waits after one more wait, in which the server polled this many times until a poll found something or the server gave up. A
+-- wait that found something without a poll isn't added to the list: whether polling pays can't be seen from it.
 abbrev pub after_wait : ℕ → Bool → List Wait → List Wait
 after_wait zero true waits = waits
 after_wait zero false waits = Slept ∷ waits
@@ -56,7 +56,7 @@ pub record Kept : Type 0 where
   pub pause : ℕ
   pub left : ℕ
 
--- The state of the policy is the one to which these waits led.
+-- The state of the policy is the one that these waits determine.
 pub record StandsFor (kept : Kept) (waits : List Wait) : Type 0 where
   pub missed : kept.missed ≡ is_any (misses waits)
   pub pause : kept.pause ≡ pause_after (misses waits)

@@ -26,7 +26,7 @@ pub record Recording (W : Type 0) : Type 0 where
   pub trace : List Heard
   pub is_whole : Bool
 
--- If all calls are recorded after this call, all were recorded before it, and this call is recorded.
+-- If no call is missing from the recorder's trace after this call, then none was missing before it, and this call was added to the trace.
 abbrev pub Keeps : {W : Type 0} → Recording W → Heard → Recording W → Type 0
 Keeps before heard after = after.is_whole ≡ true → (before.is_whole ≡ true) × (after.trace ≡ heard ∷ before.trace)
 
@@ -34,8 +34,8 @@ Keeps before heard after = after.is_whole ≡ true → (before.is_whole ≡ true
 abbrev pub Passes : {W : Type 0} → (W → Heard → W → Type 0) → Recording W → Heard → Recording W → Type 0
 Passes hears before heard after = hears before.wire heard after.wire × Keeps before heard after
 
--- The calls of a recorder's methods are made on the recorded wire, and have the same answers. If all calls are recorded, this trace was
--- added to the calls recorded before.
+-- The recorder makes each call of its methods on the recorded wire too, and returns the wire's answer. If all calls could be recorded, the
+-- recorder's trace now has these calls in front of those recorded before.
 abbrev pub TraceIsKept : {W : Type 0} → (W → Heard → W → Type 0) → (Recording W → Heard → Recording W → Type 0) → Type 0
 TraceIsKept hears recorded = (trace : List Heard) (start now : Recording _) → Through recorded trace start now
     → Through hears trace start.wire now.wire × (now.is_whole ≡ true → now.trace ≡ trace ++ start.trace)

@@ -10,8 +10,8 @@ use Rattle.sv_replay.specs.Script.{parts}
 abbrev pub SaysFrom : ℕ → List ℕ → Entry → Type 0
 SaysFrom least line entry = (length line ≤ 65536) × SaysEntry line entry × (least ≤ entry.tick)
 
--- These entries are described by the lines that aren't empty. No entry is earlier than the entry before it, and the first entry isn't
--- earlier than `least`.
+-- The lines that aren't empty describe these entries, one entry each. No entry is earlier than the entry before it, and the first entry
+-- isn't earlier than the tick `least`.
 abbrev pub Tells : ℕ → List (List ℕ) → List Entry → Type 0
 Tells least [] entries = entries ≡ []
 Tells least (line ∷ lines) entries = ((line ≡ []) × Tells least lines entries)
@@ -30,8 +30,9 @@ last_tick least entries = fold (λ tick entry. entry.tick) least entries
 abbrev pub IsBadFrom : ℕ → List ℕ → Type 0
 IsBadFrom least line = (65536 < length line) ⊎ ((line ≢ []) × ((entry : Entry) → SaysEntry line entry → entry.tick < least))
 
--- Success: the lines of the text describe these entries. A bad line: the lines before it describe entries, and it isn't valid after them.
--- Out of memory: the lines before describe entries, the next line is valid after them, and memory for its entry was refused.
+-- The result of reading a scenario's text. Success: the lines of the text describe these entries. A bad line: the lines before it describe
+-- entries, and the line isn't valid after them. Out of memory: the first lines describe entries, the next line is valid after them, and
+-- memory for its entry was refused.
 abbrev pub Reads : List ℕ → Result (List Entry) ScenarioFault → Type 0
 Reads text (Ok entries) = Tells 0 (parts text) entries
 Reads text (Err (BadLine n)) = (front behind : List (List ℕ)) × (line : List ℕ) × (entries : List Entry)

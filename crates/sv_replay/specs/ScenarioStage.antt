@@ -6,7 +6,8 @@ use Rattle.sv_replay.specs.declared.scenario.ScenarioFault.TheVariants.{BadLine,
 use Rattle.sv_replay.specs.Script.{parts}
 use Rattle.sv_replay.specs.Scenario.{SaysFrom, Tells, last_tick, IsBadFrom}
 
--- What the line with this number adds to the entries. The last entry before the line is at the tick `least`.
+-- What the line with this number adds to the scenario's entries, and the tick of the last entry after the line. The last entry before the
+-- line is at the tick `least`.
 abbrev pub Adds : ℕ → List ℕ → ℕ → List Entry → List Entry → Result ℕ ScenarioFault → Type 0
 Adds least line number old new (Ok tick) = ((line ≡ []) × (new ≡ old) × (tick ≡ least))
     ⊎ ((entry : Entry) × SaysFrom least line entry × (new ≡ old ++ entry ∷ []) × (tick ≡ entry.tick))

@@ -1,10 +1,10 @@
--- The text of a replay that was read but isn't used yet, and how the text is stored.
+-- The text that a replay has read but not executed yet, and how this text is stored.
 use Rattle.std.specs.Prelude.{◌≡◌, ℕ, ◌+◌, ◌==◌, ◌≤◌, Bool, true, false, List, [], ◌++◌, length, take, Option, Some, None, Result, Ok, Err, slice_range}
 use Rattle.std.specs.List.{position, position_or_len}
 use Rattle.std.specs.Io.KnownBytes.{Consumes, IsAtEnd}
 use Rattle.sv_replay.specs.declared.input.InputFault.{InputFault}
 
--- the text that is stored, and how many times the reader was read so far
+-- the stored text, which was read but isn't used yet; and how many reads were made so far
 pub record Held : Type 0 where
   pub text : List ℕ
   pub reads : ℕ
@@ -17,7 +17,7 @@ nothing_held = record { text = []; reads = 0 }
 abbrev pub first_end : List ℕ → Option ℕ
 first_end text = position (λ b. b == 10) text
 
--- If the read found the reader's end or failed, it gave no bytes. At the reader's end no bytes remain.
+-- A read that found the reader's end, or failed, returned no bytes: `more` is empty. If it found the end, no bytes remain in the reader.
 abbrev pub IsGiven : List ℕ → Option (List ℕ) → Result Bool InputFault → Type 0
 IsGiven more rest (Ok true) = Unit {0}
 IsGiven more rest (Ok false) = (more ≡ []) × IsAtEnd rest
@@ -41,8 +41,8 @@ held_of buffer start end reads = record { text = slice_range buffer start end; r
 abbrev pub line_size : List ℕ → ℕ
 line_size text = position_or_len (λ b. b == 10) text
 
--- The fields of a `Text` fit together: the positions are in order, the buffer has its full size, and the text has no new line before
--- `clean`.
+-- The invariant of the fields of a `Text`: the positions are in order; the buffer has its full size; the stored text has no new line before
+-- the position `clean`; and at most 4294967294 reads were made.
 pub record IsKept (buffer : List ℕ) (start clean end reads : ℕ) : Type 0 where
   pub order : (start ≤ clean) × (clean ≤ end) × (end ≤ 131072)
   pub size : length buffer ≡ 131072

@@ -1,4 +1,5 @@
--- How the fields of a record buffer represent its records and its tail, and how pushed bytes change these.
+-- How the fields of a record buffer represent its complete records and its tail, the unfinished record after them. Also how pushed bytes
+-- change the records and the tail.
 use Rattle.std.specs.Prelude.{◌≡◌, ℕ, ◌+◌, ◌-◌, ◌*◌, ◌%◌, ◌<◌, ◌≤◌, ◌^◌, Bool, List, [], ◌∷◌, ◌++◌, length, take, drop, sum, nat_lt, nat_le, if◌then◌else◌}
 use Rattle.std.specs.Int.{w32, from_be_bytes}
 use Rattle.sv_rpc.specs.declared.record_buf.Place.{Place}
@@ -12,13 +13,13 @@ abbrev pub cut : List ℕ → List ℕ → List (List ℕ)
 cut [] bytes = []
 cut (n ∷ ns) bytes = take n bytes ∷ cut ns (drop n bytes)
 
--- the tail that the fields represent
+-- the tail of a record buffer (its unfinished record) that the buffer's fields represent
 abbrev pub tail_of : Place → List ℕ → List ℕ → Tail
 tail_of place.Header payload header = Header payload header
 tail_of (place.Data missing last) payload header = Data payload missing last
 tail_of place.TooLong payload header = TooLong
 
--- the records and the tail that the fields represent
+-- the complete records and the unfinished one (the tail) that the fields of a record buffer represent
 abbrev pub held_of : List ℕ → List ℕ → List ℕ → Place → Records
 held_of bytes lengths header place = record { records = cut lengths bytes; tail = tail_of place (drop (sum lengths) bytes) header }
 
@@ -28,7 +29,7 @@ abbrev pub spare_of : List ℕ → ℕ
 spare_of [] = 4
 spare_of (b ∷ payload) = 0
 
--- `n` more bytes fit after these records and this tail.
+-- `n` more bytes fit into a record buffer that holds these records and this tail.
 abbrev pub Fits : List (List ℕ) → Tail → ℕ → Type 0
 Fits records (Header payload header) n = used_by records (Header payload header) + n ≤ capacity + spare_of payload
 Fits records (Data payload missing last) n = used_by records (Data payload missing last) + n ≤ capacity
@@ -38,7 +39,7 @@ Fits records TooLong n = Unit {0}
 abbrev pub InRoom : Records → ℕ → Type 0
 InRoom held n = Fits held.records held.tail n
 
--- how many bytes of the capacity an unfinished header uses; all of the capacity if a record is too long
+-- how many bytes of the buffer's capacity an unfinished fragment header uses; the whole capacity if a record is too long
 abbrev pub begun_of : Place → ℕ → ℕ
 begun_of place.Header header_len = header_len
 begun_of (place.Data missing last) header_len = 0
@@ -51,7 +52,7 @@ IsPlace place.Header payload header_len = (payload ≤ max_record) × (header_le
 IsPlace (place.Data missing last) payload header_len = (0 < missing) × (payload + missing ≤ max_record) × (header_len ≡ 0)
 IsPlace place.TooLong payload header_len = Unit {0}
 
--- the invariant of the fields: they agree with each other, and the memory suffices for the capacity
+-- the invariant of a record buffer's fields: the fields agree with each other, and the allocated memory suffices for the buffer's capacity
 pub record IsValid (bytes lengths header : List ℕ) (space slots payload header_len : ℕ) (place : Place) : Type 0 where
   pub whole : sum lengths + payload ≡ length bytes
   pub four : length header ≡ 4
@@ -60,25 +61,26 @@ pub record IsValid (bytes lengths header : List ℕ) (space slots payload header
   pub many : max_records ≤ slots
   pub counted : 4 * length lengths + length bytes ≤ capacity
 
--- The next byte is part of a header.
+-- The next byte of the stream belongs to a fragment header.
 abbrev pub IsInHeader : Tail → Type 0
 IsInHeader (Header payload header) = Unit {0}
 IsInHeader (Data payload missing last) = ⊥
 IsInHeader TooLong = ⊥
 
--- The next byte begins a header.
+-- The next byte of the stream is the first byte of a fragment header.
 abbrev pub IsBeforeHeader : Tail → Type 0
 IsBeforeHeader (Header payload header) = header ≡ []
 IsBeforeHeader (Data payload missing last) = ⊥
 IsBeforeHeader TooLong = ⊥
 
--- Data come next: `n` bytes are missing from a fragment, and `b` says whether this fragment is the last of its record.
+-- The next byte of the stream is data of a fragment: `n` bytes of the fragment are missing, and `b` says whether the fragment is the last
+-- of its record.
 abbrev pub IsInData : Tail → ℕ → Bool → Type 0
 IsInData (Header payload header) n b = ⊥
 IsInData (Data payload missing last) n b = (missing ≡ n) × (last ≡ b)
 IsInData TooLong n b = ⊥
 
--- the payload of the unfinished record
+-- the data of the unfinished record that have come so far
 abbrev pub payload_of : Tail → List ℕ
 payload_of (Header payload header) = payload
 payload_of (Data payload missing last) = payload
@@ -122,6 +124,6 @@ after_data records TooLong piece = record { records = records; tail = TooLong }
 abbrev pub GoesOn : Records → Records → List ℕ → Type 0
 GoesOn old new front = (stream : List ℕ) (dropped : ℕ) → StandsFor old stream dropped → StandsFor new (stream ++ front) dropped
 
--- The new buffer has the records of the old one, and perhaps more after them.
+-- The new buffer has the records of the old buffer, and perhaps more records after them.
 abbrev pub Keeps : Records → Records → Type 0
 Keeps old new = (more : List (List ℕ)) × (new.records ≡ old.records ++ more)

@@ -35,8 +35,8 @@ abbrev pub IsRunOf : Option Run → ℕ → Type 0
 IsRunOf None samples = samples ≡ 0
 IsRunOf (Some run) samples = IsRun run samples
 
--- The state has an input for each channel, and memory for the most readings. Scan list, monitored channel, range, limits, count and
--- measurement are legal, and no reading is beyond 1,000 V.
+-- The scanner's state has an input for each channel, and memory for the largest number of readings. Its scan list, monitored channel,
+-- range, limits, count and measurement are legal, and no reading is beyond 1,000 V.
 pub record IsValid (contents : Contents) (capacity : ℕ) : Type 0 where
   pub inputs : length contents.inputs ≡ channel_count
   pub room : most_readings ≤ capacity
@@ -50,7 +50,7 @@ pub record IsValid (contents : Contents) (capacity : ℕ) : Type 0 where
   pub run : IsRunOf contents.run (length contents.readings)
   pub readings : list_all is_bounded contents.readings ≡ true
 
--- the contents of the scanner, from its fields
+-- the contents of the scanner, computed from the fields of the code's scanner
 abbrev pub contents_of : List ℤ → Settings → Option Run → List Reading → Touched → Contents
 contents_of inputs settings run readings touched = record {
   inputs = inputs;

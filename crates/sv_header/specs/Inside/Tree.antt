@@ -1,4 +1,4 @@
--- The tree of nodes. The code stores it as a list: a node, then all nodes below it, then the next sibling of the node.
+-- The tree of header nodes. The code stores the tree as a list: a node, then all nodes below it, then the next sibling of the node.
 use Rattle.std.specs.Prelude.{◌≡◌, ℕ, zero, suc, ◌≤◌, Bool, true, false, length, List, [], ◌∷◌, ◌++◌, map, take, drop, Option, Some, None}
 use Rattle.sv_header.specs.declared.command.CommandId.{CommandId}
 use Rattle.sv_header.specs.declared.branch.Branch.{Branch}
@@ -6,19 +6,19 @@ use Rattle.sv_header.specs.Pattern.{Part, Row, row}
 use Rattle.sv_header.specs.Plain.{part}
 use Rattle.sv_header.specs.Table.{common_commands, other_commands}
 
--- the command that a header names if it ends at this node: for `true` with a question mark, for `false` without one
+-- the command that a header names if it ends at this node: for `true`, the header with a question mark; for `false`, the one without
 abbrev pub command_of : Bool → Branch → Option CommandId
 command_of false branch = branch.plain
 command_of true branch = branch.query
 
--- Siblings are split into the first one, the nodes below it, and the siblings after it.
+-- A list of sibling nodes is split into `branch`, its first node; `children`, the nodes below `branch`; and `siblings`, the later siblings.
 abbrev pub IsParted : List Branch → Branch → List Branch → List Branch → Type 0
 IsParted [] branch children siblings = ⊥
 IsParted (first ∷ behind) branch children siblings =
     (branch ≡ first) × (children ≡ take first.below behind) × (siblings ≡ drop first.below behind)
 
--- the row of the table for the headers that end at a node, with a question mark or without one: as a list, which is empty if no command has
--- such a header
+-- the table's row for the header that ends at a node. `query` says whether the header has a question mark. The result is a list with this
+-- row, or the empty list if no command has this header.
 abbrev pub ending_row : Bool → Bool → Option CommandId → List Row
 ending_row common query None = []
 ending_row common query (Some command) = row common query [] command ∷ []
@@ -26,11 +26,11 @@ ending_row common query (Some command) = row common query [] command ∷ []
 abbrev pub ending_rows : Bool → Branch → List Row
 ending_rows common branch = ending_row common false branch.plain ++ ending_row common true branch.query
 
--- the row with this node added in front of its nodes
+-- the table's row with the node `part` added in front of the nodes of its header
 abbrev pub below : Part → Row → Row
 below part row = record row { parts = part ∷ row.parts }
 
--- the rows that end at these siblings and at the nodes below them
+-- the table's rows for all headers that end at these sibling nodes or at nodes below them
 abbrev pub rows_of : ℕ → Bool → List Branch → List Row
 rows_of zero common branches = []
 rows_of (suc fuel) common [] = []
@@ -46,12 +46,12 @@ abbrev pub rows_with : Bool → List Row
 rows_with true = common_commands
 rows_with false = other_commands
 
--- how many nodes belong to common commands: these nodes come first in the list
+-- how many nodes of the tree belong to common commands. These nodes come first in the list.
 abbrev pub common_nodes : ℕ
 common_nodes = 11
 
--- The nodes give the rows of the table: the first `common_nodes` nodes those of the common commands, the remaining nodes those of all other
--- commands.
+-- The tree's nodes give exactly the rows of the command table. The first `common_nodes` nodes give the rows of the common commands. The
+-- remaining nodes give the rows of all other commands.
 pub record IsTree (branches : List Branch) : Type 0 where
   pub size : common_nodes ≤ length branches
   pub common : tree_rows true (take common_nodes branches) ≡ rows_with true

@@ -7,25 +7,26 @@ use Rattle.sv_header.specs.Pattern.{Part, IsForm}
 use Rattle.sv_header.specs.Plain.{part, left_of}
 use Rattle.sv_header.specs.Inside.Tree.{command_of}
 
--- The first mnemonic is a form of the node, and `others` are the mnemonics after it.
+-- The first mnemonic of a header is the short or long form of the node `part`, and `others` are the mnemonics after it.
 abbrev pub Takes : List (List ℕ) → Part → List (List ℕ) → Type 0
 Takes [] part others = ⊥
 Takes (first ∷ behind) part others = IsForm first part × (others ≡ behind)
 
--- No mnemonic remains, and a header that ends here names this command.
+-- No mnemonic of the header remains (`left` is empty), and a header that ends at this node names this command.
 abbrev pub Ends : List (List ℕ) → Option CommandId → CommandId → Type 0
 Ends left ending command = (left ≡ []) × (ending ≡ Some command)
 
--- The mnemonics that remain after a node lead to the node's own command, or to a command below the node.
+-- The mnemonics that remain after a node lead to a command: no mnemonic remains and the node names this command; or `Below` holds, which
+-- says that they lead to this command through the nodes below.
 abbrev pub LeadsBelow : Bool → Branch → (List (List ℕ) → Type 0) → List (List ℕ) → CommandId → Type 0
 LeadsBelow query branch Below left command = Ends left (command_of query branch) command ⊎ Below left
 
--- The first mnemonic is a form of the node, or the node is optional and left out. `Behind` holds of the mnemonics that remain after the
--- node.
+-- The header passes the node `part`: its first mnemonic is a form of the node; or the node is optional and the header omits it. `Behind`
+-- holds of the mnemonics that remain after the node.
 abbrev pub Passes : Part → (List (List ℕ) → Type 0) → List (List ℕ) → Type 0
 Passes part Behind left = ((others : List (List ℕ)) × Takes left part others × Behind others) ⊎ ((part.optional ≡ true) × Behind left)
 
--- Mnemonics lead to a command through one of these siblings: the first one, or a later one.
+-- The mnemonics `left` lead to this command through one of these sibling nodes: the first sibling, or a later one.
 abbrev pub Leads : ℕ → Bool → List Branch → List (List ℕ) → CommandId → Type 0
 Leads zero query branches left command = ⊥
 Leads (suc fuel) query [] left command = ⊥
@@ -39,7 +40,7 @@ abbrev pub IsFound : Option CommandId → (CommandId → Type 0) → Type 0
 IsFound None P = (command : CommandId) → P command → ⊥
 IsFound (Some command) P = P command
 
--- The code returned remaining mnemonics, not `None`, and `P` holds of them.
+-- The code returned `Some` with the mnemonics that remain, and `P` holds of these mnemonics.
 abbrev pub OnLeft : Option Mnemonics → (List (List ℕ) → Type 0) → Type 0
 OnLeft None P = ⊥
 OnLeft (Some left) P = P (left_of left)
@@ -49,7 +50,7 @@ abbrev pub IsBehind : List (List ℕ) → Part → Option Mnemonics → Type 0
 IsBehind left part None = (others : List (List ℕ)) → Takes left part others → ⊥
 IsBehind left part (Some others) = Takes left part (left_of others)
 
--- The code returned all remaining mnemonics, if the node is optional; else `None`.
+-- The code returned all mnemonics of `left`, if the node `part` is optional and so can be omitted; else `None`.
 abbrev pub IsAllOf : List (List ℕ) → Part → Option Mnemonics → Type 0
 IsAllOf left part None = part.optional ≡ false
 IsAllOf left part (Some others) = (part.optional ≡ true) × (left_of others ≡ left)

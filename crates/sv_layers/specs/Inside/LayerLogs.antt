@@ -1,7 +1,6 @@
--- The log of each layer, from the instrument's acts. An act begins with its effect on its own layer. Then one register after the next is
--- updated, which ends the act: first the register gets its new condition, and the transitions pass the filters as they were before the act;
--- then the act changes the register itself. A nested register is updated first, so that its summary is known when the register above it
--- gets its condition.
+-- The log of each layer, from the instrument's acts. An act first changes its own layer. Then each status register is updated. It gets its
+-- new condition, and the transitions pass its filters as they were before the act; after that the act changes the register directly, if it
+-- is an act on this register. A nested register is updated before the register above it, whose condition contains the nested summary.
 use Rattle.std.specs.Prelude.{◌≡◌, ℕ, Bool, true, false, not, ◌&&◌, List, [], ◌∷◌, if◌then◌else◌}
 use Rattle.sv_errors.specs.Code.{standard_event_of}
 use Rattle.sv_errors.specs.ErrorQueue.{is_full}
@@ -37,12 +36,12 @@ abbrev pub resets : ScanAct → Bool
 resets scan.Reset = true
 resets _ = false
 
--- the log of the standard events after an error is reported: the event of the error's class occurs, and that of bit 3 if the queue
--- overflows
+-- the log of the standard events after an error is reported: the event of the error's class occurs; if the error queue overflows, the event
+-- of bit 3 also occurs
 abbrev pub report_bits : Code → Bool → List StandardAct → List StandardAct
 report_bits code overflow acts = standard.Occur (bit 3 overflow) ∷ standard.Occur (standard_event_of code) ∷ acts
 
--- the logs after an act changed its own layer, by which it begins
+-- the logs of the layers after the first part of an act, in which the act changes its own layer
 abbrev pub after_begin : Act → LayerLogs → LayerLogs
 after_begin (Exchanged act) at = record at { exchange = act ∷ at.exchange }
 after_begin Purged at = record at { exchange = Interrupted ∷ TextDropped ∷ at.exchange; waits = false }
@@ -61,7 +60,7 @@ after_begin _ at = at
 abbrev pub idles : LayerLogs → Bool
 idles at = is_idle (state (effective at.scanner))
 
--- the logs after this check: a pending `*OPC` completes if no measurement is under way
+-- the logs of the layers after the part of an act that checks for a pending `*OPC`: it completes if no measurement is under way
 abbrev pub after_complete : LayerLogs → LayerLogs
 after_complete at = record at {
   standard = standard.Occur (bit 0 (at.waits && idles at)) ∷ at.standard;
@@ -72,8 +71,8 @@ after_complete at = record at {
 abbrev pub where_same : RegisterName → RegisterName → RegisterAct → List RegisterAct → List RegisterAct
 where_same name other act acts = if is_same name other then act ∷ acts else acts
 
--- the acts of a register, with one more in front if the instrument's act changes this register directly. A change of its condition doesn't
--- count as direct.
+-- the acts of a register, with one more act in front if the instrument's act changes this register directly: it sets, presets, clears or
+-- reads the register. A change of the register's condition isn't direct.
 abbrev pub own : RegisterName → Act → List RegisterAct → List RegisterAct
 own name Cleared acts = register.Clear ∷ acts
 own name Preset acts = register.Preset ∷ acts
@@ -83,19 +82,21 @@ own name (RiseSet other mask) acts = where_same name other (register.SetFilter m
 own name (FallSet other mask) acts = where_same name other (register.SetFilter (rise acts) mask) acts
 own name _ acts = acts
 
--- the acts of the standard events, with one more in front if the instrument's act changes the standard events directly
+-- the acts of the standard events, with one more act in front if the instrument's act clears or reads the standard events or sets their
+-- enable
 abbrev pub own_standard : Act → List StandardAct → List StandardAct
 own_standard Cleared acts = standard.Clear ∷ acts
 own_standard StandardRead acts = standard.Read ∷ acts
 own_standard (StandardEnabled mask) acts = standard.SetEnable mask ∷ acts
 own_standard _ acts = acts
 
--- Both acts do the same to the registers directly, and the same to the standard events directly.
+-- Two acts of the instrument, `other` and `act`, change each register directly in the same way, and the standard events too.
 abbrev pub EndsAs : Act → Act → Type 0
 EndsAs other act = ((name : RegisterName) (acts : List RegisterAct) → own name other acts ≡ own name act acts)
     × ((acts : List StandardAct) → own_standard other acts ≡ own_standard act acts)
 
--- the logs after an act ends: each register gets its condition, and then the act changes the register directly, if it does so
+-- the logs of the layers after the last part of an act: a pending `*OPC` is checked; each register gets its new condition; then the act
+-- changes registers and standard events directly, if it is an act on them
 abbrev pub after_end : Act → List Act → LayerLogs → LayerLogs
 after_end act log at = record (after_complete at) {
   registers = λ name. own name act (register.Condition (condition name (act ∷ log)) ∷ at.registers name);
@@ -105,7 +106,7 @@ after_end act log at = record (after_complete at) {
 abbrev pub register_acts : RegisterName → LayerLogs → List RegisterAct
 register_acts name at = at.registers name
 
--- the logs of all layers, from the acts of the instrument
+-- the logs of all layers that the instrument's log determines
 abbrev pub layer_logs : List Act → LayerLogs
 layer_logs [] = record {
   exchange = [];
@@ -118,7 +119,7 @@ layer_logs [] = record {
 }
 layer_logs (act ∷ log) = after_end act log (after_begin act (layer_logs log))
 
--- whether an act does nothing to a register directly
+-- whether an act changes neither a status register nor the standard events directly
 abbrev pub is_plain : Act → Bool
 is_plain Cleared = false
 is_plain Preset = false

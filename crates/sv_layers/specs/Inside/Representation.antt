@@ -1,4 +1,4 @@
--- The state of the layers, and when it stands for a log.
+-- The state of the instrument's layers, and when this state stands for a log of the instrument.
 use Rattle.std.specs.Prelude.{◌≡◌, ◌↔◌, ℕ, ◌+◌, min, Bool, true, List, [], ◌∷◌, length}
 use Rattle.sv_errors.specs.declared.code.Code.{Code}
 use Rattle.sv_errors.specs.ErrorQueue.{entries, StandsFor as Queues}
@@ -20,7 +20,7 @@ use Rattle.sv_layers.specs.Filter.{start}
 use Rattle.sv_layers.specs.StatusByte.{IsRaised}
 use Rattle.sv_layers.specs.Inside.LayerLogs.{LayerLogs, after_begin, layer_logs}
 
--- the registers, each under its name
+-- the latches of the three status registers, one field for each register
 pub record ByName : Type 0 where
   pub operation : RegisterLatches
   pub questionable : RegisterLatches
@@ -42,7 +42,7 @@ pub record LayerState : Type 0 where
   pub waits : Bool
   pub requests : ℕ
 
--- The number has the summary bits that these logs of the layers determine.
+-- `word` is a status byte with exactly those summary bits set that are set according to these logs of the layers.
 pub record IsSummary (word : ℕ) (at : LayerLogs) : Type 0 where
   pub operates : Bool
   pub happened : Bool
@@ -53,23 +53,23 @@ pub record IsSummary (word : ℕ) (at : LayerLogs) : Type 0 where
   pub word_is : word ≡ bit 7 operates + bit 5 happened + bit 4 (is_something (response at.exchange)) + bit 3 questioned
       + bit 2 (is_something (entries at.errors))
 
--- the acts of the status byte, with a poll in front if this act of the instrument is a poll; `IsStatus` adds the update of the summary bits
+-- the acts of the status byte, with a poll in front if this act of the instrument is a poll
 abbrev pub own_status : Act → List StatusAct → List StatusAct
 own_status Polled acts = Poll ∷ acts
 own_status _ acts = acts
 
--- These are the acts of the status byte for a log of the instrument. Each act of the instrument updates the summary bits and the service
--- request enable in the status byte; an act that polls the status byte polls it before this update.
+-- `acts` are the acts of the status byte that a log of the instrument determines. Each act of the instrument updates the summary bits and
+-- the service request enable in the status byte. If the instrument's act is a poll, the status byte is polled before this update.
 abbrev pub IsStatus : List Act → List StatusAct → Type 0
 IsStatus [] acts = acts ≡ []
 IsStatus (act ∷ log) acts = (word : ℕ) × (before : List StatusAct) × IsSummary word (layer_logs (act ∷ log)) × IsStatus log before
     × (acts ≡ Update word (layer_logs (act ∷ log)).service ∷ own_status act before)
 
--- By the acts of the status byte, a request for service is raised at the newest act.
+-- The newest act of the instrument raises a request for service, according to the status byte's own acts.
 abbrev pub RaisedAt : List Act → Type 0
 RaisedAt log = (acts : List StatusAct) × IsStatus log acts × IsRaisedAsTold acts
 
--- The state of the layers stands for the logs of the layers and for the acts of the status byte.
+-- The state of each layer stands for the layer's own log, and the state of the status byte stands for `status_log`.
 pub record Represents (layered : LayerState) (at : LayerLogs) (status_log : List StatusAct) : Type 0 where
   pub exchange : Exchanges layered.exchange at.exchange
   pub errors : Queues layered.errors at.errors
@@ -80,35 +80,36 @@ pub record Represents (layered : LayerState) (at : LayerLogs) (status_log : List
   pub service : layered.service ≡ at.service
   pub waits : layered.waits ≡ at.waits
 
--- The state of the layers stands for the log.
+-- The state of the layers stands for the instrument's log.
 pub record StandsFor (layered : LayerState) (log : List Act) : Type 0 where
   pub status_log : List StatusAct
   pub are : IsStatus log status_log
   pub joined : Represents layered (layer_logs log) status_log
 
--- `act`, which follows the log, has changed its own layer and, if it is a poll, the status byte. The other layers aren't changed yet.
+-- The state of the layers after the first part of `act`, the act after `log`. The act has changed its own layer and, if it is a poll, has
+-- polled the status byte. It hasn't changed the other layers yet.
 pub record Begun (layered : LayerState) (act : Act) (log : List Act) : Type 0 where
   pub status_log : List StatusAct
   pub are : IsStatus log status_log
   pub joined : Represents layered (after_begin act (layer_logs log)) (own_status act status_log)
 
--- The state of the layers stands for the log, and the counter of requests for service was read and is 0.
+-- The state of the layers stands for the log, and the counter of requests for service in `layered` is 0, because it was read.
 pub record AllRead (layered : LayerState) (log : List Act) : Type 0 where
   pub stands : StandsFor layered log
   pub none : layered.requests ≡ 0
 
--- the highest number that the counter of requests for service reaches: it stops there
+-- the number at which the layers' counter of requests for service stops counting
 abbrev pub max_count : ℕ
 max_count = 255
 
--- The state of the layers stands for the log. The counter of requests for service was `before` the newest act. It is one higher now if a
--- request was raised at that act, but it never exceeds `max_count`.
+-- The state of the layers stands for the log. The layers' counter of requests for service had the value `before` when the newest act came.
+-- If the newest act raised a request, the counter is now one higher, but at most `max_count`.
 pub record IsApplied (before : ℕ) (layered : LayerState) (log : List Act) : Type 0 where
   pub stands : StandsFor layered log
   pub raised : Bool
   pub requests : (raised ≡ true) ↔ IsRaised log
   pub count : layered.requests ≡ min (before + bit 0 raised) max_count
 
--- the state of the trigger system, given the state of the layers
+-- the state of the scanner's trigger system, computed from the state of the layers
 abbrev pub state_by : LayerState → State
 state_by layered = run_state layered.scanner.run (length layered.scanner.readings)

@@ -1,4 +1,4 @@
--- The error of a unit that ends after the bytes read so far, and where the parts of this unit are.
+-- The error of a unit that ends after the bytes read so far, and the places at which the unit's header and parameters begin and end.
 use Rattle.std.specs.Prelude.{◌≡◌, ℕ, ◌+◌, max, List, length, Option, Some, None, nat_le, if◌then◌else◌}
 use Rattle.sv_errors.specs.declared.code.Code.{Code}
 use Rattle.sv_errors.specs.declared.code.Code.TheVariants.{InvalidCharacter, SyntaxError, ProgramMnemonicTooLong}
@@ -22,14 +22,15 @@ fault_of DataSpace p = length_fault_of p
 fault_of Illegal p = Some InvalidCharacter
 fault_of _ p = Some SyntaxError
 
--- the start of the program data of a unit that ends at this stage, or their end: `in_data` if the unit has program data; otherwise
--- `behind_header`, the place after its header
+-- the place at which the program data of a unit begin (or end), for a unit that ends at this stage: `in_data` if the unit has program data;
+-- otherwise `behind_header`, the place after its header
 abbrev pub data_of : Stage → (behind_header in_data : ℕ) → ℕ
 data_of ProgramData behind_header in_data = in_data
 data_of DataSpace behind_header in_data = in_data
 data_of _ behind_header in_data = behind_header
 
--- At these places of a unit its header begins and ends, and the text of its parameters begins and ends.
+-- The header of the unit begins and ends at `header_start` and `header_end`. The text of its parameters begins and ends at `data_start` and
+-- `data_end`.
 pub record IsCut (unit : List ℕ) (header_start header_end data_start data_end : ℕ) : Type 0 where
   pub header_begins : header_start ≡ header_place unit
   pub header_ends : header_end ≡ header_place unit + length (header unit)

@@ -8,8 +8,8 @@ use Rattle.sv_lexer.specs.Partial.{Progress}
 abbrev pub one_more : ℕ → ℕ
 one_more n = min (n + 1) (2 ^ 64 - 1)
 
--- For each field of `Progress` that changes, a function gives its new value. Its arguments are the stage that the byte leads to, the new
--- size of the unit, and the old value of the field.
+-- For each field of `Progress` that a byte changes, one function gives the new value of the field. The function's arguments are the stage
+-- that the byte leads to, the new size of the unit, and the old value of the field.
 abbrev pub header_start_in : Stage → ℕ → ℕ → ℕ
 header_start_in WhiteSpace size before = size
 header_start_in _ size before = before
@@ -40,7 +40,7 @@ abbrev pub data_end_in : Stage → ℕ → ℕ → ℕ
 data_end_in ProgramData size before = size
 data_end_in _ size before = before
 
--- the progress after one more byte, which leads to this stage
+-- the progress of reading a unit after one more byte, if the byte leads to this stage
 abbrev pub progress_to : Stage → Progress → Progress
 progress_to stage p = record {
   stage = stage;

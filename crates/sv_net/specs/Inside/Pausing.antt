@@ -9,8 +9,8 @@ abbrev pub is_quiet : {W : Type 0} → List (Doing W) → Bool
 is_quiet (Waited limit false ended ∷ doings) = is_told doings
 is_quiet _ = false
 
--- A loop made `many` sweeps, and the machine gave the answers of its waits. The last sweep began at `swept`, the time is `time`, and
--- `is_so` holds of the loop's actions.
+-- A loop made `many` sweeps, and the machine made the loop's waits, with the results that the loop's actions record. The last sweep began
+-- at `swept`, the time is now `time`, and `is_so` holds of the loop's actions.
 pub record Running {W M : Type 0} (hears : W → Heard → W → Type 0) (answers : M → Doing W → M → Type 0) (is_so : List (Doing W) → Bool)
     (many swept time : ℕ) (old new : DriverState W) (first now : M) : Type 0 where
   pub doings : List (Doing W)
@@ -21,7 +21,7 @@ pub record Running {W M : Type 0} (hears : W → Heard → W → Type 0) (answer
   pub serves : Serves hears doings old new
   pub waits : Waits answers doings first now
 
--- One more sweep is made, in which `ticks` milliseconds pass.
+-- The loop makes one more sweep, in which `ticks` milliseconds pass for the server.
 pub record Rounds {W M : Type 0} (hears : W → Heard → W → Type 0) (answers : M → Doing W → M → Type 0) (ticks : ℕ) (old new : DriverState W)
     (first now : M) : Type 0 where
   pub goes : (many swept time : ℕ) (start : DriverState W) (machine : M) → ticks ≡ ticks_between swept time

@@ -27,20 +27,20 @@ pub record Device : Type 0 where
   pub config : Config
   pub clock : ℕ
 
--- There are places and memory for the links that all suspended create_links will make.
+-- The table of links has places and memory for the links that all suspended create_link calls will make.
 abbrev pub IsReserved : Device → List DeviceAct → Type 0
 IsReserved kept acts = (length (live (link_acts acts)) + creations kept.waiting ≤ max_links) × (creations kept.waiting ≤ kept.links.spare)
 
--- There is a place, and memory, for one more link, besides those that all suspended create_links will make.
+-- The table of links has a place and memory for one more link, besides the links that all suspended create_link calls will make.
 abbrev pub HasPlace : Device → List DeviceAct → Type 0
 HasPlace kept acts = (length (live (link_acts acts)) + creations kept.waiting < max_links) × (creations kept.waiting < kept.links.spare)
 
--- Each link with service requests enabled exists, and is owned by the connection that is stored with it.
+-- Each link with service requests enabled exists, and its owner is the connection that the list `links` stores for it.
 abbrev pub AreOwned : List Enabled → List LinkAct → Type 0
 AreOwned links acts = AllByRecursion (λ link. owner link.lid acts ≡ Some link.conn) links
 
--- The interrupt channels have the state that their log determines. Each link with service requests enabled is owned by the connection that
--- is stored with it.
+-- The interrupt channels have the state that their log determines. The owner of each link with service requests enabled is the connection
+-- that `kept` stores for this link.
 abbrev pub AreTold : Channels → List DeviceAct → Type 0
 AreTold kept acts = (channel_log : List ChannelAct) × HearsOf acts channel_log × AreChannels kept channel_log
     × AreOwned kept.enabled (link_acts acts)

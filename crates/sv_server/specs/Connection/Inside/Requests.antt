@@ -1,4 +1,4 @@
--- What a record asks for, in terms of the code's types.
+-- The request that a received record makes, in terms of the code's types.
 use Rattle.std.specs.Prelude.{ℕ}
 use Rattle.sv_vxi.specs.Reading.{plain_arguments}
 use Rattle.sv_history.specs.CoreCall.{CoreCall}
@@ -7,7 +7,7 @@ use Rattle.sv_server.specs.declared.connection.request.CoreCall.{CoreCall as Tak
 use Rattle.sv_server.specs.declared.connection.request.Request.{Request as Asked}
 use Rattle.sv_server.specs.declared.connection.request.Request.TheVariants as requests
 
--- two functions that turn a value of the code into plain data: a call of the core channel, and what a record asks for
+-- Two functions turn a value of the code into plain data: the first one a call of the core channel, the second one the request of a record.
 abbrev pub plain_core_call : TakenCall → CoreCall
 plain_core_call call = record { xid = call.xid; arguments = plain_arguments call.args }
 

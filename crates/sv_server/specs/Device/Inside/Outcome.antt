@@ -27,7 +27,7 @@ use Rattle.sv_server.specs.declared.device.admission.Stop.{Stop as StoppedBy}
 use Rattle.sv_server.specs.declared.device.admission.Stop.TheVariants as stops
 use Rattle.sv_server.specs.Device.Representation.{Device, IsDevice, HasPlace}
 
--- what stops a call, as plain data
+-- why a call can't be executed now (an error, or a wait), as plain data
 abbrev pub plain_stop : StoppedBy → Stop
 plain_stop (stops.Fails error) = Fails error
 plain_stop (stops.Awaits wait timeout) = Awaits wait timeout
@@ -43,13 +43,13 @@ abbrev pub IsBrief : Outcome → Type 0
 IsBrief (outcomes.Result given) = data_of (plain_result given) ≡ []
 IsBrief _ = ⊤
 
--- The call has a result (it isn't suspended), and this result is `result`.
+-- The call has the result `result`. So the call isn't suspended.
 abbrev pub IsResult : Option VxiOutcome → VxiOutcome → Type 0
 IsResult (Some encoded) result = encoded ≡ result
 IsResult None result = ⊥
 
--- The code's `Outcome` means the same as `what`, and the acts that `what` adds have happened to the device. Except if the call reads the
--- response: then these acts haven't happened yet, and the device still has the whole response.
+-- The code's `Outcome` means the same as `what`. The acts that `what` adds have happened to the device, unless the call reads the response:
+-- then these acts haven't happened yet, and the device still has the whole response.
 abbrev pub OutcomeIs : Outcome → Device → Config → List DeviceAct → CallOutcome → Type 0
 OutcomeIs (outcomes.Result given) device config acts what = IsResult what.result (plain_result given)
     × IsDevice device config (what.adds ++ acts)
@@ -57,7 +57,8 @@ OutcomeIs (outcomes.Reads most term) device config acts what = (what ≡ reads (
     × IsDevice device config acts
 OutcomeIs outcomes.Suspended device config acts what = (what.result ≡ None) × IsDevice device config (what.adds ++ acts)
 
--- If the call is create_link, there are a place and memory for its link. If the create_link also requests the lock, no link holds the lock.
+-- If the call is create_link, the device has a place and memory for the new link. If the create_link also requests the lock, no link holds
+-- the lock.
 abbrev pub IsGranted : Arguments → Device → List DeviceAct → Type 0
 IsGranted (CreateLink client_id lock_device lock_timeout device) kept acts =
     HasPlace kept acts × (lock_device ≡ true → is_locked_out (holder (link_acts acts)) None ≡ false)
@@ -65,7 +66,8 @@ IsGranted _ kept acts = ⊤
 
 -- ---- a call that begins
 
--- The call of connection `c` was suspended: its entry was appended to the queue. If the call is create_link, it waits for the lock.
+-- The call of connection `c` was suspended: the entry of this call was appended to the queue of suspended calls. If the call is create_link
+-- (`makes`), this entry waits for the lock.
 abbrev pub IsBehind : ℕ → Bool → List Entry → List Entry → Type 0
 IsBehind c makes old new =
     (entry : Entry) × (entry.conn ≡ c) × (new ≡ without c old ++ entry ∷ []) × (makes ≡ true → creates entry ≡ true)
@@ -85,8 +87,8 @@ pub record Does {O : Type 0} (IsSo : Config → ℕ → List DeviceAct → O →
   pub brief : IfOk result (λ outcome. IsShort outcome)
   pub err : OnErr result (new ≡ old)
 
--- What a function does that begins a call after acts for which `IsAt` holds. `Admits` says this for any acts, and `AdmitsAt` for acts after
--- which `stop` is what stops the call.
+-- The effect of a function that begins a call, if `IsAt` holds of the device's acts before. `Admits` states this effect for any acts;
+-- `AdmitsAt` states it for acts after which `stop` is what prevents the call's execution.
 abbrev pub Begins : (List DeviceAct → Type 0) → {E : Type 0} → Result Outcome E → ℕ → Arguments → Device → Device → Type 0
 Begins IsAt result c arguments old new =
     Does (λ config polled acts outcome. IsAt acts
@@ -127,8 +129,8 @@ abbrev pub is_able : Cause → Bool
 is_able (causes.Able wait) = true
 is_able _ = false
 
--- If the cause is that the call got what it waits for: the most steps that the call can still take, plus those that all other suspended
--- calls can still take, are at most those of the whole queue.
+-- If the suspended call got what it waits for: the bound on the steps that this call can still take, plus the bound for all other suspended
+-- calls, is at most the bound for the whole queue.
 abbrev pub IsNearer : Cause → ℕ → List Entry → Type 0
 IsNearer (causes.Able wait) c old = queue_measure (without c old) + wait_measure wait ≤ queue_measure old
 IsNearer _ c old = ⊤
@@ -150,7 +152,8 @@ GoesOnAs (causes.Failed error) outcome device config polled c arguments acts =
 
 -- ---- a step of the instrument
 
--- If the flag is true, the instrument took a step for which `IsSuch` holds. If it is false, there is no such step, and nothing changed.
+-- If the flag is true, the instrument took a step for which `IsSuch` holds. If the flag is false, no step for which `IsSuch` holds is
+-- possible, and the device is unchanged.
 abbrev pub InstrumentSteps : (List InstrumentAct → List InstrumentAct → Type 0) → Bool → Config → List DeviceAct → Device → Device → Type 0
 InstrumentSteps IsSuch true config acts old new = (adds : List InstrumentAct)
     × IsSuch (instrument_acts acts) (adds ++ instrument_acts acts) × IsDevice new config (map Applied adds ++ acts)

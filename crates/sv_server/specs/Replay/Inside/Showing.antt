@@ -1,4 +1,4 @@
--- How the lines of all ports are written, one line after the other.
+-- How a replay writes the lines of all ports, one line after the other. The line of a port shows the bytes that wait to be sent on it.
 use Rattle.std.specs.Prelude.{◌≡◌, ℕ, List, [], ◌∷◌, ◌++◌, length, Result, Ok, Err, ⊤}
 use Rattle.sv_history.specs.declared.event.Config.{Config}
 use Rattle.sv_history.specs.declared.event.Port.{Port}
@@ -20,7 +20,7 @@ abbrev pub StandsBy : State → Config → List PlainEvent → List ChannelAct �
 StandsBy state config history channel_log log =
     IsLogOf config history log × Represents state config log × IsSettled config log × HearsOf (device_acts log) channel_log
 
--- two logs after the peer took these bytes from a port: the log, and the log of the interrupt channels
+-- the server's log after the peer took these bytes from a port; and, below it, the log of the interrupt channels after this
 abbrev pub log_with_took : Port → List ℕ → List Act → List Act
 log_with_took port [] log = log
 log_with_took (Conn c) (byte ∷ bytes) log = On c (BytesTaken (length (byte ∷ bytes))) ∷ log

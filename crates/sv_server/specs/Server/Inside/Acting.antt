@@ -30,13 +30,13 @@ use Rattle.sv_server.specs.Device.Inside.Outcome.{MayWait}
 use Rattle.sv_server.specs.Server.State.{State, Represents}
 use Rattle.sv_server.specs.Server.Inside.Ending.{Concludes}
 
--- `what` is the refusal of the event; `None` if the event isn't refused.
+-- `what` says why the server refuses the event; `None` if the event isn't refused.
 abbrev pub IsRefusal : Config → PlainEvent → List Act → Option Refused → Type 0
 IsRefusal config event log what = (channel_log : List ChannelAct) → HearsOf (device_acts log) channel_log
     → refusal config channel_log event log ≡ what
 
--- Either the event adds its own acts to the log, without those of the steps that follow it. Or the event is refused. Or memory that the
--- event needs was refused.
+-- One of three: the event's own acts were added to the log, and the steps that are due after the event aren't taken yet; the event is
+-- refused; or memory that the event needs was refused.
 abbrev pub Acts : Config → PlainEvent → List Act → Result Did Refused → State → Type 0
 Acts config event log (Ok what) new = IsRefusal config event log None × (what ≡ did event log)
     × ((polled : ℕ) → IsPolled polled (device_acts log) → Represents new config (own_acts config polled event log ++ log))
@@ -51,8 +51,8 @@ is_quiet (Bytes c piece) = true
 is_quiet (Took port count) = true
 is_quiet _ = false
 
--- The next call of an open connection is `call`, which asks for `request`. `IsSo` holds of the effect that a Turn has when it takes this
--- call.
+-- The next call of connection `c` is `call`, which makes the request `request`. `IsSo` holds of the effect that a Turn of this connection
+-- has, which takes the call.
 abbrev pub TakesCall : Config → ℕ → List Act → List ℕ → Request → (Effect → Type 0) → Type 0
 TakesCall config c log call request IsSo = (next_call (of c log) ≡ Some call) × (next_request (of c log) ≡ Some request)
     × ((polled : ℕ) → IsPolled polled (device_acts log) → IsSo (request_effect config polled c request (device_acts log)))
@@ -75,17 +75,18 @@ Refuses acts (Ok done) connection = (refuse_refusal acts ≡ None) × (bytes : L
     × IsConnection connection (Replied (refused_reply call) ∷ CallTaken bytes ∷ acts)
 Refuses acts (Err refused) connection = refuse_refusal acts ≡ Some refused
 
--- The Input isn't refused. Or it is refused, and the result is the refusal.
+-- Either the event Input, which sets a channel's voltage, isn't refused. Or it is refused, and the result says why.
 abbrev pub IsInput : ℕ → ℤ → Result Did Refused → Type 0
 IsInput channel microvolts (Ok what) = (what ≡ DidSo) × (is_channel channel ≡ true) × (is_beyond microvolts ≡ false)
 IsInput channel microvolts (Err refused) = Some refused ≡ input_refusal channel microvolts
 
--- If the flag is true, a step was taken for which `IsStep` holds. If it is false, there is no such step, and nothing changed.
+-- If the flag is true, the server took a step for which `IsStep` holds. If the flag is false, no step for which `IsStep` holds is possible,
+-- and the server is unchanged.
 abbrev pub TakesStep : (Config → List Act → List Act → Type 0) → Bool → Config → List Act → State → State → Type 0
 TakesStep IsStep true config log old new = (next : List Act) × IsStep config log next × Represents new config next
 TakesStep IsStep false config log old new = ((next : List Act) → IsStep config log next → ⊥) × (new ≡ old)
 
--- The step that is due is taken. Or no step is due, and the log is unchanged.
+-- Either the server took the step that was due. Or no step is due, and the server still stands for the same log.
 abbrev pub Steps : Stepped → Config → List Act → State → Type 0
 Steps Nothing config log new = IsSettled config log × Represents new config log
 Steps Instrument config log new = (next : List Act) × IsNext config log next × Represents new config next
@@ -95,10 +96,10 @@ Steps Call config log new = (next : List Act) × IsNext config log next × Repre
 abbrev pub Reaches : Config → List Act → List Act → Type 0
 Reaches config log mid = (n : ℕ) (new : List Act) → SettlesIn n config mid new → (m : ℕ) × SettlesIn m config log new
 
--- Some of the steps that are due were taken. They lead to a log for which `IsEnd` holds.
+-- The server took some of the steps that were due, perhaps none. These steps lead to a log for which `IsEnd` holds.
 abbrev pub GoesTo : Config → List Act → (List Act → Type 0) → State → Type 0
 GoesTo config log IsEnd new = (mid : List Act) × Reaches config log mid × IsEnd mid × Represents new config mid
 
--- All steps that are due were taken.
+-- The server took all steps that were due after `log`.
 abbrev pub Settled : Config → List Act → State → Type 0
 Settled config log new = (last : List Act) × Settles config log last × Represents new config last

@@ -33,8 +33,8 @@ use Rattle.sv_server.specs.Device.Inside.Outcome.{IsBrief, MayWait, MayWaitAnew,
 
 -- ---- how a call or a record ends
 
--- A call for which the code returns this `Outcome` has this effect. But if the call reads the response, the device still has the whole
--- response.
+-- A call for which the code returns this `Outcome` has this effect. If the call reads the response, this reading is still to be done: the
+-- device still has the whole response.
 abbrev pub CallEndsAs : Outcome → ℕ → Device → Config → List DeviceAct → Effect → Type 0
 CallEndsAs (outcomes.Result given) xid device config acts effect = (effect.own ≡ Replied (answer_bytes xid (Told given)) ∷ [])
     × IsDevice device config (effect.adds ++ acts)
@@ -51,14 +51,14 @@ EndsAs (executions.Aborts aborted) xid device config acts effect =
     (effect.own ≡ Replied (answer_bytes xid (Told aborted.result)) ∷ []) × IsDevice device config (effect.adds ++ acts)
 EndsAs (executions.Call outcome) xid device config acts effect = CallEndsAs outcome xid device config acts effect
 
--- The answer to the record fits in one reply.
+-- If the code has an answer to the record, this answer's data fit in one reply.
 abbrev pub IsBriefly : Executed → Type 0
 IsBriefly executions.NoCall = ⊤
 IsBriefly (executions.Answered answer) = IsShort answer
 IsBriefly (executions.Aborts aborted) = data_of (plain_result aborted.result) ≡ []
 IsBriefly (executions.Call outcome) = IsBrief outcome
 
--- the connection whose suspended call the record aborts, if it aborts one
+-- the connection whose suspended call the taken record aborts; `None` if the record aborts no call
 abbrev pub aborted_by : Executed → Option ℕ
 aborted_by (executions.Aborts aborted) = aborted.conn
 aborted_by _ = None
@@ -75,11 +75,11 @@ abbrev pub asks_for_link : Request → Bool
 asks_for_link (CoreRequest call) = is_create_link call.arguments
 asks_for_link _ = false
 
--- The record asks for a call of the core channel, and the call is suspended.
+-- The record is a call of the core channel, and the server suspended this call.
 abbrev pub IsSuspended : Executed → Request → Type 0
 IsSuspended executed request = (executed ≡ executions.Call outcomes.Suspended) × (call : CoreCall) × (request ≡ CoreRequest call)
 
--- The code executes what a record asks for. Or memory that the execution needs was refused.
+-- Either the code executed the request of a record. Or memory that the execution needs was refused.
 abbrev pub Executes : Request → {E : Type 0} → Result Executed E → ℕ → Device → Device → Type 0
 Executes request result c old new =
     Does (λ config polled acts executed. EndsAs executed (xid_of request) new config acts (request_effect config polled c request acts)
@@ -100,7 +100,8 @@ taken_up (causes.Able wait) config polled c call acts = resume_effect config pol
 taken_up (causes.Dialed ok) config polled c call acts = connect_effect c ok call
 taken_up (causes.Failed error) config polled c call acts = failure_effect error c call
 
--- A suspended call that resumed has had this effect. Either the call left the queue, or it waits again.
+-- The suspended call of connection `c` was resumed, with this effect. Now the call either has left the queue of suspended calls, or waits
+-- again in the queue.
 abbrev pub ConcludesResumed : Effect → ℕ → Option CoreCall → Config → List ConnAct → List DeviceAct → List Entry → Connection → Device
     → Type 0
 ConcludesResumed effect c call config acts before old connection device =
