@@ -41,7 +41,7 @@ span_of (a ∷ []) = if is_number a then Some (record { first = number a; last =
 span_of (a ∷ b ∷ []) = if is_number a && is_number b then Some (record { first = number a; last = number b }) else None
 span_of _ = None
 
--- the ends of an item; `None` if the text isn't an item
+-- the first and the last channel of an item of a channel list, such as `3` or `3:7`; `None` if the text isn't an item
 abbrev pub span : List ℕ → Option Span
 span item = span_of (cut_at 58 item)
 

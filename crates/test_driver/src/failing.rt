@@ -18,7 +18,7 @@ struct Row<'a> {
     lines: &'a str,
 }
 
-/// The driver of a row.
+/// The driver with which a test case (a row of lines) is played.
 type Played = Driver<Peers, Global>;
 
 /// The kinds of calls of the wire that are made to fail, each with the word for it.

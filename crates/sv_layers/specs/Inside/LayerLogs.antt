@@ -106,7 +106,7 @@ after_end act log at = record (after_complete at) {
 abbrev pub register_acts : RegisterName → LayerLogs → List RegisterAct
 register_acts name at = at.registers name
 
--- the logs of all layers that the instrument's log determines
+-- the log of each layer, as the instrument's log determines it
 abbrev pub layer_logs : List Act → LayerLogs
 layer_logs [] = record {
   exchange = [];

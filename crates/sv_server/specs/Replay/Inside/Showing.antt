@@ -20,12 +20,13 @@ abbrev pub StandsBy : State → Config → List PlainEvent → List ChannelAct �
 StandsBy state config history channel_log log =
     IsLogOf config history log × Represents state config log × IsSettled config log × HearsOf (device_acts log) channel_log
 
--- the server's log after the peer took these bytes from a port; and, below it, the log of the interrupt channels after this
+-- the server's log after the peer took these bytes from a port
 abbrev pub log_with_took : Port → List ℕ → List Act → List Act
 log_with_took port [] log = log
 log_with_took (Conn c) (byte ∷ bytes) log = On c (BytesTaken (length (byte ∷ bytes))) ∷ log
 log_with_took (Intr c) (byte ∷ bytes) log = OnDevice (Channel (ChannelTaken c (length (byte ∷ bytes)))) ∷ log
 
+-- the log of the interrupt channels after the peer took these bytes from a port
 abbrev pub told_with_took : Port → List ℕ → List ChannelAct → List ChannelAct
 told_with_took port [] channel_log = channel_log
 told_with_took (Conn c) (byte ∷ bytes) channel_log = channel_log
