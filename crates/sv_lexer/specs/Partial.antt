@@ -101,7 +101,7 @@ pub record IsRead (stage : Stage) (p : Progress) (unit : List ℕ) : Type 0 wher
   pub mnemonic : p.mnemonic ≡ in_u64 (length (last (words (header unit))))
   pub front : p.longest ≡ in_u64 (longest (others (words (header unit))))
 
--- What each stage says about the unit. A misspelled unit has no valid header, whatever bytes follow.
+-- What is true of a unit whose reading has reached this stage. A misspelled unit has no valid header, whatever bytes follow.
 abbrev pub At : Stage → Progress → List ℕ → Type 0
 At Misspelled p unit = (more : List ℕ) → is_header (header (unit ++ more)) ≡ false
 At Illegal p unit = ⊤

@@ -26,7 +26,8 @@ pub(crate) fn volts(suffix: &[u8]) -> Option<u64>
     }
 }
 
-/// Returns the power of ten of a number that has no unit: 0; or `None` if there is a suffix.
+/// Returns the power of ten for a number whose parameter has no unit: 0 if the number has no
+/// suffix; `None` if it has one, which isn't allowed.
 pub(crate) fn none(suffix: &[u8]) -> Option<u64>
     ensures { result ≡ power_of_none suffix.now }
 {
