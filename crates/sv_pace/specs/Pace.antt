@@ -23,8 +23,8 @@ sleeps (Found ∷ waits) = 0
 sleeps (Missed ∷ waits) = 0
 sleeps (Slept ∷ waits) = suc (sleeps waits)
 
--- in how many waits the server sleeps without polling, after one more run of polls that found nothing. The number is 0 if the run before
--- found something. Else it is twice the number after the run before, at least 1 and at most 1,024.
+-- In how many waits the server sleeps without polling, after one more run of polls that found nothing. The number is 0 unless the run
+-- before found nothing too. Then it is twice the number after the run before, at least 1 and at most 1,024.
 abbrev pub longer : Bool → ℕ → ℕ
 longer false pause = 0
 longer true pause = min (max (pause * 2) 1) 1024
@@ -40,8 +40,8 @@ abbrev pub pause_after : ℕ → ℕ
 pause_after zero = 0
 pause_after (suc n) = longer (is_any n) (pause_after n)
 
--- The list of waits after one more wait, in which the server polled this many times until a poll found something or the server gave up. A
--- wait that found something without a poll isn't added to the list: whether polling pays can't be seen from it.
+-- The list of waits after one more wait, in which the server polled this many times. The flag says whether it found something; otherwise it
+-- gave up polling. A wait that found something without a poll isn't added to the list: it doesn't show whether polling pays.
 abbrev pub after_wait : ℕ → Bool → List Wait → List Wait
 after_wait zero true waits = waits
 after_wait zero false waits = Slept ∷ waits
@@ -57,7 +57,7 @@ pub record Kept : Type 0 where
   pub pause : ℕ
   pub left : ℕ
 
--- The state of the policy is the one that these waits determine.
+-- The state of the policy, apart from its two times, is the one that these waits determine.
 pub record StandsFor (kept : Kept) (waits : List Wait) : Type 0 where
   pub missed : kept.missed ≡ is_any (misses waits)
   pub pause : kept.pause ≡ pause_after (misses waits)

@@ -51,9 +51,9 @@ abbrev pub channel_range : ℕ → ℕ → List ℕ
 channel_range first last = if nat_le first last then range_with_len first (last - first + 1) else reverse
     (range_with_len last (first - last + 1))
 
--- The channels in `before`, then those of the next item, then those that `others` adds. Or the first error that applies: -222 if an end of
--- the item isn't a channel; -223 if this item makes the list longer than the limit; the error of `others`. Before this, `read_items`
--- rejects items of the wrong form with -171.
+-- One step of reading a channel list: appends the channels of the next item to `before`, and lets `others` read the remaining items. Or the
+-- first error that applies: -171 for an item of the wrong form (`None`); -222 if the item's first or last number isn't a channel; -223 if
+-- the list becomes longer than the limit; the error of `others`.
 abbrev pub next : Option Span → List ℕ → (List ℕ → Result (List ℕ) Code) → Result (List ℕ) Code
 next None before others = Err InvalidExpression
 next (Some ends) before others =

@@ -1,4 +1,4 @@
-//! The unit of a number, by its suffix.
+//! The units that the suffixes of numbers stand for.
 
 ghost use Rattle.std.specs.Prelude.{◌≡◌};
 ghost use Rattle.sv_value.specs.Value.{power_of_none, power_of_volts};
