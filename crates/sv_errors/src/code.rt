@@ -65,7 +65,7 @@ pub enum Code {
     QueueOverflow,
     /// A message longer than the input buffer.
     InputBufferOverrun,
-    /// A message that came before the response to the message before it was read.
+    /// A message that came before the response to the previous message was read.
     QueryInterrupted,
     /// A read although no query was sent.
     QueryUnterminated,

@@ -16,7 +16,7 @@ pub trait Layer {
     /// The value stands for a list of acts.
     ghost stands_for: { Self → List Self.Act → Type 0 };
 
-    /// This is the answer to an act that follows this list of acts.
+    /// After this list of acts, the layer answers the next act with this answer.
     ghost gives: { List Self.Act → Self.Act → Self.Answer → Type 0 };
 
     /// Performs an act, and returns its answer.

@@ -6,9 +6,9 @@ use sv_status::RegisterName;
 /// same header without it.
 #[derive(Clone, Copy, Debug, PartialEq, Eq)]
 pub enum CommandId {
-    /// A command without a parameter, or a query that isn't answered at once.
+    /// A command without a parameter, or a query whose answer may have to wait.
     Do(Action),
-    /// A query that is answered at once.
+    /// A query whose answer never has to wait.
     Ask(Question),
     /// A command that sets this setting to the value of its parameter.
     Set(SettingName),
@@ -19,14 +19,14 @@ pub enum CommandId {
     Measure,
 }
 
-/// What a command without a parameter does, or a query whose answer may have to wait.
+/// What is done by a command without a parameter, or by a query whose answer may have to wait.
 #[derive(Clone, Copy, Debug, PartialEq, Eq)]
 pub enum Action {
     /// `*CLS`: clear events and the error queue (IEEE 488.2, 10.3).
     ClearStatus,
     /// `*RST`: abort, and set every setting to its default (IEEE 488.2, 10.32).
     Reset,
-    /// `*OPC`: set operation complete at the end of the measurement (IEEE 488.2, 10.18).
+    /// `*OPC`: set the operation complete bit when the measurement ends (IEEE 488.2, 10.18).
     TellComplete,
     /// `*WAI`: wait for the end of the measurement (IEEE 488.2, 10.39).
     Wait,
@@ -44,7 +44,7 @@ pub enum Action {
     Read,
 }
 
-/// The data that a query returns at once.
+/// What a query returns whose answer never has to wait.
 #[derive(Clone, Copy, Debug, PartialEq, Eq)]
 pub enum Question {
     /// `*IDN?`: the identification of the instrument.

@@ -56,10 +56,10 @@ impl Mnemonic {
     }
 }
 
-/// The path: mnemonics of the headers before, as they were sent. They are looked up in front of the
-/// next header's own mnemonics, unless that header starts at the root or is a common command. The
-/// path has at most four mnemonics: no pattern has more than five nodes, and the last mnemonic of a
-/// header isn't part of the path.
+/// The path: mnemonics of the message's earlier headers, as they were sent. They are looked up in
+/// front of the next header's own mnemonics, unless that header starts at the root or is a common
+/// command. The path has at most four mnemonics: no pattern has more than five nodes, and the last
+/// mnemonic of a header isn't part of the path.
 #[derive(Debug, Drop)]
 pub struct Path {
     mnemonics: ArrayVec<Mnemonic, 4>,

@@ -19,8 +19,8 @@ use sv_errors::Code;
 /// How many nodes of the tree belong to common commands. These nodes come first.
 const COMMON_NODES: usize = 11;
 
-/// The table of commands in memory: a tree whose nodes are mnemonics. The pattern of a header is a
-/// path from the root down to a node.
+/// The table of commands in memory: a tree whose nodes are mnemonics. The nodes passed on the way
+/// from the root down to a node are the pattern of a header.
 #[derive(Drop)]
 pub struct Table<A: Allocator = Global> {
     branches: Vec<Branch, A>,

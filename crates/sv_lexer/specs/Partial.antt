@@ -85,7 +85,8 @@ pub record HasData (p : Progress) (unit : List ℕ) : Type 0 where
   pub begins : p.data_start ≡ in_u64 (rest_place unit)
   pub ends : p.data_end ≡ in_u64 (rest_end unit)
 
--- The unit ends in what its stage says (7.3): its header; white space after the header; program data; or white space after the data.
+-- The last part of the unit read so far is the one that the stage names (7.3): the header; white space after the header; program data; or
+-- white space after the data.
 abbrev pub UnitEnds : Stage → Progress → List ℕ → Type 0
 UnitEnds HeaderSeparator p unit = (rest unit ≡ []) × (header_end unit < length unit) × (p.data_start ≡ in_u64 (length unit))
 UnitEnds ProgramData p unit = HasData p unit × (rest_end unit ≡ length unit)
@@ -101,7 +102,7 @@ pub record IsRead (stage : Stage) (p : Progress) (unit : List ℕ) : Type 0 wher
   pub mnemonic : p.mnemonic ≡ in_u64 (length (last (words (header unit))))
   pub front : p.longest ≡ in_u64 (longest (others (words (header unit))))
 
--- What each stage says about the unit. A misspelled unit has no valid header, whatever bytes follow.
+-- What is true of a unit whose reading has reached this stage. A misspelled unit has no valid header, whatever bytes follow.
 abbrev pub At : Stage → Progress → List ℕ → Type 0
 At Misspelled p unit = (more : List ℕ) → is_header (header (unit ++ more)) ≡ false
 At Illegal p unit = ⊤

@@ -18,7 +18,8 @@ pub enum Kind {
     Other,
 }
 
-/// A slice of a unit.
+/// The header or a parameter of a unit: a slice of the unit, with its position and its kind of
+/// data.
 #[derive(Clone, Copy, Debug)]
 pub struct Token<'a> {
     /// The bytes of the token, without white space around them.

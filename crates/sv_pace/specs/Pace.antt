@@ -1,8 +1,9 @@
--- When a server polls before it sleeps, instead of sleeping at once, depending on how its earlier waits ended. Lists of waits have the
--- newest first.
+-- When a server polls before it sleeps, and when it sleeps without polling. This depends on how its earlier waits ended. A list of waits
+-- has the newest wait first.
 use Rattle.std.specs.Prelude.{◌≡◌, ℕ, zero, suc, ◌-◌, ◌*◌, ◌≤◌, min, max, Bool, true, false, List, [], ◌∷◌}
 
--- How a wait ended: polling found something (`Found`), polling found nothing in its time (`Missed`), or the server slept at once (`Slept`).
+-- How a wait of the server ended. `Found`: a poll found something. `Missed`: the server polled for some time and found nothing. `Slept`:
+-- the server slept without polling.
 pub data Wait : Type 0 where
   Found : Wait
   Missed : Wait
@@ -15,15 +16,15 @@ misses (Found ∷ waits) = 0
 misses (Missed ∷ waits) = suc (misses waits)
 misses (Slept ∷ waits) = misses waits
 
--- how many times the server has slept at once since it last polled
+-- in how many waits the server has slept without polling, since the last wait in which it polled
 abbrev pub sleeps : List Wait → ℕ
 sleeps [] = 0
 sleeps (Found ∷ waits) = 0
 sleeps (Missed ∷ waits) = 0
 sleeps (Slept ∷ waits) = suc (sleeps waits)
 
--- how many times the server sleeps at once after one more run of polls that found nothing: 0 if this is the first such run; else twice as
--- many times as after the run before, at least 1 and at most 1,024
+-- In how many waits the server sleeps without polling, after one more run of polls that found nothing. The number is 0 unless the run
+-- before found nothing too. Then it is twice the number after the run before, at least 1 and at most 1,024.
 abbrev pub longer : Bool → ℕ → ℕ
 longer false pause = 0
 longer true pause = min (max (pause * 2) 1) 1024
@@ -33,14 +34,14 @@ abbrev pub is_any : ℕ → Bool
 is_any zero = false
 is_any (suc n) = true
 
--- how many times the server sleeps at once before it polls again, if this many runs of polls in a row found nothing. After 0, 1, 2, 3, 4 ..
--- runs these are 0, 0, 1, 2, 4 .. times.
+-- in how many waits the server sleeps without polling before it polls again, if this many runs of polls in a row found nothing: after 0, 1,
+-- 2, 3, 4 .. runs in 0, 0, 1, 2, 4 .. waits
 abbrev pub pause_after : ℕ → ℕ
 pause_after zero = 0
 pause_after (suc n) = longer (is_any n) (pause_after n)
 
--- The list of waits after one more wait, in which the server polled this many times until a poll found something or the server gave up. A
--- wait that found something without a poll isn't added to the list: whether polling pays can't be seen from it.
+-- The list of waits after one more wait. The number says how many times the server polled in it, and the flag whether it found something. A
+-- wait that found something without a poll isn't added to the list: it doesn't show whether polling pays.
 abbrev pub after_wait : ℕ → Bool → List Wait → List Wait
 after_wait zero true waits = waits
 after_wait zero false waits = Slept ∷ waits
@@ -48,7 +49,7 @@ after_wait (suc n) true waits = Found ∷ waits
 after_wait (suc n) false waits = Missed ∷ waits
 
 -- The state of the policy: when the last sweep began, and when something was last reported, both in nanoseconds; whether the last run of
--- polls found nothing; how many times the server sleeps at once after that run; and how many of these sleeps remain.
+-- polls found nothing; in how many waits the server sleeps without polling after that run; and how many of these waits remain.
 pub record Kept : Type 0 where
   pub swept : ℕ
   pub worked : ℕ
@@ -56,12 +57,12 @@ pub record Kept : Type 0 where
   pub pause : ℕ
   pub left : ℕ
 
--- The state of the policy is the one that these waits determine.
+-- The state of the policy, apart from its two times, is the one that these waits determine.
 pub record StandsFor (kept : Kept) (waits : List Wait) : Type 0 where
   pub missed : kept.missed ≡ is_any (misses waits)
   pub pause : kept.pause ≡ pause_after (misses waits)
   pub left : kept.left ≡ pause_after (misses waits) - sleeps waits
 
--- The server may poll again: it has slept at once as many times as it has to.
+-- The server may poll again: it has slept without polling in as many waits as it has to.
 abbrev pub IsDue : List Wait → Type 0
 IsDue waits = pause_after (misses waits) ≤ sleeps waits

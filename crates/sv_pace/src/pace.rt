@@ -8,10 +8,10 @@ use std::marker::Model;
 /// How many milliseconds a server sleeps at most, if nothing is due earlier.
 pub const STILL: u32 = 100;
 /// If nothing will ever be due and more sweeps than this remain, a server sleeps until something is
-/// reported. If fewer sweeps remain, it makes one at least every [`STILL`] milliseconds, so that it
-/// comes to an end.
+/// reported. If fewer sweeps remain, it makes a sweep at least every [`STILL`] milliseconds, so
+/// that the loop ends.
 pub const FEW: u32 = 1_000_000;
-/// The most milliseconds that pass in one sweep.
+/// The most milliseconds by which one sweep lets time pass, even if the sweep before is longer ago.
 const MOST_TICKS: u64 = 1_000;
 /// For how many nanoseconds after a report the server may poll without sleeping.
 const WINDOW: u64 = 50_000;
@@ -24,7 +24,7 @@ const MOST_SLEEPS: u32 = 1_024;
 /// ended.
 ///
 /// If polling found nothing of late, as on a machine whose cores are busy, it isn't worthwhile: the
-/// server sleeps at once, and polls again only now and then.
+/// server sleeps without polling, and polls again only now and then.
 #[derive(Drop)]
 pub struct Pace {
     /// When the last sweep began.
@@ -56,8 +56,9 @@ impl Model for Pace {
     ghost invariant = { λ a. a.pause ≤ 1024 };
 }
 
-/// Returns how many times to sleep at once after one more run of polls that found nothing. `missed`
-/// says whether the run before found nothing too, and `pause` how many sleeps followed that run.
+/// Returns in how many waits the server sleeps without polling, after one more run of polls that
+/// found nothing. `missed` says whether the run before found nothing, and `pause` how many such
+/// sleeps followed that run.
 fn longer(missed: bool, pause: u32) -> u32
     requires { pause ≤ 1024 }
     ensures value { result ≡ longer missed pause }
@@ -127,7 +128,7 @@ impl Pace {
         }
     }
 
-    /// Records that the server slept at once.
+    /// Records a wait in which the server slept without polling.
     fn sleep(&mut self)
         ensures times { (self.new.swept ≡ self.old.swept) × (self.new.worked ≡ self.old.worked) }
         ensures stands { (waits : List Wait) → StandsFor self.old waits

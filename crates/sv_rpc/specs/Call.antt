@@ -74,7 +74,7 @@ call_at bytes = do
     version ← unsigned_at kind.1
     if version.0 == 2 then body_at xid.0 version.1 else Err (Version xid.0)) else Err BadHeader
 
--- what the code returns for a record, as plain data
+-- the result of the code that reads a call, as plain data
 abbrev pub plain_call_result : Result Call CallFault → Result PlainCall CallFault
 plain_call_result (Ok call) = Ok (plain_call call)
 plain_call_result (Err fault) = Err fault

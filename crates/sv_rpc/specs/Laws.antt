@@ -31,18 +31,19 @@ CallAsSpelled = (bytes : List ℕ) → All (λ byte. byte < 256) bytes → CallI
 abbrev pub PortAsSpelled : Type 0
 PortAsSpelled = (ports : Ports) (args : List ℕ) → All (λ byte. byte < 256) args → PortIs ports args (port_at ports args)
 
--- No record is two different calls, has two different faults, or is both a call and faulty.
+-- The same bytes can't encode two different calls, can't have two different faults, and can't both encode a call and have a fault.
 abbrev pub OneCall : Type 0
 OneCall = (bytes : List ℕ) (a b : Result PlainCall CallFault) → CallIs bytes a → CallIs bytes b → a ≡ b
 
--- If bytes begin with two headers of calls, the headers are equal, and so are the bytes after them. So no header of a call is a proper
--- prefix of another call's header.
+-- If the same bytes can be split in two ways into the header of a call and a rest, both headers are equal, and so are both rests. So no
+-- header of a call is a proper prefix of another call's header.
 abbrev pub CallsPrefixFree : Type 0
 CallsPrefixFree = (x y : PlainCall) (c d v w : Auth) (bytes after behind : List ℕ) → BeginsAll bytes (heading x c v) after
     → BeginsAll bytes (heading y d w) behind
     → (heading x c v ≡ heading y d w) × (after ≡ behind)
 
--- If bytes begin with two headers of replies, their xids and replies are equal, and so are the bytes after them.
+-- If the same bytes can be split in two ways into the header of a reply and a rest, both headers have the same xid and the same reply, and
+-- both rests are equal.
 abbrev pub RepliesPrefixFree : Type 0
 RepliesPrefixFree = (x y : ℕ) (r s : Reply) (bytes after behind : List ℕ) → BeginsAll bytes (reply_fields x r) after
     → BeginsAll bytes (reply_fields y s) behind

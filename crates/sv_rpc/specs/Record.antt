@@ -26,7 +26,7 @@ bytes_of sent = flat_map (fragment false) sent.front ++ fragment true sent.final
 abbrev pub record_of : Sent → List ℕ
 record_of sent = concat sent.front ++ sent.final
 
--- The record isn't longer than a record may be.
+-- The record has at most `max_record` bytes of data.
 abbrev pub IsTaken : Sent → Type 0
 IsTaken sent = length (record_of sent) ≤ max_record
 

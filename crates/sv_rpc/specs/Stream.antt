@@ -5,12 +5,12 @@ use Rattle.std.specs.Int.{w32, from_be_bytes}
 use Rattle.sv_rpc.specs.Limits.{max_record}
 use Rattle.sv_rpc.specs.Record.{Tail, Header, Data, TooLong}
 
--- complete records, and what follows them
+-- the result of reading a stream: its complete records, and the tail that follows them
 abbrev pub Reading : Type 0
 Reading = List (List ℕ) × Tail
 
--- what is read from the end of a fragment on: `payload` is the data of its record so far, the flag says whether the fragment was the last
--- of the record, and `next` reads the bytes after the fragment
+-- The records and the tail that are read once a fragment is complete. `payload` is the data of the fragment's record so far, and the flag
+-- says whether the fragment is the last of this record. `next` reads `rest`, the bytes after the fragment.
 abbrev pub read_on : (List ℕ → List ℕ → Reading) → List ℕ → Bool → List ℕ → Reading
 read_on next payload true rest = (payload ∷ (next [] rest).0, (next [] rest).1)
 read_on next payload false rest = next payload rest
@@ -23,7 +23,8 @@ read_data next payload last size rest =
     else (if nat_lt (length rest) size then ([], Data (payload ++ rest) (size - length rest) last)
     else read_on next (payload ++ take size rest) last (drop size rest))
 
--- what is read from `bytes`, at most `n` fragments; `payload` is the data of the unfinished record that came before `bytes`
+-- The records and the tail that are read from `bytes`, in at most `n` fragments. `payload` is the data of the unfinished record that came
+-- before `bytes`.
 unfoldable pub read : ℕ → List ℕ → List ℕ → Reading
 read zero payload bytes = ([], TooLong)
 read (suc n) payload bytes =
@@ -31,7 +32,7 @@ read (suc n) payload bytes =
     else (let word = from_be_bytes w32 bytes in
     read_data (read n) payload (nat_le (2 ^ 31) word) (word % 2 ^ 31) (drop 4 bytes))
 
--- the reading of a whole stream, which has at most as many fragments as bytes
+-- the complete records of a whole stream, and its tail. The stream has at most as many fragments as bytes.
 abbrev pub reading : List ℕ → Reading
 reading stream = read (length stream + 1) [] stream
 

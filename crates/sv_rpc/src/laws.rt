@@ -14,22 +14,23 @@ pub fn read_as_split()
     ensures alone { ReadAlone }
 {}
 
-/// The function `call_at` returns what a record is: a call, or the fault that makes it none. The
-/// function `port_at` returns the answer to a GETPORT call with the given arguments.
+/// The function `call_at` returns the call that a record encodes, or the fault for which the record
+/// isn't accepted as a call. The function `port_at` returns the answer to a GETPORT call with the
+/// given arguments.
 pub fn read_as_spelled()
     ensures call { CallAsSpelled }
     ensures port { PortAsSpelled }
 {}
 
-/// A record isn't two different calls, doesn't have two different faults, and isn't both a call and
-/// faulty.
+/// The same bytes can't encode two different calls, can't have two different faults, and can't both
+/// encode a call and have a fault.
 pub fn one_call()
     ensures { OneCall }
 {}
 
 /// No header of a call is a proper prefix of another call's header, and no header of a reply is a
-/// proper prefix of another reply's header. If bytes begin with two headers of calls, or with two
-/// of replies, the two headers are equal, and so are the bytes after them.
+/// proper prefix of another reply's header. If the same bytes can be split in two ways into such a
+/// header and a rest, both headers are equal, and so are both rests.
 pub fn prefix_free()
     ensures calls { CallsPrefixFree }
     ensures replies { RepliesPrefixFree }

@@ -20,7 +20,7 @@ const MAX_RECORDS: usize = CAPACITY / 4;
 /// The longest record, in bytes.
 const MAX_RECORD: usize = 8192;
 
-/// Why no further record comes.
+/// Why the buffer returns no further record.
 #[derive(Clone, Copy, Debug, PartialEq, Eq, Error)]
 pub enum RpcFault {
     /// A fragment's header makes its record longer than a record may be. No record after this one

@@ -30,29 +30,30 @@ is_number text = not (is_empty (trim text)) && list_all is_ascii_digit (trim tex
 abbrev pub number : List ℕ → ℕ
 number text = digits_value 10 (trim text)
 
--- the two ends of an item of a channel list
+-- the first and the last number of an item of a channel list, such as `3:7`; both are 3 for the item `3`
 pub record Span : Type 0 where
   pub first : ℕ
   pub last : ℕ
 
--- the ends of an item, given its parts between colons; `None` if the parts aren't one number or two
+-- the first and the last number of a channel list's item, given the item's parts between colons; `None` unless the parts are one number, or
+-- two numbers
 abbrev pub span_of : List (List ℕ) → Option Span
 span_of (a ∷ []) = if is_number a then Some (record { first = number a; last = number a }) else None
 span_of (a ∷ b ∷ []) = if is_number a && is_number b then Some (record { first = number a; last = number b }) else None
 span_of _ = None
 
--- the first and the last channel of an item of a channel list, such as `3` or `3:7`; `None` if the text isn't an item
+-- the first and the last number of an item such as `3` or `3:7`; `None` if the text doesn't have the form of an item
 abbrev pub span : List ℕ → Option Span
 span item = span_of (cut_at 58 item)
 
--- the channels from one end to the other, up or down
+-- the channels from `first` to `last`, upwards or downwards
 abbrev pub channel_range : ℕ → ℕ → List ℕ
 channel_range first last = if nat_le first last then range_with_len first (last - first + 1) else reverse
     (range_with_len last (first - last + 1))
 
--- The channels in `before`, then those of the next item, then those that `others` adds. Or the first error that applies: -222 if an end of
--- the item isn't a channel; -223 if this item makes the list longer than the limit; the error of `others`. Before this, `read_items`
--- rejects items of the wrong form with -171.
+-- One step of reading a channel list: appends the channels of the next item to `before`, and lets `others` read the remaining items. Or the
+-- first error that applies: -171 for an item of the wrong form (`None`); -222 if the item's first or last number isn't a channel; -223 if
+-- the list becomes longer than the limit; the error of `others`.
 abbrev pub next : Option Span → List ℕ → (List ℕ → Result (List ℕ) Code) → Result (List ℕ) Code
 next None before others = Err InvalidExpression
 next (Some ends) before others =

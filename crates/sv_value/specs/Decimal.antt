@@ -33,24 +33,24 @@ abbrev pub behind_fraction : List ℕ → List ℕ
 behind_fraction [] = []
 behind_fraction (b ∷ text) = if b == 46 then behind_digits text else b ∷ text
 
--- the text after its leading E and the white space that follows it; empty if it doesn't begin with an E
+-- the text after a leading E and the white space that follows the E; empty if the text doesn't begin with an E
 abbrev pub behind_letter : List ℕ → List ℕ
 behind_letter [] = []
 behind_letter (b ∷ text) = if b == 69 || b == 101 then trim_start text else []
 
--- the text after leading white space, an E and more white space; empty if there is no E at this place
+-- the text after leading white space, an E and more white space; empty if no E follows the leading white space
 abbrev pub behind_mark : List ℕ → List ℕ
 behind_mark text = behind_letter (trim_start text)
 
--- the digits of an exponent; without digits there is no exponent
+-- the digits of the exponent with which the text begins; empty if it begins with no exponent. An E without digits is no exponent.
 abbrev pub exponent_in : List ℕ → List ℕ
 exponent_in text = digits_in (behind_sign (behind_mark text))
 
--- whether the exponent has a minus sign
+-- whether the text begins with an exponent that has a minus sign
 abbrev pub is_down : List ℕ → Bool
 is_down text = not (is_empty (exponent_in text)) && has_minus (behind_mark text)
 
--- the text after the exponent, if there is one
+-- the text after the exponent with which it begins; the whole text if it begins with no exponent
 abbrev pub behind_exponent : List ℕ → List ℕ
 behind_exponent text = if is_empty (exponent_in text) then text else behind_digits (behind_sign (behind_mark text))
 
@@ -63,7 +63,7 @@ pub record Parts : Type 0 where
   pub exponent : List ℕ
   pub suffix : List ℕ
 
--- the text after sign and digits
+-- the text after its sign, if it has one, and the digits that follow
 abbrev pub behind_whole : List ℕ → List ℕ
 behind_whole text = behind_digits (behind_sign text)
 
@@ -71,7 +71,7 @@ behind_whole text = behind_digits (behind_sign text)
 abbrev pub behind_mantissa : List ℕ → List ℕ
 behind_mantissa text = behind_fraction (behind_whole text)
 
--- the parts of a text when it is read as a number
+-- the sign, digits, exponent and suffix of a text that is read as a decimal number
 abbrev pub number_parts : List ℕ → Parts
 number_parts text = record {
   negative = has_minus text;

@@ -6,7 +6,7 @@ use Rattle.sv_errors.specs.declared.code.Code.{Code}
 use Rattle.sv_errors.specs.declared.code.Code.TheVariants.{InvalidCharacterInNumber, TooManyDigits, ExponentTooLarge}
 use Rattle.sv_value.specs.Decimal.{Parts, number_parts, is_spelled}
 
--- the whole number nearest to a fraction; half is rounded up
+-- the whole number nearest to `numerator` / `denominator`; a half is rounded up
 abbrev pub nearest : ℕ → ℕ → ℕ
 nearest numerator denominator = (2 * numerator + denominator) / (2 * denominator)
 
@@ -42,6 +42,7 @@ read_with (Some power) suffix_code number =
     else if nat_lt 32000 (digits_value 10 number.exponent) then Err ExponentTooLarge
     else Ok (signed number.negative (magnitude power number))
 
--- the value of a text as a decimal number, or the first error
+-- the value of a text as a decimal number, or the first error. `power_of` gives the power of ten that a suffix stands for; `suffix_code` is
+-- the error for a suffix that isn't allowed.
 abbrev pub read_decimal : (List ℕ → Option ℕ) → Code → List ℕ → Result ℤ Code
 read_decimal power_of suffix_code text = read_with (power_of (number_parts text).suffix) suffix_code (number_parts text)

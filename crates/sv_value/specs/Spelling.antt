@@ -17,7 +17,7 @@ IsSpace text = list_all is_white text ≡ true
 abbrev pub IsSign : List ℕ → Bool → Type 0
 IsSign text minus = ((text ≡ []) × (minus ≡ false)) ⊎ ((text ≡ 43 ∷ []) × (minus ≡ false)) ⊎ ((text ≡ 45 ∷ []) × (minus ≡ true))
 
--- The text is a point and these digits, or empty.
+-- The text is a point followed by `digits`; or both the text and `digits` are empty.
 abbrev pub IsFraction : List ℕ → List ℕ → Type 0
 IsFraction text digits = ((text ≡ []) × (digits ≡ [])) ⊎ ((text ≡ 46 ∷ digits) × AreDigits digits)
 
@@ -34,8 +34,8 @@ NoExponent text = (exponent behind digits : List ℕ) (minus : Bool) → text �
 abbrev pub IsSuffix : List ℕ → List ℕ → Type 0
 IsSuffix text suffix = (space : List ℕ) × (text ≡ space ++ suffix) × IsSpace space × (begins_well suffix ≡ true)
 
--- The text is what follows the mantissa of a number with these parts: its exponent and its suffix. Or it is the suffix alone, and doesn't
--- begin with an exponent.
+-- The text is what follows the mantissa of a number with these parts: an exponent and a suffix; or, if the number has no exponent, a suffix
+-- alone. A text that is a suffix alone doesn't begin with an exponent.
 abbrev pub IsTail : List ℕ → Parts → Type 0
 IsTail text number = ((exponent behind : List ℕ) × (text ≡ exponent ++ behind) × IsExponent exponent number.down number.exponent
     × IsSuffix behind number.suffix)

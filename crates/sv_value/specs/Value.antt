@@ -1,4 +1,4 @@
--- The value of a parameter, by the kind of its data, or its first error.
+-- The values of parameters: how data of each kind are read, and which error they give.
 use Rattle.std.specs.Prelude.{◌≡◌, ℕ, ℤ, pos, negsuc, nat_le, ◌&&◌, ◌||◌, ◌==◌, Bool, true, false, List, codes, Option, Some, None, Result, Ok, Err, if◌then◌else◌}
 use Rattle.sv_text.specs.Front.{is_empty}
 use Rattle.sv_errors.specs.Limits.{is_within, is_channel_list}
@@ -22,7 +22,7 @@ power_of_volts suffix =
     else if is_same suffix (codes "UV") then Some 0
     else None
 
--- the power of ten that the suffix of a number without a unit stands for: 0 for no suffix; `None` for any suffix, since it isn't allowed
+-- the power of ten for a number whose parameter has no unit: 0 if the number has no suffix; `None` if it has one, which isn't allowed
 abbrev pub power_of_none : List ℕ → Option ℕ
 power_of_none suffix = if is_empty suffix then Some 0 else None
 

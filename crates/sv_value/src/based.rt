@@ -38,7 +38,8 @@ fn base_of(letter: u8) -> Option<u8>
     }
 }
 
-/// Returns the value of digits in this base, or the error.
+/// Returns the value of digits in this base; or the error: [`Code::SyntaxError`] if the first byte
+/// isn't a digit of the base, [`Code::InvalidCharacterInNumber`] if a later byte isn't.
 fn in_base(base: u8, digits: &[u8]) -> Result<Amount, Code>
     requires low { 2 ≤ base }
     requires high { base ≤ 16 }

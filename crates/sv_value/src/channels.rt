@@ -43,7 +43,7 @@ fn inner(text: &[u8]) -> Option<&[u8]>
     }
 }
 
-/// Whether each part between commas is an item.
+/// Whether each part between commas has the form of an item, such as `3` or `3:7`.
 fn are_spans(items: &[u8]) -> bool
     ensures { result ≡ list_all (λ item. is_some (ends item)) (cut_at 44 items.now) }
 {
@@ -111,7 +111,8 @@ fn push_run(list: &mut ArrayVec<u8, LONGEST_LIST>, first: u8, last: u8)
     list.push(channel);
 }
 
-/// Returns the two ends of an item; `None` if the text doesn't have the form of an item.
+/// Returns the first and the last number of an item such as `3` or `3:7`; `None` if the text
+/// doesn't have the form of an item.
 fn ends_of(item: &[u8]) -> Option<Span>
     ensures { result ≡ ends_up_to (ends item.now) }
 {
@@ -124,7 +125,8 @@ fn ends_of(item: &[u8]) -> Option<Span>
     }
 }
 
-/// Returns the two ends of an item, given the texts in front of its first colon and behind it.
+/// Returns the first and the last number of an item such as `3:7`, given the texts in front of its
+/// first colon and behind it; `None` if these texts aren't two numbers.
 fn two_ends(front: &[u8], back: &[u8]) -> Option<Span>
     ensures { result ≡ ends_up_to (span_of (front.now ∷ cut_at 58 back.now)) }
 {

@@ -4,12 +4,13 @@ ghost use Rattle.sv_value.specs.Value.{ReadIsChannelList};
 ghost use Rattle.sv_value.specs.Spelling.{ReadAsSpelled};
 ghost use Rattle.sv_value.specs.PrintedVoltage.{PrintedIsRead};
 
-/// A printed voltage of at most 1,000 V in magnitude reads as the same voltage.
+/// If a voltage of at most 1,000 V in magnitude is printed, and the text is read as a parameter,
+/// the result is the same voltage.
 pub fn printed_is_read()
     ensures { PrintedIsRead }
 {}
 
-/// Text that reads as a channel list gives 1 to 128 channels.
+/// A text that is read as a channel list without an error gives 1 to 128 channels.
 pub fn read_is_channel_list()
     ensures { ReadIsChannelList }
 {}

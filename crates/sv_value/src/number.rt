@@ -31,7 +31,8 @@ pub(crate) fn magnitude(number: &Decimal<'_>, power: u64) -> u64
     }
 }
 
-/// Returns by how many places the exponent moves the point to the right, and to the left.
+/// Returns by how many places the exponent moves the decimal point to the right, and by how many to
+/// the left. At least one of the two numbers is 0.
 fn moved(number: &Decimal<'_>) -> (u64, u64)
     requires { digits_value 10 number.now.exponent.now ≤ 32000 }
     ensures right { result.0 ≡ right (plain number.now) }
@@ -60,8 +61,8 @@ fn shifted(value: u64, tens: u64) -> u64
     MOST.min(value.saturating_mul(10_u64.pow(tens as u32)))
 }
 
-/// Returns the value of all digits without the last `left_out` ones, which round it half up; or
-/// [`MOST`] if the value is larger.
+/// Returns the value of all digits but the last `left_out` ones, plus 1 if the first digit that is
+/// left out is 5 or above; or [`MOST`] if the result is larger.
 fn rounded(whole: &[u8], fraction: &[u8], left_out: u64) -> u64
     requires some { 1 ≤ left_out }
     requires whole { list_all is_ascii_digit whole.now ≡ true }

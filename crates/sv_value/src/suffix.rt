@@ -1,4 +1,4 @@
-//! The unit of a number, by its suffix.
+//! The units that the suffixes of numbers stand for.
 
 ghost use Rattle.std.specs.Prelude.{◌≡◌};
 ghost use Rattle.sv_value.specs.Value.{power_of_none, power_of_volts};
@@ -26,7 +26,8 @@ pub(crate) fn volts(suffix: &[u8]) -> Option<u64>
     }
 }
 
-/// Returns the power of ten of a number that has no unit: 0; or `None` if there is a suffix.
+/// Returns the power of ten for a number whose parameter has no unit: 0 if the number has no
+/// suffix; `None` if it has one, which isn't allowed.
 pub(crate) fn none(suffix: &[u8]) -> Option<u64>
     ensures { result ≡ power_of_none suffix.now }
 {

@@ -108,9 +108,9 @@ pub fn keyword(token: &Token<'_>) -> Result<Source, Code>
 ///
 /// # Errors
 /// [`Code::InvalidExpression`] if the expression doesn't have the form of a channel list. Else the
-/// error of the first faulty item from the left: [`Code::DataOutOfRange`] if one of its ends isn't
-/// a channel, or [`Code::TooMuchData`] if this item makes the list too long. For other data than an
-/// expression: [`Code::SyntaxError`] if they are of no kind that the standard defines, else
+/// error of the first faulty item from the left: [`Code::DataOutOfRange`] if a number in the item
+/// isn't a channel, or [`Code::TooMuchData`] if this item makes the list too long. For other data
+/// than an expression: [`Code::SyntaxError`] if they are of no kind that the standard defines, else
 /// [`Code::DataTypeError`].
 pub fn channel_list(token: &Token<'_>) -> Result<ArrayVec<u8, LONGEST_LIST>, Code>
     ensures value { MatchResult result (λ list. read_channels token.now.kind token.now.text.now

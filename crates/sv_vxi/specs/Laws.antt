@@ -10,14 +10,15 @@ abbrev pub ArgumentsAsSpelled : Type 0
 ArgumentsAsSpelled = (proc : ℕ) (bytes : List ℕ) → All (λ byte. byte < 256) bytes → is_one_of (core_calls ++ abort_calls) proc ≡ true
     → ArgumentsAre proc bytes (arguments_at proc bytes)
 
--- If bytes begin with the encoded arguments x and y of the same call, x and y are equal, and so are the bytes after them. So for one call,
--- no encoding of arguments is a proper prefix of another encoding.
+-- If the same bytes can be split in two ways into encoded arguments of one call and a rest, the arguments are the same both times, and so
+-- are the rests. So for one call, no encoding of arguments is a proper prefix of another encoding.
 abbrev pub ArgumentsPrefixFree : Type 0
 ArgumentsPrefixFree = (x y : Arguments) (bytes after behind : List ℕ) → procedure_of x ≡ procedure_of y → BeginsWith bytes x after
     → BeginsWith bytes y behind
     → (x ≡ y) × (after ≡ behind)
 
--- If bytes begin with the fields of two results of the same form, the fields are equal, and so are the bytes after them.
+-- If the same bytes can be split in two ways into the fields of a result and a rest, and both results have the same form, both lists of
+-- fields are equal, and so are both rests.
 abbrev pub ResultsPrefixFree : Type 0
 ResultsPrefixFree = (x y : Outcome) (bytes after behind : List ℕ) → SameShape x y → BeginsAll bytes (result_fields x) after
     → BeginsAll bytes (result_fields y) behind

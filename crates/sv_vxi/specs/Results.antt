@@ -42,7 +42,7 @@ plain_result (results.Status error stb) = Status error stb
 plain_result (results.Plain error) = Plain error
 plain_result (results.Data error bytes) = Data error bytes.now
 
--- the data of a result; empty if the result has no data, or an error
+-- the data of a result; empty if the result has no data or reports an error
 abbrev pub data_of : Outcome → List ℕ
 data_of (Read error reason bytes) = unless_error error bytes []
 data_of (Data error bytes) = unless_error error bytes []

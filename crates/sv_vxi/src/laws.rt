@@ -2,14 +2,15 @@
 
 ghost use Rattle.sv_vxi.specs.Laws.{ArgumentsAsSpelled, ArgumentsPrefixFree, ResultsPrefixFree};
 
-/// The function `arguments_at` returns the arguments of a call that the bytes encode.
+/// For each call, the function `arguments_at` returns the arguments that the bytes encode, or
+/// `Garbage` if they encode none.
 pub fn read_as_spelled()
     ensures { ArgumentsAsSpelled }
 {}
 
 /// For one call, no encoding of arguments is a proper prefix of another encoding. The same holds
-/// for the results of one form. If bytes begin with two such encodings, the two are equal, and so
-/// are the bytes after them.
+/// for the results of one form. If the same bytes can be split in two ways into such an encoding
+/// and a rest, both encodings are equal, and so are both rests.
 pub fn prefix_free()
     ensures arguments { ArgumentsPrefixFree }
     ensures results { ResultsPrefixFree }

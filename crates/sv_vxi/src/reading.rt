@@ -26,8 +26,8 @@ const MAX_HANDLE: u32 = 40;
 /// boolean is neither 0 nor 1, a byte of padding isn't 0, or a handle is longer than 40 bytes.
 pub fn read_args(proc: u32, bytes: &[u8]) -> Result<Args<'_>, Garbage>
     requires { is_one_of (core_calls ++ abort_calls) proc ≡ true }
-    // `ArgumentsAre` states that the bytes encode the result, or that the result is `Garbage` and
-    // they don't encode arguments of this call.
+    // `ArgumentsAre` states: the bytes encode the arguments that are returned; or the result is
+    // `Garbage`, and the bytes don't encode arguments of this call.
     ensures found { ArgumentsAre proc bytes.now (plain_reading result) }
     // `ArgumentsAre` holds for no other result.
     ensures only { (outcome : Result Arguments Garbage) → ArgumentsAre proc bytes.now outcome

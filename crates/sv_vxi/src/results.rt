@@ -63,7 +63,7 @@ pub enum VxiResult<'a> {
 }
 
 impl<'a> VxiResult<'a> {
-    /// The data of the result; empty if the result has no data, or an error.
+    /// The data of the result; empty if the result has no data or reports an error.
     fn data(&self) -> &'a [u8]
         ensures { result.now ≡ data_of (plain_result self.now) }
     {

@@ -2,8 +2,8 @@
 
 ghost use Rattle.sv_xdr.specs.Laws.{PrefixFree, OneSpelling};
 
-/// Within one kind of field, no encoding is a proper prefix of another: if bytes begin with two
-/// encodings, the encodings and the values are equal.
+/// Within one kind of field, no encoding is a proper prefix of another: if the same bytes can be
+/// split in two ways into an encoding and a rest, both encodings are equal, and so are both fields.
 pub fn prefix_free()
     ensures { PrefixFree }
 {}

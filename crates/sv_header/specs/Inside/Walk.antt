@@ -45,12 +45,12 @@ abbrev pub OnLeft : Option Mnemonics → (List (List ℕ) → Type 0) → Type 0
 OnLeft None P = ⊥
 OnLeft (Some left) P = P (left_of left)
 
--- The code returned the mnemonics after the first one, if the first one is a form of the node; else `None`.
+-- If the first mnemonic of `left` is a form of the node `part`, the code returned the mnemonics after it; else the code returned `None`.
 abbrev pub IsBehind : List (List ℕ) → Part → Option Mnemonics → Type 0
 IsBehind left part None = (others : List (List ℕ)) → Takes left part others → ⊥
 IsBehind left part (Some others) = Takes left part (left_of others)
 
--- The code returned all mnemonics of `left`, if the node `part` is optional and so can be omitted; else `None`.
+-- If the node `part` is optional, so that a header can omit it, the code returned all mnemonics of `left`; else the code returned `None`.
 abbrev pub IsAllOf : List (List ℕ) → Part → Option Mnemonics → Type 0
 IsAllOf left part None = part.optional ≡ false
 IsAllOf left part (Some others) = (part.optional ≡ true) × (left_of others ≡ left)

@@ -7,11 +7,12 @@ use Rattle.sv_lexer.specs.declared.stage.Stage.{Stage}
 use Rattle.sv_lexer.specs.declared.stage.Stage.TheVariants.{CommonMnemonic, Mnemonic, QuerySign, HeaderSeparator, ProgramData, DataSpace, Illegal}
 use Rattle.sv_lexer.specs.Partial.{Progress}
 
--- Two functions give the error of a unit that ends after the bytes read so far; `None` if they find no error. `length_fault_of` finds only
--- a mnemonic of more than 12 characters. `fault_of` also finds an illegal byte, and a header that isn't complete or is misspelled.
+-- the error of a unit with a mnemonic of more than 12 characters (-112); `None` if the unit has no such mnemonic
 abbrev pub length_fault_of : Progress → Option Code
 length_fault_of p = if nat_le (max p.longest p.mnemonic) 12 then None else Some ProgramMnemonicTooLong
 
+-- the error of a unit that ends at this stage: an illegal byte (-101); a header that isn't complete or is misspelled (-102); or a mnemonic
+-- of more than 12 characters (-112). `None` if there is no error.
 abbrev pub fault_of : Stage → Progress → Option Code
 fault_of CommonMnemonic p = length_fault_of p
 fault_of Mnemonic p = length_fault_of p
@@ -22,8 +23,8 @@ fault_of DataSpace p = length_fault_of p
 fault_of Illegal p = Some InvalidCharacter
 fault_of _ p = Some SyntaxError
 
--- the place at which the program data of a unit begin (or end), for a unit that ends at this stage: `in_data` if the unit has program data;
--- otherwise `behind_header`, the place after its header
+-- Where the program data begin, for a unit that ends at this stage: at `in_data` if the unit has program data; otherwise at
+-- `behind_header`, the position after its header. With the end of the data as `in_data`, it is where the program data end.
 abbrev pub data_of : Stage → (behind_header in_data : ℕ) → ℕ
 data_of ProgramData behind_header in_data = in_data
 data_of DataSpace behind_header in_data = in_data

@@ -8,8 +8,8 @@ use Rattle.sv_lexer.specs.Partial.{Progress}
 abbrev pub one_more : ℕ → ℕ
 one_more n = min (n + 1) (2 ^ 64 - 1)
 
--- For each field of `Progress` that a byte changes, one function gives the new value of the field. The function's arguments are the stage
--- that the byte leads to, the new size of the unit, and the old value of the field.
+-- This function and the next five each give the new value of one field of `Progress` after one more byte. The first argument is the stage
+-- that the byte leads to, the last argument is the old value of the field. `size` is the new size of the unit.
 abbrev pub header_start_in : Stage → ℕ → ℕ → ℕ
 header_start_in WhiteSpace size before = size
 header_start_in _ size before = before
