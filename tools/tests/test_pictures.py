@@ -34,7 +34,7 @@ CHANGES = (
     (PAGE, "| response | device_read |", "| response | device_readstb |", PAGE + ": response: device_read waits for it\n"),
     ("crates/sv_history/specs/Resuming.antt", "late _ = IoTimeout", "late _ = Locked",
      PAGE + ": input: Timed out: by the definitions '11', not '15'\n"),
-    ("crates/sv_links/src/waiting.rt", "    /// That a write is accepted.\n", "    /// Noon.\n    Noon,\n    /// That a write is accepted.\n",
+    ("crates/sv_links/src/waiting.rt", "    /// The call waits until the device accepts a write.\n", "    /// Noon.\n    Noon,\n    /// The call waits until the device accepts a write.\n",
      PAGE + ": the table of calls that wait: noon is only in crates/sv_links/src/waiting.rt\n"),
     ("crates.txt", "sv_vxi: sv_xdr\n", "sv_vxi: sv_xdr\nsv_new:\n", ""),
     ("crates.txt", "sv_layers: sv_logs", "sv_new:\nsv_layers: sv_new sv_logs",

@@ -103,7 +103,8 @@ abbrev pub is_of_run : ScanAct → Bool
 is_of_run = elim [ Input channel microvolts ↦ false | Configure setting ↦ false | Reset ↦ false | _ ↦ true ]
 
 pub Holds-run : (contents : Contents) (log : List ScanAct) (act : ScanAct) (now : Option Run) (made : List Reading) (touched : Touched)
-    → is_of_run act ≡ true → Holds contents log → now ≡ current_run (act ∷ log) → made ≡ readings (act ∷ log) → IsTouched touched (act ∷ log)
+    → is_of_run act ≡ true → Holds contents log → now ≡ current_run (act ∷ log) → made ≡ readings (act ∷ log)
+    → IsTouched touched (act ∷ log)
     → Holds (record contents { run = now; readings = made; touched = touched }) (act ∷ log)
 Holds-run contents log Init now made touched e is at has said = assumption
 Holds-run contents log (Trigger from) now made touched e is at has said = assumption
@@ -137,7 +138,7 @@ pub Holds-sample : (contents : Contents) (log : List ScanAct) (r : Run) → cont
 Holds-sample contents log r e known is =
     Holds-run contents log Sample contents.run (contents.readings ++ sampled contents r ∷ []) _ refl is is.run
     (ap (λ (xs : List Reading). xs ++ sampled contents r ∷ []) is.readings
-      ∙ ap (λ (x : Reading). readings log ++ x ∷ []) (sampled_is contents log r e known is)) (IsTouched-all Sample log)
+    ∙ ap (λ (x : Reading). readings log ++ x ∷ []) (sampled_is contents log r e known is)) (IsTouched-all Sample log)
 
 zeros : (n place : ℕ) → get_or (replicate n (pos 0)) place (pos 0) ≡ pos 0
 zeros n place = elim (cases_lt place n) [
