@@ -62,12 +62,12 @@ IsSorted (link ∷ links) = AllByRecursion (λ other. link.lid < other.lid) link
 abbrev pub HasRoomFor : ℕ → Channels → Type 0
 HasRoomFor lid kept = length (filter (λ other. not (other.lid == lid)) kept.enabled) < max_enabled
 
--- the links whose numbers aren't among `lids`
+-- those of `links` whose numbers aren't among `lids`
 abbrev pub without_links : List ℕ → List Enabled → List Enabled
 without_links [] links = links
 without_links (lid ∷ lids) links = filter (λ other. not (other.lid == lid)) (without_links lids links)
 
--- the links in the list that don't belong to connection `c`
+-- those of `links` that don't belong to connection `c`
 abbrev pub of_others : ℕ → List Enabled → List Enabled
 of_others c links = filter (λ other. not (other.conn == c)) links
 

@@ -8,7 +8,7 @@ use Rattle.sv_rpc.specs.declared.reply.Reply.TheVariants.{Success, Mismatch, Pro
 abbrev pub no_auth : List Field
 no_auth = Unsigned 0 ∷ Opaque [] ∷ []
 
--- a reply (message type 1) to a call that was accepted (0), with this status
+-- the fields of a reply (message type 1) to a call that was accepted (reply status 0). `status` says how the accepted call ended.
 abbrev pub accepted : ℕ → ℕ → List Field
 accepted xid status = Unsigned xid ∷ Unsigned 1 ∷ Unsigned 0 ∷ no_auth ++ Unsigned status ∷ []
 

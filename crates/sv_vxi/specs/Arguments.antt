@@ -56,7 +56,7 @@ core_calls = 10 ∷ 11 ∷ 12 ∷ 13 ∷ 14 ∷ 15 ∷ 16 ∷ 17 ∷ 18 ∷ 19 �
 abbrev pub abort_calls : List ℕ
 abort_calls = 1 ∷ []
 
--- whether `proc` is one of these numbers of calls
+-- whether `proc` is one of the numbers in `calls`
 abbrev pub is_one_of : List ℕ → ℕ → Bool
 is_one_of calls proc = list_any (λ call. proc == call) calls
 
@@ -98,7 +98,7 @@ ArgumentsAre proc bytes (Ok arguments) = (procedure_of arguments ≡ proc) × (a
 ArgumentsAre proc bytes (Err garbage) = (arguments : Arguments) (after : List ℕ) → procedure_of arguments ≡ proc
     → BeginsWith bytes arguments after → ⊥
 
--- the link that a call names; `None` if the call has no link among its arguments
+-- the number of the link on which a call is made; `None` if no argument of the call is a link
 abbrev pub link : Arguments → Option ℤ
 link (OnLink lid call) = Some lid
 link _ = None

@@ -126,7 +126,7 @@ pub enum Args<'a> {
     },
     /// The arguments of a call on a link.
     OnLink {
-        /// The link.
+        /// The number of the link.
         lid: i32,
         /// The call, and its other arguments.
         call: LinkCall<'a>,
@@ -184,7 +184,7 @@ impl LinkCall<'_> {
 }
 
 impl Args<'_> {
-    /// The link that the call names; `None` if the call has no link among its arguments.
+    /// The number of the link on which the call is made; `None` if no argument is a link.
     pub fn link(&self) -> Option<i32>
         ensures { result ≡ link_by (plain_arguments self.now) }
     {
