@@ -38,7 +38,7 @@ enters c = elim [ Entered conn link wait deadline ∷ acts ↦ conn == c | _ ↦
 abbrev pub arrival : ℕ → List WaitAct → ℕ
 arrival c acts = length (newest (enters c) acts)
 
--- the link that the newest act names
+-- the link named by the call that the newest act suspends; `None` if the call names no link, or if the newest act suspends no call
 abbrev link_of : List WaitAct → Option ℕ
 link_of = elim [ Entered conn link wait deadline ∷ acts ↦ link | _ ↦ None ]
 

@@ -8,9 +8,10 @@ use std::marker::Model;
 use std::mem::replace;
 use sv_errors::Layer;
 
-/// Bit 15, which is dropped from each filter and enable that is set.
+/// Bit 15. It is cleared in each new value of a filter or an enable.
 const MASK_END: u16 = 1 << 15;
-/// Bits 0 to 14: a filter with this value passes each change, and an enable with it enables all.
+/// Bits 0 to 14. A filter with this value passes every change of the condition. An enable with this
+/// value enables every event bit.
 const ALL: u16 = 32767;
 
 /// An act of a register.
