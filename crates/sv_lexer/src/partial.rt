@@ -105,7 +105,7 @@ impl Partial {
         }
     }
 
-    /// Counts one more byte, which leads to `stage`.
+    /// Updates the stage and the positions for one more byte of the unit, which leads to `stage`.
     fn move_to(&mut self, stage: Stage)
         ensures { self.new ≡ progress_to stage self.old }
     {

@@ -46,7 +46,7 @@ pub(crate) fn next(stage: Stage, byte: u8) -> Stage
     }
 }
 
-/// The stage after white space.
+/// The stage that follows `stage` if the next byte is white space.
 fn behind_space(stage: Stage) -> Stage
     ensures { result ≡ space stage }
 {
@@ -65,7 +65,7 @@ fn behind_space(stage: Stage) -> Stage
     }
 }
 
-/// The stage after a graphic character.
+/// The stage that follows `stage` if the next byte is `byte`, a graphic character.
 fn behind_graphic(stage: Stage, byte: u8) -> Stage
     ensures { result ≡ graphic stage byte }
 {
