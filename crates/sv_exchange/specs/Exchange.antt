@@ -34,7 +34,7 @@ end_mark ended = if ended then End ∷ [] else []
 abbrev pub drops_text : List ExchangeAct → Bool
 drops_text = elim [ TextDropped ∷ acts ↦ true | _ ↦ false ]
 
--- the text that these acts accepted, in order
+-- the text of all writes that were accepted in these acts, in order
 abbrev pub symbols_of : List ExchangeAct → List Symbol
 symbols_of [] = []
 symbols_of (Accepted bytes ended ∷ acts) = symbols_of acts ++ (map Byte bytes ++ end_mark ended)

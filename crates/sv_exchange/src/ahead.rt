@@ -55,8 +55,9 @@ impl Ahead {
         }
     }
 
-    /// The unit, and how many bytes to step over with it, including the semicolon after it; `None`
-    /// if the text has only semicolons and white space. The text must be all of the message.
+    /// The unit, and how many bytes `text` has up to and including the semicolon after the unit (all
+    /// bytes of `text` if no semicolon follows). `None` if the text has only semicolons and white
+    /// space. `text` must be the whole message.
     pub(crate) fn unit<'a>(&self, text: &'a [u8]) -> Option<(&'a [u8], usize)>
         requires { IsLooked self.now text.now }
         ensures { MatchOption result (units text.now ≡ [])

@@ -8,8 +8,8 @@ use Rattle.sv_links.specs.declared.channel.Stage.TheVariants.{Closed, Prepared, 
 use Rattle.sv_links.specs.Limits.{max_connections, max_enabled}
 use Rattle.sv_links.specs.Channels.{ChannelAct, enabled_links, peer, bytes_taken, calls, calls_left}
 
--- the state of one interrupt channel: its stage; how many calls were appended since it was opened; for each call with bytes still to be
--- sent, how many; and all these bytes, joined
+-- the state of one interrupt channel: its stage; how many calls were appended since it was opened; for each call that the peer didn't take
+-- completely, how many of its bytes are still to be sent; and all these bytes, joined
 pub record Channel : Type 0 where
   pub stage : Stage
   pub made : ℕ
@@ -39,7 +39,7 @@ abbrev pub left_in : ℕ → List ℕ → List ℕ
 left_in count [] = []
 left_in count (size ∷ sizes) = if nat_lt count size then (size - count) ∷ sizes else left_in (count - size) sizes
 
--- The channel stores what remains of `calls` after the peer took `count` of their bytes. The calls have at least `count` bytes.
+-- The channel stores what remains of `calls` after the peer took `count` of their bytes. All calls together have at least `count` bytes.
 abbrev pub IsQueued : Channel → ℕ → List (List ℕ) → Type 0
 IsQueued kept count calls = (kept.made ≡ length calls) × (kept.sizes ≡ map length (calls_left count calls))
     × (kept.bytes ≡ concat (calls_left count calls)) × (count ≤ length (concat calls))

@@ -220,7 +220,7 @@ impl<A: Allocator> Waiting<A> {
             .copied()
     }
 
-    /// The oldest call whose deadline has come at this clock; `None` if no deadline has come.
+    /// The oldest call whose deadline has come by the time `clock`; `None` if no deadline has come.
     pub fn expired(&self, clock: u64) -> Option<Entry>
         ensures answer { (acts : List WaitAct) → IsQueue self.now acts
             → IsOldest acts (IsExpired clock acts) (option_map (λ entry. entry.conn) result) }

@@ -22,6 +22,6 @@ reply_fields xid ProcUnavail = accepted xid 3
 reply_fields xid GarbageArgs = accepted xid 4
 reply_fields xid Mismatch = Unsigned xid ∷ Unsigned 1 ∷ Unsigned 1 ∷ Unsigned 0 ∷ Unsigned 2 ∷ Unsigned 2 ∷ []
 
--- the fields of a call, with neither credential nor verifier
+-- the fields of a call before its arguments. The credential and the verifier are empty (AUTH_NONE).
 abbrev pub call_fields : ℕ → ℕ → ℕ → ℕ → List Field
 call_fields xid prog vers proc = Unsigned xid ∷ Unsigned 0 ∷ Unsigned 2 ∷ Unsigned prog ∷ Unsigned vers ∷ Unsigned proc ∷ no_auth ++ no_auth

@@ -45,8 +45,8 @@ begun_of place.Header header_len = header_len
 begun_of (place.Data missing last) header_len = 0
 begun_of place.TooLong header_len = capacity
 
--- The `Place`, which says what the next byte belongs to, is possible if `payload` bytes of the unfinished record's data have come, and
--- `header_len` bytes of an unfinished header.
+-- The `Place` says what the next byte of the stream belongs to. This `Place` is possible after `payload` bytes of the unfinished record's
+-- data and `header_len` bytes of an unfinished header have come.
 abbrev pub IsPlace : Place → ℕ → ℕ → Type 0
 IsPlace place.Header payload header_len = (payload ≤ max_record) × (header_len < 4)
 IsPlace (place.Data missing last) payload header_len = (0 < missing) × (payload + missing ≤ max_record) × (header_len ≡ 0)

@@ -49,8 +49,8 @@ pub fn write_reply(writer: &mut Writer<'_>, xid: u32, reply: Reply) -> Result<()
     }
 }
 
-/// Writes the header of a call without credential and verifier, and without the fragment header in
-/// front of it and the arguments after it.
+/// Writes the header of a call, with an empty credential and an empty verifier (AUTH_NONE). The
+/// caller writes the fragment header in front of it and the arguments after it.
 ///
 /// # Errors
 /// `NoRoom` at the first field that doesn't fit. The fields before it stay written.

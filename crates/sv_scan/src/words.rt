@@ -26,8 +26,8 @@ const OUTSIDE: u16 = 1 << 2;
 pub struct Conditions {
     /// Bit 4: measuring; bit 5: waiting for a trigger; bit 8: acquisition in progress.
     pub operation: u16,
-    /// Bit 0: the last reading is an overload. All other bits are 0 here, bit 9 too, which is to be
-    /// the summary of the register of limits.
+    /// Bit 0: the last reading is an overload. All other bits are 0. The caller adds bit 9, the
+    /// summary of the register of limits.
     pub questionable: u16,
     /// With limits on, bit 0: the last reading is below the lower limit; bit 1: the last reading is
     /// above the upper limit; bit 2: the input of the monitored channel is outside the limits.

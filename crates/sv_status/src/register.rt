@@ -17,7 +17,7 @@ const ALL: u16 = 32767;
 /// An act of a register.
 #[derive(Clone, Copy, Debug, PartialEq, Eq)]
 pub enum RegisterAct {
-    /// The condition is set.
+    /// The condition word becomes this value.
     Condition(u16),
     /// The transition filters are set.
     SetFilter {
@@ -26,7 +26,7 @@ pub enum RegisterAct {
         /// The negative transition filter.
         fall: u16,
     },
-    /// The enable is set.
+    /// The enable becomes this value, without bit 15.
     SetEnable(u16),
     /// The event register is read, which clears it.
     ReadEvent,
@@ -89,7 +89,7 @@ impl Register {
         Register::starting(ALL)
     }
 
-    /// A register as it is at power on, with `start` as its enable then and after a preset.
+    /// A register as it is at power on. Its enable is `start`, now and after each preset.
     fn starting(start: u16) -> Register
         ensures { StandsFor start result [] }
     {

@@ -10,7 +10,7 @@ use crate::flags::Flags;
 /// What a call does while another link holds the lock (section B.4.4).
 #[derive(Clone, Copy)]
 pub struct LockWait {
-    /// Whether the call waits for the lock; otherwise it fails.
+    /// Whether the call waits for the lock. If this is false, the call fails at once.
     pub waits: bool,
     /// How long the call waits, in milliseconds.
     pub timeout: u32,

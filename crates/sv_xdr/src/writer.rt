@@ -5,8 +5,8 @@ ghost use Rattle.std.specs.Prelude.{◌≡◌, ◌<◌, ◌≤◌, ◌^◌, [], 
 use crate::fault::XdrFault;
 use crate::reader::pad_len;
 
-/// A caller's buffer, into which fields are written in order. Contracts see the bytes written so
-/// far, and the rest of the buffer.
+/// A caller's buffer, into which fields are written in order. In contracts, `text_of` returns the
+/// bytes written so far, and `rest_of` the rest of the buffer.
 #[derive(Debug, Drop)]
 pub struct Writer<'b> {
     out: &'b mut [u8],
@@ -86,8 +86,8 @@ impl<'b> Writer<'b> {
     ///
     /// # Errors
     /// The first that applies: `TooLong` if the data are longer than the 4,294,967,295 bytes that a
-    /// length field can express; `NoRoom` if length, data and padding don't all fit. Nothing is
-    /// written.
+    /// length field can express; `NoRoom` if length, data and padding don't all fit. In both cases
+    /// nothing is written.
     pub fn opaque(&mut self, text: &[u8]) -> Result<(), XdrFault>
         ensures same_buffer { self.new.out.ghost_name ≡ self.old.out.ghost_name }
         ensures spelled { OnOk result (AppendsField (Opaque text.now) self.old self.new) }
