@@ -44,7 +44,7 @@ pub record IsBegun (ahead : Ahead) (text : List ℕ) : Type 0 where
   pub within : ahead.looked ≤ length text
   pub seen : IsAhead ahead (take ahead.looked text)
 
--- The text was read up to the semicolon after the first unit, or to its end.
+-- The text was read up to the semicolon after its first unit. If no semicolon follows this unit, the whole text was read.
 pub record IsLooked (ahead : Ahead) (text : List ℕ) : Type 0 where
   pub begun : IsBegun ahead text
   pub all : ahead.closed ≡ false → ahead.looked ≡ length text

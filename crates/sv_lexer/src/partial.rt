@@ -19,7 +19,7 @@ const MOST: usize = 12;
 /// that they have reached, and where the header and the program data begin and end.
 #[derive(Debug, Drop)]
 pub struct Partial {
-    /// What the bytes read so far end in.
+    /// The part of a unit in which the bytes read so far end.
     stage: Stage,
     /// How many bytes the unit has so far.
     size: usize,

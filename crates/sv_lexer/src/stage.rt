@@ -6,7 +6,7 @@ ghost use Rattle.sv_lexer.specs.Inside.Stage.{behind_graphic as graphic, behind_
 
 use sv_text::is_space;
 
-/// What the bytes of a unit that were read so far end in (IEEE 488.2, 7.3 and 7.6).
+/// The part of a unit in which the bytes read so far end (IEEE 488.2, 7.3 and 7.6).
 #[derive(Clone, Copy, Debug)]
 pub(crate) enum Stage {
     /// No byte was read yet, or only white space before the program header.
@@ -33,7 +33,7 @@ pub(crate) enum Stage {
     Illegal,
 }
 
-/// The stage after one more byte.
+/// The stage that follows `stage` if the next byte is `byte`.
 pub(crate) fn next(stage: Stage, byte: u8) -> Stage
     ensures { result ≡ next_of stage byte }
 {

@@ -58,7 +58,7 @@ abbrev pub IsSorted : List Enabled → Type 0
 IsSorted [] = ⊤
 IsSorted (link ∷ links) = AllByRecursion (λ other. link.lid < other.lid) links × IsSorted links
 
--- There is room for a link to enable service requests: fewer than 32 other links have them enabled.
+-- There is room for link `lid` to enable service requests: fewer than 32 other links have service requests enabled.
 abbrev pub HasRoomFor : ℕ → Channels → Type 0
 HasRoomFor lid kept = length (filter (λ other. not (other.lid == lid)) kept.enabled) < max_enabled
 

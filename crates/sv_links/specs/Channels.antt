@@ -59,8 +59,8 @@ bytes_taken c (ChannelClosed conn ∷ acts) = if conn == c then 0 else bytes_tak
 bytes_taken c (ChannelTaken conn count ∷ acts) = if conn == c then bytes_taken c acts + count else bytes_taken c acts
 bytes_taken c (_ ∷ acts) = bytes_taken c acts
 
--- what remains of these calls after the peer took `count` bytes: the calls that the peer didn't take completely. The first of them lacks
--- the bytes that the peer took.
+-- what remains of these calls after the peer took `count` of their bytes: the calls that the peer didn't take completely. The first of the
+-- remaining calls lacks those of its bytes that the peer took.
 abbrev pub calls_left : ℕ → List (List ℕ) → List (List ℕ)
 calls_left count [] = []
 calls_left count (call ∷ calls) = if nat_lt count (length call) then drop count call ∷ calls else calls_left (count - length call) calls

@@ -114,8 +114,8 @@ impl<A: Allocator> RecordBuf<A> {
     /// such record yet.
     ///
     /// # Errors
-    /// `RecordTooLong` if the buffer has no complete record, and the record that follows is too
-    /// long.
+    /// `RecordTooLong` if the buffer has no complete record, and the next record of the stream is
+    /// too long.
     pub fn next(&self) -> Result<Option<&[u8]>, RpcFault>
         ensures value { plain_record result ≡ next_among self.now.records self.now.tail }
         ensures answer { (stream : List ℕ) (dropped : ℕ) → StandsFor self.now stream dropped
@@ -140,7 +140,7 @@ impl<A: Allocator> RecordBuf<A> {
         }
     }
 
-    /// Drops the first complete record in the buffer, which must have one.
+    /// Drops the first complete record of the buffer. The buffer must have a complete record.
     pub fn drop_first(&mut self)
         requires { self.old.records ≢ [] }
         ensures value { self.new ≡ record {
@@ -182,7 +182,7 @@ impl<A: Allocator> RecordBuf<A> {
         }
     }
 
-    /// Takes in bytes from the front of `piece`, at least one, and returns how many.
+    /// Takes in one or more bytes from the front of `piece`, and returns how many it took in.
     fn take_in(&mut self, piece: &[u8]) -> usize
         requires some { 0 < length piece.now }
         requires fits { InRoom self.old (length piece.now) }

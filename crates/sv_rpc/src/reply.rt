@@ -23,7 +23,7 @@ pub enum Reply {
         /// The highest version that is served.
         high: u32,
     },
-    /// The program has no such procedure.
+    /// The program has no procedure with the number in the call.
     ProcUnavail,
     /// The arguments can't be read.
     GarbageArgs,
