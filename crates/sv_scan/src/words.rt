@@ -54,8 +54,8 @@ pub(crate) fn questionable_word(overload: bool) -> u16
 }
 
 /// The condition word of the register of limits. If the limits are on, the word says whether the
-/// last reading is below or above the limits, and whether the live input is outside them. If the
-/// limits are off, the word is 0.
+/// last reading is below the lower limit or above the upper limit, and whether the live input of
+/// the monitored channel is outside the limits. If the limits are off, the word is 0.
 pub(crate) fn limit_word(limits: bool, below: bool, above: bool, outside: bool) -> u16
     ensures { result ≡ bit 0 (limits && below) + bit 1 (limits && above) + bit 2
         (limits && outside) }
