@@ -136,7 +136,8 @@ impl Partial {
         }
     }
 
-    /// The error of the unit if it ends here; `None` if it has no error.
+    /// The error of the unit if the unit ends after the bytes read so far; `None` if it then has no
+    /// error.
     fn fault(&self) -> Option<Code>
         ensures { result ≡ fault_of self.now.stage self.now }
     {
@@ -166,8 +167,8 @@ impl Partial {
         }
     }
 
-    /// Where the program data begin and end if the unit ends here. If the unit has no program data,
-    /// both are the end of the header.
+    /// Where the program data begin and end if the unit ends after the bytes read so far. If the
+    /// unit has no program data, both positions are the end of the header.
     fn data(&self) -> (usize, usize)
         ensures start { result.0 ≡ data_of self.now.stage self.now.header_end self.now.data_start }
         ensures end { result.1 ≡ data_of self.now.stage self.now.header_end self.now.data_end }

@@ -29,7 +29,7 @@ pub(crate) enum Stage {
     DataSpace,
     /// A header that isn't well-formed, and the bytes after it.
     Misspelled,
-    /// A byte that no unit may have, and the bytes after it.
+    /// A byte that isn't allowed in a unit, and the bytes after it.
     Illegal,
 }
 

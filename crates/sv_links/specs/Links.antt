@@ -13,7 +13,7 @@ pub data LinkAct : Type 0 where
   Locked : (lid : ℕ) → LinkAct
   Unlocked : (lid : ℕ) → LinkAct
 
--- how many links were ever made; the number of the next link is one above this
+-- how many links were ever made; the next link gets the number that is one above this count
 abbrev pub links_made : List LinkAct → ℕ
 links_made [] = 0
 links_made (Made lid conn ∷ acts) = links_made acts + 1

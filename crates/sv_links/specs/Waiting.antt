@@ -46,7 +46,7 @@ link_of = elim [ Entered conn link wait deadline ∷ acts ↦ link | _ ↦ None 
 abbrev pub link : ℕ → List WaitAct → Option ℕ
 link c acts = link_of (newest (enters c) acts)
 
--- whether the wait is for the lock
+-- whether a call waits for the lock, given what the call waits for
 abbrev pub is_lock : Option Wait → Bool
 is_lock = elim [ Some Lock ↦ true | _ ↦ false ]
 

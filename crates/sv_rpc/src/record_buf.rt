@@ -13,11 +13,11 @@ use std::marker::Model;
 use sv_bytes::{append, drop_front};
 use thiserror::Error;
 
-/// How many bytes the records in a buffer may take. Each takes 4 bytes more than its length.
+/// How many bytes all records in a buffer may take. Each record takes 4 bytes more than its length.
 const CAPACITY: usize = 16384;
 /// The most records that a buffer can hold: even an empty record takes 4 bytes.
 const MAX_RECORDS: usize = CAPACITY / 4;
-/// The longest record, in bytes.
+/// How long a record may be, in bytes.
 const MAX_RECORD: usize = 8192;
 
 /// Why the buffer returns no further record.
@@ -205,7 +205,7 @@ impl<A: Allocator> RecordBuf<A> {
         }
     }
 
-    /// Takes in a byte of a header.
+    /// Takes in the next byte of a fragment's header.
     fn take_header(&mut self, byte: u8)
         requires header { IsInHeader self.old.tail }
         requires fits { InRoom self.old 1 }
@@ -278,7 +278,7 @@ impl<A: Allocator> RecordBuf<A> {
     }
 }
 
-/// The four bytes of a header as a 32-bit number, the most significant byte first.
+/// The four bytes of a fragment's header as a 32-bit number, the most significant byte first.
 fn word_of(header: &[u8]) -> u32
     requires { length header.now ≡ 4 }
     ensures value { result ≡ from_be_bytes w32 header.now }

@@ -19,7 +19,7 @@ const ALL: u16 = 32767;
 pub enum RegisterAct {
     /// The condition word becomes this value.
     Condition(u16),
-    /// The transition filters are set.
+    /// The transition filters become these values, without bit 15.
     SetFilter {
         /// The positive transition filter.
         rise: u16,
