@@ -65,8 +65,8 @@ abbrev pub calls_left : ℕ → List (List ℕ) → List (List ℕ)
 calls_left count [] = []
 calls_left count (call ∷ calls) = if nat_lt count (length call) then drop count call ∷ calls else calls_left (count - length call) calls
 
--- whether one more call may be appended to `calls`, of which the peer took `count` bytes: fewer than 32 calls still have bytes that the peer
--- didn't take, and a number remains for the new call
+-- whether one more call may be appended to `calls`, of which the peer took `count` bytes: fewer than 32 calls still have bytes that the
+-- peer didn't take, and a number remains for the new call
 abbrev pub may_call : ℕ → List (List ℕ) → Bool
 may_call count calls = nat_lt (length (calls_left count calls)) max_calls && nat_lt (length calls) 4294967295
 
