@@ -13,7 +13,7 @@ pub fn append<A: Allocator>(bytes: &mut Vec<u8, A>, piece: &[u8])
     bytes.extend_from_slice(piece).unwrap();
 }
 
-/// Drops the first `count` of these bytes, without allocating.
+/// Drops the first `count` bytes of `bytes`, without allocating.
 pub fn drop_front<A: Allocator>(bytes: &mut Vec<u8, A>, count: usize)
     requires { count ≤ vec_len bytes.old }
     ensures items { bytes.new.items ≡ drop count bytes.old.items }

@@ -17,7 +17,7 @@ const QUERY_ERROR: u8 = 1 << 2;
 pub enum Code {
     /// Nothing is wrong.
     NoError,
-    /// A byte that no program message may have.
+    /// A byte that isn't allowed in a program message.
     InvalidCharacter,
     /// A header or a parameter with wrong syntax.
     SyntaxError,

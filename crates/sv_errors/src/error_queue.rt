@@ -28,7 +28,7 @@ pub enum QueueAct {
 pub enum QueueAnswer {
     /// Whether the queue was full when the error was reported.
     Reported(bool),
-    /// The entry that was taken; `None` if there was none.
+    /// The entry that was taken; `None` if the queue was empty.
     Taken(Option<Code>),
     /// All entries were dropped.
     Cleared,
@@ -85,7 +85,7 @@ impl<A: Allocator> ErrorQueue<A> {
         full
     }
 
-    /// Removes the oldest entry and returns it; `None` if there is none.
+    /// Removes the oldest entry and returns it; `None` if the queue is empty.
     pub fn take(&mut self) -> Option<Code>
         ensures stands { (acts : List QueueAct) → StandsFor self.old acts
             → StandsFor self.new (QueueAct.Take ∷ acts) }
@@ -95,7 +95,7 @@ impl<A: Allocator> ErrorQueue<A> {
         self.codes.pop_front()
     }
 
-    /// The oldest entry, without removing it; `None` if there is none.
+    /// The oldest entry, without removing it; `None` if the queue is empty.
     pub fn oldest(&self) -> Option<Code>
         ensures { (acts : List QueueAct) → StandsFor self.now acts → result ≡ oldest_of acts }
     {

@@ -70,7 +70,7 @@ pub record StandsFor (contents : Contents) (acts : List ExchangeAct) : Type 0 wh
 abbrev pub is_open : Contents → Bool
 is_open contents = not contents.ended
 
--- what can be read of the stored output: nothing while it collects the answers of the current message (`true`), else all of it
+-- what can be read of the stored output: nothing while the output collects answers of the current message (`true`), otherwise all bytes
 abbrev pub readable_of : Bool → List ℕ → List ℕ
 readable_of true output = []
 readable_of false output = output

@@ -34,7 +34,7 @@ end_mark ended = if ended then End ∷ [] else []
 abbrev pub drops_text : List ExchangeAct → Bool
 drops_text = elim [ TextDropped ∷ acts ↦ true | _ ↦ false ]
 
--- the text that these acts accepted, in order
+-- the text of all writes that were accepted in these acts, in order
 abbrev pub symbols_of : List ExchangeAct → List Symbol
 symbols_of [] = []
 symbols_of (Accepted bytes ended ∷ acts) = symbols_of acts ++ (map Byte bytes ++ end_mark ended)
@@ -130,7 +130,7 @@ bytes_read [] = 0
 bytes_read (ResponseRead count ∷ acts) = bytes_read acts + count
 bytes_read (_ ∷ acts) = bytes_read acts
 
--- what can be read: the newest response, without the bytes of it that were read
+-- what can be read: the newest response, without those of its bytes that were read already
 abbrev pub response : List ExchangeAct → List ℕ
 response acts = drop (bytes_read (since renews acts)) (new_response (newest renews acts))
 
@@ -143,8 +143,8 @@ pub data Due : Type 0 where
   UnitDue : (text : List ℕ) → Due
   FinishDue : Due
 
--- the step that is due, given the next unit: the unit starts, or, if `interrupts` is true, the response is interrupted. If there is no
--- unit, the message is finished if it has ended.
+-- The step that is due. With a next unit: the response is interrupted if `interrupts` is true, otherwise the unit starts. Without a next
+-- unit: the message is finished if it has ended, otherwise nothing is due.
 abbrev pub due_unit : Option (List ℕ) → Bool → Bool → Due
 due_unit (Some unit) interrupts ended = if interrupts then InterruptDue else UnitDue unit
 due_unit None interrupts ended = if ended then FinishDue else NothingDue
@@ -155,6 +155,6 @@ due acts =
     if is_long acts && not (has_overrun (current acts)) then OverrunDue
     else due_unit (next_unit acts) ((units_done (current acts) == 0) && is_something (response acts)) (has_ended acts)
 
--- whether an answer fits into the response, together with the answers before it and the new line
+-- whether a response has room for the answers `before`, for `answer` after them, and for the new line
 abbrev pub fits_response : List (List ℕ) → List ℕ → Bool
 fits_response before answer = nat_lt (length (joined_answers (before ++ answer ∷ []))) max_response

@@ -42,7 +42,7 @@ after_finish contents = record {
   output = if contents.answering then contents.output ++ 10 ∷ [] else contents.output;
 }
 
--- the joined answers with `answer` after them; only `answer` if there are no answers yet
+-- the joined answers (`output`) with a semicolon and `answer` after them; only `answer` if the message has no answers yet (`false`)
 abbrev pub with_answer : Bool → List ℕ → List ℕ → List ℕ
 with_answer true output answer = output ++ 59 ∷ answer
 with_answer false output answer = answer

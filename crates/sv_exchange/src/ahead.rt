@@ -22,7 +22,7 @@ pub(crate) struct Ahead {
     looked: usize,
     /// Whether a semicolon came after the unit.
     closed: bool,
-    /// The unit, read byte by byte.
+    /// The progress of reading the bytes of the unit one by one.
     partial: Partial,
 }
 
@@ -55,8 +55,9 @@ impl Ahead {
         }
     }
 
-    /// The unit, and how many bytes to step over with it, including the semicolon after it; `None`
-    /// if the text has only semicolons and white space. The text must be all of the message.
+    /// The unit, and how many bytes `text` has up to and including the semicolon after the unit. If
+    /// no semicolon follows, these are all bytes of `text`. `None` if the text has only semicolons
+    /// and white space. `text` must be the whole message.
     pub(crate) fn unit<'a>(&self, text: &'a [u8]) -> Option<(&'a [u8], usize)>
         requires { IsLooked self.now text.now }
         ensures { MatchOption result (units text.now ≡ [])
@@ -91,7 +92,7 @@ impl Ahead {
         }
     }
 
-    /// Reads one byte.
+    /// Reads the next byte of the text.
     fn look_at(&mut self, text: &[u8])
         requires begun { IsBegun self.old text.now }
         requires within { self.old.looked < length text.now }

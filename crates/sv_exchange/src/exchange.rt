@@ -44,7 +44,7 @@ pub struct Exchange<A: Allocator = Global> {
     cursor: usize,
     /// Where the current message ends.
     end: usize,
-    /// The unit that comes next after `cursor`, as far as it was read.
+    /// What was read so far of the unit that comes next after `cursor`.
     ahead: Ahead,
     /// Where the next message begins.
     next_start: usize,
@@ -111,8 +111,8 @@ impl<A: Allocator + Copy> Exchange<A> {
 }
 
 impl<A: Allocator> Exchange<A> {
-    /// Whether a write is accepted. None is accepted from the end of a message until that message
-    /// is finished.
+    /// Whether a write is accepted. From the end of a message until this message is finished, no
+    /// write is accepted.
     pub fn open_for_write(&self) -> bool
         ensures value { result ≡ is_open self.now }
         ensures answer { (acts : List ExchangeAct) → StandsFor self.now acts
@@ -318,8 +318,8 @@ impl<A: Allocator> Exchange<A> {
         self.read += count;
     }
 
-    /// Drops the text of the current message. The message must not have ended (IEEE 488.2,
-    /// 6.3.2.2).
+    /// Drops the text of the current message, which must be a message that hasn't ended yet (IEEE
+    /// 488.2, 6.3.2.2).
     pub fn drop_unfinished(&mut self)
         requires { IsTrue (is_open self.old) }
         ensures value { self.new ≡ record empty {
@@ -404,8 +404,8 @@ fn put_answer<A: Allocator>(bytes: &mut Vec<u8, A>, joins: bool, answer: &[u8])
     append(bytes, answer);
 }
 
-/// If `answers` is true, the bytes are the answers of a message: appends the new line that ends the
-/// response.
+/// Ends a response: if `answers` is true, `bytes` are the joined answers of a message, and a new
+/// line is appended to them. If `answers` is false, nothing changes.
 fn end_response<A: Allocator>(bytes: &mut Vec<u8, A>, answers: bool)
     requires { IsTrue answers → vec_len bytes.old < vec_capacity bytes.old }
     ensures items { bytes.new.items

@@ -8,11 +8,11 @@ use sv_text::place_of;
 /// Where the first message of some text ends.
 #[derive(Clone, Copy)]
 pub(crate) struct Cut {
-    /// How many bytes the message has.
+    /// How many bytes the first message has, without the new line that ends it.
     pub(crate) size: usize,
-    /// Where the next message begins.
+    /// Where the second message begins.
     pub(crate) next_start: usize,
-    /// Whether the message has ended.
+    /// Whether the first message has ended.
     pub(crate) ended: bool,
     /// Whether END comes after the text that follows the first message.
     pub(crate) end_pending: bool,

@@ -7,14 +7,14 @@ ghost use Rattle.sv_exchange.specs.ReadGiven.{IsReadOf};
 use crate::limits::MAX_READ;
 use sv_text::place_of;
 
-/// The next bytes of a response, and why they end there.
+/// The next bytes of a response, and why the read ends after them.
 #[derive(Clone, Copy)]
 pub struct Read<'a> {
     /// As many bytes were read as were requested.
     pub request_count: bool,
-    /// The last byte is the termination character.
+    /// The read ends with the termination character.
     pub character: bool,
-    /// The last byte is the last byte of the response.
+    /// The read ends with the last byte of the response.
     pub end: bool,
     /// The bytes that the read returns.
     pub bytes: &'a [u8],
@@ -46,7 +46,8 @@ fn count_of(response: &[u8], most: u32, term: Option<u8>) -> usize
     }
 }
 
-/// Whether the last of the first `count` bytes is the termination character.
+/// Whether the first `count` bytes of the response end with the termination character; false if
+/// `count` is 0 or there is no termination character.
 fn ends_at(response: &[u8], count: usize, term: Option<u8>) -> bool
     requires { count ≤ length response.now }
     ensures { result ≡ ends_at_term response.now count term }

@@ -43,7 +43,7 @@ parameter unit index = trim (part unit index)
 abbrev pub parameter_place : List ℕ → ℕ → ℕ
 parameter_place unit index = rest_place unit + part_place index (parts (rest unit)) + white_size (part unit index)
 
--- whether a part has only white space
+-- whether a part is empty or has only white space
 abbrev pub is_blank : List ℕ → Bool
 is_blank part = is_empty (trim part)
 

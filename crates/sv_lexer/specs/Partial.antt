@@ -54,8 +54,8 @@ abbrev pub is_common : List ℕ → Bool
 is_common [] = false
 is_common (b ∷ text) = b == 42
 
--- The text is the front of a header, and a mnemonic must follow it: the text ends in a colon or an asterisk, and its parts before that are
--- mnemonics.
+-- The text is the front of a header, and a mnemonic must follow it: the text ends in a colon or an asterisk, and all its parts before this
+-- last byte are mnemonics.
 pub record Awaits (text : List ℕ) : Type 0 where
   pub some : is_empty text ≡ false
   pub unsigned : is_query text ≡ false

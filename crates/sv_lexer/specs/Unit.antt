@@ -34,7 +34,7 @@ rest unit = trim_start (behind unit)
 abbrev pub rest_place : List ℕ → ℕ
 rest_place unit = header_place unit + header_size unit + white_size (behind unit)
 
--- whether a unit may have this byte: white space, or 33 to 126
+-- whether this byte is allowed in a unit: it is white space, or from 33 to 126
 abbrev pub is_legal : ℕ → Bool
 is_legal b = is_white b || (nat_lt 32 b && nat_lt b 127)
 

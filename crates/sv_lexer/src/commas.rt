@@ -110,7 +110,8 @@ fn comma_in(text: &[u8]) -> usize
     place
 }
 
-/// Whether a parenthesis is open after a byte; `inside` says whether one was open before it.
+/// Whether a parenthesis is open after `byte`; `inside` says whether a parenthesis was open before
+/// this byte.
 fn is_inside_behind(inside: bool, byte: u8) -> bool
     ensures { result ≡ opens inside byte }
 {

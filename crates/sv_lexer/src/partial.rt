@@ -19,7 +19,7 @@ const MOST: usize = 12;
 /// that they have reached, and where the header and the program data begin and end.
 #[derive(Debug, Drop)]
 pub struct Partial {
-    /// What the bytes read so far end in.
+    /// The part of a unit in which the bytes read so far end.
     stage: Stage,
     /// How many bytes the unit has so far.
     size: usize,
@@ -105,7 +105,7 @@ impl Partial {
         }
     }
 
-    /// Counts one more byte, which leads to `stage`.
+    /// Updates the stage and the positions for one more byte of the unit, which leads to `stage`.
     fn move_to(&mut self, stage: Stage)
         ensures { self.new ≡ progress_to stage self.old }
     {
@@ -136,7 +136,8 @@ impl Partial {
         }
     }
 
-    /// The error of the unit if it ends here; `None` if it has no error.
+    /// The error of the unit if the unit ends after the bytes read so far; `None` if it then has no
+    /// error.
     fn fault(&self) -> Option<Code>
         ensures { result ≡ fault_of self.now.stage self.now }
     {
@@ -166,8 +167,8 @@ impl Partial {
         }
     }
 
-    /// Where the program data begin and end if the unit ends here. If the unit has no program data,
-    /// both are the end of the header.
+    /// Where the program data begin and end if the unit ends after the bytes read so far. If the
+    /// unit has no program data, both positions are the end of the header.
     fn data(&self) -> (usize, usize)
         ensures start { result.0 ≡ data_of self.now.stage self.now.header_end self.now.data_start }
         ensures end { result.1 ≡ data_of self.now.stage self.now.header_end self.now.data_end }

@@ -6,7 +6,7 @@ ghost use Rattle.sv_lexer.specs.Inside.Stage.{behind_graphic as graphic, behind_
 
 use sv_text::is_space;
 
-/// What the bytes of a unit that were read so far end in (IEEE 488.2, 7.3 and 7.6).
+/// The part of a unit in which the bytes read so far end (IEEE 488.2, 7.3 and 7.6).
 #[derive(Clone, Copy, Debug)]
 pub(crate) enum Stage {
     /// No byte was read yet, or only white space before the program header.
@@ -29,11 +29,11 @@ pub(crate) enum Stage {
     DataSpace,
     /// A header that isn't well-formed, and the bytes after it.
     Misspelled,
-    /// A byte that no unit may have, and the bytes after it.
+    /// A byte that isn't allowed in a unit, and the bytes after it.
     Illegal,
 }
 
-/// The stage after one more byte.
+/// The stage that follows `stage` if the next byte is `byte`.
 pub(crate) fn next(stage: Stage, byte: u8) -> Stage
     ensures { result ≡ next_of stage byte }
 {
@@ -46,7 +46,7 @@ pub(crate) fn next(stage: Stage, byte: u8) -> Stage
     }
 }
 
-/// The stage after white space.
+/// The stage that follows `stage` if the next byte is white space.
 fn behind_space(stage: Stage) -> Stage
     ensures { result ≡ space stage }
 {
@@ -65,7 +65,7 @@ fn behind_space(stage: Stage) -> Stage
     }
 }
 
-/// The stage after a graphic character.
+/// The stage that follows `stage` if the next byte is `byte`, a graphic character.
 fn behind_graphic(stage: Stage, byte: u8) -> Stage
     ensures { result ≡ graphic stage byte }
 {

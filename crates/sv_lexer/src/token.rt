@@ -31,7 +31,7 @@ pub struct Token<'a> {
     pub kind: Kind,
 }
 
-/// The token with this text, at this place.
+/// The token with this text, which begins at position `place` of its unit.
 pub(crate) fn token_at(text: &[u8], place: usize) -> Token<'_>
     ensures text { result.text.now ≡ text.now }
     ensures start { result.start ≡ in_u32 place }

@@ -8,8 +8,8 @@ use Rattle.sv_links.specs.declared.channel.Stage.TheVariants.{Closed, Prepared, 
 use Rattle.sv_links.specs.Limits.{max_connections, max_enabled}
 use Rattle.sv_links.specs.Channels.{ChannelAct, enabled_links, peer, bytes_taken, calls, calls_left}
 
--- the state of one interrupt channel: its stage; how many calls were appended since it was opened; for each call with bytes still to be
--- sent, how many; and all these bytes, joined
+-- the state of one interrupt channel: its stage; how many calls were appended since it was opened; for each call that the peer didn't take
+-- completely, how many of its bytes are still to be sent; and all these bytes, joined
 pub record Channel : Type 0 where
   pub stage : Stage
   pub made : ℕ
@@ -39,7 +39,7 @@ abbrev pub left_in : ℕ → List ℕ → List ℕ
 left_in count [] = []
 left_in count (size ∷ sizes) = if nat_lt count size then (size - count) ∷ sizes else left_in (count - size) sizes
 
--- The channel stores what remains of `calls` after the peer took `count` of their bytes. The calls have at least `count` bytes.
+-- The channel stores what remains of `calls` after the peer took `count` of their bytes. All calls together have at least `count` bytes.
 abbrev pub IsQueued : Channel → ℕ → List (List ℕ) → Type 0
 IsQueued kept count calls = (kept.made ≡ length calls) × (kept.sizes ≡ map length (calls_left count calls))
     × (kept.bytes ≡ concat (calls_left count calls)) × (count ≤ length (concat calls))
@@ -58,16 +58,16 @@ abbrev pub IsSorted : List Enabled → Type 0
 IsSorted [] = ⊤
 IsSorted (link ∷ links) = AllByRecursion (λ other. link.lid < other.lid) links × IsSorted links
 
--- There is room for a link to enable service requests: fewer than 32 other links have them enabled.
+-- There is room for link `lid` to enable service requests: fewer than 32 other links have service requests enabled.
 abbrev pub HasRoomFor : ℕ → Channels → Type 0
 HasRoomFor lid kept = length (filter (λ other. not (other.lid == lid)) kept.enabled) < max_enabled
 
--- the links whose numbers aren't among `lids`
+-- those of `links` whose numbers aren't among `lids`
 abbrev pub without_links : List ℕ → List Enabled → List Enabled
 without_links [] links = links
 without_links (lid ∷ lids) links = filter (λ other. not (other.lid == lid)) (without_links lids links)
 
--- the links in the list that don't belong to connection `c`
+-- those of `links` that don't belong to connection `c`
 abbrev pub of_others : ℕ → List Enabled → List Enabled
 of_others c links = filter (λ other. not (other.conn == c)) links
 

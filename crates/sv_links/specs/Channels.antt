@@ -59,14 +59,14 @@ bytes_taken c (ChannelClosed conn ∷ acts) = if conn == c then 0 else bytes_tak
 bytes_taken c (ChannelTaken conn count ∷ acts) = if conn == c then bytes_taken c acts + count else bytes_taken c acts
 bytes_taken c (_ ∷ acts) = bytes_taken c acts
 
--- what remains of these calls after the peer took `count` bytes: the calls that the peer didn't take completely. The first of them lacks
--- the bytes that the peer took.
+-- what remains of these calls after the peer took `count` of their bytes: the calls that the peer didn't take completely. The first of the
+-- remaining calls lacks those of its bytes that the peer took.
 abbrev pub calls_left : ℕ → List (List ℕ) → List (List ℕ)
 calls_left count [] = []
 calls_left count (call ∷ calls) = if nat_lt count (length call) then drop count call ∷ calls else calls_left (count - length call) calls
 
--- whether one more call may be appended: the peer still has to take some bytes of fewer than 32 calls, and a number remains for the new
--- call
+-- whether one more call may be appended to `calls`, of which the peer took `count` bytes: fewer than 32 calls still have bytes that the
+-- peer didn't take, and a number remains for the new call
 abbrev pub may_call : ℕ → List (List ℕ) → Bool
 may_call count calls = nat_lt (length (calls_left count calls)) max_calls && nat_lt (length calls) 4294967295
 

@@ -13,7 +13,7 @@ pub data LinkAct : Type 0 where
   Locked : (lid : ℕ) → LinkAct
   Unlocked : (lid : ℕ) → LinkAct
 
--- how many links were ever made; the number of the next link is one above this
+-- how many links were ever made; the next link gets the number that is one above this count
 abbrev pub links_made : List LinkAct → ℕ
 links_made [] = 0
 links_made (Made lid conn ∷ acts) = links_made acts + 1
@@ -54,7 +54,7 @@ may_make acts = nat_lt (length (live acts)) max_links && lids_left acts
 abbrev pub closing : ℕ → List LinkAct → List LinkAct
 closing conn acts = reverse (map Destroyed (links_of conn acts))
 
--- the links that ever got the lock, the one that got it last first; a link stands here once for each time that it got the lock
+-- the links that ever got the lock, in reverse order of getting it. A link that got the lock several times is listed several times.
 abbrev pub lock_order : List LinkAct → List ℕ
 lock_order = filter_map (elim [ Locked lid ↦ Some lid | _ ↦ None ])
 

@@ -58,7 +58,7 @@ creates entry = is_lock (Some entry.wait) && is_none entry.lid
 abbrev pub creations : List Entry → ℕ
 creations entries = length (filter creates entries)
 
--- the entries without the one of connection `conn`
+-- the entries of all connections except `conn`
 abbrev pub without : ℕ → List Entry → List Entry
 without conn entries = filter (λ entry. not (entry.conn == conn)) entries
 

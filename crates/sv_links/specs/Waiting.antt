@@ -38,7 +38,7 @@ enters c = elim [ Entered conn link wait deadline ∷ acts ↦ conn == c | _ ↦
 abbrev pub arrival : ℕ → List WaitAct → ℕ
 arrival c acts = length (newest (enters c) acts)
 
--- the link that the newest act names
+-- the link named by the call that the newest act suspends; `None` if the call names no link, or if the newest act suspends no call
 abbrev link_of : List WaitAct → Option ℕ
 link_of = elim [ Entered conn link wait deadline ∷ acts ↦ link | _ ↦ None ]
 
@@ -46,7 +46,7 @@ link_of = elim [ Entered conn link wait deadline ∷ acts ↦ link | _ ↦ None 
 abbrev pub link : ℕ → List WaitAct → Option ℕ
 link c acts = link_of (newest (enters c) acts)
 
--- whether the wait is for the lock
+-- whether a call waits for the lock, given what the call waits for
 abbrev pub is_lock : Option Wait → Bool
 is_lock = elim [ Some Lock ↦ true | _ ↦ false ]
 

@@ -130,8 +130,8 @@ impl<A: Allocator> Intr<A> {
     }
 
     /// Enables service requests of a link, with this handle of at most
-    /// [`MAX_HANDLE`](crate::MAX_HANDLE) bytes. The link must have them enabled already, or fewer
-    /// than 32 links must have them enabled.
+    /// [`MAX_HANDLE`](crate::MAX_HANDLE) bytes. Either service requests of this link must be
+    /// enabled already, or fewer than 32 links must have service requests enabled.
     pub fn enable(&mut self, lid: u32, conn: u8, handle: &[u8])
         ensures stands { length handle.now ≤ max_handle → HasRoomFor lid self.old
             → (acts : List ChannelAct) → AreChannels self.old acts

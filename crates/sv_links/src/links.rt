@@ -95,8 +95,8 @@ impl<A: Allocator> Links<A> {
         self.made < LAST
     }
 
-    /// Allocates the memory for this many further links, as far as it isn't reserved already. A
-    /// later `create` uses the reserved memory.
+    /// Reserves memory for `count` further links. Memory that is reserved already counts toward
+    /// this number. A later `create` uses the reserved memory.
     ///
     /// # Errors
     /// If memory is refused; nothing changes then.

@@ -52,7 +52,9 @@ pub fn is_locked_out(holder: Option<u32>, named: Option<u32>) -> bool
 }
 
 impl Entry {
-    /// Whether the call can resume, because what it waits for is there.
+    /// Whether the call can resume: it waits for the lock, and no link but its own holds the lock;
+    /// it waits for the device to accept a write, and `can_write` is true; or it waits for the
+    /// device to answer a read, and `can_read` is true.
     fn is_able(&self, holder: Option<u32>, can_write: bool, can_read: bool) -> bool
         ensures { result ≡ is_there holder can_write can_read self.now.lid (Some self.now.wait) }
     {
@@ -220,7 +222,7 @@ impl<A: Allocator> Waiting<A> {
             .copied()
     }
 
-    /// The oldest call whose deadline has come at this clock; `None` if no deadline has come.
+    /// The oldest call whose deadline has come by the time `clock`; `None` if no deadline has come.
     pub fn expired(&self, clock: u64) -> Option<Entry>
         ensures answer { (acts : List WaitAct) → IsQueue self.now acts
             → IsOldest acts (IsExpired clock acts) (option_map (λ entry. entry.conn) result) }

@@ -36,7 +36,7 @@ abbrev pub IsCall : List ℕ → PlainCall → Type 0
 IsCall bytes call = (credential verifier : Auth) × (length credential.body ≤ max_auth) × (length verifier.body ≤ max_auth)
     × BeginsAll bytes (heading call credential verifier) call.args
 
--- The bytes begin a call under an RPC version other than 2. Any bytes may follow the version.
+-- The bytes are a call with transaction number `xid` under an RPC version other than 2. Any bytes may follow the version.
 abbrev pub IsOtherVersion : List ℕ → ℕ → Type 0
 IsOtherVersion bytes xid = (version : ℕ) × (after : List ℕ) × (version ≢ 2)
     × BeginsAll bytes (Unsigned xid ∷ Unsigned 0 ∷ Unsigned version ∷ []) after

@@ -14,16 +14,16 @@ use Rattle.sv_rpc.specs.Reply.{reply_fields}
 abbrev pub OneReading : Type 0
 OneReading = (stream : List ℕ) (a b : List (List ℕ)) (s t : Tail) → Splits stream a s → Splits stream b t → (a ≡ b) × (s ≡ t)
 
--- Every stream of bytes splits into its `records_of` and its `tail_of`.
+-- Every stream of bytes splits into the records that `records_of` returns, followed by the tail that `tail_of` returns.
 abbrev pub ReadAsSplit : Type 0
 ReadAsSplit = (stream : List ℕ) → All (λ byte. byte < 256) stream → Splits stream (records_of stream) (tail_of stream)
 
--- A stream splits only into its `records_of` and its `tail_of`.
+-- If a stream splits into records and a tail, these are the records that `records_of` returns and the tail that `tail_of` returns.
 abbrev pub ReadAlone : Type 0
 ReadAlone = (stream : List ℕ) (records : List (List ℕ)) (tail : Tail) → Splits stream records tail
     → (records ≡ records_of stream) × (tail ≡ tail_of stream)
 
--- For any bytes, the result of `call_at` is the one that `CallIs` requires.
+-- For any bytes, `call_at` returns the call that they encode, or the fault for which they encode none, as `CallIs` requires.
 abbrev pub CallAsSpelled : Type 0
 CallAsSpelled = (bytes : List ℕ) → All (λ byte. byte < 256) bytes → CallIs bytes (call_at bytes)
 

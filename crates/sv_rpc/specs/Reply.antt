@@ -8,7 +8,7 @@ use Rattle.sv_rpc.specs.declared.reply.Reply.TheVariants.{Success, Mismatch, Pro
 abbrev pub no_auth : List Field
 no_auth = Unsigned 0 ∷ Opaque [] ∷ []
 
--- a reply (message type 1) to a call that was accepted (0), with this status
+-- the fields of a reply (message type 1) to a call that was accepted (reply status 0). `status` says how the accepted call ended.
 abbrev pub accepted : ℕ → ℕ → List Field
 accepted xid status = Unsigned xid ∷ Unsigned 1 ∷ Unsigned 0 ∷ no_auth ++ Unsigned status ∷ []
 
@@ -22,6 +22,6 @@ reply_fields xid ProcUnavail = accepted xid 3
 reply_fields xid GarbageArgs = accepted xid 4
 reply_fields xid Mismatch = Unsigned xid ∷ Unsigned 1 ∷ Unsigned 1 ∷ Unsigned 0 ∷ Unsigned 2 ∷ Unsigned 2 ∷ []
 
--- the fields of a call, with neither credential nor verifier
+-- the fields of a call before its arguments. The credential and the verifier are empty (AUTH_NONE).
 abbrev pub call_fields : ℕ → ℕ → ℕ → ℕ → List Field
 call_fields xid prog vers proc = Unsigned xid ∷ Unsigned 0 ∷ Unsigned 2 ∷ Unsigned prog ∷ Unsigned vers ∷ Unsigned proc ∷ no_auth ++ no_auth

@@ -45,8 +45,8 @@ begun_of place.Header header_len = header_len
 begun_of (place.Data missing last) header_len = 0
 begun_of place.TooLong header_len = capacity
 
--- The `Place`, which says what the next byte belongs to, is possible if `payload` bytes of the unfinished record's data have come, and
--- `header_len` bytes of an unfinished header.
+-- The `Place` says what the next byte of the stream belongs to. This `Place` is possible after `payload` bytes of the unfinished record's
+-- data and `header_len` bytes of an unfinished header have come.
 abbrev pub IsPlace : Place → ℕ → ℕ → Type 0
 IsPlace place.Header payload header_len = (payload ≤ max_record) × (header_len < 4)
 IsPlace (place.Data missing last) payload header_len = (0 < missing) × (payload + missing ≤ max_record) × (header_len ≡ 0)
@@ -99,7 +99,7 @@ after_header records tail size last =
     else (if nat_lt 0 size then record { records = records; tail = Data payload size last }
     else (if last then finish_record records tail else record { records = records; tail = Header payload [] }))
 
--- what the buffer holds after one more byte of a header
+-- what the buffer holds after one more byte of a fragment's header has come
 abbrev pub after_byte : List (List ℕ) → Tail → ℕ → Records
 after_byte records (Header payload header) byte =
     if nat_lt (length header) 3 then record { records = records; tail = Header payload (header ++ byte ∷ []) }
@@ -108,7 +108,7 @@ after_byte records (Header payload header) byte =
 after_byte records (Data payload missing last) byte = record { records = records; tail = Data payload missing last }
 after_byte records TooLong byte = record { records = records; tail = TooLong }
 
--- what the buffer holds after more of a fragment's data
+-- what the buffer holds after more data of the unfinished fragment have come
 abbrev pub after_data : List (List ℕ) → Tail → List ℕ → Records
 after_data records (Header payload header) piece = record { records = records; tail = Header payload header }
 after_data records (Data payload missing last) piece =

@@ -58,7 +58,8 @@ impl From<XdrFault> for CallFault {
 /// whatever follows it; `BadHeader` if a later field can't be read, or if the body of the
 /// credential or verifier is longer than 400 bytes.
 pub fn read_call(bytes: &[u8]) -> Result<Call<'_>, CallFault>
-    // `CallIs` states that the bytes are what the result says.
+    // `CallIs` states: the bytes encode the call that is returned; or they encode none, for the
+    // reason that the fault gives.
     ensures found { CallIs bytes.now (plain_call_result result) }
     // `CallIs` holds for no other result.
     ensures only { (outcome : Result PlainCall CallFault) → CallIs bytes.now outcome

@@ -42,7 +42,7 @@ pub fn getport(args: &[u8], ports: Ports) -> Result<u32, Garbage>
     Ok(port_of(ports, prog, vers, prot))
 }
 
-/// The port at which a version of a program is served over a protocol; 0 if there is no such port.
+/// The port at which this version of a program is served over this protocol; 0 if it isn't served.
 fn port_of(ports: Ports, prog: u32, vers: u32, prot: u32) -> u32
     ensures { result ≡ port_for ports (record { prog = prog; vers = vers; prot = prot; port = 0 }) }
 {

@@ -13,11 +13,11 @@ use std::marker::Model;
 use sv_bytes::{append, drop_front};
 use thiserror::Error;
 
-/// How many bytes the records in a buffer may take. Each takes 4 bytes more than its length.
+/// How many bytes all records in a buffer may take. Each record takes 4 bytes more than its length.
 const CAPACITY: usize = 16384;
 /// The most records that a buffer can hold: even an empty record takes 4 bytes.
 const MAX_RECORDS: usize = CAPACITY / 4;
-/// The longest record, in bytes.
+/// How long a record may be, in bytes.
 const MAX_RECORD: usize = 8192;
 
 /// Why the buffer returns no further record.
@@ -114,8 +114,8 @@ impl<A: Allocator> RecordBuf<A> {
     /// such record yet.
     ///
     /// # Errors
-    /// `RecordTooLong` if the buffer has no complete record, and the record that follows is too
-    /// long.
+    /// `RecordTooLong` if the buffer has no complete record, and the next record of the stream is
+    /// too long.
     pub fn next(&self) -> Result<Option<&[u8]>, RpcFault>
         ensures value { plain_record result ≡ next_among self.now.records self.now.tail }
         ensures answer { (stream : List ℕ) (dropped : ℕ) → StandsFor self.now stream dropped
@@ -140,7 +140,7 @@ impl<A: Allocator> RecordBuf<A> {
         }
     }
 
-    /// Drops the first complete record in the buffer, which must have one.
+    /// Drops the first complete record of the buffer. The buffer must have a complete record.
     pub fn drop_first(&mut self)
         requires { self.old.records ≢ [] }
         ensures value { self.new ≡ record {
@@ -182,7 +182,7 @@ impl<A: Allocator> RecordBuf<A> {
         }
     }
 
-    /// Takes in bytes from the front of `piece`, at least one, and returns how many.
+    /// Takes in one or more bytes from the front of `piece`, and returns how many it took in.
     fn take_in(&mut self, piece: &[u8]) -> usize
         requires some { 0 < length piece.now }
         requires fits { InRoom self.old (length piece.now) }
@@ -205,7 +205,7 @@ impl<A: Allocator> RecordBuf<A> {
         }
     }
 
-    /// Takes in a byte of a header.
+    /// Takes in the next byte of a fragment's header.
     fn take_header(&mut self, byte: u8)
         requires header { IsInHeader self.old.tail }
         requires fits { InRoom self.old 1 }
@@ -278,7 +278,7 @@ impl<A: Allocator> RecordBuf<A> {
     }
 }
 
-/// The four bytes of a header as a 32-bit number, the most significant byte first.
+/// The four bytes of a fragment's header as a 32-bit number, the most significant byte first.
 fn word_of(header: &[u8]) -> u32
     requires { length header.now ≡ 4 }
     ensures value { result ≡ from_be_bytes w32 header.now }

@@ -23,7 +23,7 @@ pub enum Reply {
         /// The highest version that is served.
         high: u32,
     },
-    /// The program has no such procedure.
+    /// The program has no procedure with the number in the call.
     ProcUnavail,
     /// The arguments can't be read.
     GarbageArgs,
@@ -49,8 +49,8 @@ pub fn write_reply(writer: &mut Writer<'_>, xid: u32, reply: Reply) -> Result<()
     }
 }
 
-/// Writes the header of a call without credential and verifier, and without the fragment header in
-/// front of it and the arguments after it.
+/// Writes the header of a call, with an empty credential and an empty verifier (AUTH_NONE). The
+/// caller writes the fragment header in front of it and the arguments after it.
 ///
 /// # Errors
 /// `NoRoom` at the first field that doesn't fit. The fields before it stay written.

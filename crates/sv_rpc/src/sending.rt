@@ -7,7 +7,7 @@ use std::alloc::Allocator;
 use sv_bytes::append;
 
 /// Appends `text` to the outgoing bytes as a record of one fragment. The outgoing bytes must have
-/// room for it, and `text` must be shorter than 2,147,483,648 bytes.
+/// room for the record, and `text` must be shorter than 2,147,483,648 bytes.
 pub fn put_record<A: Allocator>(out: &mut Vec<u8, A>, text: &[u8])
     requires fits { vec_len out.old + 4 + length text.now ≤ vec_capacity out.old }
     requires short { length text.now < 2 ^ 31 }

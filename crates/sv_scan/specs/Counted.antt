@@ -33,8 +33,8 @@ same_source Bus Bus = true
 same_source External External = true
 same_source _ _ = false
 
--- why a setting is refused after these acts: -222 if its value isn't allowed; -221 if a measurement is under way, during which this setting
--- can't be changed; `None` if the setting isn't refused
+-- why a setting is refused after these acts: -222 if its value isn't allowed; else -221 if a measurement is under way and this setting
+-- can't be changed during a measurement; `None` if the setting isn't refused
 abbrev pub setting_fault : List ScanAct → Setting → Option Code
 setting_fault log setting =
     if not (is_possible setting) then Some DataOutOfRange

@@ -53,7 +53,7 @@ is_bounded _ = true
 abbrev pub channel_at : List ℕ → ℕ → ℕ
 channel_at channels before = slice_index_or channels (before % length channels) 0
 
--- the reading of a sample that comes after these acts: the sample reads the next channel, with the input and the range that are set then
+-- the reading of a sample that comes right after these acts: the input of the next channel, measured in the range that these acts set
 abbrev pub reading : List ScanAct → Reading
 reading log = reading_in (range log) (input (channel_at (option_map_or scan_list (before_init log) []) (samples log)) log)
 

@@ -35,7 +35,8 @@ pub struct Scanner<A: Allocator = Global> {
     inputs: [i64; CHANNELS],
     /// The settings.
     pub(crate) settings: Settings,
-    /// The measurement that was initiated last; `None` if none was, or after an abort or a reset.
+    /// The measurement that was initiated last; `None` if no measurement was initiated, or if an
+    /// abort or a reset came later.
     run: Option<Run>,
     /// The readings of the measurement, oldest first; none without a measurement.
     readings: Vec<Reading, A>,

@@ -11,7 +11,7 @@ pub enum Setting {
     List(ScanList),
     /// The monitored channel, whose input is compared with the limits. The default is 1.
     Monitor(u8),
-    /// The voltage to measure, in microvolts, 0 to 100 V. It sets the smallest of the ranges 1, 10
+    /// The voltage to measure, in microvolts, 0 to 100 V. The range becomes the smallest of 1, 10
     /// and 100 V that is at least this voltage. The default is 10 V.
     Range(i64),
     /// The upper limit, in microvolts, up to 1,000 V in magnitude. The default is 1,000 V.

@@ -26,7 +26,8 @@ const OUTSIDE: u16 = 1 << 2;
 pub struct Conditions {
     /// Bit 4: measuring; bit 5: waiting for a trigger; bit 8: acquisition in progress.
     pub operation: u16,
-    /// Bit 0: the last reading is an overload. Bit 9, the summary of the register of limits, is 0.
+    /// Bit 0: the last reading is an overload. All other bits are 0. The caller adds bit 9, the
+    /// summary of the register of limits.
     pub questionable: u16,
     /// With limits on, bit 0: the last reading is below the lower limit; bit 1: the last reading is
     /// above the upper limit; bit 2: the input of the monitored channel is outside the limits.
@@ -53,8 +54,8 @@ pub(crate) fn questionable_word(overload: bool) -> u16
 }
 
 /// The condition word of the register of limits. If the limits are on, the word says whether the
-/// last reading is below or above the limits, and whether the live input is outside them. If the
-/// limits are off, the word is 0.
+/// last reading is below the lower limit or above the upper limit, and whether the live input of
+/// the monitored channel is outside the limits. If the limits are off, the word is 0.
 pub(crate) fn limit_word(limits: bool, below: bool, above: bool, outside: bool) -> u16
     ensures { result ≡ bit 0 (limits && below) + bit 1 (limits && above) + bit 2
         (limits && outside) }

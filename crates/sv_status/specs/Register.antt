@@ -10,7 +10,7 @@ use Rattle.sv_status.specs.declared.register.RegisterAct.TheVariants.{Condition,
 abbrev pub condition : List RegisterAct → ℕ
 condition = last_given (elim [ Condition word ↦ Some word | _ ↦ None ]) 0
 
--- a mask without bit 15
+-- a word with bit 15 cleared
 abbrev pub without_top_bit : ℕ → ℕ
 without_top_bit word = word % 2 ^ 15
 

@@ -8,24 +8,25 @@ use std::marker::Model;
 use std::mem::replace;
 use sv_errors::Layer;
 
-/// Bit 15, which is dropped from each filter and enable that is set.
+/// Bit 15. It is cleared in each new value of a filter or an enable.
 const MASK_END: u16 = 1 << 15;
-/// Bits 0 to 14: a filter with this value passes each change, and an enable with it enables all.
+/// Bits 0 to 14. A filter with this value passes every change of the condition. An enable with this
+/// value enables every event bit.
 const ALL: u16 = 32767;
 
 /// An act of a register.
 #[derive(Clone, Copy, Debug, PartialEq, Eq)]
 pub enum RegisterAct {
-    /// The condition is set.
+    /// The condition word becomes this value.
     Condition(u16),
-    /// The transition filters are set.
+    /// The transition filters become these values, without bit 15.
     SetFilter {
         /// The positive transition filter.
         rise: u16,
         /// The negative transition filter.
         fall: u16,
     },
-    /// The enable is set.
+    /// The enable becomes this value, without bit 15.
     SetEnable(u16),
     /// The event register is read, which clears it.
     ReadEvent,
@@ -80,15 +81,15 @@ impl Register {
         Register::starting(0)
     }
 
-    /// A register whose summary is a bit of another register's condition, as it is at power on. Its
-    /// enable is 32767, also after a preset; all else is as in [`Register::new`].
+    /// A register as it is at power on, whose summary is a bit of another register's condition. Its
+    /// enable is 32767 at power on and after a preset. All else is as in [`Register::new`].
     pub fn nested() -> Register
         ensures { StandsFor 32767 result [] }
     {
         Register::starting(ALL)
     }
 
-    /// A register as it is at power on, with `start` as its enable then and after a preset.
+    /// A register as it is at power on. Its enable is `start`, now and after each preset.
     fn starting(start: u16) -> Register
         ensures { StandsFor start result [] }
     {

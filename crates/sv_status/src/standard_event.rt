@@ -14,11 +14,11 @@ const POWER_ON: u8 = 1 << 7;
 /// An act of the register.
 #[derive(Clone, Copy, Debug, PartialEq, Eq)]
 pub enum StandardAct {
-    /// The events of these bits occur.
+    /// The events occur whose bits are set in this value.
     Occur(u8),
     /// The register is read, which clears it.
     Read,
-    /// The enable is set.
+    /// The enable becomes this value.
     SetEnable(u8),
     /// The register is cleared.
     Clear,
@@ -59,7 +59,7 @@ impl StandardEvent {
         }
     }
 
-    /// Sets the bits of events that occur.
+    /// Sets those bits of the register that are set in `bits`, because their events occur.
     pub fn occur(&mut self, bits: u8)
         ensures { (acts : List StandardAct) → StandsFor self.old acts
             → StandsFor self.new (StandardAct.Occur bits ∷ acts) }

@@ -13,7 +13,7 @@ const REQUEST: u8 = 1 << 6;
 /// An act of the status byte.
 #[derive(Clone, Copy, Debug, PartialEq, Eq)]
 pub enum StatusAct {
-    /// Summary bits and service request enable are set.
+    /// The summary bits and the service request enable become these values.
     Update {
         /// The summary bits. Bit 6 is ignored. The caller always passes 0 in bits 1 and 0.
         bits: u8,

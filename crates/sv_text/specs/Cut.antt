@@ -1,4 +1,4 @@
--- The parts of bytes between separators.
+-- Cutting bytes at separators.
 use Rattle.std.specs.Prelude.{ℕ, ◌==◌, List}
 use Rattle.std.specs.List.{slice_split}
 

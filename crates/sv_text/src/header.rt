@@ -14,8 +14,8 @@ pub enum Lead {
     Onward,
 }
 
-/// The parts into which a header is split. Any bytes can be split into these, even if they aren't a
-/// header.
+/// The parts into which a header is split. Any bytes can be split into these parts, even bytes that
+/// aren't a header.
 #[derive(Clone, Copy, Debug)]
 pub struct Header<'a> {
     /// What the header begins with.

@@ -29,7 +29,7 @@ pub data Arguments : Type 0 where
   CreateIntrChan : (host_addr host_port prog_num prog_vers prog_family : ℕ) → Arguments
   DestroyIntrChan : Arguments
 
--- the number of the call that has these arguments
+-- the procedure number of the call that has these arguments
 abbrev pub procedure_of : Arguments → ℕ
 procedure_of (OnLink lid DeviceAbort) = 1
 procedure_of (CreateLink client_id lock_device lock_timeout device) = 10
@@ -48,15 +48,15 @@ procedure_of (OnLink lid DestroyLink) = 23
 procedure_of (CreateIntrChan host_addr host_port prog_num prog_vers prog_family) = 25
 procedure_of DestroyIntrChan = 26
 
--- the numbers of the calls of the core channel
+-- the procedure numbers of the core channel's calls
 abbrev pub core_calls : List ℕ
 core_calls = 10 ∷ 11 ∷ 12 ∷ 13 ∷ 14 ∷ 15 ∷ 16 ∷ 17 ∷ 18 ∷ 19 ∷ 20 ∷ 22 ∷ 23 ∷ 25 ∷ 26 ∷ []
 
--- the number of the one call of the abort channel, device_abort
+-- the procedure number of device_abort, the only call of the abort channel
 abbrev pub abort_calls : List ℕ
 abort_calls = 1 ∷ []
 
--- whether `proc` is one of these numbers of calls
+-- whether `proc` is one of the numbers in `calls`
 abbrev pub is_one_of : List ℕ → ℕ → Bool
 is_one_of calls proc = list_any (λ call. proc == call) calls
 
@@ -98,7 +98,7 @@ ArgumentsAre proc bytes (Ok arguments) = (procedure_of arguments ≡ proc) × (a
 ArgumentsAre proc bytes (Err garbage) = (arguments : Arguments) (after : List ℕ) → procedure_of arguments ≡ proc
     → BeginsWith bytes arguments after → ⊥
 
--- the link that a call names; `None` if the call has no link among its arguments
+-- the number of the link on which a call is made; `None` if no argument of the call is a link
 abbrev pub link : Arguments → Option ℤ
 link (OnLink lid call) = Some lid
 link _ = None

@@ -10,7 +10,7 @@ use crate::flags::Flags;
 /// What a call does while another link holds the lock (section B.4.4).
 #[derive(Clone, Copy)]
 pub struct LockWait {
-    /// Whether the call waits for the lock; otherwise it fails.
+    /// Whether the call waits for the lock. If this is false, the call fails at once.
     pub waits: bool,
     /// How long the call waits, in milliseconds.
     pub timeout: u32,
@@ -126,7 +126,7 @@ pub enum Args<'a> {
     },
     /// The arguments of a call on a link.
     OnLink {
-        /// The link.
+        /// The number of the link.
         lid: i32,
         /// The call, and its other arguments.
         call: LinkCall<'a>,
@@ -184,7 +184,7 @@ impl LinkCall<'_> {
 }
 
 impl Args<'_> {
-    /// The link that the call names; `None` if the call has no link among its arguments.
+    /// The number of the link on which the call is made; `None` if no argument is a link.
     pub fn link(&self) -> Option<i32>
         ensures { result ≡ link_by (plain_arguments self.now) }
     {

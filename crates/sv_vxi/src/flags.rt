@@ -15,8 +15,8 @@ impl Flags {
         self.0 % 2 == 1
     }
 
-    /// Whether a write has END (bit 3). If it has, its last byte ends the message. A write without
-    /// bytes ends the message itself.
+    /// Whether a write has END (bit 3). The last byte of a write with END ends the message. If this
+    /// write has no bytes, the write itself ends the message.
     pub fn has_end(self) -> bool
         ensures { result ≡ (bit_at self.0 3 == 1) }
     {

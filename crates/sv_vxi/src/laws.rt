@@ -8,9 +8,10 @@ pub fn read_as_spelled()
     ensures { ArgumentsAsSpelled }
 {}
 
-/// For one call, no encoding of arguments is a proper prefix of another encoding. The same holds
-/// for the results of one form. If the same bytes can be split in two ways into such an encoding
-/// and a rest, both encodings are equal, and so are both rests.
+/// For each procedure, no encoding of its arguments is a proper prefix of another encoding of its
+/// arguments. For each form of result, no encoding of a result is a proper prefix of another. If
+/// the same bytes can be split in two ways into one of these encodings and a rest, both encodings
+/// are equal, and so are both rests.
 pub fn prefix_free()
     ensures arguments { ArgumentsPrefixFree }
     ensures results { ResultsPrefixFree }

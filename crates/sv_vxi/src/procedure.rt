@@ -1,4 +1,4 @@
-//! The numbers of the calls (VXI-11 revision 1.0, section B.6).
+//! The procedure numbers of the calls (VXI-11 revision 1.0, section B.6).
 
 /// The number of device_abort, the one call of the abort channel.
 pub const DEVICE_ABORT: u32 = 1;

@@ -6,14 +6,15 @@ use Rattle.sv_xdr.specs.declared.fault.XdrFault.{XdrFault}
 use Rattle.sv_xdr.specs.declared.fault.XdrFault.TheVariants.{Short, BadPad, BadBool, TooLong}
 use Rattle.sv_xdr.specs.Spelling.{pad_len}
 
--- the next step of a reading: `f` applied to what was read; the fault if it can't be read
+-- the next step of a reading: `f` applied to what the step before read; the fault of that step if it failed
 infixl 10 ◌>>=◌
 abbrev pub ◌>>=◌ : {A B : Type 0} → Result A XdrFault → (A → Result B XdrFault) → Result B XdrFault
 (Ok x) >>= f = f x
 (Err fault) >>= f = Err fault
 
--- The code read from the bytes `old` and returned this `Result`; the bytes `new` remain to be read. Both agree with `read`, which a
--- function of this file returned for `old`. `view` turns a value of the code into one of the specification. After a fault all bytes remain.
+-- The code read from the bytes `old`, returned this `Result`, and left the bytes `new` to be read. The result and `new` agree with `read`,
+-- which a function of this file returned for `old`: a fault leaves all bytes. `view` turns a value of the code into one of the
+-- specification.
 abbrev pub IsRead : {X Y : Type 0} → (X → Y) → Result X XdrFault → List ℕ → List ℕ → Result (Y × List ℕ) XdrFault → Type 0
 IsRead view (Ok x) old new read = read ≡ Ok (view x, new)
 IsRead view (Err fault) old new read = (read ≡ Err fault) × (new ≡ old)

@@ -6,11 +6,11 @@ use Rattle.sv_xdr.specs.declared.fault.XdrFault.TheVariants.{NoRoom}
 use Rattle.sv_xdr.specs.declared.writer.Writer.{Writer}
 use Rattle.sv_xdr.specs.Spelling.{Field, Spells}
 
--- the bytes that were written: the front of the buffer
+-- the bytes that the writer has written: the front of its buffer
 abbrev pub text_of : Writer → List ℕ
 text_of writer = take writer.written writer.out.now
 
--- the rest of the buffer: the room for later writes
+-- the rest of the writer's buffer, behind the bytes written so far: the room for later writes
 abbrev pub rest_of : Writer → List ℕ
 rest_of writer = drop writer.written writer.out.now
 

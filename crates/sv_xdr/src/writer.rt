@@ -5,8 +5,8 @@ ghost use Rattle.std.specs.Prelude.{◌≡◌, ◌<◌, ◌≤◌, ◌^◌, [], 
 use crate::fault::XdrFault;
 use crate::reader::pad_len;
 
-/// A caller's buffer, into which fields are written in order. Contracts see the bytes written so
-/// far, and the rest of the buffer.
+/// A caller's buffer, into which fields are written in order. In contracts, `text_of` returns the
+/// bytes written so far, and `rest_of` the rest of the buffer.
 #[derive(Debug, Drop)]
 pub struct Writer<'b> {
     out: &'b mut [u8],
@@ -47,7 +47,7 @@ impl<'b> Writer<'b> {
     /// Writes an unsigned integer (RFC 4506, section 4.2).
     ///
     /// # Errors
-    /// `NoRoom` if fewer than 4 bytes of the buffer are left. Nothing is written.
+    /// `NoRoom` if fewer than 4 bytes of the buffer are left. Nothing is written then.
     pub fn u32(&mut self, number: u32) -> Result<(), XdrFault>
         ensures same_buffer { self.new.out.ghost_name ≡ self.old.out.ghost_name }
         ensures spelled { OnOk result (AppendsField (Unsigned number) self.old self.new) }
@@ -61,7 +61,7 @@ impl<'b> Writer<'b> {
     /// Writes a signed integer (RFC 4506, section 4.1).
     ///
     /// # Errors
-    /// `NoRoom` if fewer than 4 bytes of the buffer are left. Nothing is written.
+    /// `NoRoom` if fewer than 4 bytes of the buffer are left. Nothing is written then.
     pub fn i32(&mut self, integer: i32) -> Result<(), XdrFault>
         ensures same_buffer { self.new.out.ghost_name ≡ self.old.out.ghost_name }
         ensures spelled { OnOk result (AppendsField (Signed integer) self.old self.new) }
@@ -73,7 +73,7 @@ impl<'b> Writer<'b> {
     /// Writes a boolean (RFC 4506, section 4.4).
     ///
     /// # Errors
-    /// `NoRoom` if fewer than 4 bytes of the buffer are left. Nothing is written.
+    /// `NoRoom` if fewer than 4 bytes of the buffer are left. Nothing is written then.
     pub fn boolean(&mut self, value: bool) -> Result<(), XdrFault>
         ensures same_buffer { self.new.out.ghost_name ≡ self.old.out.ghost_name }
         ensures spelled { OnOk result (AppendsField (Boolean value) self.old self.new) }
@@ -86,8 +86,8 @@ impl<'b> Writer<'b> {
     ///
     /// # Errors
     /// The first that applies: `TooLong` if the data are longer than the 4,294,967,295 bytes that a
-    /// length field can express; `NoRoom` if length, data and padding don't all fit. Nothing is
-    /// written.
+    /// length field can express; `NoRoom` if length, data and padding don't all fit. In both cases
+    /// nothing is written.
     pub fn opaque(&mut self, text: &[u8]) -> Result<(), XdrFault>
         ensures same_buffer { self.new.out.ghost_name ≡ self.old.out.ghost_name }
         ensures spelled { OnOk result (AppendsField (Opaque text.now) self.old self.new) }
@@ -109,7 +109,7 @@ impl<'b> Writer<'b> {
         Ok(())
     }
 
-    /// Writes these bytes, if they fit into the rest of the buffer.
+    /// Writes `bytes` if they all fit into the rest of the buffer; writes nothing if they don't.
     fn bytes(&mut self, bytes: &[u8]) -> Result<(), XdrFault>
         ensures same_buffer { self.new.out.ghost_name ≡ self.old.out.ghost_name }
         ensures exact { Writes bytes.now result self.old self.new }
