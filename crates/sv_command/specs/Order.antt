@@ -29,7 +29,7 @@ abbrev pub channels_in : Option Parameter → Result (Option (List ℕ)) Code
 channels_in None = Ok None
 channels_in (Some parameter) = then_value Some (read_channels parameter.kind parameter.text)
 
--- the channel of a list that has to have exactly one; -223 if the list has more channels
+-- the channel of a channel list that has to have exactly one channel; -223 if the list has more channels
 abbrev pub only_channel : Result (List ℕ) Code → Result ℕ Code
 only_channel (Ok []) = Err InvalidExpression
 only_channel (Ok (channel ∷ [])) = Ok channel

@@ -1,5 +1,5 @@
--- What an order, which is a unit that was read, does (IEEE 488.2, chapter 10; SCPI-1999, volume 2). First come the acts of the order; then
--- the unit is done; then its answer is added. An order that can't be performed in the present state only reports an error.
+-- The acts that an order adds to the log (IEEE 488.2, chapter 10; SCPI-1999, volume 2): first those of its effect; then the end of its unit;
+-- then its answer, if it has one. An order that can't be performed in the present state reports an error and has no other effect.
 use Rattle.std.specs.Prelude.{◌≡◌, ℕ, List, ◌∷◌, Option, Some, None, pos, if◌then◌else◌}
 use Rattle.sv_errors.specs.declared.code.Code.{Code}
 use Rattle.sv_errors.specs.declared.code.Code.TheVariants.{QueryDeadlocked, DataCorruptOrStale}
@@ -24,7 +24,8 @@ use Rattle.sv_instrument.specs.QueryResponse.{Says}
 abbrev pub done : List Act → List Act
 done log = Exchanged UnitDone ∷ log
 
--- An answer is added to the answers of the message. If it doesn't fit, all answers of the message are dropped and -430 is reported.
+-- the log after an answer is added to the answers of the message; or, if the answer doesn't fit, after all answers of the message are
+-- dropped and -430 is reported
 abbrev pub after_answering : List ℕ → List Act → List Act
 after_answering text log =
     if fits_response (answers (exchange_acts log)) text then Exchanged (Answered text) ∷ log

@@ -26,7 +26,7 @@ ending_row common query (Some command) = row common query [] command ∷ []
 abbrev pub ending_rows : Bool → Branch → List Row
 ending_rows common branch = ending_row common false branch.plain ++ ending_row common true branch.query
 
--- the table's row with the node `part` added in front of the nodes of its header
+-- a row of the table, with the node `part` added in front of its other nodes
 abbrev pub below : Part → Row → Row
 below part row = record row { parts = part ∷ row.parts }
 
