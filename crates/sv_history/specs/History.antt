@@ -100,8 +100,8 @@ last_clock = 9223372036854775807
 abbrev pub turn_refusal : List ConnAct → Option Refused
 turn_refusal acts = if is_idle acts then None else (if nat_lt (free acts) longest_reply then Some NoRoom else None)
 
--- why a Refuse event of an open connection is itself refused: the next call is none that the server can answer with error 9; or there is no
--- room for the longest reply
+-- why a Refuse event of an open connection is itself refused: the connection has no next call that the server can answer with error 9; or
+-- there is no room for the longest reply
 abbrev pub refuse_refusal : List ConnAct → Option Refused
 refuse_refusal acts =
     if is_none (refusable acts) then Some NotRefusable else (if nat_lt (free acts) longest_reply then Some NoRoom else None)

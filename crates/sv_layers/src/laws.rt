@@ -27,8 +27,8 @@ pub fn same_waiting()
     ensures { SameWaiting }
 {}
 
-/// The event operation complete occurs at an act exactly if, by the log, an `*OPC` completes at
-/// this act (IEEE 488.2, 12.5.2).
+/// The event operation complete occurs at an act exactly if an `*OPC` completes at this act by the
+/// rules of IEEE 488.2, 12.5.2, given the log up to this act.
 pub fn same_completion()
     ensures { SameCompletion }
 {}
