@@ -18,7 +18,7 @@ use Rattle.sv_serve.specs.Heard.{IsWithin}
 use Rattle.sv_serve.specs.DriverView.{DriverState, DriverView, driver_view}
 use Rattle.sv_serve.specs.Asked.{Wants, Waits}
 
--- The driver takes this step, if `IsSo` holds of the moment at which it begins.
+-- The driver takes this step, if `IsSo` holds of the driver's state when the step begins.
 abbrev pub From : {W : Type 0} → (Config → DriverView W → Type 0) → (Config → DriverView W → DriverView W → Type 0) → DriverState W
     → DriverState W → Type 0
 From IsSo step old new = (config : Config) (history : List PlainEvent) → StandsFor old.server config history

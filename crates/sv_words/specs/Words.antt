@@ -64,6 +64,6 @@ abbrev pub Finds : {A : Type 0} → (A → Type 0) → Option A → Type 0
 Finds P (Some found) = P found
 Finds {A} P None = (other : A) → P other → ⊥
 
--- The fault for this kind of error of clap: that memory was refused, if that is the kind; else that the words are bad.
+-- The program's fault for an error of clap: memory was refused, if clap's error is of the kind `OutOfMemory`; else the words are bad.
 abbrev pub IsUsageFault : ErrorKind → ProgramFault → Type 0
 IsUsageFault kind fault = ((kind ≡ OutOfMemory) × (fault ≡ Run Memory)) ⊎ ((kind ≡ OutOfMemory → ⊥) × (fault ≡ BadWords))
