@@ -106,7 +106,7 @@ abbrev pub refuse_refusal : List ConnAct → Option Refused
 refuse_refusal acts =
     if is_none (refusable acts) then Some NotRefusable else (if nat_lt (free acts) longest_reply then Some NoRoom else None)
 
--- why a Took event is refused: its number of bytes that the peer took is more than wait to be sent
+-- why a Took event is refused: it says that the peer took more bytes than wait to be sent
 abbrev pub took_refusal : ℕ → List ℕ → Option Refused
 took_refusal count bytes = if nat_lt (length bytes) count then Some NotSent else None
 

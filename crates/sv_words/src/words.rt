@@ -16,7 +16,7 @@ use sv_replay::RunFault;
 /// What the words tell the program to do.
 #[derive(Clone, Copy, Debug, PartialEq, Eq)]
 pub enum Words<'a> {
-    /// Replay the standard input.
+    /// Replay the script that comes on the standard input.
     Replay,
     /// Run a server.
     Server(Serve<'a>),
