@@ -19,7 +19,7 @@ pub record Parameter : Type 0 where
   pub kind : Kind
   pub text : List ℕ
 
--- the result with `make` applied to its value; an error stays the same
+-- if the given result is a value, `make` applied to this value; if it is an error, the same error
 abbrev pub then_value : {A B : Type 0} → (A → B) → Result A Code → Result B Code
 then_value make (Ok value) = Ok (make value)
 then_value make (Err code) = Err code

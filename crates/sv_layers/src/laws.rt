@@ -61,7 +61,7 @@ pub fn same_requests()
     ensures { SameRequests }
 {}
 
-/// An act raises a request for service exactly if it does so by the rules of IEEE 488.2, 11.3,
+/// An act raises a request for service exactly if it raises one by the rules of IEEE 488.2, 11.3,
 /// given the log up to this act.
 pub fn same_raising()
     ensures { SameRaising }
