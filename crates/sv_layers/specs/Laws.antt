@@ -74,8 +74,8 @@ SameRequests = (log : List Act) (status_log : List StatusAct) → IsStatus log s
 abbrev pub SameRaising : Type 0
 SameRaising = (log : List Act) → RaisedAt log ↔ IsRaised log
 
--- The bits of the status byte that a poll returns are the same according to the status byte's own acts and to the instrument's log. The same
--- holds for the bits that `*STB?` returns.
+-- The bits of the status byte that a poll returns are the same according to the status byte's own acts and to the instrument's log. The
+-- same holds for the bits that `*STB?` returns.
 abbrev pub SameStatus : Type 0
 SameStatus = (log : List Act) (status_log : List StatusAct) → IsStatus log status_log → (k : ℕ)
     → (status.StatusBit k status_log ↔ PolledBit k log) × (status.MasterBit k status_log ↔ MasterBit k log)
