@@ -93,7 +93,7 @@ link_call polled c lid (DeviceEnableSrq enable handle) acts =
 link_call polled c lid DestroyLink acts = answer_with (Linked (Destroyed lid) ∷ []) (Plain NoError)
 link_call polled c lid call acts = only (failure (OnLink (pos lid) call) NotSupported)
 
--- What any call of the core channel does. No link has a negative number. The error 8 of create_intr_chan is never sent from here:
+-- What any call of the core channel does. No link has a negative number. The error 8 that a create_intr_chan gets here is never sent:
 -- `Admission` always stops such a call first, and its outcome is `connect_outcome` (in `Interrupts`).
 abbrev pub own_call : Config → ℕ → ℕ → Arguments → List DeviceAct → CallOutcome
 own_call config polled c (CreateLink client_id lock_device lock_timeout device) acts = make_link config c lock_device acts

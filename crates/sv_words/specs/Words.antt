@@ -13,7 +13,7 @@ use Rattle.sv_words.specs.declared.words.Serve.{Serve}
 use Rattle.sv_words.specs.declared.words.Words.{Words}
 use Rattle.sv_words.specs.declared.words.Words.TheVariants.{Replay, Server}
 
--- The text is 1 to 10 decimal digits, and their value is a number from 1 to `most`.
+-- The text is 1 to 10 decimal digits, and their value `n` is from 1 to `most`.
 abbrev pub IsCount : ℕ → Text → ℕ → Type 0
 IsCount most digits n = IsNumeral 10 digits × (length digits ≤ 10) × (n ≡ digits_value 10 digits) × (1 ≤ n) × (n ≤ most)
 
