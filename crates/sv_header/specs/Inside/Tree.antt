@@ -41,7 +41,7 @@ rows_of (suc fuel) common (branch ∷ behind) =
 abbrev pub tree_rows : Bool → List Branch → List Row
 tree_rows common branches = rows_of (length branches) common branches
 
--- rows of the table: for `true` those of the common commands, for `false` those of all other commands
+-- for `true` the table's rows of the common commands; for `false` its rows of all other commands
 abbrev pub rows_with : Bool → List Row
 rows_with true = common_commands
 rows_with false = other_commands
