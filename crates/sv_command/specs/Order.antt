@@ -19,7 +19,7 @@ pub record Parameter : Type 0 where
   pub kind : Kind
   pub text : List ℕ
 
--- the result with `make` applied to its value; an error stays the same
+-- if the given result is a value, `make` applied to this value; if it is an error, the same error
 abbrev pub then_value : {A B : Type 0} → (A → B) → Result A Code → Result B Code
 then_value make (Ok value) = Ok (make value)
 then_value make (Err code) = Err code
@@ -29,7 +29,7 @@ abbrev pub channels_in : Option Parameter → Result (Option (List ℕ)) Code
 channels_in None = Ok None
 channels_in (Some parameter) = then_value Some (read_channels parameter.kind parameter.text)
 
--- the channel of a list that has to have exactly one; -223 if the list has more channels
+-- the channel of a channel list that has to have exactly one channel; -223 if the list has more channels
 abbrev pub only_channel : Result (List ℕ) Code → Result ℕ Code
 only_channel (Ok []) = Err InvalidExpression
 only_channel (Ok (channel ∷ [])) = Ok channel

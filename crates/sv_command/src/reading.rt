@@ -17,10 +17,10 @@ use sv_lexer::Unit;
 ///
 /// # Errors
 /// The first of these that applies: the error in `lexed`; [`Code::UndefinedHeader`] if the header
-/// names no command; [`Code::InvalidExpression`], then [`Code::SyntaxError`], if the syntax of the
-/// parameters is wrong; [`Code::ParameterNotAllowed`] if there are too many;
-/// [`Code::MissingParameter`]; the error of the parameter's value. For a range, any voltage is
-/// accepted here: the scanner checks later whether it has this range.
+/// names no command; [`Code::InvalidExpression`] if a parenthesis isn't closed;
+/// [`Code::SyntaxError`] if a parameter is empty; [`Code::ParameterNotAllowed`] if there are too
+/// many parameters; [`Code::MissingParameter`]; the error of the parameter's value. For a range,
+/// any voltage is accepted here: the scanner checks later whether it has this range.
 pub fn read_unit<A: Allocator>(
     table: &Table<A>,
     path: &mut Path,

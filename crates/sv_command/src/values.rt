@@ -63,7 +63,8 @@ pub(crate) fn monitor(token: &Token<'_>) -> Result<u8, Code>
     }
 }
 
-/// Returns the channel of a list that has to have exactly one; -223 if the list has more channels.
+/// Returns the channel of a list that has to have exactly one channel; -223 if the list has more
+/// channels.
 fn only(channels: &[u8]) -> Result<u8, Code>
     ensures { result ≡ only_channel (Ok channels.now) }
 {

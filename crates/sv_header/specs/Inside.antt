@@ -1,3 +1,3 @@
--- Only the proofs of this crate need these definitions.
+-- Only the proofs of this crate need the definitions in these modules.
 pub mod Tree
 pub mod Walk

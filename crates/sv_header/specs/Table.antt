@@ -1,4 +1,4 @@
--- The table of commands: for each the pattern of its header, and what the command does, asks for or sets.
+-- The table of commands. A row has the pattern of a command's header, and says what the command does, asks for or sets.
 use Rattle.std.specs.Prelude.{true, false, List, [], ◌∷◌, ◌++◌}
 use Prim.Native.String.{String}
 use Rattle.sv_status.specs.declared.register_name.RegisterName.{RegisterName}

@@ -32,8 +32,8 @@ impl Branch {
         if query { self.query } else { self.plain }
     }
 
-    /// Returns the command of a header that ends at this node; `None` if mnemonics remain, or if no
-    /// command ends here.
+    /// Returns the command of a header that ends at this node; `None` if mnemonics of the header
+    /// remain in `left`, or if no command has a header that ends here.
     pub(crate) fn ending(&self, left: &Mnemonics<'_>, query: bool) -> Option<CommandId>
         ensures { IsFound result
             (λ command. Ends (left_of left.now) (command_of query self.now) command) }

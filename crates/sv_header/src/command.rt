@@ -44,7 +44,7 @@ pub enum Action {
     Read,
 }
 
-/// What a query returns whose answer never has to wait.
+/// What is returned by a query whose answer never has to wait.
 #[derive(Clone, Copy, Debug, PartialEq, Eq)]
 pub enum Question {
     /// `*IDN?`: the identification of the instrument.
@@ -67,7 +67,7 @@ pub enum Question {
     Condition(RegisterName),
     /// `FETCh?`: the readings of the last measurement.
     Readings,
-    /// The query of a setting: its value.
+    /// The value of this setting, which the query of the setting returns.
     Value(SettingName),
 }
 

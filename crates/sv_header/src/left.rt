@@ -12,9 +12,9 @@ use sv_text::first_part;
 pub(crate) struct Mnemonics<'a> {
     /// The mnemonic that is looked up next; `None` if none remains.
     pub(crate) first: Option<&'a [u8]>,
-    /// The remaining mnemonics of the path, which come after the first one.
+    /// The mnemonics of the path that are looked up after `first`.
     pub(crate) kept: &'a [Mnemonic],
-    /// The text with the mnemonics after those of the path; `None` if there are no more mnemonics.
+    /// The part of the header whose mnemonics are looked up after `kept`; `None` if there are none.
     pub(crate) sent: Option<&'a [u8]>,
 }
 

@@ -1,4 +1,4 @@
-//! The nodes of the table.
+//! The nodes of which the patterns of headers consist, as constants.
 
 use crate::pattern::Node;
 

@@ -101,7 +101,7 @@ impl Path {
         }
     }
 
-    /// Appends all mnemonics of `body` but the last to the path.
+    /// Appends the mnemonics of `body` to the path, except the last one.
     fn walk(&mut self, body: &[u8])
         requires few { length self.old + length (cut_at 58 body.now) ≤ 5 }
         requires short { list_all is_short (cut_at 58 body.now) ≡ true }

@@ -14,12 +14,12 @@ pub(crate) struct Node {
     pub(crate) short: &'static [u8],
     /// The long form.
     pub(crate) long: &'static [u8],
-    /// Whether the mnemonic may be left out.
+    /// Whether a header can omit this mnemonic.
     pub(crate) optional: bool,
 }
 
 impl Node {
-    /// Whether a mnemonic is the short or the long form, in upper or lower case.
+    /// Whether a mnemonic is the short or the long form of this node, in upper or lower case.
     fn takes(&self, mnemonic: &[u8]) -> bool
         ensures { IsTrue result ↔ IsForm mnemonic.now (part self.now) }
     {

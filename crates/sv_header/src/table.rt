@@ -21,8 +21,8 @@ macro_rules! group {
     };
 }
 
-/// A node with the number of nodes below it, and the commands of the headers that end at it:
-/// without and with the question mark.
+/// A node, given the number of nodes below it and the commands of the two headers that end at it:
+/// first of the header without a question mark, then of the header with one.
 macro_rules! ending {
     ($node:ident, $below:literal, $plain:expr, $query:expr) => {
         Branch {

@@ -11,7 +11,7 @@ abbrev pub owner_of : Option ℕ → List DeviceAct → Option ℕ
 owner_of (Some lid) acts = owner lid (link_acts acts)
 owner_of None acts = None
 
--- the connection whose suspended call device_abort ends: this connection, if it has a suspended call on this link; else `None`
+-- the connection whose suspended call device_abort ends: connection `c`, if it has a suspended call on link `lid`; else `None`
 abbrev pub if_waiting : Option ℕ → Option ℕ → List DeviceAct → Option ℕ
 if_waiting (Some c) (Some lid) acts =
     if is_some (waits c (wait_acts acts)) && is_this lid (link c (wait_acts acts)) then Some c else None

@@ -8,8 +8,8 @@ use Rattle.sv_exchange.specs.Exchange.{ExchangeAct}
 use Rattle.sv_layers.specs.Act.{Act as InstrumentAct, exchange_acts as exchanged}
 use Rattle.sv_history.specs.declared.event.Role.{Role}
 
--- an act of one connection: it opened; a piece of bytes came; a call was taken; the record that was taken isn't a call; a reply was sent;
--- the peer took bytes of replies; it closed
+-- an act of one connection: the connection opened; a piece of bytes came; a call was taken; the record that was taken isn't a call; a reply
+-- was sent; the peer took bytes of replies; the connection closed
 pub data ConnAct : Type 0 where
   Opened : (role : Role) → ConnAct
   Piece : (bytes : List ℕ) → ConnAct

@@ -80,7 +80,7 @@ stop_of c DestroyIntrChan acts = None
 abbrev pub deadline : Config → Option ℕ → List DeviceAct → Option ℕ
 deadline config timeout acts = option_map (λ milliseconds. config.clock + ticks acts + milliseconds) timeout
 
--- The outcome of a call: if nothing stops it, that of executing it; else it fails, or is suspended.
+-- The outcome of a call: if nothing stops the call, the outcome of executing it; else the call fails or is suspended.
 abbrev pub admission : Config → ℕ → ℕ → Arguments → Option Stop → List DeviceAct → CallOutcome
 admission config polled c arguments None acts = own_call config polled c arguments acts
 admission config polled c arguments (Some (Fails error)) acts = only (failure arguments error)

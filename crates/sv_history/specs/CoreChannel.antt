@@ -67,8 +67,8 @@ read_of bytes most term =
 abbrev pub reads : List ℕ → ℕ → Option ℕ → CallOutcome
 reads bytes most term = answer_with (Applied (Exchanged (ResponseRead (read_count bytes most term))) ∷ []) (read_of bytes most term)
 
--- device_read: returns bytes of the response, if there is a response; else error 15. If there is none and none can come any more, the
--- unfinished text is also dropped, and -420 is reported.
+-- device_read: returns bytes of the response, if there is a response; else error 15. If there is no response and none can come without
+-- another write, the text of the unfinished message is also dropped, and -420 is reported.
 abbrev pub device_read : ℕ → Option ℕ → List DeviceAct → CallOutcome
 device_read most term acts =
     if is_something (response (exchange_acts acts)) then reads (response (exchange_acts acts)) most term
@@ -93,7 +93,7 @@ link_call polled c lid (DeviceEnableSrq enable handle) acts =
 link_call polled c lid DestroyLink acts = answer_with (Linked (Destroyed lid) ∷ []) (Plain NoError)
 link_call polled c lid call acts = only (failure (OnLink (pos lid) call) NotSupported)
 
--- What any call of the core channel does. No link has a negative number. The error 8 of create_intr_chan is never sent from here:
+-- What any call of the core channel does. No link has a negative number. The error 8 that a create_intr_chan gets here is never sent:
 -- `Admission` always stops such a call first, and its outcome is `connect_outcome` (in `Interrupts`).
 abbrev pub own_call : Config → ℕ → ℕ → Arguments → List DeviceAct → CallOutcome
 own_call config polled c (CreateLink client_id lock_device lock_timeout device) acts = make_link config c lock_device acts

@@ -100,13 +100,13 @@ last_clock = 9223372036854775807
 abbrev pub turn_refusal : List ConnAct → Option Refused
 turn_refusal acts = if is_idle acts then None else (if nat_lt (free acts) longest_reply then Some NoRoom else None)
 
--- why a Refuse event of an open connection is itself refused: the next call is none that the server can answer with error 9; or there is no
--- room for the longest reply
+-- why a Refuse event of an open connection is itself refused: the connection has no next call that the server can answer with error 9; or
+-- there is no room for the longest reply
 abbrev pub refuse_refusal : List ConnAct → Option Refused
 refuse_refusal acts =
     if is_none (refusable acts) then Some NotRefusable else (if nat_lt (free acts) longest_reply then Some NoRoom else None)
 
--- why a Took event is refused: its number of bytes that the peer took is more than wait to be sent
+-- why a Took event is refused: it says that the peer took more bytes than wait to be sent
 abbrev pub took_refusal : ℕ → List ℕ → Option Refused
 took_refusal count bytes = if nat_lt (length bytes) count then Some NotSent else None
 

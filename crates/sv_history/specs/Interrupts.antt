@@ -56,7 +56,8 @@ dial_in None = None
 abbrev pub dial_of : ℕ → List Act → Option Dial
 dial_of c log = if is_dialing c (wait_acts (device_acts log)) then dial_in (core_call_in (pending_call (of c log))) else None
 
--- the outcome of a suspended create_intr_chan: if its peer was connected, the channel opens; if it couldn't be, the call gets error 6
+-- the outcome of a suspended create_intr_chan: if its peer was connected, the channel opens; if the peer couldn't be connected, the call
+-- gets error 6
 abbrev pub connect_outcome : ℕ → Bool → Arguments → CallOutcome
 connect_outcome c true (CreateIntrChan host_addr host_port prog_num prog_vers prog_family) =
     answer_with (Channel (ChannelOpened c (record { prog = prog_num; vers = prog_vers })) ∷ []) (Plain NoError)

@@ -11,7 +11,7 @@ use Rattle.sv_history.specs.Event.{PlainEvent, Took}
 use Rattle.sv_history.specs.Act.{Act}
 use Rattle.sv_history.specs.Connection.{waiting_on}
 
--- the number of a refusal
+-- the number that a replay prints for a refusal
 abbrev pub refusal_number : Refused → ℕ
 refusal_number NoMemory = 1
 refusal_number ConnInUse = 2

@@ -15,8 +15,8 @@ use Rattle.sv_history.specs.Act.{ConnAct}
 use Rattle.sv_history.specs.Connection.{next_call, open_role}
 use Rattle.sv_history.specs.CoreCall.{CoreCall}
 
--- what a record requests: nothing, since it isn't a call; this reply, which follows from the call's header or from arguments that can't be
--- read; a call of the core channel; device_abort; or GETPORT
+-- what a record requests: nothing, since the record isn't a call; a reply that the call's header, or arguments that can't be read, already
+-- decide; a call of the core channel; device_abort; or GETPORT
 pub data Request : Type 0 where
   NoCall : Request
   Decided : (xid : ℕ) (reply : Reply) → Request

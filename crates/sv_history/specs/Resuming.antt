@@ -1,4 +1,4 @@
--- How a suspended call goes on: it resumes; its peer was connected or couldn't be; or it ends with an error.
+-- How a suspended call goes on: it resumes; it ends because its peer was connected or couldn't be connected; or it ends with an error.
 use Rattle.std.specs.Prelude.{ℕ, Bool, List, [], ◌∷◌, ◌++◌, Option, Some, None}
 use Rattle.sv_vxi.specs.declared.error_code.ErrorCode.{ErrorCode}
 use Rattle.sv_vxi.specs.declared.error_code.ErrorCode.TheVariants.{IoTimeout}
@@ -45,7 +45,7 @@ resume_effect config polled c wait call acts =
 abbrev pub failure_effect : ErrorCode → ℕ → Option CoreCall → Effect
 failure_effect error c call = effect_of c (λ arguments. leaving c (only (failure arguments error))) call
 
--- the effect of a create_intr_chan after its peer was connected, or couldn't be
+-- the effect of a suspended create_intr_chan after its peer was connected or couldn't be connected; `ok` says which
 abbrev pub connect_effect : ℕ → Bool → Option CoreCall → Effect
 connect_effect c ok call = effect_of c (λ arguments. leaving c (connect_outcome c ok arguments)) call
 

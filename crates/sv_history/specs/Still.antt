@@ -1,4 +1,4 @@
--- When the mere passing of time makes nothing due.
+-- When nothing becomes due by the passing of time alone.
 use Rattle.std.specs.Prelude.{◌≡◌, ℕ, ◌+◌, false, List}
 use Rattle.sv_links.specs.Waiting.{IsExpired}
 use Rattle.sv_scan.specs.Counted.{is_scanning}

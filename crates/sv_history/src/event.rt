@@ -93,9 +93,9 @@ pub enum Did {
 /// The configuration of a server.
 #[derive(Clone, Copy, Debug, PartialEq, Eq)]
 pub struct Config {
-    /// The port of the core channel.
+    /// The TCP port of the core channel.
     pub core: u16,
-    /// The port of the abort channel.
+    /// The TCP port of the abort channel.
     pub abort: u16,
     /// What the clock shows when the server starts, in milliseconds, at most
     /// 9,223,372,036,854,775,807.
@@ -107,7 +107,7 @@ pub struct Config {
 pub struct Dial {
     /// The IPv4 address as a number, with its first byte as the most significant one.
     pub addr: u32,
-    /// The port.
+    /// The TCP port.
     pub port: u16,
 }
 
@@ -134,7 +134,8 @@ pub enum Refused {
     /// No create_intr_chan of the connection is suspended.
     #[error("nothing is being dialed")]
     NoDial = 6,
-    /// The next call can't be refused.
+    /// The connection has no next call that can be refused: only a create_link or a
+    /// create_intr_chan can.
     #[error("the next call can't be refused")]
     NotRefusable = 7,
     /// The instrument has no channel of this number.

@@ -1,5 +1,5 @@
--- What an order, which is a unit that was read, does (IEEE 488.2, chapter 10; SCPI-1999, volume 2). First come the acts of the order; then
--- the unit is done; then its answer is added. An order that can't be performed in the present state only reports an error.
+-- The acts that an order adds to the log (IEEE 488.2, chapter 10; SCPI-1999, volume 2): first those of its effect; then the end of its
+-- unit; then its answer, if it has one. An order that can't be performed in the present state reports an error and has no other effect.
 use Rattle.std.specs.Prelude.{◌≡◌, ℕ, List, ◌∷◌, Option, Some, None, pos, if◌then◌else◌}
 use Rattle.sv_errors.specs.declared.code.Code.{Code}
 use Rattle.sv_errors.specs.declared.code.Code.TheVariants.{QueryDeadlocked, DataCorruptOrStale}
@@ -24,7 +24,8 @@ use Rattle.sv_instrument.specs.QueryResponse.{Says}
 abbrev pub done : List Act → List Act
 done log = Exchanged UnitDone ∷ log
 
--- An answer is added to the answers of the message. If it doesn't fit, all answers of the message are dropped and -430 is reported.
+-- the log after an answer is added to the answers of the message; or, if the answer doesn't fit, after all answers of the message are
+-- dropped and -430 is reported
 abbrev pub after_answering : List ℕ → List Act → List Act
 after_answering text log =
     if fits_response (answers (exchange_acts log)) text then Exchanged (Answered text) ∷ log
@@ -60,8 +61,8 @@ abbrev pub question_fault : Question → List Act → Option Code
 question_fault question.Readings log = if is_complete (effective_acts log) then None else Some DataCorruptOrStale
 question_fault asked log = None
 
--- A query has an error, and only reports it. Or the query is answered; if it removes an entry of the error queue or clears a register, it
--- does so before its answer is added.
+-- The query can't be answered (`Some`): its error is reported, and the unit is done without an answer. Or the query is answered (`None`):
+-- if it removes an entry of the error queue or clears a register, this happens before its answer is added.
 abbrev pub Replies : Option Code → Question → List Act → List Act → Type 0
 Replies (Some code) asked log new = new ≡ done (Reported code ∷ log)
 Replies None asked log new = (text : List ℕ) × Says asked log text × (new ≡ after_answering text (done (after_query asked log)))

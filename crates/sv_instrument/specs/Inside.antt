@@ -1,2 +1,2 @@
--- Only the proofs of this crate need these definitions.
+-- Only the proofs of this crate need the definitions in this module.
 pub mod Acted

@@ -9,7 +9,7 @@ use Rattle.sv_layers.specs.declared.change.Awaited.{Awaited}
 use Rattle.sv_layers.specs.Act.{Act, exchange_acts}
 use Rattle.sv_instrument.specs.HeldUnit.{held_unit}
 
--- These units, given with the last one first, result in this path.
+-- Reading these units, which are listed with the last one first, results in this path.
 abbrev pub Leaves : List (List ℕ) → List (List ℕ) → Type 0
 Leaves [] path = path ≡ []
 Leaves (unit ∷ before) path =
@@ -24,6 +24,6 @@ one_if_held (Some awaited) = 1
 abbrev pub units_begun : List Act → ℕ
 units_begun log = units_done (current (exchange_acts log)) + one_if_held (held_unit log)
 
--- The units of the current message that began result in this path.
+-- Reading those units of the current message that have begun results in this path.
 abbrev pub IsPath : List Act → List (List ℕ) → Type 0
 IsPath log path = Leaves (reverse (take (units_begun log) (units (message (exchange_acts log))))) path

@@ -30,13 +30,13 @@ pub record IsWord (Bit : ℕ → Type 0) (text : List ℕ) : Type 0 where
   pub text_is : text ≡ decimal word
   pub bits : (k : ℕ) → (bit_at word k ≡ 1) ↔ Bit k
 
--- a reading: a voltage, or an overload
+-- the text of a reading: a voltage, or an overload
 abbrev pub reading_text : Reading → List ℕ
 reading_text (Value microvolts) = voltage_text microvolts
 reading_text Over = overload_text false
 reading_text Under = overload_text true
 
--- readings, separated by commas
+-- the text of readings, separated by commas
 abbrev pub readings_text : List Reading → List ℕ
 readings_text given = join_by reading_text (codes ",") given
 

@@ -45,8 +45,8 @@ waits Waiting = 1
 waits Idle = 0
 waits Scanning = 0
 
--- a number that measures how many steps of the instrument remain. Each step and each immediate trigger makes it smaller. So a loop ends if
--- it takes steps until none is due.
+-- a number that measures how many steps of the instrument remain. Each step and each immediate trigger makes this number smaller. So a loop
+-- that takes all steps that are due comes to an end.
 abbrev pub instrument_measure : Kept → ℕ
 instrument_measure kept = 2 * (2 * exchange_measure kept.layers.exchange + one_if_unheld kept.held)
     + waits (state_by kept.layers)

@@ -11,7 +11,8 @@ use Rattle.sv_scan.specs.Scan.{state}
 use Rattle.sv_layers.specs.Act.{Act, Scanned, Reported}
 use Rattle.sv_layers.specs.Condition.{effective_acts}
 
--- the act of a trigger from the controller; if the scanner ignores the trigger, the act that reports this error
+-- the act of a trigger from the controller: the scanner is triggered; or, if the scanner ignores the trigger (`Some`), the error `code` is
+-- reported
 abbrev pub or_reported : Option Code → Act
 or_reported None = Scanned (Trigger Bus)
 or_reported (Some code) = Reported code

@@ -54,8 +54,8 @@ fn refused<A: Allocator>(layers: &Layers<A>, question: Question) -> Option<Code>
     }
 }
 
-/// Does what a query does besides answering: removes an entry of the error queue, or clears an
-/// event register.
+/// Applies the effect that a query has besides its answer, if it has one: removes an entry of the
+/// error queue, or clears an event register.
 fn take<A: Allocator>(layers: &mut Layers<A>, question: Question)
     ensures counts { (start log : List Act) → Counts start layers.old log
         → Counts start layers.new (after_query question log) }

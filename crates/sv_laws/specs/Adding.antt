@@ -28,7 +28,7 @@ Sends port config history bytes = (log : List Act) × (channel_log : List Channe
     × HearsOf (device_acts log) channel_log
     × (bytes ≡ all_sent port channel_log log)
 
--- After a history, these events add these bytes to a port.
+-- The events `events`, which follow the history `past`, add the bytes `bytes` to all bytes that the history sends on a port.
 abbrev pub Adds : Port → Config → List PlainEvent → List PlainEvent → List ℕ → Type 0
 Adds port config past events bytes =
     (before : List ℕ) × Sends port config past before × Sends port config (events ++ past) (before ++ bytes)

@@ -75,8 +75,8 @@ pub record AreCut (c lid : ℕ) (x y : List ℕ) (ended : Bool) (config : Config
   pub writes_second : IsWritten lid y ended middle (without_pieces (of c cut))
 
 -- One history has a single write, where the other has it cut into two writes (`AreCut`). If the same events are added to both, and both are
--- still histories, these events add the same bytes to each port. The writes themselves add the same bytes to each port but the connection
--- on which they come.
+-- still histories, these events add the same bytes to each port. The writes themselves add the same bytes to each port, except to the
+-- connection on which they come.
 abbrev pub WritesCut : Type 0
 WritesCut = (c lid : ℕ) (x y : List ℕ) (ended : Bool) (config : Config) (past one two events : List PlainEvent) (log other : List Act)
     → AreCut c lid x y ended config past one two → IsLogOf config (events ++ (one ++ past)) log

@@ -78,8 +78,9 @@ pub record IsLocked (c lid : ℕ) (config : Config) (past events : List PlainEve
   pub rest : NoOtherWaits c (wait_acts (device_acts before))
   pub left_alone : EachIs (LeavesLinksAlone c) config past events
 
--- While a link of a connection holds the lock (`IsLocked`), the events of all other connections can be left out. The remaining events
--- continue the history too. They add the same bytes to the connection and to its interrupt channel as all events do.
+-- While a link of a connection holds the lock (`IsLocked`), the events of all other connections can be left out. The history goes on with
+-- the remaining events alone, none of which is refused. These add the same bytes to the connection and to its interrupt channel as all
+-- events do.
 abbrev pub Isolation : Type 0
 Isolation = (c lid : ℕ) (config : Config) (past events : List PlainEvent) → IsLocked c lid config past events
     → ((log : List Act) × IsLogOf config (own_events c events ++ past) log)

@@ -69,13 +69,13 @@ OneAccount = (log : List Act) → (status_log : List StatusAct) × IsStatus log 
 abbrev pub SameRequests : Type 0
 SameRequests = (log : List Act) (status_log : List StatusAct) → IsStatus log status_log → status.Request status_log ↔ Request log
 
--- According to the status byte's own acts, the newest act raises a request for service exactly if it does according to the instrument's
--- log.
+-- According to the status byte's own acts, the newest act raises a request for service exactly if it raises one according to the
+-- instrument's log.
 abbrev pub SameRaising : Type 0
 SameRaising = (log : List Act) → RaisedAt log ↔ IsRaised log
 
--- The bits of the status byte that a poll returns are the same according to the status byte's own acts and to the instrument's log. So are
--- the bits that `*STB?` returns.
+-- The bits of the status byte that a poll returns are the same according to the status byte's own acts and to the instrument's log. The
+-- same holds for the bits that `*STB?` returns.
 abbrev pub SameStatus : Type 0
 SameStatus = (log : List Act) (status_log : List StatusAct) → IsStatus log status_log → (k : ℕ)
     → (status.StatusBit k status_log ↔ PolledBit k log) × (status.MasterBit k status_log ↔ MasterBit k log)

@@ -27,8 +27,8 @@ pub fn same_waiting()
     ensures { SameWaiting }
 {}
 
-/// The event operation complete occurs at an act exactly if, by the log, an `*OPC` completes at
-/// this act (IEEE 488.2, 12.5.2).
+/// The event operation complete occurs at an act exactly if an `*OPC` completes at this act by the
+/// rules of IEEE 488.2, 12.5.2, given the log up to this act.
 pub fn same_completion()
     ensures { SameCompletion }
 {}
@@ -61,7 +61,7 @@ pub fn same_requests()
     ensures { SameRequests }
 {}
 
-/// An act raises a request for service exactly if it does so by the rules of IEEE 488.2, 11.3,
+/// An act raises a request for service exactly if it raises one by the rules of IEEE 488.2, 11.3,
 /// given the log up to this act.
 pub fn same_raising()
     ensures { SameRaising }

@@ -22,7 +22,7 @@ const QUESTIONABLE: u8 = 1 << 3;
 const ERRORS: u8 = 1 << 2;
 
 impl<A: Allocator> Layers<A> {
-    /// Returns the summary bits as they are now.
+    /// Returns the summary bits of the status byte, computed from the present state of the layers.
     fn summary(&self) -> u8
         ensures { (at : LayerLogs) (status_log : List StatusAct) → Represents self.now at status_log
             → IsSummary result at }

@@ -1,2 +1,2 @@
--- Only the contracts of private functions use these definitions.
+-- Only the contracts of private functions use the definitions in this module.
 pub mod Pausing

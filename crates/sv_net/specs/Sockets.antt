@@ -1,4 +1,4 @@
--- The sockets of a wire, a list in which each port has its number, and what each call of the wire's methods does to these sockets.
+-- The sockets of a wire, as a list in which each port has a fixed index; and what each call of a method of the wire does to these sockets.
 use Rattle.std.specs.Prelude.{◌≡◌, ℕ, ◌+◌, Bool, true, false, List, take, Option, Some, None, slice_set, slice_index_or}
 use Rattle.std.specs.Io.KnownBytes.{Keeps, Appends, Consumes}
 use Rattle.sv_history.specs.declared.event.Port.{Port}

@@ -146,19 +146,20 @@ impl<N: Network + Drop, A: Allocator, S: Stream> Net<N, A, S> {
         }
     }
 
-    /// Whether some accept is due at once: a connection may be waiting to be accepted, and the last
-    /// accept on its port didn't fail.
+    /// Whether an accept is due at once on at least one port: a connection may be waiting there to
+    /// be accepted, and the last accept on the port didn't fail.
     pub(crate) fn is_called(&self) -> bool {
         self.doors[0].is_waiting() | self.doors[1].is_waiting() | self.doors[2].is_waiting()
     }
 
-    /// Whether a connection may be waiting to be accepted on any port, even if the last accept
-    /// failed.
+    /// Whether a connection may be waiting to be accepted on at least one port. A failed accept
+    /// doesn't make this false.
     pub(crate) fn is_knocked(&self) -> bool {
         self.doors[0].is_knocked() | self.doors[1].is_knocked() | self.doors[2].is_knocked()
     }
 
-    /// Returns how many milliseconds to sleep at most before the next accept; at most 100.
+    /// Returns how many milliseconds the server may sleep before the next accept is due; at most
+    /// 100.
     pub(crate) fn patience(&self) -> u32
         ensures { result ≤ 100 }
     {

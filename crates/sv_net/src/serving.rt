@@ -18,7 +18,7 @@ use std::time::{Clock, Duration};
 use sv_pace::Pace;
 use sv_serve::Driver;
 
-/// The most polls without sleeping between two sweeps.
+/// How many polls without sleeping are allowed between two sweeps.
 const LOOKS: u32 = 1_000;
 
 /// Makes this number of sweeps. Between two sweeps, waits until the system reports something about

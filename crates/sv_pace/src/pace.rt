@@ -11,13 +11,13 @@ pub const STILL: u32 = 100;
 /// reported. If fewer sweeps remain, it makes a sweep at least every [`STILL`] milliseconds, so
 /// that the loop ends.
 pub const FEW: u32 = 1_000_000;
-/// The most milliseconds by which one sweep lets time pass, even if the sweep before is longer ago.
+/// How many milliseconds one sweep lets pass at most, even if the sweep before is longer ago.
 const MOST_TICKS: u64 = 1_000;
 /// For how many nanoseconds after a report the server may poll without sleeping.
 const WINDOW: u64 = 50_000;
-/// Nanoseconds of a millisecond.
+/// How many nanoseconds a millisecond has.
 const MILLISECOND: u64 = 1_000_000;
-/// The most sleeps between one run of polls and the next one.
+/// How many times the server sleeps at most between one run of polls and the next one.
 const MOST_SLEEPS: u32 = 1_024;
 
 /// What a loop of sweeps remembers: times, in nanoseconds since its beginning, and how its waits
@@ -97,7 +97,7 @@ impl Pace {
         whole.min(MOST_TICKS) as u32
     }
 
-    /// Records that something was reported now.
+    /// Records that something was reported about a socket at the time `now`.
     pub fn work(&mut self, now: u64)
         ensures { self.new ≡ record self.old { worked = now } }
     {

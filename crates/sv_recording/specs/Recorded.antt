@@ -30,12 +30,13 @@ pub record Recording (W : Type 0) : Type 0 where
 abbrev pub Keeps : {W : Type 0} → Recording W → Heard → Recording W → Type 0
 Keeps before heard after = after.is_whole ≡ true → (before.is_whole ≡ true) × (after.trace ≡ heard ∷ before.trace)
 
--- The method of the recorded wire was called, and returned this answer. The call is recorded, unless memory for some call was refused.
+-- The method of the recorded wire was called, and returned this answer. The call is recorded, unless memory for it or for an earlier call
+-- was refused.
 abbrev pub Passes : {W : Type 0} → (W → Heard → W → Type 0) → Recording W → Heard → Recording W → Type 0
 Passes hears before heard after = hears before.wire heard after.wire × Keeps before heard after
 
--- The recorder makes each call of its methods on the recorded wire too, and returns the wire's answer. If all calls could be recorded, the
--- recorder's trace now has these calls in front of those recorded before.
+-- When a method of the recorder is called, the recorder calls the same method of the recorded wire, and returns the wire's answer. If all
+-- calls could be recorded, the recorder's trace now has the new calls in front of those recorded before.
 abbrev pub TraceIsKept : {W : Type 0} → (W → Heard → W → Type 0) → (Recording W → Heard → Recording W → Type 0) → Type 0
 TraceIsKept hears recorded = (trace : List Heard) (start now : Recording _) → Through recorded trace start now
     → Through hears trace start.wire now.wire × (now.is_whole ≡ true → now.trace ≡ trace ++ start.trace)

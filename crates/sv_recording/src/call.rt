@@ -32,7 +32,8 @@ pub enum Call {
         bytes: Vec<u8>,
         answer: Answer<usize>,
     },
-    /// The answer to dialing a peer for the interrupt channel of a connection.
+    /// A dial: what the wire answered when it was told to dial this peer for the interrupt channel
+    /// of a connection.
     Dial {
         conn: u8,
         dial: Dial,

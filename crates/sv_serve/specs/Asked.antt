@@ -27,7 +27,7 @@ IsReady c config at answer = Answered (λ log. not (is_idle (of c log))) config 
 abbrev pub IsOverlong : {W : Type 0} → ℕ → Config → DriverView W → Bool → Type 0
 IsOverlong c config at answer = Answered (λ log. is_overlong (of c log)) config at.history answer
 
--- The answer says whether a connection is at fault, and can only be closed.
+-- The answer is whether connection `c` is at fault, so that it can only be closed.
 abbrev pub IsFaulted : {W : Type 0} → ℕ → Config → DriverView W → Bool → Type 0
 IsFaulted c config at answer = Answered (λ log. is_faulted (of c log)) config at.history answer
 

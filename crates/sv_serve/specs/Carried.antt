@@ -67,7 +67,7 @@ ends_port (Intr c) (PeerAnswered d Failed) = d == c
 ends_port (Intr c) (WasClosed (Conn d)) = d == c
 ends_port _ _ = false
 
--- If an answer of the wire ended a connection (`ends_port`), the next call of the wire closes the connection.
+-- If an answer of the wire ended a connection (`ends_port`), the next thing that the driver asks of the wire is to close this connection.
 abbrev pub ClosesAtOnce : Option Heard → List Heard → Type 0
 ClosesAtOnce next [] = ⊤
 ClosesAtOnce next (heard ∷ trace) = ((c : ℕ) → ends_port (Conn c) heard ≡ true

@@ -28,7 +28,7 @@ abbrev pub driver_view : {W : Type 0} → DriverState W → List PlainEvent → 
 driver_view driving history =
     record { wire = driving.wire; history = history; called = driving.called; ahead = driving.ahead; ticks = driving.ticks }
 
--- Nothing changes.
+-- the step that changes nothing
 abbrev pub Unchanged : {W : Type 0} → Config → DriverView W → DriverView W → Type 0
 Unchanged config before after = after ≡ before
 

@@ -28,7 +28,7 @@ abbrev pub IsWithin : Answer ℕ → ℕ → Type 0
 IsWithin (Got n) most = n ≤ most
 IsWithin answer most = ⊤
 
--- If the answer is bytes that were read, they are at most `most`.
+-- If the answer is the bytes that were read, there are at most `most` of them.
 abbrev pub IsPiece : Answer (List ℕ) → ℕ → Type 0
 IsPiece (Got bytes) most = length bytes ≤ most
 IsPiece answer most = ⊤

@@ -1,4 +1,4 @@
--- What the inner steps of a driver require of the moment at which each of them begins.
+-- What the inner steps of a driver require of the driver's state when they begin.
 use Rattle.std.specs.Prelude.{◌≡◌, ℕ, ◌<◌, Bool, true, List, length, Some, Result, Err}
 use Rattle.sv_links.specs.Channels.{ChannelAct}
 use Rattle.sv_history.specs.declared.event.Config.{Config}
@@ -18,7 +18,7 @@ use Rattle.sv_serve.specs.Heard.{IsWithin}
 use Rattle.sv_serve.specs.DriverView.{DriverState, DriverView, driver_view}
 use Rattle.sv_serve.specs.Asked.{Wants, Waits}
 
--- The driver takes this step, if `IsSo` holds of the moment at which it begins.
+-- The driver takes this step, if `IsSo` holds of the driver's state when the step begins.
 abbrev pub From : {W : Type 0} → (Config → DriverView W → Type 0) → (Config → DriverView W → DriverView W → Type 0) → DriverState W
     → DriverState W → Type 0
 From IsSo step old new = (config : Config) (history : List PlainEvent) → StandsFor old.server config history
@@ -35,7 +35,7 @@ IsSuited event config at = (log : List Act) × (channel_log : List ChannelAct) �
 abbrev pub IsAwaited : {W : Type 0} → ℕ → Config → DriverView W → Type 0
 IsAwaited c config at = (dial : Dial) × Wants c config at (Some dial)
 
--- Some bytes waited on a port, and the wire took at most as many of them.
+-- At least one byte waited to be sent on a port, and the wire took no more bytes than waited.
 abbrev pub Handed : {W : Type 0} → Port → Answer ℕ → Config → DriverView W → Type 0
 Handed port answer config at = (bytes : List ℕ) × Waits port config at bytes × (0 < length bytes) × IsWithin answer (length bytes)
 

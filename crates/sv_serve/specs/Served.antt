@@ -42,8 +42,8 @@ is_outer (Turn c) = false
 is_outer (Refuse c) = false
 is_outer event = not (is_timed event)
 
--- A sweep has a Turn of the connection. If memory for the call is refused, the sweep has a Refuse instead. It has neither only if there is
--- no call to take, or no room for the longest reply.
+-- A sweep has a Turn of the connection. If memory for the call is refused, the sweep has a Refuse instead. The sweep has neither a Turn nor
+-- a Refuse only if there is no call to take on the connection, or no room for the longest reply.
 abbrev pub Takes : Config → ℕ → List Act → List PlainEvent → Type 0
 Takes config c before turn = (turn ≡ Turn c ∷ []) ⊎ (((turn ≡ Refuse c ∷ []) × Answers config (Turn c) before (Err NoMemory))
     ⊎ ((turn ≡ []) × ((is_idle (of c before) ≡ true) ⊎ (free (of c before) < longest_reply))))

@@ -129,7 +129,7 @@ abbrev pub is_wanted : Dial → Option Dial → Bool
 is_wanted called (Some wanted) = (called.addr == wanted.addr) && (called.port == wanted.port)
 is_wanted called None = false
 
--- If the flag is true, the socket of the peer that was dialed stays as it is; if it is false, the socket is closed.
+-- If the flag is true, the driver keeps the socket of the peer that it dialed; if the flag is false, the socket is closed.
 abbrev pub KeepsCall : {W : Type 0} → (W → Heard → W → Type 0) → ℕ → Bool → Config → DriverView W → DriverView W → Type 0
 KeepsCall hears c true = Unchanged
 KeepsCall hears c false = ClosesChannel hears c
@@ -185,7 +185,7 @@ abbrev pub BreaksOff : {W : Type 0} → (W → Heard → W → Type 0) → Port 
 BreaksOff hears (Conn c) = Closes hears c
 BreaksOff hears (Intr c) = ClosesChannel hears c then IsApplied (Close (Intr c))
 
--- The bytes that the wire took are removed at the server. If writing failed, the port is closed.
+-- The server is told how many bytes the wire took, and removes these bytes. If the write failed, the port is closed.
 abbrev pub EndsWrite : {W : Type 0} → (W → Heard → W → Type 0) → Port → Answer ℕ → Config → DriverView W → DriverView W → Type 0
 EndsWrite hears port (Got n) = IsApplied (Took port n)
 EndsWrite hears port Pending = Unchanged

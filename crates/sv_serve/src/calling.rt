@@ -130,7 +130,8 @@ impl<W: Wire + Drop, A: Allocator> Driver<W, A> {
         self.wire.dialed(conn)
     }
 
-    /// Applies the wire's answer to dialing a peer for the interrupt channel of a connection.
+    /// Applies what the wire answered when it was told to dial the peer `dial` for a connection's
+    /// interrupt channel.
     fn connect_result(&mut self, conn: u8, dial: Dial, answer: Answer<()>)
         requires { conn < 16 }
         ensures { From (λ (config : Config) (at : DriverView W). Wants conn config at (Some dial))
@@ -157,7 +158,8 @@ impl<W: Wire + Drop, A: Allocator> Driver<W, A> {
         self.dial_limit = self.dial_limit.max(conn + 1);
     }
 
-    /// Applies the wire's answer whether the peer that was dialed before has answered.
+    /// Applies what the wire answered when it was asked whether the peer that was dialed before has
+    /// answered.
     fn poll_result(&mut self, conn: u8, answer: Answer<()>)
         requires { conn < 16 }
         ensures { From (IsAwaited conn) (PollResult W.hears conn answer) self.old self.new }

@@ -90,7 +90,7 @@ impl<W: Wire + Drop, A: Allocator> Driver<W, A> {
         }
     }
 
-    /// Closes a connection, if `so`.
+    /// Closes a connection, if `so` is true.
     fn close_if(&mut self, conn: u8, so: bool)
         requires { conn < 16 }
         ensures { From (λ (config : Config) (at : DriverView W). IsOpen (Conn conn) config at true)

@@ -16,7 +16,7 @@ impl<W: Wire + Drop, A: Allocator> Driver<W, A> {
     ///    port mapper, each under the lowest free number of 0 to 15.
     /// 2. Each connection is read, in rising order of the numbers: at most as many bytes as it has
     ///    room for.
-    /// 3. One call of each connection is taken, if it has a complete one.
+    /// 3. On each connection on which a complete call has come, one call is taken.
     /// 4. The peer of each interrupt channel that has to be connected is dialed; or, if it was
     ///    dialed before, the wire is asked whether the peer has answered.
     /// 5. Time passes. Entries of the scenario that are due are applied before each millisecond and

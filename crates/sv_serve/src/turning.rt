@@ -19,7 +19,7 @@ fn is_no_memory(refused: Refused) -> bool
 }
 
 impl<W: Wire + Drop, A: Allocator> Driver<W, A> {
-    /// Takes one call of each connection that has one.
+    /// On each connection that has a call to take, takes one call.
     pub(crate) fn turn_each(&mut self)
         ensures { Steps (ForEach 16 Turns) self.old self.new }
     {
@@ -31,7 +31,7 @@ impl<W: Wire + Drop, A: Allocator> Driver<W, A> {
         }
     }
 
-    /// Takes one call of a connection, if it has one.
+    /// Takes the next call of a connection, if there is a call to take.
     fn turn(&mut self, conn: u8)
         requires { conn < 16 }
         ensures { Steps (Turns conn) self.old self.new }
@@ -40,7 +40,7 @@ impl<W: Wire + Drop, A: Allocator> Driver<W, A> {
         self.take(conn, ready);
     }
 
-    /// Takes one call of a connection, if `ready`.
+    /// Takes the next call of a connection, if `ready` says that there is a call to take.
     fn take(&mut self, conn: u8, ready: bool)
         requires { conn < 16 }
         ensures { Steps (TurnsIf conn ready) self.old self.new }
@@ -63,7 +63,8 @@ impl<W: Wire + Drop, A: Allocator> Driver<W, A> {
         }
     }
 
-    /// Answers the next call of a connection with error 9, without executing the call, if `so`.
+    /// If `so` is true, answers the next call of a connection with error 9, without executing the
+    /// call.
     fn refuse_if(&mut self, conn: u8, so: bool)
         requires { conn < 16 }
         ensures { From (FindsNoneIf conn so) (RefusesIf conn so) self.old self.new }

@@ -24,12 +24,12 @@ pub trait Wire {
     /// nothing: a wire need not define it.
     ghost hears: { Self → Heard → Self → Type 0 } = { λ before heard after. ⊤ };
 
-    /// Accepts a connection of this role under this number. Without a number, accepts and drops the
-    /// connection.
+    /// Accepts a connection of this role under the number `conn`; or, if `conn` is `None`, accepts
+    /// a connection and drops it.
     fn accept(&mut self, role: Role, conn: Option<u8>) -> Answer<()>
         ensures { hears self.old (WasAccepted role conn result) self.new };
 
-    /// Reads bytes of a connection, at most as many as the buffer has.
+    /// Reads bytes of a connection into `buffer`, at most as many as fit in it.
     fn read(&mut self, conn: u8, buffer: &mut [u8]) -> Answer<usize>
         ensures within { IsWithin result (length buffer.old) }
         ensures heard { let answer = bytes_of result buffer.new in
@@ -41,7 +41,8 @@ pub trait Wire {
     fn probe(&mut self, conn: u8, drops: bool) -> Answer<()>
         ensures { hears self.old (WasProbed conn drops result) self.new };
 
-    /// Writes bytes to a connection or an interrupt channel, and returns how many of them it took.
+    /// Writes bytes to a connection or an interrupt channel, and returns how many of these bytes
+    /// the wire took.
     fn write(&mut self, port: Port, bytes: &[u8]) -> Answer<usize>
         ensures within { IsWithin result (length bytes.now) }
         ensures heard { hears self.old (WasWritten port bytes.now result) self.new };

@@ -1,4 +1,4 @@
--- Numbers in another base (IEEE 488.2, 7.7.4).
+-- Numbers in base 16, 8 or 2 (IEEE 488.2, 7.7.4).
 use Rattle.std.specs.Prelude.{ℕ, ℤ, pos, ◌==◌, ◌||◌, not, Bool, false, List, ◌∷◌, slice_get, Option, Some, None, Result, Ok, Err, if◌then◌else◌}
 use Rattle.std.specs.Option.{option_map_or}
 use Rattle.std.specs.Char.{is_digit}

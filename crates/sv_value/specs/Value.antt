@@ -35,7 +35,7 @@ abbrev pub within_volts : Result ℤ Code → Result ℤ Code
 within_volts (Err code) = Err code
 within_volts (Ok value) = if is_within value then Ok value else Err DataOutOfRange
 
--- a voltage in microvolts, or the first error
+-- the value of a parameter that has to be a voltage, in microvolts; or the first error that applies
 abbrev pub read_voltage : Kind → List ℕ → Result ℤ Code
 read_voltage Number text = within_volts (read_decimal power_of_volts InvalidSuffix text)
 read_voltage kind text = Err (wrong_kind kind)
@@ -46,7 +46,7 @@ within low high (Err code) = Err code
 within low high (Ok (negsuc n)) = Err DataOutOfRange
 within low high (Ok (pos n)) = if nat_le low n && nat_le n high then Ok n else Err DataOutOfRange
 
--- a whole number from `low` to `high`, or the first error
+-- the value of a parameter that has to be a whole number from `low` to `high`; or the first error that applies
 abbrev pub read_whole : ℕ → ℕ → Kind → List ℕ → Result ℕ Code
 read_whole low high Number text = within low high (read_decimal power_of_none SuffixNotAllowed text)
 read_whole low high Base text = within low high (read_based text)
@@ -58,14 +58,14 @@ is_on (Err code) = Err code
 is_on (Ok (negsuc n)) = Ok true
 is_on (Ok (pos n)) = Ok (if n == 0 then false else true)
 
--- a boolean, given as a number, ON or OFF; or the first error
+-- the value of a parameter that has to be a boolean: a number, ON or OFF; or the first error that applies
 abbrev pub read_boolean : Kind → List ℕ → Result Bool Code
 read_boolean Number text = is_on (read_decimal power_of_none SuffixNotAllowed text)
 read_boolean Base text = is_on (read_based text)
 read_boolean Word text = read_switch text
 read_boolean kind text = Err (wrong_kind kind)
 
--- a trigger source, or the error
+-- the trigger source that a parameter names, or the error
 abbrev pub read_source : Kind → List ℕ → Result Source Code
 read_source Word text = read_keyword text
 read_source kind text = Err (wrong_kind kind)

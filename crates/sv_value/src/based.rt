@@ -1,4 +1,4 @@
-//! Numbers in another base.
+//! Numbers in base 16, 8 or 2.
 
 ghost use Rattle.std.specs.Prelude.{◌≡◌, ◌≤◌, Some, Err, IfSome, MatchResult};
 ghost use Rattle.std.specs.Char.{is_digit};
@@ -10,8 +10,8 @@ use crate::amount::Amount;
 use crate::digits::{value_after, value_of};
 use sv_errors::Code;
 
-/// Reads a number in another base: `#`, a letter for the base, and digits, such as `#H1F`. Returns
-/// the number or its error.
+/// Reads a number in base 16, 8 or 2: `#`, a letter for the base, and digits, such as `#H1F`.
+/// Returns the number or its error.
 pub(crate) fn based(text: &[u8]) -> Result<Amount, Code>
     ensures { MatchResult result (λ amount. StandsFor amount (read_based text.now))
         (λ code. read_based text.now ≡ Err code) }

@@ -38,14 +38,14 @@ pub fn microvolts(token: &Token<'_>) -> Result<i64, Code>
 }
 
 /// Reads a whole number from `low` to `high`: a decimal number, rounded to the nearest whole
-/// number, half away from zero; or digits in another base.
+/// number, half away from zero; or a number in base 16, 8 or 2.
 ///
 /// # Errors
 /// For data that aren't a number: [`Code::SyntaxError`] if they are of no kind that the standard
 /// defines, else [`Code::DataTypeError`]. For a decimal number, the first of these that applies:
 /// [`Code::InvalidCharacterInNumber`], [`Code::SuffixNotAllowed`], [`Code::TooManyDigits`],
-/// [`Code::ExponentTooLarge`], [`Code::DataOutOfRange`]. For a number in another base, the first of
-/// these that applies: [`Code::SyntaxError`] if the letter of a base or a digit after it is
+/// [`Code::ExponentTooLarge`], [`Code::DataOutOfRange`]. For a number in base 16, 8 or 2, the first
+/// of these that applies: [`Code::SyntaxError`] if the letter of a base or a digit after it is
 /// missing, [`Code::InvalidCharacterInNumber`], [`Code::DataOutOfRange`].
 pub fn whole(token: &Token<'_>, low: u16, high: u16) -> Result<u16, Code>
     ensures value { result ≡ read_whole low high token.now.kind token.now.text.now }

@@ -13,7 +13,7 @@ use Rattle.sv_words.specs.declared.words.Serve.{Serve}
 use Rattle.sv_words.specs.declared.words.Words.{Words}
 use Rattle.sv_words.specs.declared.words.Words.TheVariants.{Replay, Server}
 
--- The text is 1 to 10 decimal digits, and their value is a number from 1 to `most`.
+-- The text is 1 to 10 decimal digits, and their value `n` is from 1 to `most`.
 abbrev pub IsCount : ℕ → Text → ℕ → Type 0
 IsCount most digits n = IsNumeral 10 digits × (length digits ≤ 10) × (n ≡ digits_value 10 digits) × (1 ≤ n) × (n ≤ most)
 
@@ -64,6 +64,6 @@ abbrev pub Finds : {A : Type 0} → (A → Type 0) → Option A → Type 0
 Finds P (Some found) = P found
 Finds {A} P None = (other : A) → P other → ⊥
 
--- The fault for this kind of error of clap: that memory was refused, if that is the kind; else that the words are bad.
+-- The program's fault for an error of clap: memory was refused, if clap's error is of the kind `OutOfMemory`; else the words are bad.
 abbrev pub IsUsageFault : ErrorKind → ProgramFault → Type 0
 IsUsageFault kind fault = ((kind ≡ OutOfMemory) × (fault ≡ Run Memory)) ⊎ ((kind ≡ OutOfMemory → ⊥) × (fault ≡ BadWords))

@@ -16,7 +16,7 @@ use sv_replay::RunFault;
 /// What the words tell the program to do.
 #[derive(Clone, Copy, Debug, PartialEq, Eq)]
 pub enum Words<'a> {
-    /// Replay the standard input.
+    /// Replay the script that comes on the standard input.
     Replay,
     /// Run a server.
     Server(Serve<'a>),
@@ -25,11 +25,11 @@ pub enum Words<'a> {
 /// What the command line says about the server to run.
 #[derive(Clone, Copy, Debug, PartialEq, Eq)]
 pub struct Serve<'a> {
-    /// The port of the core channel, from 1.
+    /// The TCP port of the core channel, 1 to 65535.
     pub core: u16,
-    /// The port of the abort channel, from 1.
+    /// The TCP port of the abort channel, 1 to 65535.
     pub abort: u16,
-    /// The port of the port mapper, from 1.
+    /// The TCP port of the port mapper, 1 to 65535.
     pub portmap: u16,
     /// The path of the scenario.
     pub scenario: &'a str,

@@ -26,7 +26,7 @@ ending_row common query (Some command) = row common query [] command ∷ []
 abbrev pub ending_rows : Bool → Branch → List Row
 ending_rows common branch = ending_row common false branch.plain ++ ending_row common true branch.query
 
--- the table's row with the node `part` added in front of the nodes of its header
+-- a row of the table, with the node `part` added in front of its other nodes
 abbrev pub below : Part → Row → Row
 below part row = record row { parts = part ∷ row.parts }
 
@@ -41,7 +41,7 @@ rows_of (suc fuel) common (branch ∷ behind) =
 abbrev pub tree_rows : Bool → List Branch → List Row
 tree_rows common branches = rows_of (length branches) common branches
 
--- rows of the table: for `true` those of the common commands, for `false` those of all other commands
+-- for `true` the table's rows of the common commands; for `false` its rows of all other commands
 abbrev pub rows_with : Bool → List Row
 rows_with true = common_commands
 rows_with false = other_commands

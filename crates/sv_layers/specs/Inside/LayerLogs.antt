@@ -90,7 +90,7 @@ own_standard StandardRead acts = standard.Read ∷ acts
 own_standard (StandardEnabled mask) acts = standard.SetEnable mask ∷ acts
 own_standard _ acts = acts
 
--- Two acts of the instrument, `other` and `act`, change each register directly in the same way, and the standard events too.
+-- The acts `other` and `act` of the instrument have the same direct effect on each register, and on the standard events.
 abbrev pub EndsAs : Act → Act → Type 0
 EndsAs other act = ((name : RegisterName) (acts : List RegisterAct) → own name other acts ≡ own name act acts)
     × ((acts : List StandardAct) → own_standard other acts ≡ own_standard act acts)

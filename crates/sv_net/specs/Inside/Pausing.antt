@@ -35,7 +35,7 @@ pub record Pauses {W M : Type 0} (hears : W → Heard → W → Type 0) (answers
   pub goes : (many : ℕ) (start : DriverState W) (first : M) → Running hears answers was many swept began start driver first old
       → Running hears answers is_so many swept time start driver first now
 
--- A loop made `many` sweeps, at any times. Its last action was a wait, or it has done nothing yet.
+-- A loop made `many` sweeps, no matter when. Its last action was a wait, or it has done nothing yet.
 abbrev pub Ran : {W M : Type 0} → (W → Heard → W → Type 0) → (M → Doing W → M → Type 0) → ℕ → DriverState W → DriverState W → M → M → Type 0
 Ran hears answers many old new first now =
     (swept : ℕ) × (time : ℕ) × Running hears answers is_fresh many swept time old new first now
