@@ -1,4 +1,4 @@
-//! Refusing a connection's next call for lack of resources: error 9.
+//! Answers a connection's next call with error 9 (out of resources), without executing the call.
 
 ghost use Rattle.std.specs.Prelude.{◌≡◌, List, Some, OnErr, option_map};
 ghost use Rattle.sv_rpc.specs.Call.{call_at};
@@ -50,8 +50,9 @@ fn unless_modest(call: CoreCall<'_>) -> Option<CoreCall<'_>>
     }
 }
 
-/// Takes the next call of an open connection, and answers it with error 9 without executing it.
-/// Fails if the call isn't one that may be refused, or the output has no room for the reply.
+/// Takes the next call of an open connection, and answers it with error 9 (out of resources)
+/// without executing it. Fails if the call isn't one that may be refused, or if the output has no
+/// room for the reply.
 pub fn refuse<A: Allocator>(connection: &mut Connection<A>, role: Role) -> Result<(), Refused>
     requires { connection.old.role ≡ Some role }
     ensures acts { (acts : List ConnAct) → IsConnection connection.old acts

@@ -68,7 +68,7 @@ Turns config c log old (Err NoMemory) connection device = (turn_refusal (of c lo
     × TakesCall config c log call request (λ effect. wants_memory effect.adds ≡ true)
 Turns config c log old (Err refused) connection device = turn_refusal (of c log) ≡ Some refused
 
--- A Refuse of an open connection either takes the next call and answers it, or is refused.
+-- The event Refuse of an open connection either takes the connection's next call and answers it with an error, or is itself refused.
 abbrev pub Refuses : List ConnAct → Result ⊤ Refused → Connection → Type 0
 Refuses acts (Ok done) connection = (refuse_refusal acts ≡ None) × (bytes : List ℕ) × (call : CoreCall)
     × (next_call acts ≡ Some bytes) × (refusable acts ≡ Some call)
