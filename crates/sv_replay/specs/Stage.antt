@@ -24,7 +24,7 @@ abbrev pub StopsAt : List ℕ → List PlainEvent → ReplayFault → List ℕ �
 StopsAt line history fault text after = (said : Line) × (length line ≤ 65536) × Says line said
     × Stops set_up history (events_of said) fault text after
 
--- What the line of a script with this number does to the server's history, and what the replay prints for the line.
+-- What a line of a script does to the server's history, and what the replay prints for the line. `number` is the number of the line.
 abbrev pub LineRuns : List ℕ → ℕ → List PlainEvent → Result ⊤ RunFault → List ℕ → List PlainEvent → Type 0
 LineRuns line number history (Ok all) text after =
     (said : Line) × (length line ≤ 65536) × Says line said × Prints set_up history (events_of said) text after

@@ -1,5 +1,5 @@
-//! Rows of peers: what each peer gets, and whether it still gets everything if a call of the wire
-//! fails.
+//! Rows (test cases) with peers: prints what each peer gets, and whether it still gets every byte
+//! if one of the driver's calls of the wire fails.
 
 use crate::peers::{Call, Peer, Peers};
 use crate::row::{bad, number};
