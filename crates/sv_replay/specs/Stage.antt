@@ -19,7 +19,7 @@ IsStage server left number read text = (lines : List (List ℕ)) × (events hist
     × (number ≡ length lines) × IsScript lines events
     × Prints set_up [] events text history × StandsFor server set_up history
 
--- The replay stops with this fault at one of the events of the script's line.
+-- The line is a valid line of a script, and the replay stops with this fault at one of the events that the line describes.
 abbrev pub StopsAt : List ℕ → List PlainEvent → ReplayFault → List ℕ → List PlainEvent → Type 0
 StopsAt line history fault text after = (said : Line) × (length line ≤ 65536) × Says line said
     × Stops set_up history (events_of said) fault text after

@@ -400,7 +400,7 @@ impl<A: Allocator> Server<A> {
         }
     }
 
-    /// Closes a port.
+    /// Closes a port: a connection or an interrupt channel.
     fn close_port(&mut self, port: Port) -> Result<Did, Refused>
         ensures acts { (config : Config) (log : List Act) → Represents self.old config log
             → Acts config (Close port) log result self.new }

@@ -162,7 +162,7 @@ fn start<'a>(
     })
 }
 
-/// What a script prints when it is played.
+/// Plays a script one time, and returns what it prints. `heap` may refuse one allocation.
 fn outcome(
     alloc: Global,
     heap: &FailingAllocator<Global>,

@@ -181,7 +181,7 @@ fn procedure_request<'a>(role: Role, call: &Call<'a>) -> Request<'a>
     }
 }
 
-/// A request whose reply follows from the header of the call.
+/// Makes the request of a call whose header decides the reply, without the device.
 fn decided<'a>(call: &Call<'a>, reply: Reply) -> Request<'a>
     ensures { plain_request result ≡ Decided call.now.xid reply }
 {

@@ -121,7 +121,7 @@ fn number_of(refused: Refused) -> u8
     refused as u8
 }
 
-/// Writes the line of a refusal.
+/// Writes the line for a refused event: `refused` and the number of the refusal.
 pub fn put_refusal<W: Write>(writer: &mut W, refused: Refused) -> Result<(), WriteFault>
     ensures { IsTakenByWriter (W.contents writer.old) (W.contents writer.new) result
         (refusal_line refused) }

@@ -51,8 +51,8 @@ is_quiet (Bytes c piece) = true
 is_quiet (Took port count) = true
 is_quiet _ = false
 
--- The next call of connection `c` is `call`, which makes the request `request`. `IsSo` holds of the effect that a Turn of this connection
--- has, which takes the call.
+-- The next call of connection `c` is `call`, which makes the request `request`. A Turn of this connection would take this call, and `IsSo`
+-- holds of the effect that this Turn would have.
 abbrev pub TakesCall : Config → ℕ → List Act → List ℕ → Request → (Effect → Type 0) → Type 0
 TakesCall config c log call request IsSo = (next_call (of c log) ≡ Some call) × (next_request (of c log) ≡ Some request)
     × ((polled : ℕ) → IsPolled polled (device_acts log) → IsSo (request_effect config polled c request (device_acts log)))
