@@ -18,7 +18,7 @@ use std::alloc::Allocator;
 use sv_history::{Refused, Role};
 use sv_vxi::{Args, ErrorCode};
 
-/// Whether a call makes a link or an interrupt channel.
+/// Whether the call is create_link or create_intr_chan. Only these two calls may allocate memory.
 fn takes_memory(args: &Args<'_>) -> bool
     ensures { result ≡ makes_more (plain_arguments args.now) }
 {
@@ -38,7 +38,8 @@ fn refusable(role: Role, bytes: &[u8]) -> Option<CoreCall<'_>>
     }
 }
 
-/// The call, if it may allocate memory; else `None`.
+/// Returns the call if it is create_link or create_intr_chan, which may allocate memory; else
+/// `None`.
 fn unless_modest(call: CoreCall<'_>) -> Option<CoreCall<'_>>
     ensures { option_map plain_core_call result
         ≡ refusable_call (Some (CoreRequest (plain_core_call call.entry))) }
