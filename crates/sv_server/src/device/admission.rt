@@ -45,8 +45,8 @@ pub enum Stop {
     },
 }
 
-/// What stops a call while a link other than the call's link holds the lock; `None` if the call
-/// doesn't need the lock.
+/// What stops a call while a link other than the call's link holds the lock: a wait for the lock,
+/// or the error for a locked device. `None` if the call doesn't need the lock.
 fn lock_stop(call: &LinkCall<'_>) -> Option<Stop>
     ensures { option_map plain_stop result
         ≡ option_map lock_stop_for (lock_wait (plain_call call.now)) }
@@ -191,9 +191,9 @@ impl<A: Allocator> Device<A> {
         }
     }
 
-    /// What stops a call on a link; `None` if nothing does. In this order, these are checked:
-    /// whether the link is invalid, whether the call is a write that is too long, whether the lock
-    /// stops the call, and whether the call has to wait for the device.
+    /// What stops a call on a link; `None` if nothing does. The first of these that applies stops
+    /// the call: the connection has no such link; the call is a write of too many bytes; another
+    /// link holds the lock that the call needs; the call has to wait for the device.
     fn call_stop(&self, conn: Conn, lid: i32, call: &LinkCall<'_>) -> Option<Stop>
         ensures { (config : Configured) (acts : List DeviceAct) → IsDevice self.now config acts
             → option_map plain_stop result

@@ -86,7 +86,7 @@ abbrev pub TakesStep : (Config → List Act → List Act → Type 0) → Bool �
 TakesStep IsStep true config log old new = (next : List Act) × IsStep config log next × Represents new config next
 TakesStep IsStep false config log old new = ((next : List Act) → IsStep config log next → ⊥) × (new ≡ old)
 
--- Either the server took the step that was due. Or no step is due, and the server still stands for the same log.
+-- Either the server took the step that was due. Or no step is due, and the server's state is still the one that `log` determines.
 abbrev pub Steps : Stepped → Config → List Act → State → Type 0
 Steps Nothing config log new = IsSettled config log × Represents new config log
 Steps Instrument config log new = (next : List Act) × IsNext config log next × Represents new config next
