@@ -125,7 +125,8 @@ fn sleep_time(pace: &Pace, now: u64, left: u32) -> Option<Duration> {
     Some(Duration::from_nanos(pace.sleep_time(now, STILL)))
 }
 
-/// Records the result of a poll. Returns how many polls in a row found nothing.
+/// Records the result of a poll: `came` says whether it found something. Returns how many polls
+/// without sleep have found nothing since the last wait ended.
 fn keep(pace: &mut Pace, now: u64, tries: u32, spinning: bool, came: bool) -> u32 {
     if came {
         pace.work(now);

@@ -20,7 +20,7 @@ value_of digits = fold (λ n digit. 10 * n + (digit - 48)) 0 digits
 abbrev pub IsNumber : List ℕ → ℕ → Type 0
 IsNumber digits n = (digits ≢ []) × AllByRecursion (λ digit. (48 ≤ digit) × (digit ≤ 57)) digits × (n ≡ value_of digits)
 
--- The digits have no leading zero.
+-- The digits have no leading zero: the first of several digits isn't a zero.
 abbrev pub HasNoLeadingZero : List ℕ → Type 0
 HasNoLeadingZero (digit ∷ other ∷ digits) = digit ≢ 48
 HasNoLeadingZero digits = Unit {0}

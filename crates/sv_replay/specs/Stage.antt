@@ -19,12 +19,12 @@ IsStage server left number read text = (lines : List (List ℕ)) × (events hist
     × (number ≡ length lines) × IsScript lines events
     × Prints set_up [] events text history × StandsFor server set_up history
 
--- The replay stops with this fault at one of the events of the script's line.
+-- The line is a valid line of a script, and the replay stops with this fault at one of the events that the line describes.
 abbrev pub StopsAt : List ℕ → List PlainEvent → ReplayFault → List ℕ → List PlainEvent → Type 0
 StopsAt line history fault text after = (said : Line) × (length line ≤ 65536) × Says line said
     × Stops set_up history (events_of said) fault text after
 
--- What the line of a script with this number does to the server's history, and what the replay prints for the line.
+-- What a line of a script does to the server's history, and what the replay prints for the line. `number` is the number of the line.
 abbrev pub LineRuns : List ℕ → ℕ → List PlainEvent → Result ⊤ RunFault → List ℕ → List PlainEvent → Type 0
 LineRuns line number history (Ok all) text after =
     (said : Line) × (length line ≤ 65536) × Says line said × Prints set_up history (events_of said) text after

@@ -9,8 +9,8 @@ use std::io::{ErrorKind, Read};
 #[derive(Clone, Copy, Debug, PartialEq, Eq)]
 pub struct InputFault;
 
-/// A reader whose reads can be named in contracts. Every reader is a `Source`. A reader of the
-/// system promises nothing about what its reads return.
+/// A reader of which contracts can state what each read returned. Every type that implements `Read`
+/// is a `Source`, whose `gives` holds for any result of a read.
 pub trait Source: Read {
     ghost use Rattle.std.specs.Prelude.{⊤};
     ghost use Rattle.sv_replay.specs.Reads.{Gave};

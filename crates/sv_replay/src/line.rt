@@ -13,7 +13,7 @@ use sv_server::{Event, Port, Role};
 /// The meaning of a line of a replay.
 #[derive(Clone, Copy, Debug, PartialEq, Eq)]
 pub enum Line<'a> {
-    /// Nothing happens.
+    /// The line is empty: nothing happens.
     Blank,
     /// This event happens.
     One(Event<'a>),

@@ -106,7 +106,7 @@ fn run_lines<A: Allocator + Copy, R: Source, W: Write>(
     Err(RunFault::Input)
 }
 
-/// A replay that has read no line yet.
+/// Makes a replay with a new server. It has read no line yet.
 fn start<A: Allocator + Copy>(alloc: A) -> Result<Run<A>, AllocError>
     ensures { IfOk result (λ run. StandsFor run.server set_up [] × (run.text ≡ nothing_held)
         × (run.lines ≡ 0)) }

@@ -109,8 +109,8 @@ impl<A: Allocator> Text<A> {
     }
 
     /// Makes one read, and appends its bytes to the text. Returns false at the reader's end, else
-    /// true. A read that a signal interrupts gives no bytes, and the result is true. If too little
-    /// of the buffer is free after the text, the text is first moved to the front.
+    /// true. A read that a signal interrupts gives no bytes, and the result is true. If fewer than
+    /// 65,536 bytes of the buffer are free after the text, the text is first moved to the front.
     pub fn fill<R: Source>(&mut self, reader: &mut R) -> Result<bool, InputFault>
         requires { length self.old.text ≤ 65536 }
         ensures took { Filled (R.remaining reader.old)
@@ -141,8 +141,8 @@ impl<A: Allocator> Text<A> {
     }
 }
 
-/// Moves the used part of a buffer to the front, if too little is free after that part. Returns by
-/// how many bytes the part was moved.
+/// Moves the used part of a buffer, from `start` to `end`, to the front, if fewer than 65,536 bytes
+/// are free after it. Returns by how many bytes the used part was moved.
 fn make_room(buffer: &mut [u8], start: usize, end: usize) -> usize
     requires order { (start ≤ end) × (end ≤ 131072) }
     requires size { length buffer.old ≡ 131072 }

@@ -1,3 +1,3 @@
--- A connection: its bytes in and out, and its unfinished record.
+-- A connection: the bytes that came, the bytes that wait to be sent, and the record that was taken and isn't finished.
 pub mod Representation
 pub mod Inside

@@ -114,8 +114,8 @@ fn is_no_memory(refused: Refused) -> bool
     matches!(refused, Refused::NoMemory)
 }
 
-/// The port whose line is printed as line `number`, counted from 0. The lines of connections come
-/// first, and then those of their interrupt channels.
+/// The port with this number in the order in which a replay prints the lines of ports: 0 to 15 are
+/// the connections, 16 to 31 are their interrupt channels.
 fn port_of(number: u8) -> Port
     ensures { result ≡ port_of number }
 {

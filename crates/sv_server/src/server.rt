@@ -357,7 +357,8 @@ impl<A: Allocator> Server<A> {
         }
     }
 
-    /// Takes the next call of a connection, and answers it with error 9 without executing it.
+    /// Takes the next call of a connection, and answers it with error 9 (out of resources) without
+    /// executing it.
     fn refuse(&mut self, conn: u8) -> Result<Did, Refused>
         ensures acts { (config : Config) (log : List Act) → Represents self.old config log
             → Acts config (Refuse conn) log result self.new }
@@ -399,7 +400,7 @@ impl<A: Allocator> Server<A> {
         }
     }
 
-    /// Closes a port.
+    /// Closes a port: a connection or an interrupt channel.
     fn close_port(&mut self, port: Port) -> Result<Did, Refused>
         ensures acts { (config : Config) (log : List Act) → Represents self.old config log
             → Acts config (Close port) log result self.new }

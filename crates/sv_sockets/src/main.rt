@@ -15,14 +15,14 @@
 //! | `a core` | the peer connects to the core channel; `abort` and `portmap` are the other ports |
 //! | `a < 8000..` | the peer sends these bytes, which may have blanks between them |
 //! | `a > N` | waits until N bytes have come to the peer, and prints them |
-//! | `a before b` | prints whether bytes come to peer a not later than to peer b |
+//! | `a before b` | prints whether peer a gets its first bytes no later than peer b |
 //! | `a ends` | prints whether the peer's stream ends |
 //! | `a silent` | prints whether for a while nothing comes to the peer, not even an end |
 //! | `a closes` | the peer closes its stream |
 //! | `i listens PORT` | the peer listens on a port of 127.0.0.1 |
 //! | `i accepts` | the peer accepts a connection on that port, which is its stream from then on |
 //! | `a pours N 8000..` | the peer sends these calls N times, or until the sockets are full |
-//! | `a drains N SIZE` | sends unsent calls; prints whether N replies of SIZE bytes are in order |
+//! | `a drains N SIZE` | sends its unsent calls; prints if N replies of SIZE bytes come in order |
 //! | `start` | a time measurement starts |
 //! | `passed MILLISECONDS` | prints whether this time has passed since `start` |
 //! | `sleep SWEEPS` | the server makes this many sweeps |

@@ -4,7 +4,7 @@ use crate::stage::{Stage, bad};
 use std::alloc::Global;
 use std::io;
 
-/// The sockets count as full after this many tries to send in a row in which no byte was sent.
+/// The sockets count as full when this many successive tries to send have sent no byte.
 const STILL: u32 = 20;
 /// The most tries to send that one `pours` line makes.
 const TRIES: u32 = 100_000;
@@ -30,7 +30,8 @@ fn number_records(records: &mut Vec<u8>) -> io::Result<()> {
     Ok(())
 }
 
-/// Repeats `records` `count` times, and numbers the copies from 1 on.
+/// Returns `count` copies of `records`, one after the other. All calls in them are numbered from 1
+/// on.
 fn repeated(alloc: Global, records: &[u8], count: u32) -> io::Result<Vec<u8>> {
     let mut all = Vec::new(alloc);
     for _ in 0..count {

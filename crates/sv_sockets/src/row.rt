@@ -120,7 +120,7 @@ fn listen(stage: &mut Stage, name: char, text: &str) -> io::Result<()> {
     Ok(stage.peers.push(peer)?)
 }
 
-/// Gives a peer bytes to send.
+/// Appends bytes to those that a peer still has to send.
 fn send(stage: &mut Stage, name: char, text: &str) -> io::Result<()> {
     let bytes = bytes(stage.rt.alloc(), text)?;
     let peer = stage.peer(name)?;
@@ -129,7 +129,7 @@ fn send(stage: &mut Stage, name: char, text: &str) -> io::Result<()> {
     Ok(())
 }
 
-/// Executes a line of a peer that prints a result.
+/// Executes a line that begins with the letter of a peer and prints a result.
 fn show_of<W: Write + Drop>(
     stage: &mut Stage,
     name: char,
@@ -148,7 +148,7 @@ fn show_of<W: Write + Drop>(
     writeln!(writer, "{name} {verb}: {}", word(so))
 }
 
-/// Prints whether bytes come to the first of two peers not later than to the second one.
+/// Prints whether the peer `first` gets bytes no later than the peer `second`.
 fn compare<W: Write + Drop>(
     stage: &mut Stage,
     (first, second): (char, char),
@@ -182,7 +182,7 @@ fn ends(stage: &mut Stage, name: char) -> io::Result<bool> {
     Ok(peer.ended && peer.came.is_empty())
 }
 
-/// Whether nothing comes to a peer for a while.
+/// Whether nothing comes to a peer during the next 20 sweeps, not even the end of its stream.
 fn is_silent(stage: &mut Stage, name: char) -> io::Result<bool> {
     stage.serve(SILENCE)?;
     let peer = stage.peer(name)?;

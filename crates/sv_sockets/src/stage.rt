@@ -119,8 +119,8 @@ impl Stage {
         Ok(peer.ended || peer.came.len() >= count)
     }
 
-    /// Makes this number of sweeps. Fails if a peer that began to wait at `begun` has waited too
-    /// long.
+    /// Makes this number of sweeps. Fails if ten seconds have passed since `begun`, when a peer
+    /// began to wait.
     fn serve_on(&mut self, begun: Instant, sweeps: u32) -> io::Result<()> {
         if begun.elapsed(&self.rt)?.as_secs() >= PATIENCE {
             return Err(late());
@@ -131,7 +131,7 @@ impl Stage {
     /// Makes sweeps until this many bytes have come to a peer, or until its stream has ended.
     ///
     /// # Errors
-    /// If nothing comes for too long.
+    /// If nothing comes to the peer for ten seconds.
     pub(crate) fn wait_for(&mut self, name: char, count: usize) -> io::Result<()> {
         let (mut begun, mut came) = (Instant::now(&self.rt)?, 0usize);
         for _ in 0..LOOKS {
@@ -150,7 +150,7 @@ impl Stage {
     /// Makes sweeps until a connection has come to the port on which a peer listens.
     ///
     /// # Errors
-    /// If that takes too long.
+    /// If no connection comes for ten seconds.
     pub(crate) fn accept(&mut self, name: char) -> io::Result<()> {
         let begun = Instant::now(&self.rt)?;
         for _ in 0..LOOKS {
@@ -162,12 +162,12 @@ impl Stage {
         Err(late())
     }
 
-    /// Makes sweeps until bytes have come to the second peer. Returns whether bytes have come to
-    /// the first peer by then. After each sweep, the program checks the second peer before it
-    /// checks the first one.
+    /// Makes sweeps until bytes have come to the peer `second`. Returns whether bytes have come to
+    /// the peer `first` by then. Each check looks at the second peer before it looks at the first
+    /// peer.
     ///
     /// # Errors
-    /// If that takes too long.
+    /// If no bytes come to the second peer for ten seconds.
     pub(crate) fn is_first(&mut self, first: char, second: char) -> io::Result<bool> {
         let begun = Instant::now(&self.rt)?;
         for _ in 0..LOOKS {

@@ -1,5 +1,5 @@
-//! Rows of peers: what each peer gets, and whether it still gets everything if a call of the wire
-//! fails.
+//! Rows (test cases) with peers: prints what each peer gets, and whether it still gets every byte
+//! if one of the driver's calls of the wire fails.
 
 use crate::peers::{Call, Peer, Peers};
 use crate::row::{bad, number};
@@ -75,7 +75,9 @@ fn show<W: Write + Drop>(
     writeln!(writer)
 }
 
-/// The word for what a peer got in a run with a failure, compared with the run without a failure.
+/// The word for a peer's result in a run in which a call fails: `struck` if it was a call for this
+/// peer; else `whole` if the peer got the same bytes as `whole`, this peer in the run without a
+/// failure; else `lacks bytes`.
 fn outcome(peer: &Peer, whole: &Peer) -> &'static str {
     if peer.struck {
         "struck"
@@ -86,8 +88,9 @@ fn outcome(peer: &Peer, whole: &Peer) -> &'static str {
     }
 }
 
-/// For each peer: prints whether a call for it failed and, if none did, whether the peer got every
-/// byte. If no call failed at all, prints nothing. Returns whether a call failed.
+/// Prints the result for each peer: whether a call for this peer failed; if not, whether the peer
+/// got every byte. Prints nothing if the call that is to fail wasn't made. Returns whether it was
+/// made.
 fn compare<W: Write + Drop>(
     peers: &Peers,
     whole: &Peers,

@@ -1,7 +1,7 @@
 //! Plays the test cases, called rows, of the standard input. Each row gets a new driver over a wire
 //! whose answers are given by the lines of the row. Prints the title of each row, and then the
-//! driver's calls of the wire, which a recorder recorded. These calls are the trace of which the
-//! laws of `sv_serve` speak (`sv_recording`).
+//! calls that the driver made on the wire. The crate `sv_recording` records these calls as the
+//! trace that the laws of `sv_serve` are about.
 //!
 //! A row has these lines:
 //!
@@ -29,9 +29,10 @@
 //! nanoseconds since the loop began. `ticks NOW` prints how many milliseconds pass. `sleep_time NOW
 //! TICKS` prints how long the loop may sleep. `eager NOW` prints whether the loop polls again
 //! without sleeping. Three lines print nothing: `work NOW` tells the loop that a poll at NOW
-//! reported something; `found N` and `nothing N` tell it that a wait ends after N polls, with a
-//! report or without one. `vain N` makes N runs of polls that find nothing. Each run begins as soon
-//! as the loop may poll again, and the row prints how many times the loop sleeps before the run.
+//! reported a ready socket; `found N` tells it that a wait of N polls ended with such a report;
+//! `nothing N` tells it that a wait of N polls ended without one. `vain N` makes N runs of polls
+//! that find nothing. Each run begins as soon as the loop may poll again, and the row prints how
+//! many times the loop sleeps before the run.
 //!
 //! Each call of the wire is printed as a line: `core 0` accepts a connection as number 0, and
 //! `core -` accepts one that is dropped; `read 0`; `probe 0`, with ` drops` if bytes that come are

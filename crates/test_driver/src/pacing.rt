@@ -7,7 +7,7 @@ use sv_pace::Pace;
 /// The loop sleeps fewer times than this before it may poll again.
 const MOST: u32 = 10_000;
 
-/// A number of polls or of milliseconds.
+/// Converts a number of polls or of milliseconds. A number above 32 bits becomes the greatest one.
 fn count_of(number: u64) -> u32 {
     number.min(u64::from(u32::MAX)) as u32
 }

@@ -14,7 +14,7 @@ use sv_server::{Config, Server};
 /// The text between the milliseconds of a sweep and the number of the allocation that it refuses.
 const MEMORY: &str = " memory ";
 
-/// The driver of a row.
+/// The driver with which a row (a test case) is played.
 type Played<'a> = Driver<Recorder<Scripted>, &'a FailingAllocator<Global>>;
 
 /// The error for a row that can't be played.
@@ -52,7 +52,7 @@ fn front(row: &str) -> io::Result<(u64, u64, &str)> {
     Ok((clock, refused, entries))
 }
 
-/// The scenario of these lines.
+/// Reads these lines as the entries of a scenario.
 fn scenario<'a>(
     heap: &'a FailingAllocator<Global>,
     entries: &str,
@@ -63,7 +63,8 @@ fn scenario<'a>(
     }
 }
 
-/// Makes the driver of a row. The row may say which allocation of the driver is refused.
+/// Makes the driver with which a row is played. With a line `memory N` in the row, the Nth
+/// allocation that creates the driver is refused.
 fn made<'a>(
     alloc: Global,
     heap: &'a FailingAllocator<Global>,

@@ -19,7 +19,7 @@ impl From<AllocError> for Fault {
     }
 }
 
-/// The first word of a text, and the text after the space that ends it.
+/// The first word of a text, and the text after the space that ends this word.
 pub(crate) fn cut(text: &str) -> (&str, &str) {
     text.split_once(' ').unwrap_or((text, ""))
 }

@@ -18,11 +18,12 @@
 //! | `whole LOW HIGH UNIT` | a unit's first parameter, as a whole number |
 //! | `print MICROVOLTS` | the voltage, printed as response data |
 //! | `response voltage UNIT` | the unit's first parameter, printed as response data |
-//! | `response channels UNIT`, `response source UNIT` | a channel list or a source, the same way |
-//! | `response overload BELOW`, `response switch ON` | `true` or `false`, the same way |
-//! | `response whole NUMBER`, `response error NUMBER` | a number or an error, the same way |
+//! | `response channels UNIT`, `response source UNIT` | a list or a source, as response data |
+//! | `response overload BELOW` | an overload, as response data; `true` means below the range |
+//! | `response switch ON` | `1` for `true`, `0` for `false`: the switch, as response data |
+//! | `response whole NUMBER`, `response error NUMBER` | a number or an error, as response data |
 //! | `code NUMBER` | the name and the text of an error |
-//! | `queue ACT`, `register ACT`, `standard ACT`, `status ACT` | the answer to an act |
+//! | `queue ACT`, `register ACT`, `standard ACT`, `status ACT` | that part's answer to the act |
 //! | `scan ACT` | the scanner's answer to an act |
 //! | `session ACT` | the whole instrument's answer; `+1` if it raised one request for service |
 //! | `records ACT` | the answer of a buffer of records |

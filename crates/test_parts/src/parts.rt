@@ -91,7 +91,7 @@ impl Parts {
     }
 }
 
-/// Appends the answer of a line that doesn't depend on earlier ones.
+/// Appends the answer of a line whose answer doesn't depend on earlier lines.
 fn put_of_text(alloc: Global, out: &mut String, word: &str, text: &str) -> Result<(), Fault> {
     match word {
         "white" => put_white(alloc, out, text),

@@ -51,8 +51,8 @@ pub(crate) fn put_session(
     Ok(())
 }
 
-/// Takes the steps that are due, until none is. Returns how many requests for service were raised.
-/// Each function below that returns a number returns how many requests for service it raised.
+/// Takes steps of the instrument until no step is due. Returns how many requests for service they
+/// raised. Each function below that returns a number also returns how many such requests it raised.
 fn settle(instrument: &mut Instrument) -> u64 {
     let mut sum = 0u64;
     while let Some(raised) = step(instrument) {

@@ -20,8 +20,8 @@ pub(crate) fn put_unit(alloc: Global, out: &mut String, text: &str) -> Result<()
     }
 }
 
-/// Prints each parameter of a unit. The index after the last parameter is also tried; it must give
-/// none.
+/// Prints each parameter of a unit. Also tries the index after the last parameter, for which
+/// nothing must be printed.
 fn put_parameters(out: &mut String, parameters: &Params<'_>) -> Result<(), Fault> {
     for index in 0..=parameters.count() {
         if let Some(token) = parameters.get(index) {

@@ -75,7 +75,9 @@ fn replayed<W: Write + Drop>(
     }
 }
 
-/// Prints the server's answers about a connection.
+/// Prints the server's answers about a connection: whether a call can be taken; whether the
+/// connection is at fault; its room for bytes; how many bytes wait on the connection and on its
+/// interrupt channel; and where to dial, if a create_intr_chan waits for that.
 fn ask<W: Write + Drop>(
     server: &Played<'_>,
     conn: u8,

@@ -30,7 +30,8 @@ const SET_UP: Config = Config {
 #[derive(Drop)]
 struct Growing<'a> {
     alloc: Global,
-    /// Whether a call that finds no memory is refused, and then sent again.
+    /// If true, a call that finds no memory is refused, and then sent again. If false, its event is
+    /// just tried again.
     refuses: bool,
     server: Played<'a>,
     told: String,
@@ -89,8 +90,8 @@ impl Growing<'_> {
         Ok(())
     }
 
-    /// Applies the event of a line, and appends its result to the output. Returns true if the event
-    /// found no memory.
+    /// Applies the event of a line. Appends the refusal, if there is one, and the bytes that then
+    /// wait on all ports to the output. Returns true if the event found no memory.
     fn apply(&mut self, line: &str) -> io::Result<bool> {
         let mut buffer = [0; LONGEST];
         if line.len() > LONGEST {
@@ -109,9 +110,9 @@ impl Growing<'_> {
         Ok(found_none)
     }
 
-    /// Handles an event that found no memory: tries the event again; or refuses its call, and sends
-    /// the call again. `line` is the line of the event. `brought` is the `bytes` line that brought
-    /// the call.
+    /// Handles an event that found no memory. If `refuses` is true, first refuses its call, and
+    /// sends the call again with `brought`, the `bytes` line that brought the call. Then tries the
+    /// event again, whose line is `line`.
     fn go_on(&mut self, brought: &str, line: &str) -> io::Result<()> {
         if self.refuses {
             let conn = line.strip_prefix("turn ").unwrap_or("");
@@ -162,7 +163,7 @@ fn start<'a>(
     })
 }
 
-/// What a script prints when it is played.
+/// Plays a script one time, and returns what it prints. `heap` may refuse one allocation.
 fn outcome(
     alloc: Global,
     heap: &FailingAllocator<Global>,

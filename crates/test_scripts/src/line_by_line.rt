@@ -8,7 +8,7 @@ use std::cell::RefCell;
 use std::io::{self, BufWriter, Read, Write};
 use sv_replay::run_replay;
 
-/// Appends bytes to the notes.
+/// Appends bytes to `noted`, the record of what the input gave and the output took.
 fn note(noted: &RefCell<Vec<u8>>, bytes: &[u8]) -> io::Result<()> {
     match noted.try_borrow_mut() {
         Ok(mut all) => {
@@ -19,7 +19,7 @@ fn note(noted: &RefCell<Vec<u8>>, bytes: &[u8]) -> io::Result<()> {
     }
 }
 
-/// A reader that gives one line at each read, and notes the line.
+/// A reader that gives one line at each read, and appends the line to `noted`.
 #[derive(Drop)]
 struct Lines<'a> {
     rest: &'a [u8],
@@ -43,7 +43,7 @@ impl Read for Lines<'_> {
     }
 }
 
-/// A writer that takes bytes, and notes them.
+/// A writer that takes all bytes, and appends them to `noted`.
 #[derive(Drop)]
 struct Answers<'a> {
     noted: &'a RefCell<Vec<u8>>,

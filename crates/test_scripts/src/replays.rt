@@ -42,8 +42,8 @@ fn manner_of(words: &str) -> io::Result<Manner> {
     }
 }
 
-/// What is printed for a replay: the bytes that the writer took, and the fault, if there is one, on
-/// a line of its own.
+/// What is printed for a replay: how many bytes the writer took, but only if `narrow` is true; the
+/// bytes; and the fault, if there is one, on a line of its own.
 fn told(
     alloc: Global,
     taken: &[u8],

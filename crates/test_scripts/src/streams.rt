@@ -19,7 +19,7 @@ pub(crate) struct Manner {
 }
 
 impl Manner {
-    /// The manner in which all bytes are read and written at once, and nothing fails.
+    /// The `Manner` with which all bytes are read and written at once, and nothing fails.
     pub(crate) fn ample() -> Manner {
         Manner {
             singly: false,

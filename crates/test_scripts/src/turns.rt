@@ -1,5 +1,5 @@
-//! Doing something again and again: first its first allocation is refused, then its second, and so
-//! on.
+//! Calls a function again and again: first its first allocation is refused, then its second, and
+//! so on.
 
 use crate::words::bad;
 use failing_alloc::FailingAllocator;

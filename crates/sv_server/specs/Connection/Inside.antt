@@ -1,4 +1,4 @@
--- Only the contracts of private functions use these definitions. Nothing in them has to be taken on trust.
+-- Only the contracts of private functions use these definitions. A reader who trusts the prover needn't check them.
 pub mod NextCall
 pub mod Requests
 pub mod Replies

@@ -1,3 +1,3 @@
--- Only the contracts of private functions use these definitions. Nothing in them has to be taken on trust.
+-- Only the contracts of private functions use these definitions. A reader who trusts the prover needn't check them.
 pub mod Outcome
 pub mod WaitingCall

@@ -1,4 +1,4 @@
--- What the replay of an event writes, and which history it leaves.
+-- What the replay of an event writes, and for which history the server stands afterwards.
 use Rattle.std.specs.Prelude.{◌≡◌, ◌≢◌, ◌⊎◌, ℕ, List, ◌++◌, Result, Ok, Err, ⊤}
 use Rattle.sv_history.specs.declared.event.Config.{Config}
 use Rattle.sv_history.specs.declared.event.Port.{Port}
@@ -17,8 +17,8 @@ use Rattle.sv_server.specs.Replay.TakenByWriter.{IsFront}
 
 -- Success: all lines for the event were written, and the peers took all bytes that these lines show. Out of memory: the line of the refusal
 -- was written, and the peers took nothing. The writer failed in the line of the refusal: the peers took nothing. The writer failed later:
--- the lines of the first few ports were written, and the peers took the bytes that these lines show; then a prefix of the remaining lines
--- was written.
+-- the lines of the ports `shown` (perhaps none) were written, and their peers took the bytes that these lines show; then a prefix of the
+-- lines of the ports `others` was written, whose peers took nothing.
 abbrev pub IsReplayWritten : Result Did Refused → List ChannelAct → List Act → List PlainEvent → Result ⊤ ReplayFault → List ℕ
     → List PlainEvent
     → Type 0
@@ -30,8 +30,8 @@ IsReplayWritten did channel_log log history (Err Write) text after = (IsFront te
     ⊎ ((shown others : List Port) × (part : List ℕ) × (ports_after did ≡ shown ++ others) × IsFront part (lines_of channel_log others log)
     × (text ≡ head_of did ++ (lines_of channel_log shown log ++ part)) × (after ≡ with_tooks channel_log shown log history))
 
--- The event is applied or refused, as the history requires. Then the lines for the event are written, as the log after the event determines
--- them.
+-- What a replay does with an event. The event is applied or refused, whichever the history requires. Then the lines for the event are
+-- written. The log after the event determines these lines.
 pub record Replays (config : Config) (history : List PlainEvent) (event : PlainEvent) (result : Result ⊤ ReplayFault) (text : List ℕ)
     (after : List PlainEvent) : Type 0 where
   pub before : List Act

@@ -1,4 +1,4 @@
--- The part of a text that a writer took.
+-- Which part of a text a writer accepted, if the write of the text succeeded or failed.
 use Rattle.std.specs.Prelude.{◌≡◌, ℕ, List, ◌++◌, Option, Result, Ok, Err, ⊤}
 use Rattle.std.specs.Io.KnownBytes.{Appends}
 
@@ -6,7 +6,7 @@ use Rattle.std.specs.Io.KnownBytes.{Appends}
 abbrev pub IsFront : List ℕ → List ℕ → Type 0
 IsFront part text = (rest : List ℕ) × (text ≡ part ++ rest)
 
--- The writer took the whole text. Or it failed, and took a prefix.
+-- The writer accepted the whole text. Or the write failed, and the writer accepted a prefix of the text.
 abbrev pub IsTakenByWriter : {E : Type 0} → Option (List ℕ) → Option (List ℕ) → Result ⊤ E → List ℕ → Type 0
 IsTakenByWriter old new (Ok all) text = Appends old new text
 IsTakenByWriter old new (Err fault) text = (part : List ℕ) × IsFront part text × Appends old new part

@@ -22,12 +22,12 @@ pub record State : Type 0 where
   pub device : Device
   pub connections_used : ℕ
 
--- The call of this entry was taken and has no reply yet. If it is create_link, it waits for the lock.
+-- The call of this entry was taken and has no reply yet. If the call is create_link, the entry says that the call waits for the lock.
 abbrev pub IsTaken : List Act → Entry → Type 0
 IsTaken log entry = (call : List ℕ) × (pending_call (of entry.conn log) ≡ Some call)
     × (creates_link (core_call call) ≡ true → creates entry ≡ true)
 
--- The state is the one that the log determines, under a configuration.
+-- The server's state is the one that this configuration and this log determine.
 pub record Represents (state : State) (config : Config) (log : List Act) : Type 0 where
   pub each : (c : ℕ) (other : Connection) → c < 16 → IsConnection (slice_index_or state.connections c other) (of c log)
   pub beyond : (c : ℕ) → 16 ≤ c → of c log ≡ []

@@ -17,7 +17,7 @@ pub const LONGEST_REPLY: usize = 40 + MAX_READ;
 /// The longest reply without the header of its fragment, in bytes: the reply's header (24), error,
 /// reason and length (4 each), and the data of a read.
 const LONGEST_TEXT: usize = LONGEST_REPLY - 4;
-/// The most data of a brief answer, in bytes. Every answer is brief, except a long response.
+/// The most data of a brief answer, in bytes. Only an answer to a device_read may have more data.
 const BRIEF_DATA: usize = 256;
 /// The longest reply with a brief answer, in bytes, without the header of its fragment.
 const BRIEF_TEXT: usize = LONGEST_TEXT - MAX_READ + BRIEF_DATA;
@@ -28,7 +28,7 @@ pub enum Answer<'a> {
     /// A reply that has only a header. The header or the arguments of the call decide it, without
     /// the device.
     Header(Reply),
-    /// The port that GETPORT asks for.
+    /// The TCP port that is the result of a GETPORT.
     Port(u32),
     /// The result of a call of the core or the abort channel.
     Result(VxiResult<'a>),
@@ -49,8 +49,8 @@ pub fn put_reply<A: Allocator>(out: &mut Vec<u8, A>, xid: u32, answer: &Answer<'
     }
 }
 
-/// Whether an answer is known to be brief (at most 256 bytes of data). The reply with a brief
-/// answer fits into a smaller buffer, which is cleared faster.
+/// Whether an answer has at most 256 bytes of data. Its reply is then written into a smaller
+/// buffer, which is cleared faster.
 fn is_brief(answer: &Answer<'_>) -> bool
     ensures { result ≡ true → HasAtMost 256 answer.now }
 {
@@ -68,7 +68,8 @@ fn is_brief(answer: &Answer<'_>) -> bool
     }
 }
 
-/// Writes a reply into a buffer that has room for it, and appends it to the outgoing bytes.
+/// Writes a reply into the buffer `text`, which has room for the reply, and then appends the reply
+/// to `out`, the outgoing bytes.
 fn put_through<A: Allocator>(out: &mut Vec<u8, A>, text: &mut [u8], xid: u32, answer: &Answer<'_>)
     requires fits { length (answer_text xid answer.now) ≤ length text.old }
     requires room { vec_len out.old + longest_reply ≤ vec_capacity out.old }

@@ -56,7 +56,7 @@ pub enum Request<'a> {
     Port {
         /// The xid of the call.
         xid: u32,
-        /// Its arguments.
+        /// The arguments of the call, still encoded.
         args: &'a [u8],
     },
 }
@@ -97,7 +97,7 @@ fn version_of(role: Role) -> u32
     }
 }
 
-/// Whether the program of this role has this procedure. The null procedure doesn't count.
+/// Whether the program of this role has this procedure. False for the null procedure.
 fn has_procedure(role: Role, proc: u32) -> bool
     ensures { result ≡ is_one_of (program_for role).2 proc }
 {
@@ -108,7 +108,7 @@ fn has_procedure(role: Role, proc: u32) -> bool
     }
 }
 
-/// Whether the core channel has this procedure. The null procedure doesn't count.
+/// Whether the core channel has this procedure. False for the null procedure.
 fn is_core_call(proc: u32) -> bool
     ensures { result ≡ is_one_of core_calls proc }
 {
@@ -181,7 +181,7 @@ fn procedure_request<'a>(role: Role, call: &Call<'a>) -> Request<'a>
     }
 }
 
-/// A request whose reply follows from the header of the call.
+/// Makes the request of a call whose header decides the reply, without the device.
 fn decided<'a>(call: &Call<'a>, reply: Reply) -> Request<'a>
     ensures { plain_request result ≡ Decided call.now.xid reply }
 {

@@ -45,8 +45,8 @@ pub enum Stop {
     },
 }
 
-/// What stops a call while a link other than the call's link holds the lock; `None` if the call
-/// doesn't need the lock.
+/// What stops a call while a link other than the call's link holds the lock: a wait for the lock,
+/// or the error for a locked device. `None` if the call doesn't need the lock.
 fn lock_stop(call: &LinkCall<'_>) -> Option<Stop>
     ensures { option_map plain_stop result
         ≡ option_map lock_stop_for (lock_wait (plain_call call.now)) }
@@ -64,9 +64,9 @@ fn lock_stop(call: &LinkCall<'_>) -> Option<Stop>
     }
 }
 
-/// What stops create_intr_chan. The call fails if `there` (the connection's interrupt channel is
-/// open), if `prog_family` isn't TCP (0), or if the address or the port isn't allowed. Else the
-/// call is suspended until its peer is connected.
+/// What stops create_intr_chan. The call fails if the connection's interrupt channel is already
+/// open (`there`), if `prog_family` isn't TCP (0), or if the address or the port isn't allowed.
+/// Else the call is suspended until its peer is connected.
 fn channel_stop(there: bool, host_addr: u32, host_port: u32, prog_family: u32) -> Stop
     ensures { plain_stop result ≡ channel_stop_for there host_addr host_port prog_family }
 {
@@ -100,8 +100,8 @@ impl<A: Allocator> Device<A> {
     }
 
     /// What a call waits for besides the lock, and its timeout in milliseconds; `None` if the call
-    /// needn't wait. A write waits while the instrument hasn't finished a message whose end has
-    /// come. A read waits until it can be answered.
+    /// needn't wait. A device_write waits while the instrument hasn't finished a message that came
+    /// completely. A device_read waits until the instrument can answer it.
     pub(super) fn device_wait(&self, call: &LinkCall<'_>) -> Option<(Wait, u32)>
         ensures answer { (config : Configured) (acts : List DeviceAct)
             → IsDevice self.now config acts
@@ -191,9 +191,9 @@ impl<A: Allocator> Device<A> {
         }
     }
 
-    /// What stops a call on a link; `None` if nothing does. In this order, these are checked:
-    /// whether the link is invalid, whether the call is a write that is too long, whether the lock
-    /// stops the call, and whether the call has to wait for the device.
+    /// What stops a call on a link; `None` if nothing does. The first of these that applies stops
+    /// the call: the connection has no such link; the call is a write of too many bytes; another
+    /// link holds the lock that the call needs; the call has to wait for the device.
     fn call_stop(&self, conn: Conn, lid: i32, call: &LinkCall<'_>) -> Option<Stop>
         ensures { (config : Configured) (acts : List DeviceAct) → IsDevice self.now config acts
             → option_map plain_stop result
@@ -285,7 +285,8 @@ impl<A: Allocator> Device<A> {
         });
     }
 
-    /// Suspends a create_intr_chan until its peer is connected. The connection has no open channel.
+    /// Suspends a create_intr_chan until its peer is connected, and allocates the memory for its
+    /// channel.
     fn await_peer(
         &mut self,
         conn: Conn,
@@ -306,7 +307,8 @@ impl<A: Allocator> Device<A> {
         Ok(CallOutcome::Suspended)
     }
 
-    /// Suspends a call that waits for the lock or the device.
+    /// Suspends a call that waits for the lock or the device. If the call is create_link, allocates
+    /// the memory for its link.
     fn await_device(
         &mut self,
         conn: Conn,

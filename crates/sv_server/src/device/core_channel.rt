@@ -101,7 +101,7 @@ impl<A: Allocator> Device<A> {
         self.make_free(conn)
     }
 
-    /// destroy_link.
+    /// destroy_link: destroys the link, and disables its service requests.
     fn destroy_link(&mut self, lid: u32) -> CallOutcome
         ensures ends { (config : Configured) (acts : List DeviceAct) → IsDevice self.old config acts
             → OutcomeIs result self.new config acts
@@ -140,7 +140,8 @@ impl<A: Allocator> Device<A> {
         CallOutcome::Result(plain(ErrorCode::NoError))
     }
 
-    /// device_write: the instrument accepts the bytes; with END, they end their message.
+    /// device_write: the instrument accepts the bytes. If the call's flag END is set, these bytes
+    /// end the message.
     fn device_write(&mut self, flags: Flags, bytes: &[u8]) -> CallOutcome
         ensures ends { (config : Configured) (acts : List DeviceAct) → IsDevice self.old config acts
             → OutcomeIs result self.new config acts (device_write flags.0 bytes.now acts) }
@@ -230,8 +231,8 @@ impl<A: Allocator> Device<A> {
         CallOutcome::Result(plain(ErrorCode::NoError))
     }
 
-    /// device_clear: drops the bytes of messages that aren't executed yet, the held unit and the
-    /// response.
+    /// device_clear: drops the bytes of messages that aren't executed yet, the held unit (which
+    /// waits for the end of a measurement), and the response.
     fn device_clear(&mut self) -> CallOutcome
         ensures ends { (config : Configured) (acts : List DeviceAct) → IsDevice self.old config acts
             → OutcomeIs result self.new config acts

@@ -1,5 +1,5 @@
-//! Results of calls that fail, or that report only success, in the form that the protocol gives
-//! each call.
+//! Results of calls that fail, or that return nothing but their success. Each call's result has the
+//! fields that VXI-11 gives it.
 
 ghost use Rattle.std.specs.Prelude.{◌≡◌, ℤ, pos, []};
 ghost use Rattle.sv_vxi.specs.Arguments.{OnLink};
@@ -9,7 +9,7 @@ ghost use Rattle.sv_history.specs.CoreCall.{failure as failed, no_bytes};
 
 use sv_vxi::{Args, ErrorCode, GenericCall, LinkCall, Reason, VxiResult};
 
-/// The result of a call that fails, in the form of that call's results.
+/// The result of a call that fails: this error, and all other fields of the result 0 or empty.
 pub fn failure(args: &Args<'_>, error: ErrorCode) -> VxiResult<'static>
     ensures result_is { plain_result result ≡ failed (plain_arguments args.now) error }
     ensures short { data_of (plain_result result) ≡ [] }
@@ -21,7 +21,8 @@ pub fn failure(args: &Args<'_>, error: ErrorCode) -> VxiResult<'static>
     }
 }
 
-/// The result of a call on a link, when the call fails, in the form of that call's results.
+/// The result of a call on a link that fails: this error, and all other fields of the result 0 or
+/// empty.
 pub fn call_failure(call: &LinkCall<'_>, error: ErrorCode) -> VxiResult<'static>
     ensures result_is { (lid : ℤ) → plain_result result
         ≡ failed (OnLink lid (plain_call call.now)) error }
@@ -58,7 +59,7 @@ pub fn no_link(error: ErrorCode) -> VxiResult<'static>
     }
 }
 
-/// The result of a device_write.
+/// The result of a device_write that accepted `size` bytes.
 pub fn written(error: ErrorCode, size: u32) -> VxiResult<'static>
     ensures { plain_result result ≡ Size error size }
 {

@@ -174,7 +174,8 @@ impl<A: Allocator> Device<A> {
         self.intr.open(conn.number, peer);
     }
 
-    /// Ends the suspension of a create_intr_chan whose channel can't be opened.
+    /// Ends the suspension of a create_intr_chan whose channel can't be opened, and drops the
+    /// channel that was prepared for it.
     fn give_up_channel(&mut self, conn: Conn)
         ensures stands { (config : Configured) (acts : List DeviceAct)
             → IsDevice self.old config acts

@@ -35,7 +35,8 @@ pub enum Cause {
 }
 
 impl<A: Allocator> Device<A> {
-    /// Continues a suspended call: executes it, suspends it anew, or ends it, as `cause` says.
+    /// Continues a suspended call: executes it, suspends it anew, or ends it. `cause` says why the
+    /// call continues.
     pub fn take_up(&mut self, conn: Conn, cause: Cause, args: &Args<'_>) -> CallOutcome
         requires { IsNearer cause conn.number self.old.waiting }
         ensures ends { (config : Config) (polled : ℕ) (acts : List DeviceAct)

@@ -9,7 +9,7 @@ ghost use Rattle.sv_server.specs.Replay.TakenByWriter.{IsTakenByWriter};
 use std::io::{ErrorKind, Write};
 use sv_history::{Port, Refused};
 
-/// How many bytes are converted to hexadecimal for one write.
+/// The most bytes that are converted to hexadecimal at one time.
 const PIECE: usize = 256;
 
 /// The writer failed, or took no byte.
@@ -48,7 +48,7 @@ fn put<W: Write>(writer: &mut W, bytes: &[u8]) -> Result<(), WriteFault>
     Err(WriteFault)
 }
 
-/// Writes a few bytes as two hexadecimal digits each, in lower case.
+/// Writes at most 256 bytes as two hexadecimal digits each, in lower case.
 fn put_piece<W: Write>(writer: &mut W, piece: &[u8]) -> Result<(), WriteFault>
     requires { length piece.now ≤ 256 }
     ensures { IsTakenByWriter (W.contents writer.old) (W.contents writer.new) result
@@ -82,7 +82,8 @@ fn put_number<W: Write>(writer: &mut W, number: u8) -> Result<(), WriteFault>
     put(writer, itoa::Buffer::new().format(number).as_bytes())
 }
 
-/// Writes the letter and the number of a port.
+/// Writes the name of a port: `c` for a connection or `i` for an interrupt channel, and then the
+/// number of the connection.
 fn put_name<W: Write>(writer: &mut W, port: Port) -> Result<(), WriteFault>
     ensures { IsTakenByWriter (W.contents writer.old) (W.contents writer.new) result
         (port_name port) }
@@ -120,7 +121,7 @@ fn number_of(refused: Refused) -> u8
     refused as u8
 }
 
-/// Writes the line of a refusal.
+/// Writes the line for a refused event: `refused` and the number of the refusal.
 pub fn put_refusal<W: Write>(writer: &mut W, refused: Refused) -> Result<(), WriteFault>
     ensures { IsTakenByWriter (W.contents writer.old) (W.contents writer.new) result
         (refusal_line refused) }

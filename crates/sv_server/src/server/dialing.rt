@@ -40,7 +40,7 @@ fn dial_by(args: &Args<'_>) -> Option<Dial>
     None
 }
 
-/// An address and a port; `None` if the port is above 65535.
+/// Makes a `Dial` of an address and a port; `None` if the port is above 65535.
 fn dial_to(addr: u32, port: u32) -> Option<Dial>
     ensures { result ≡ (if nat_lt port 65536
         then Some (record { addr = addr; port = port }) else None) }

@@ -52,8 +52,8 @@ fn port_answer(ports: Ports, args: &[u8]) -> Answer<'static>
     }
 }
 
-/// Executes a record, but doesn't send the reply. For a device_abort, returns which suspended call
-/// is aborted, but doesn't end that call.
+/// Executes the request of a record, but doesn't write the reply. For a device_abort, returns which
+/// suspended call it aborts, but doesn't end that call yet.
 pub fn execute<A: Allocator>(
     device: &mut Device<A>,
     conn: Conn,

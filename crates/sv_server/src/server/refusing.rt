@@ -1,4 +1,4 @@
-//! Refusing a connection's next call for lack of resources: error 9.
+//! Answers a connection's next call with error 9 (out of resources), without executing the call.
 
 ghost use Rattle.std.specs.Prelude.{◌≡◌, List, Some, OnErr, option_map};
 ghost use Rattle.sv_rpc.specs.Call.{call_at};
@@ -18,7 +18,7 @@ use std::alloc::Allocator;
 use sv_history::{Refused, Role};
 use sv_vxi::{Args, ErrorCode};
 
-/// Whether a call makes a link or an interrupt channel.
+/// Whether the call is create_link or create_intr_chan. Only these two calls may allocate memory.
 fn takes_memory(args: &Args<'_>) -> bool
     ensures { result ≡ makes_more (plain_arguments args.now) }
 {
@@ -38,7 +38,8 @@ fn refusable(role: Role, bytes: &[u8]) -> Option<CoreCall<'_>>
     }
 }
 
-/// The call, if it may allocate memory; else `None`.
+/// Returns the call if it is create_link or create_intr_chan, which may allocate memory; else
+/// `None`.
 fn unless_modest(call: CoreCall<'_>) -> Option<CoreCall<'_>>
     ensures { option_map plain_core_call result
         ≡ refusable_call (Some (CoreRequest (plain_core_call call.entry))) }
@@ -50,8 +51,9 @@ fn unless_modest(call: CoreCall<'_>) -> Option<CoreCall<'_>>
     }
 }
 
-/// Takes the next call of an open connection, and answers it with error 9 without executing it.
-/// Fails if the call isn't one that may be refused, or the output has no room for the reply.
+/// Takes the next call of an open connection, and answers it with error 9 (out of resources)
+/// without executing it. Fails if the call isn't one that may be refused, or if the output has no
+/// room for the reply.
 pub fn refuse<A: Allocator>(connection: &mut Connection<A>, role: Role) -> Result<(), Refused>
     requires { connection.old.role ≡ Some role }
     ensures acts { (acts : List ConnAct) → IsConnection connection.old acts

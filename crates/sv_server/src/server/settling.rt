@@ -211,7 +211,7 @@ impl<A: Allocator> Server<A> {
         self.settle();
     }
 
-    /// Takes the steps that are due, until none is.
+    /// Takes steps until no step is due.
     fn settle(&mut self)
         ensures { (config : Config) (log : List Act) → Represents self.old config log
             → Settled config log self.new }

@@ -29,7 +29,7 @@ use sv_vxi::{ErrorCode, Reason, VxiResult};
 pub enum Turned {
     /// Nothing: there was no call to take.
     Idle,
-    /// A call was taken. It was then executed or suspended.
+    /// A record was taken. Its call was executed or suspended; or the record isn't a call.
     Done {
         /// The connection whose suspended call is ended by the call that was taken (a
         /// device_abort); `None` if it ends none.
@@ -70,8 +70,8 @@ pub fn turn<A: Allocator>(
     })
 }
 
-/// Finishes the record that was taken, unless its call is suspended: sends the reply, or drops the
-/// record if it isn't a call.
+/// Finishes the record that was taken, unless its call is suspended: appends the reply to the
+/// outgoing bytes, or drops the record if it isn't a call.
 fn conclude<A: Allocator>(
     xid: u32,
     executed: Executed,
@@ -94,7 +94,8 @@ fn conclude<A: Allocator>(
     }
 }
 
-/// Sends the reply to a call of the core channel, unless the call is suspended.
+/// Appends the reply to a call of the core channel to the outgoing bytes, unless the call is
+/// suspended.
 pub fn conclude_call<A: Allocator>(
     xid: u32,
     outcome: CallOutcome,

@@ -11,8 +11,8 @@ use Rattle.sv_history.specs.Reply.{reply_record}
 use Rattle.sv_server.specs.declared.connection.reply.Answer.{Answer}
 use Rattle.sv_server.specs.declared.connection.reply.Answer.TheVariants as answers
 
--- Four functions of an answer. They give its reply; the fields after the reply's header; the bytes of header and fields; and these bytes as
--- a record.
+-- Four functions of an answer: `reply_of` gives the kind of its reply; `fields_of` the fields after the reply's header; `answer_text` the
+-- bytes of the header and the fields; and `answer_bytes` these bytes as a record.
 abbrev pub reply_of : Answer → Reply
 reply_of (answers.Header reply) = reply
 reply_of (answers.Port port) = Success

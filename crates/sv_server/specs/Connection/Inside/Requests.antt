@@ -7,7 +7,8 @@ use Rattle.sv_server.specs.declared.connection.request.CoreCall.{CoreCall as Tak
 use Rattle.sv_server.specs.declared.connection.request.Request.{Request as Asked}
 use Rattle.sv_server.specs.declared.connection.request.Request.TheVariants as requests
 
--- Two functions turn a value of the code into plain data: the first one a call of the core channel, the second one the request of a record.
+-- Two functions turn a value of the code into plain data: `plain_core_call` a call of the core channel, `plain_request` the request that a
+-- record makes.
 abbrev pub plain_core_call : TakenCall → CoreCall
 plain_core_call call = record { xid = call.xid; arguments = plain_arguments call.args }
 

@@ -66,8 +66,8 @@ IsGranted _ kept acts = ⊤
 
 -- ---- a call that begins
 
--- The call of connection `c` was suspended: the entry of this call was appended to the queue of suspended calls. If the call is create_link
--- (`makes`), this entry waits for the lock.
+-- The call of connection `c` was suspended: the entry of this call was appended to the queue of suspended calls. `makes` says whether the
+-- call is create_link. If so, the entry says that the call waits for the lock.
 abbrev pub IsBehind : ℕ → Bool → List Entry → List Entry → Type 0
 IsBehind c makes old new =
     (entry : Entry) × (entry.conn ≡ c) × (new ≡ without c old ++ entry ∷ []) × (makes ≡ true → creates entry ≡ true)

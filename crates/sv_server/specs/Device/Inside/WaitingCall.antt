@@ -1,4 +1,4 @@
--- A suspended call, as an entry of the queue.
+-- A suspended call, as an entry of the queue of suspended calls.
 use Rattle.std.specs.Prelude.{◌≡◌, ◌+◌, ◌<◌, ◌≤◌, List, Some}
 use Rattle.sv_links.specs.declared.waiting.Entry.{Entry}
 use Rattle.sv_links.specs.Queue.{entry_of, without, wait_measure, queue_measure}

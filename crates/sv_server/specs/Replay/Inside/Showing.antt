@@ -1,4 +1,5 @@
--- How a replay writes the lines of all ports, one line after the other. The line of a port shows the bytes that wait to be sent on it.
+-- How a replay writes a line for each port (a connection or an interrupt channel) on which bytes wait to be sent. The line shows these
+-- bytes.
 use Rattle.std.specs.Prelude.{◌≡◌, ℕ, List, [], ◌∷◌, ◌++◌, length, Result, Ok, Err, ⊤}
 use Rattle.sv_history.specs.declared.event.Config.{Config}
 use Rattle.sv_history.specs.declared.event.Port.{Port}
@@ -41,8 +42,9 @@ ShowsPort port config history channel_log log (Ok all) new text = let bytes = wa
 ShowsPort port config history channel_log log (Err fault) new text =
     IsFront text (port_line port (waiting_on channel_log port log)) × StandsBy new config history channel_log log
 
--- All lines were written, and the peers took the bytes that the lines show. Or the writer failed: the lines of the first few ports were
--- written, and the peers of these ports took the bytes; then a prefix of the remaining lines was written, and the other peers took nothing.
+-- Success: the lines of all ports were written, and the peers took the bytes that the lines show. The writer failed: the lines of the ports
+-- `shown` (perhaps none) were written, and their peers took the bytes; then a prefix of the lines of the ports `others` was written, whose
+-- peers took nothing.
 abbrev pub ShowsAll : Config → List PlainEvent → List ChannelAct → List Act → Result ⊤ WriteFault → State → List ℕ → Type 0
 ShowsAll config history channel_log log (Ok all) new text = (text ≡ lines_of channel_log ports log) × (after : List ChannelAct)
     × (now : List Act)

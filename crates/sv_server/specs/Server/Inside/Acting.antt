@@ -51,8 +51,8 @@ is_quiet (Bytes c piece) = true
 is_quiet (Took port count) = true
 is_quiet _ = false
 
--- The next call of connection `c` is `call`, which makes the request `request`. `IsSo` holds of the effect that a Turn of this connection
--- has, which takes the call.
+-- The next call of connection `c` is `call`, which makes the request `request`. A Turn of this connection would take this call, and `IsSo`
+-- holds of the effect that this Turn would have.
 abbrev pub TakesCall : Config → ℕ → List Act → List ℕ → Request → (Effect → Type 0) → Type 0
 TakesCall config c log call request IsSo = (next_call (of c log) ≡ Some call) × (next_request (of c log) ≡ Some request)
     × ((polled : ℕ) → IsPolled polled (device_acts log) → IsSo (request_effect config polled c request (device_acts log)))
@@ -68,7 +68,7 @@ Turns config c log old (Err NoMemory) connection device = (turn_refusal (of c lo
     × TakesCall config c log call request (λ effect. wants_memory effect.adds ≡ true)
 Turns config c log old (Err refused) connection device = turn_refusal (of c log) ≡ Some refused
 
--- A Refuse of an open connection either takes the next call and answers it, or is refused.
+-- The event Refuse of an open connection either takes the connection's next call and answers it with an error, or is itself refused.
 abbrev pub Refuses : List ConnAct → Result ⊤ Refused → Connection → Type 0
 Refuses acts (Ok done) connection = (refuse_refusal acts ≡ None) × (bytes : List ℕ) × (call : CoreCall)
     × (next_call acts ≡ Some bytes) × (refusable acts ≡ Some call)
@@ -86,7 +86,7 @@ abbrev pub TakesStep : (Config → List Act → List Act → Type 0) → Bool �
 TakesStep IsStep true config log old new = (next : List Act) × IsStep config log next × Represents new config next
 TakesStep IsStep false config log old new = ((next : List Act) → IsStep config log next → ⊥) × (new ≡ old)
 
--- Either the server took the step that was due. Or no step is due, and the server still stands for the same log.
+-- Either the server took the step that was due. Or no step is due, and the server's state is still the one that `log` determines.
 abbrev pub Steps : Stepped → Config → List Act → State → Type 0
 Steps Nothing config log new = IsSettled config log × Represents new config log
 Steps Instrument config log new = (next : List Act) × IsNext config log next × Represents new config next
