@@ -84,7 +84,7 @@ bytes_of kept c = bytes_in (slice_get kept.channels c)
 abbrev pub IsReady : Channels → ℕ → Type 0
 IsReady kept c = (other : Channel) → is_prepared (slice_index_or kept.channels c other).stage ≡ true
 
--- The list of links with service requests enabled and the channels have the state that the acts determine. No connection above 15 has an
+-- The channels, and the list of links with service requests enabled, have the state that the acts determine. No connection above 15 has an
 -- open channel.
 pub record AreChannels (kept : Channels) (acts : List ChannelAct) : Type 0 where
   pub enabled : kept.enabled ≡ enabled_links acts

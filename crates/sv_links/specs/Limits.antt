@@ -34,6 +34,6 @@ longest_text = 44 + max_handle
 abbrev pub longest_call : ℕ
 longest_call = 4 + longest_text
 
--- how many bytes may wait on an interrupt channel: those of 32 calls
+-- how many bytes may wait on an interrupt channel: 32 calls of the greatest length
 abbrev pub max_queued : ℕ
 max_queued = max_calls * longest_call

@@ -62,8 +62,8 @@ creations entries = length (filter creates entries)
 abbrev pub without : ℕ → List Entry → List Entry
 without conn entries = filter (λ entry. not (entry.conn == conn)) entries
 
--- the most steps that a suspended call can still take: being suspended anew and leaving the queue. A call that waits for the lock can be
--- suspended anew one time.
+-- the most steps that a suspended call can still take. Each call takes one step when it leaves the queue. A call that waits for the lock
+-- can take one more step before that: it can be suspended anew, to wait for something else.
 abbrev pub wait_measure : Wait → ℕ
 wait_measure Lock = 2
 wait_measure Input = 1

@@ -54,8 +54,8 @@ is_lock = elim [ Some Lock ↦ true | _ ↦ false ]
 abbrev pub connections : List ℕ
 connections = range_with_len 0 max_connections
 
--- whether a suspended call gets what it waits for. `Lock`: no link other than the named one holds the lock. `Input`: a write is accepted
--- now. `Response`: a read is answered now. For any other wait, and for no wait, it is false.
+-- whether a suspended call gets what it waits for. `Lock`: no link other than the named one holds the lock. `Input`: the device accepts a
+-- write, as `can_write` says. `Response`: the device answers a read, as `can_read` says. Any other wait, or `None`: false.
 abbrev pub is_there : Option ℕ → Bool → Bool → Option ℕ → Option Wait → Bool
 is_there holder can_write can_read named (Some Lock) = not (is_locked_out holder named)
 is_there holder can_write can_read named (Some Input) = can_write

@@ -22,7 +22,7 @@ impl Model for Handle {
 }
 
 impl Handle {
-    /// The handle with these bytes; an empty handle if there are too many bytes.
+    /// The handle with these bytes; an empty handle if there are more than [`MAX_HANDLE`] bytes.
     fn new(given: &[u8]) -> Handle
         ensures { length given.now ≤ max_handle → result ≡ given.now }
     {

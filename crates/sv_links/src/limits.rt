@@ -20,5 +20,5 @@ pub(crate) const LONGEST_TEXT: usize = 44 + MAX_HANDLE;
 /// The length of the longest record of a device_intr_srq, in bytes: the header of its one fragment
 /// (4; RFC 5531, section 11), and the call.
 const LONGEST_CALL: usize = 4 + LONGEST_TEXT;
-/// How many bytes may wait on an interrupt channel: those of [`MAX_CALLS`] calls.
+/// How many bytes may wait on an interrupt channel: [`MAX_CALLS`] calls of the greatest length.
 pub(crate) const MAX_QUEUED: usize = MAX_CALLS * LONGEST_CALL;

@@ -23,7 +23,7 @@ abbrev pub ReadAlone : Type 0
 ReadAlone = (stream : List ℕ) (records : List (List ℕ)) (tail : Tail) → Splits stream records tail
     → (records ≡ records_of stream) × (tail ≡ tail_of stream)
 
--- For any bytes, `call_at` returns the call that they encode, or the fault for which they encode none, as `CallIs` requires.
+-- For any bytes, `call_at` returns what `CallIs` requires: the call that the bytes encode or, if they encode none, the fault that says why.
 abbrev pub CallAsSpelled : Type 0
 CallAsSpelled = (bytes : List ℕ) → All (λ byte. byte < 256) bytes → CallIs bytes (call_at bytes)
 

@@ -9,8 +9,8 @@ use Rattle.sv_rpc.specs.Record.{Tail, Header, Data, TooLong}
 abbrev pub Reading : Type 0
 Reading = List (List ℕ) × Tail
 
--- The records and the tail that are read once a fragment is complete. `payload` is the data of the fragment's record so far, and the flag
--- says whether the fragment is the last of this record. `next` reads `rest`, the bytes after the fragment.
+-- What is read of a stream from the end of a complete fragment on. `payload` is the data of the fragment's record, including this
+-- fragment's data. The flag says whether the fragment is the last of its record. `next` reads `rest`, the bytes after the fragment.
 abbrev pub read_on : (List ℕ → List ℕ → Reading) → List ℕ → Bool → List ℕ → Reading
 read_on next payload true rest = (payload ∷ (next [] rest).0, (next [] rest).1)
 read_on next payload false rest = next payload rest
@@ -23,8 +23,8 @@ read_data next payload last size rest =
     else (if nat_lt (length rest) size then ([], Data (payload ++ rest) (size - length rest) last)
     else read_on next (payload ++ take size rest) last (drop size rest))
 
--- The records and the tail that are read from `bytes`, in at most `n` fragments. `payload` is the data of the unfinished record that came
--- before `bytes`.
+-- The records and the tail that are read from `bytes`, in at most `n` fragments. `payload` is the part of the first record's data that
+-- stands in front of `bytes`.
 unfoldable pub read : ℕ → List ℕ → List ℕ → Reading
 read zero payload bytes = ([], TooLong)
 read (suc n) payload bytes =

@@ -8,15 +8,16 @@ pub fn one_reading()
     ensures { OneReading }
 {}
 
-/// Every stream of bytes splits into its `records_of` and its `tail_of`, and in no other way.
+/// Every stream of bytes splits into the records that `records_of` returns and the tail that
+/// `tail_of` returns, and in no other way.
 pub fn read_as_split()
     ensures every { ReadAsSplit }
     ensures alone { ReadAlone }
 {}
 
-/// The function `call_at` returns the call that a record encodes, or the fault for which the record
-/// isn't accepted as a call. The function `port_at` returns the answer to a GETPORT call with the
-/// given arguments.
+/// The function `call_at` returns the call that a record encodes or, if it encodes none, the fault
+/// that says why. The function `port_at` returns the answer to a GETPORT call with the given
+/// arguments.
 pub fn read_as_spelled()
     ensures call { CallAsSpelled }
     ensures port { PortAsSpelled }

@@ -68,8 +68,8 @@ pub fn write_call(
     words(writer, &[xid, 0, 2, prog, vers, proc, 0, 0, 0, 0])
 }
 
-/// Writes each number in `words` as an unsigned integer. A 0 also serves as opaque data of length
-/// 0, which have the same encoding.
+/// Writes each number in `words` as an unsigned integer. To write opaque data of length 0, the
+/// caller passes a 0, which has the same encoding.
 fn words(writer: &mut Writer<'_>, words: &[u32]) -> Result<(), XdrFault>
     ensures same_buffer { writer.new.out.ghost_name ≡ writer.old.out.ghost_name }
     ensures writes { WritesEach (map (λ word. spelling (Unsigned word)) words.now) result writer.old
