@@ -33,8 +33,8 @@ is_prepared Prepared = true
 is_prepared Closed = false
 is_prepared (Open what) = false
 
--- how many bytes remain of each call, for calls of these sizes, after the peer took `count` bytes in total. A call of which no byte remains
--- is omitted.
+-- For calls of these sizes, of which the peer took `count` bytes in total: how many bytes remain of each call. A call of which no byte
+-- remains is omitted.
 abbrev pub left_in : ℕ → List ℕ → List ℕ
 left_in count [] = []
 left_in count (size ∷ sizes) = if nat_lt count size then (size - count) ∷ sizes else left_in (count - size) sizes
