@@ -20,6 +20,6 @@ is_mnemonic (b ∷ bytes) = is_letter b && list_all is_word_byte bytes
 abbrev pub words : List ℕ → List (List ℕ)
 words text = elim (lead text) [ Common ↦ body text ∷ [] | _ ↦ cut_at 58 (body text) ]
 
--- whether a text is a well-formed header: each part that must be a mnemonic is one
+-- whether a text is a well-formed header: each part of it that must be a mnemonic is a mnemonic
 abbrev pub is_header : List ℕ → Bool
 is_header text = list_all is_mnemonic (words text)

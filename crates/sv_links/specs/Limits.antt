@@ -13,7 +13,7 @@ max_waiting = max_connections
 abbrev pub max_links : ℕ
 max_links = 32
 
--- how many links may have service requests enabled at the same time: all links
+-- how many links may have service requests enabled at the same time: as many as may exist
 abbrev pub max_enabled : ℕ
 max_enabled = max_links
 

@@ -78,8 +78,8 @@ is_creating acts c = is_lock (waits c acts) && is_none (link c acts)
 abbrev pub creating : List WaitAct → ℕ
 creating acts = length (filter (is_creating acts) connections)
 
--- Of the connections for which `IsSuch` holds, the given one has the call that was suspended first; `None` is given if `IsSuch` holds for
--- no connection.
+-- The third argument is the connection whose call was suspended first, of all connections for which `IsSuch` holds. It is `None` if
+-- `IsSuch` holds for no connection.
 abbrev pub IsOldest : List WaitAct → (ℕ → Type 0) → Option ℕ → Type 0
 IsOldest acts IsSuch None = (c : ℕ) → IsSuch c → ⊥
 IsOldest acts IsSuch (Some c) = IsSuch c × ((d : ℕ) → IsSuch d → arrival c acts ≤ arrival d acts)

@@ -54,7 +54,7 @@ pub(crate) struct Enabled {
 }
 
 impl Enabled {
-    /// A link with its handle, of at most [`MAX_HANDLE`] bytes.
+    /// A link that has service requests enabled, with this handle of at most [`MAX_HANDLE`] bytes.
     pub(crate) fn new(lid: u32, conn: u8, handle: &[u8]) -> Enabled
         ensures link { (result.lid ≡ lid) × (result.conn ≡ conn) }
         ensures handle { length handle.now ≤ max_handle → result.handle ≡ handle.now }

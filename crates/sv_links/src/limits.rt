@@ -6,7 +6,7 @@ pub const MAX_CONNECTIONS: usize = 16;
 pub(crate) const MAX_WAITING: usize = MAX_CONNECTIONS;
 /// How many links there may be at the same time.
 pub const MAX_LINKS: usize = 32;
-/// How many links may have service requests enabled at the same time: all links.
+/// How many links may have service requests enabled at the same time: as many as may exist.
 pub(crate) const MAX_ENABLED: usize = MAX_LINKS;
 /// How many calls may wait on an interrupt channel, including a call of which the peer took only a
 /// part.

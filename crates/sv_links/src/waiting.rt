@@ -174,9 +174,9 @@ impl<A: Allocator> Waiting<A> {
         self.entries.iter().filter(|entry| entry.creates()).count() as u8
     }
 
-    /// Suspends the call of a connection anew: the call now waits for `wait`, until `deadline`, and
-    /// keeps its place in the order of arrival. If the connection has no suspended call, nothing
-    /// changes.
+    /// Lets the suspended call of a connection wait for something else: for `wait`, until
+    /// `deadline`. The call keeps its place in the order of arrival. If the connection has no
+    /// suspended call, nothing changes.
     pub fn again(&mut self, conn: u8, wait: Wait, deadline: Option<u64>)
         ensures value { self.new ≡ map (anew conn wait deadline) self.old }
         ensures stands { (acts : List WaitAct) → IsQueue self.old acts

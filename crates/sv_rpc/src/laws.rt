@@ -31,8 +31,8 @@ pub fn one_call()
 
 /// No header of a call is a proper prefix of another call's header, and no header of a reply is a
 /// proper prefix of another reply's header. If the same bytes can be split in two ways into a
-/// call's header and a rest, both headers are equal, and so are both rests. Likewise for a reply's
-/// header and a rest.
+/// call's header and a rest, both headers are equal, and so are both rests. The same holds for a
+/// reply's header and a rest.
 pub fn prefix_free()
     ensures calls { CallsPrefixFree }
     ensures replies { RepliesPrefixFree }

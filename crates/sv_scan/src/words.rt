@@ -34,7 +34,7 @@ pub struct Conditions {
     pub limit: u16,
 }
 
-/// The condition word of the operation register in a state.
+/// The condition word of the operation register while the trigger system is in this state.
 pub(crate) fn operation_word(state: State) -> u16
     ensures { result ≡ bit 4 (is_scanning state) + bit 5 (is_waiting state) + bit 8
         (not (is_idle state)) }

@@ -25,7 +25,8 @@ IsTwosComplement n (negsuc k) = (k < 2 ^ 31) × (n + (k + 1) ≡ 2 ^ 32)
 abbrev pub IsPad : ℕ → List ℕ → Type 0
 IsPad n pad = (length pad < 4) × ((n + length pad) % 4 ≡ 0) × AllByRecursion (λ byte. byte ≡ 0) pad
 
--- The bytes encode the field. A boolean is the word 0 or 1 (4.4). Opaque data are their length, the data and the padding (4.10).
+-- The bytes encode the field. A boolean is encoded as the number 0 or 1 (4.4), and opaque data as their length, the data and the padding
+-- (4.10).
 abbrev pub Spells : List ℕ → Field → Type 0
 Spells bytes (Unsigned n) = IsWord bytes n
 Spells bytes (Signed z) = (n : ℕ) × IsWord bytes n × IsTwosComplement n z
