@@ -42,8 +42,8 @@ CallsPrefixFree = (x y : PlainCall) (c d v w : Auth) (bytes after behind : List 
     → BeginsAll bytes (heading y d w) behind
     → (heading x c v ≡ heading y d w) × (after ≡ behind)
 
--- If the same bytes can be split in two ways into the header of a reply and a rest, both headers have the same xid and the same reply, and
--- both rests are equal.
+-- Suppose that the same bytes can be split in two ways into the header of a reply and a rest. Then both headers have the same xid and the
+-- same reply, and both rests are equal.
 abbrev pub RepliesPrefixFree : Type 0
 RepliesPrefixFree = (x y : ℕ) (r s : Reply) (bytes after behind : List ℕ) → BeginsAll bytes (reply_fields x r) after
     → BeginsAll bytes (reply_fields y s) behind

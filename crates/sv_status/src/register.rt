@@ -104,9 +104,9 @@ impl Register {
         }
     }
 
-    /// Sets the condition. Bit k of the event register becomes set if bit k of the condition rises
-    /// and bit k of the positive filter is set, or if bit k of the condition falls and bit k of the
-    /// negative filter is set.
+    /// Sets the condition. If bit k of the condition rises and bit k of the positive filter is set,
+    /// bit k of the event register becomes set. The same happens if bit k of the condition falls
+    /// and bit k of the negative filter is set.
     pub fn condition(&mut self, word: u16)
         ensures { (start : ℕ) (acts : List RegisterAct) → StandsFor start self.old acts
             → StandsFor start self.new (RegisterAct.Condition word ∷ acts) }

@@ -10,8 +10,8 @@ pub enum ErrorCode {
     NoError = 0,
     /// There is no device of that name.
     NotAccessible = 3,
-    /// No link has the number that the call names, or this link was created on another connection
-    /// than the call's.
+    /// No link has the number that the call names; or, for a call of the core channel, the link was
+    /// created on another connection.
     InvalidLink = 4,
     /// A parameter is refused. For example, a write has more than 4,096 bytes.
     ParameterError = 5,
