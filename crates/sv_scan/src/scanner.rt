@@ -102,8 +102,8 @@ impl<A: Allocator> Scanner<A> {
     ///
     /// # Errors
     /// The first that applies: [`Code::DataOutOfRange`] if this value of the setting isn't allowed;
-    /// [`Code::SettingsConflict`] if a measurement is under way, during which this setting can't be
-    /// changed. Nothing changes then.
+    /// [`Code::SettingsConflict`] if the setting can't be changed during a measurement, and a
+    /// measurement is under way. Nothing changes then.
     pub fn configure(&mut self, setting: Setting) -> Result<(), Code>
         ensures stands { (acts : List ScanAct) → StandsFor self.old acts
             → StandsFor self.new (ScanAct.Configure setting ∷ acts) }
@@ -129,8 +129,8 @@ impl<A: Allocator> Scanner<A> {
     ///
     /// # Errors
     /// The error that [`Scanner::configure`] would return: [`Code::DataOutOfRange`] if this value
-    /// of the setting isn't allowed; else [`Code::SettingsConflict`] if a measurement is under way,
-    /// during which this setting can't be changed.
+    /// of the setting isn't allowed; else [`Code::SettingsConflict`] if the setting can't be
+    /// changed during a measurement, and a measurement is under way.
     pub fn may_set(&self, setting: &Setting) -> Result<(), Code>
         ensures answer { (acts : List ScanAct) → StandsFor self.now acts
             → result ≡ refused_by (setting_fault (effective acts) setting.now) }
