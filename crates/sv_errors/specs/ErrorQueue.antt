@@ -55,8 +55,8 @@ report_of = elim [ Report code ∷ acts ↦ Some code | _ ↦ None ]
 abbrev pub is_overtaken : ℕ → List QueueAct → Bool
 is_overtaken place acts = nat_lt place (length acts) && is_some (report_of (up_to (place + 1) acts))
 
--- The error in the entry that act number `place` made: the error that this act reports. But it is -350 if the queue was full after this
--- act, and the next act is a report too.
+-- The error in the queue's entry that act number `place` added. If the queue was full after this act, and the next act is a report too, the
+-- error is -350. Else it is the error that act number `place` reports.
 abbrev pub entry_code : List QueueAct → ℕ → Code
 entry_code acts place =
     if is_full (up_to place acts) && is_overtaken place acts then QueueOverflow else unwrap_or (report_of (up_to place acts)) NoError

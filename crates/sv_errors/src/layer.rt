@@ -4,9 +4,9 @@ ghost use Rattle.std.specs.Prelude.{◌≡◌, List, ◌∷◌, ◌++◌, revers
 
 /// A part of the instrument, on which acts are performed one after the other.
 ///
-/// The law of a layer: if a value stands for a list of acts, then after `act` the value stands for
-/// the list with `act` in front, and the answer is the one that a search of the list determines. In
-/// a list of acts the newest act comes first.
+/// The law of a layer: suppose that a value stands for a list of acts, the newest first. Then after
+/// `act` the value stands for the list with `act` in front, and the answer to `act` is the one that
+/// a search of the list determines.
 pub trait Layer {
     /// An act of the layer.
     type Act;

@@ -26,8 +26,8 @@ abbrev pub IsFound : Bool → (seen unit space : List ℕ) → Type 0
 IsFound true seen unit space = (is_something unit ≡ true) × ((more : List ℕ) → units (seen ++ more) ≡ unit ∷ units more)
 IsFound false seen unit space = IsOpen seen unit space
 
--- `ahead` describes the bytes that were read (`seen`). They consist of the bytes before the first unit, this unit as far as it was read,
--- and the bytes after it (`space`).
+-- `ahead` describes the bytes that were read (`seen`). These bytes are, in order: the bytes before the first unit; the first unit, as far
+-- as it was read; and the bytes after this unit (`space`).
 pub record IsAhead (ahead : Ahead) (seen : List ℕ) : Type 0 where
   pub before : List ℕ
   pub unit : List ℕ

@@ -5,9 +5,9 @@ use Rattle.sv_exchange.specs.declared.exchange.Next.TheVariants as next
 use Rattle.sv_exchange.specs.Exchange.{ExchangeAct, Symbol, Byte, end_mark, text, messages, messages_finished, current, units_done, has_overrun, has_dropped, answers, units, is_something, joined_answers, response, Due, NothingDue, OverrunDue, InterruptDue, UnitDue, FinishDue, due_unit}
 use Rattle.sv_exchange.specs.Limits.{max_message}
 
--- the state: the part of the current message that wasn't executed yet, and whether the message has ended; the text after this message, and
--- whether END follows that text; what happened to the current message; and the output, which is either the answers of the current message
--- or the response
+-- the state: the part of the current message that wasn't executed yet, and whether this message has ended; the text after this message, and
+-- whether END follows that text; whether the current message is too long, was reported as too long, and lost its answers; whether the
+-- output is the answers of the current message, or else the response; and the output
 pub record Contents : Type 0 where
   pub rest : List ℕ
   pub ended : Bool
@@ -70,12 +70,13 @@ pub record StandsFor (contents : Contents) (acts : List ExchangeAct) : Type 0 wh
 abbrev pub is_open : Contents → Bool
 is_open contents = not contents.ended
 
--- what can be read of the stored output: nothing while the output collects answers of the current message (`true`), otherwise all bytes
+-- what a read can return of the stored output. If the flag is true, the output is the answers of the current message so far, and nothing
+-- can be read; else all bytes can be read.
 abbrev pub readable_of : Bool → List ℕ → List ℕ
 readable_of true output = []
 readable_of false output = output
 
--- the bytes that can be read in this state
+-- the bytes of the response that a read can return in this state
 abbrev pub shown_by : Contents → List ℕ
 shown_by contents = readable_of contents.answering contents.output
 
@@ -93,7 +94,7 @@ next_of contents = if contents.overlong && not contents.overrun_reported then Ov
 abbrev pub IsUnitDue : Due → Type 0
 IsUnitDue due = (unit : List ℕ) × (due ≡ UnitDue unit)
 
--- whether an answer may be given: the current message has ended and lost no answers, and nothing can be read
+-- whether a unit is allowed to give an answer: the current message has ended and lost no answers, and there is no response to read
 abbrev pub may_respond : Contents → Bool
 may_respond contents = contents.ended && (not contents.answers_dropped && not (is_something (shown_by contents)))
 

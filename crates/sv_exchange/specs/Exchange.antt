@@ -62,15 +62,15 @@ current acts = since (elim [ Finished ∷ older ↦ true | TextDropped ∷ older
 abbrev pub units_done : List ExchangeAct → ℕ
 units_done acts = length (filter (elim [ UnitDone ↦ true | _ ↦ false ]) acts)
 
--- whether the message was reported as too long in these acts
+-- whether one of these acts reported a message as too long
 abbrev pub has_overrun : List ExchangeAct → Bool
 has_overrun acts = list_any (elim [ Overran ↦ true | _ ↦ false ]) acts
 
--- whether the answers were dropped in these acts
+-- whether one of these acts dropped answers
 abbrev pub has_dropped : List ExchangeAct → Bool
 has_dropped acts = list_any (elim [ AnswersDropped ↦ true | _ ↦ false ]) acts
 
--- the answers that were given in these acts
+-- the answers that units gave in these acts, the oldest first
 abbrev pub all_answers : List ExchangeAct → List (List ℕ)
 all_answers [] = []
 all_answers (Answered answer ∷ acts) = all_answers acts ++ answer ∷ []
@@ -143,8 +143,8 @@ pub data Due : Type 0 where
   UnitDue : (text : List ℕ) → Due
   FinishDue : Due
 
--- The step that is due. With a next unit: the response is interrupted if `interrupts` is true, otherwise the unit starts. Without a next
--- unit: the message is finished if it has ended, otherwise nothing is due.
+-- The step that is due. If there is a next unit: if `interrupts` is true, the response is interrupted; else the unit starts. If there is no
+-- next unit: if the message has ended, it is finished; else nothing is due.
 abbrev pub due_unit : Option (List ℕ) → Bool → Bool → Due
 due_unit (Some unit) interrupts ended = if interrupts then InterruptDue else UnitDue unit
 due_unit None interrupts ended = if ended then FinishDue else NothingDue

@@ -25,8 +25,8 @@ pub enum Next<'a> {
     Nothing,
     /// The current message is too long, and this is to be reported.
     Overrun,
-    /// A unit is to be executed, but before that a response must be dropped that wasn't read
-    /// completely.
+    /// The response is to be dropped although it wasn't read completely, because a unit of a new
+    /// message is to be executed next.
     Interrupt,
     /// This unit is to be executed.
     Unit(&'a [u8]),
@@ -122,9 +122,10 @@ impl<A: Allocator> Exchange<A> {
     }
 
     /// Accepts the bytes of a write. `ended` says whether END comes with the last byte (VXI-11,
-    /// device_write). A message ends at END or at a new line (IEEE 488.2, 7.5). If a message is
-    /// longer than [`MAX_MESSAGE`] bytes, none of its bytes are stored. The exchange must be open
-    /// for a write, and a write may have at most [`MAX_MESSAGE`] bytes.
+    /// device_write). A message ends at END or at a new line (IEEE 488.2, 7.5). If a message gets
+    /// longer than [`MAX_MESSAGE`] bytes, its stored bytes are dropped, and its later bytes are
+    /// dropped when they come. The exchange must be open for a write, and a write may have at most
+    /// [`MAX_MESSAGE`] bytes.
     pub fn accept(&mut self, bytes: &[u8], ended: bool)
         requires open { IsTrue (is_open self.old) }
         requires short { length bytes.now ≤ max_message }
@@ -148,9 +149,9 @@ impl<A: Allocator> Exchange<A> {
             .look_on(&self.text[self.cursor..self.end], self.overlong);
     }
 
-    /// The step that is due: to report that the message is too long; to drop the response that a
-    /// new message interrupts; to execute a unit; or to finish the message. If a message is too
-    /// long, or its answers were dropped, none of its units is due.
+    /// The step that is due, if any: to report that the current message is too long; to drop the
+    /// response that this message interrupts; to execute a unit; or to finish this message. If the
+    /// message is too long, or its answers were dropped, none of its units is due.
     pub fn next_unit(&self) -> Next<'_>
         ensures value { plain_next result ≡ next_of self.now }
         ensures answer { (acts : List ExchangeAct) → StandsFor self.now acts
@@ -189,7 +190,7 @@ impl<A: Allocator> Exchange<A> {
         self.ahead.lexed(&self.text[self.cursor..self.end])
     }
 
-    /// Steps over the unit that is due, because it has been executed.
+    /// Removes the unit that is due from the current message, because the unit was executed.
     pub fn done(&mut self)
         requires { IsUnitDue (next_of self.old) }
         ensures value { self.new ≡ record self.old { rest = self.new.rest } }
@@ -205,8 +206,8 @@ impl<A: Allocator> Exchange<A> {
         }
     }
 
-    /// Records that the current message was reported as too long. The message is dropped up to its
-    /// end.
+    /// Records that the current message was reported as too long. None of this message's units is
+    /// executed.
     pub fn overran(&mut self)
         requires { next_of self.old ≡ OverrunDue }
         ensures value { self.new ≡ record self.old { overrun_reported = true } }
@@ -254,11 +255,11 @@ impl<A: Allocator> Exchange<A> {
         self.answering = false;
     }
 
-    /// Adds an answer after the answers of the units before, separated by a semicolon (IEEE 488.2,
-    /// 8.4.1). The current message must have ended, its answers must not have been dropped, and
-    /// there must be no response to read. Returns whether the answer fits. If the response would
-    /// exceed [`MAX_RESPONSE`] bytes, all answers of the message are dropped, and no further unit
-    /// of the message is executed.
+    /// Adds an answer after the answers of the message's earlier units, separated by a semicolon
+    /// (IEEE 488.2, 8.4.1). The current message must have ended, its answers must not have been
+    /// dropped, and there must be no response to read. Returns whether the answer fits. It doesn't
+    /// fit if the response would exceed [`MAX_RESPONSE`] bytes: then all answers of the message are
+    /// dropped, and no further unit of the message is executed.
     pub fn respond(&mut self, answer: &[u8]) -> bool
         requires { IsTrue (may_respond self.old) }
         ensures value { self.new ≡ after_answer self.old answer.now result }

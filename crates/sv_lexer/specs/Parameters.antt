@@ -23,7 +23,7 @@ cut_outside before (b ∷ bytes) = if b == 44 && not (is_open before) then []
 abbrev pub parts : List ℕ → List (List ℕ)
 parts text = if is_empty text then [] else cut_outside [] text
 
--- where the part with this index begins: after the parts in front of it, and their commas
+-- the position at which the part with this index begins: the length of all parts in front of it, plus one comma for each of them
 abbrev pub part_place : ℕ → List (List ℕ) → ℕ
 part_place index parts = sum_by (λ part. length part + 1) (take index parts)
 
@@ -31,7 +31,7 @@ part_place index parts = sum_by (λ part. length part + 1) (take index parts)
 abbrev pub count : List ℕ → ℕ
 count unit = length (parts (rest unit))
 
--- the part of a unit's program data with this index, counted from 0
+-- commas outside parentheses cut a unit's program data into parts: the part with this index, counted from 0
 abbrev part : List ℕ → ℕ → List ℕ
 part unit index = slice_index_or (parts (rest unit)) index []
 

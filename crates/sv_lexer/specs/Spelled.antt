@@ -15,11 +15,11 @@ abbrev pub is_mnemonic : List ℕ → Bool
 is_mnemonic [] = false
 is_mnemonic (b ∷ bytes) = is_letter b && list_all is_word_byte bytes
 
--- the parts of a header that must be mnemonics, without a question mark at its end: if it begins with an asterisk, all that follows as one
--- part; otherwise each part between colons
+-- the parts of a header that must be mnemonics. If the header begins with an asterisk, all bytes after the asterisk are one part; else
+-- colons separate the parts. A question mark at the end of the header belongs to no part.
 abbrev pub words : List ℕ → List (List ℕ)
 words text = elim (lead text) [ Common ↦ body text ∷ [] | _ ↦ cut_at 58 (body text) ]
 
--- whether a text is a well-formed header: each part that must be a mnemonic is one
+-- whether a text is a well-formed header: each part of it that must be a mnemonic is a mnemonic
 abbrev pub is_header : List ℕ → Bool
 is_header text = list_all is_mnemonic (words text)

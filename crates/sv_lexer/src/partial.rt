@@ -15,8 +15,9 @@ use sv_errors::Code;
 /// The most characters that a mnemonic may have.
 const MOST: usize = 12;
 
-/// A unit whose bytes come one by one (IEEE 488.2, 7.3). The bytes aren't stored, only the stage
-/// that they have reached, and where the header and the program data begin and end.
+/// A unit whose bytes come one by one (IEEE 488.2, 7.3). The bytes aren't stored. The fields record
+/// the stage that the bytes have reached, where the header and the program data begin and end, and
+/// how long the mnemonics are.
 #[derive(Debug, Drop)]
 pub struct Partial {
     /// The part of a unit in which the bytes read so far end.

@@ -33,8 +33,8 @@ is_prepared Prepared = true
 is_prepared Closed = false
 is_prepared (Open what) = false
 
--- how many bytes remain of each call, for calls of these sizes, after the peer took `count` bytes in total. A call of which no byte remains
--- is omitted.
+-- For calls of these sizes, of which the peer took `count` bytes in total: how many bytes remain of each call. A call of which no byte
+-- remains is omitted.
 abbrev pub left_in : ℕ → List ℕ → List ℕ
 left_in count [] = []
 left_in count (size ∷ sizes) = if nat_lt count size then (size - count) ∷ sizes else left_in (count - size) sizes
@@ -84,7 +84,7 @@ bytes_of kept c = bytes_in (slice_get kept.channels c)
 abbrev pub IsReady : Channels → ℕ → Type 0
 IsReady kept c = (other : Channel) → is_prepared (slice_index_or kept.channels c other).stage ≡ true
 
--- The list of links with service requests enabled and the channels have the state that the acts determine. No connection above 15 has an
+-- The channels, and the list of links with service requests enabled, have the state that the acts determine. No connection above 15 has an
 -- open channel.
 pub record AreChannels (kept : Channels) (acts : List ChannelAct) : Type 0 where
   pub enabled : kept.enabled ≡ enabled_links acts

@@ -40,7 +40,7 @@ enabled_links acts = filter_map (λ lid. srq_enabled lid acts) (range_with_len 0
 abbrev pub handles_of : ℕ → List Enabled → List (List ℕ)
 handles_of c links = map (λ link. link.handle) (filter (λ link. link.conn == c) links)
 
--- the program that the channel of a connection was opened for; `None` if the channel isn't open
+-- the client's program to which the open channel of a connection sends its calls; `None` if the channel isn't open
 abbrev pub peer : ℕ → List ChannelAct → Option Peer
 peer c [] = None
 peer c (ChannelOpened conn what ∷ acts) = if conn == c then Some what else peer c acts
@@ -84,7 +84,7 @@ calls c (ChannelClosed conn ∷ acts) = if conn == c then [] else calls c acts
 calls c (Requested ∷ acts) = fold (add_call (peer c acts) (bytes_taken c acts)) (calls c acts) (handles_of c (enabled_links acts))
 calls c (_ ∷ acts) = calls c acts
 
--- all calls that were ever appended on the channel of a connection, over all its openings
+-- all calls that were ever appended on the channel of a connection, even before the channel was last opened
 abbrev pub all_calls : ℕ → List ChannelAct → List (List ℕ)
 all_calls c [] = []
 all_calls c (Requested ∷ acts) = all_calls c acts ++ drop (length (calls c acts)) (calls c (Requested ∷ acts))

@@ -13,7 +13,7 @@ max_waiting = max_connections
 abbrev pub max_links : ℕ
 max_links = 32
 
--- how many links may have service requests enabled at the same time: all links
+-- how many links may have service requests enabled at the same time: as many as may exist
 abbrev pub max_enabled : ℕ
 max_enabled = max_links
 
@@ -34,6 +34,6 @@ longest_text = 44 + max_handle
 abbrev pub longest_call : ℕ
 longest_call = 4 + longest_text
 
--- how many bytes may wait on an interrupt channel: those of 32 calls
+-- how many bytes may wait on an interrupt channel: 32 calls of the greatest length
 abbrev pub max_queued : ℕ
 max_queued = max_calls * longest_call

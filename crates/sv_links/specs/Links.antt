@@ -30,7 +30,7 @@ live (_ ∷ acts) = live acts
 abbrev pub owner : ℕ → List LinkAct → Option ℕ
 owner lid acts = option_map (λ link. link.conn) (find (λ link. link.lid == lid) (live acts))
 
--- whether connection `conn` is the owner of a link, given as `owner`; false if the link has no owner
+-- whether `owner`, the connection that made some link, is connection `conn`; false if `owner` is `None`, as for a link that isn't live
 abbrev pub is_of : ℕ → Option ℕ → Bool
 is_of conn owner = option_map_or (λ other. other == conn) owner false
 

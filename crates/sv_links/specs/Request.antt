@@ -7,7 +7,7 @@ use Rattle.sv_rpc.specs.Record.{fragment}
 use Rattle.sv_rpc.specs.Reply.{call_fields}
 use Rattle.sv_links.specs.declared.request.Peer.{Peer}
 
--- the bytes of the call with this xid, to this program, with this handle; its procedure, device_intr_srq, is 30
+-- the bytes of a call of device_intr_srq (procedure 30) with this xid and this handle, to this program
 abbrev pub request : ℕ → Peer → List ℕ → List ℕ
 request xid peer handle =
     fragment true (concat (map spelling (call_fields xid peer.prog peer.vers 30 ++ Opaque handle ∷ [])))

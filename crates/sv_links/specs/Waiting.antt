@@ -54,8 +54,8 @@ is_lock = elim [ Some Lock ↦ true | _ ↦ false ]
 abbrev pub connections : List ℕ
 connections = range_with_len 0 max_connections
 
--- whether a suspended call gets what it waits for. `Lock`: no link other than the named one holds the lock. `Input`: a write is accepted
--- now. `Response`: a read is answered now. For any other wait, and for no wait, it is false.
+-- whether a suspended call gets what it waits for. `Lock`: no link other than the named one holds the lock. `Input`: the device accepts a
+-- write, as `can_write` says. `Response`: the device answers a read, as `can_read` says. Any other wait, or `None`: false.
 abbrev pub is_there : Option ℕ → Bool → Bool → Option ℕ → Option Wait → Bool
 is_there holder can_write can_read named (Some Lock) = not (is_locked_out holder named)
 is_there holder can_write can_read named (Some Input) = can_write
@@ -78,8 +78,8 @@ is_creating acts c = is_lock (waits c acts) && is_none (link c acts)
 abbrev pub creating : List WaitAct → ℕ
 creating acts = length (filter (is_creating acts) connections)
 
--- Of the connections for which `IsSuch` holds, the given one has the call that was suspended first; `None` is given if `IsSuch` holds for
--- no connection.
+-- The third argument is the connection whose call was suspended first, of all connections for which `IsSuch` holds. It is `None` if
+-- `IsSuch` holds for no connection.
 abbrev pub IsOldest : List WaitAct → (ℕ → Type 0) → Option ℕ → Type 0
 IsOldest acts IsSuch None = (c : ℕ) → IsSuch c → ⊥
 IsOldest acts IsSuch (Some c) = IsSuch c × ((d : ℕ) → IsSuch d → arrival c acts ≤ arrival d acts)

@@ -168,10 +168,10 @@ impl<A: Allocator> Intr<A> {
         self.enabled.retain(|other| other.conn != conn);
     }
 
-    /// Raises a service request. For each link that has service requests enabled, in the order of
-    /// the links' numbers, a call is appended on the channel of the link's connection. No call is
-    /// appended if that channel is closed, if 32 calls wait on it, or if the numbers for its calls
-    /// are used up.
+    /// Raises a service request: goes through the links that have service requests enabled, in the
+    /// order of their numbers, and appends a call on the channel of each link's connection. No call
+    /// is appended if that channel is closed, if 32 calls wait on the channel, or if the numbers
+    /// for its calls are used up.
     pub fn raise(&mut self)
         ensures stands { (acts : List ChannelAct) → AreChannels self.old acts
             → AreChannels self.new (Requested ∷ acts) }

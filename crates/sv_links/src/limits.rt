@@ -6,7 +6,7 @@ pub const MAX_CONNECTIONS: usize = 16;
 pub(crate) const MAX_WAITING: usize = MAX_CONNECTIONS;
 /// How many links there may be at the same time.
 pub const MAX_LINKS: usize = 32;
-/// How many links may have service requests enabled at the same time: all links.
+/// How many links may have service requests enabled at the same time: as many as may exist.
 pub(crate) const MAX_ENABLED: usize = MAX_LINKS;
 /// How many calls may wait on an interrupt channel, including a call of which the peer took only a
 /// part.
@@ -20,5 +20,5 @@ pub(crate) const LONGEST_TEXT: usize = 44 + MAX_HANDLE;
 /// The length of the longest record of a device_intr_srq, in bytes: the header of its one fragment
 /// (4; RFC 5531, section 11), and the call.
 const LONGEST_CALL: usize = 4 + LONGEST_TEXT;
-/// How many bytes may wait on an interrupt channel: those of [`MAX_CALLS`] calls.
+/// How many bytes may wait on an interrupt channel: [`MAX_CALLS`] calls of the greatest length.
 pub(crate) const MAX_QUEUED: usize = MAX_CALLS * LONGEST_CALL;

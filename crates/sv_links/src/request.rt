@@ -12,7 +12,7 @@ use sv_xdr::Writer;
 /// The number of the procedure device_intr_srq.
 const DEVICE_INTR_SRQ: u32 = 30;
 
-/// The program to which the calls on an interrupt channel are sent.
+/// The client's program to which the server sends the calls on an interrupt channel.
 #[derive(Clone, Copy, Debug, PartialEq, Eq)]
 pub struct Peer {
     /// The number of the program.

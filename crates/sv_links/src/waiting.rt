@@ -86,8 +86,8 @@ impl Entry {
         }
     }
 
-    /// If this is the call of connection `conn`, lets it wait for `wait` until `deadline` from now
-    /// on.
+    /// If this is the call of connection `conn`, replaces what the call waits for by `wait`, and
+    /// its deadline by `deadline`.
     fn renew(&mut self, conn: u8, wait: Wait, deadline: Option<u64>)
         ensures { self.new ≡ anew conn wait deadline self.old }
     {
@@ -133,7 +133,7 @@ impl<A: Allocator> Waiting<A> {
         })
     }
 
-    /// Suspends a call, as the newest in the order of arrival. Its connection must be below
+    /// Suspends a call, as the newest in the order of arrival. The call's connection must be below
     /// [`MAX_CONNECTIONS`](crate::MAX_CONNECTIONS).
     pub fn enter(&mut self, entry: Entry)
         requires { entry.conn < max_connections }
@@ -174,9 +174,9 @@ impl<A: Allocator> Waiting<A> {
         self.entries.iter().filter(|entry| entry.creates()).count() as u8
     }
 
-    /// Suspends the call of a connection anew: the call now waits for `wait`, until `deadline`, and
-    /// keeps its place in the order of arrival. If the connection has no suspended call, nothing
-    /// changes.
+    /// Lets the suspended call of a connection wait for something else: for `wait`, until
+    /// `deadline`. The call keeps its place in the order of arrival. If the connection has no
+    /// suspended call, nothing changes.
     pub fn again(&mut self, conn: u8, wait: Wait, deadline: Option<u64>)
         ensures value { self.new ≡ map (anew conn wait deadline) self.old }
         ensures stands { (acts : List WaitAct) → IsQueue self.old acts

@@ -41,7 +41,8 @@ abbrev pub IsOtherVersion : List ℕ → ℕ → Type 0
 IsOtherVersion bytes xid = (version : ℕ) × (after : List ℕ) × (version ≢ 2)
     × BeginsAll bytes (Unsigned xid ∷ Unsigned 0 ∷ Unsigned version ∷ []) after
 
--- What these bytes are. `Ok`: the given call. `Version`: a call under an RPC version other than 2. `BadHeader`: neither of these.
+-- What these bytes are. `Ok`: they encode this call. `Version`: they are a call under an RPC version other than 2. `BadHeader`: they are
+-- neither.
 abbrev pub CallIs : List ℕ → Result PlainCall CallFault → Type 0
 CallIs bytes (Ok call) = IsCall bytes call
 CallIs bytes (Err (Version xid)) = IsOtherVersion bytes xid

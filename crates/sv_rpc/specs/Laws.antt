@@ -23,7 +23,7 @@ abbrev pub ReadAlone : Type 0
 ReadAlone = (stream : List ℕ) (records : List (List ℕ)) (tail : Tail) → Splits stream records tail
     → (records ≡ records_of stream) × (tail ≡ tail_of stream)
 
--- For any bytes, `call_at` returns the call that they encode, or the fault for which they encode none, as `CallIs` requires.
+-- For any bytes, `call_at` returns what `CallIs` requires: the call that the bytes encode or, if they encode none, the fault that says why.
 abbrev pub CallAsSpelled : Type 0
 CallAsSpelled = (bytes : List ℕ) → All (λ byte. byte < 256) bytes → CallIs bytes (call_at bytes)
 
@@ -42,8 +42,8 @@ CallsPrefixFree = (x y : PlainCall) (c d v w : Auth) (bytes after behind : List 
     → BeginsAll bytes (heading y d w) behind
     → (heading x c v ≡ heading y d w) × (after ≡ behind)
 
--- If the same bytes can be split in two ways into the header of a reply and a rest, both headers have the same xid and the same reply, and
--- both rests are equal.
+-- Suppose that the same bytes can be split in two ways into the header of a reply and a rest. Then both headers have the same xid and the
+-- same reply, and both rests are equal.
 abbrev pub RepliesPrefixFree : Type 0
 RepliesPrefixFree = (x y : ℕ) (r s : Reply) (bytes after behind : List ℕ) → BeginsAll bytes (reply_fields x r) after
     → BeginsAll bytes (reply_fields y s) behind

@@ -1,5 +1,5 @@
--- The records of a stream as a function, which reads fragment after fragment. Two laws relate it to `Splits`: the stream splits into what
--- the function returns, and in no other way.
+-- A function that reads a stream fragment after fragment, and returns the stream's records and its tail. Two laws relate the function to
+-- `Splits`: the stream splits into what the function returns, and in no other way.
 use Rattle.std.specs.Prelude.{ℕ, zero, suc, ◌+◌, ◌-◌, ◌%◌, ◌^◌, Bool, true, false, List, [], ◌∷◌, ◌++◌, length, take, drop, nat_le, nat_lt, if◌then◌else◌}
 use Rattle.std.specs.Int.{w32, from_be_bytes}
 use Rattle.sv_rpc.specs.Limits.{max_record}
@@ -9,8 +9,8 @@ use Rattle.sv_rpc.specs.Record.{Tail, Header, Data, TooLong}
 abbrev pub Reading : Type 0
 Reading = List (List ℕ) × Tail
 
--- The records and the tail that are read once a fragment is complete. `payload` is the data of the fragment's record so far, and the flag
--- says whether the fragment is the last of this record. `next` reads `rest`, the bytes after the fragment.
+-- The records and the tail that are read if a fragment is complete. The flag says whether the fragment is the last of its record. `payload`
+-- is the data of this record so far, including the fragment's data. `next` reads `rest`, the bytes after the fragment.
 abbrev pub read_on : (List ℕ → List ℕ → Reading) → List ℕ → Bool → List ℕ → Reading
 read_on next payload true rest = (payload ∷ (next [] rest).0, (next [] rest).1)
 read_on next payload false rest = next payload rest
@@ -23,8 +23,8 @@ read_data next payload last size rest =
     else (if nat_lt (length rest) size then ([], Data (payload ++ rest) (size - length rest) last)
     else read_on next (payload ++ take size rest) last (drop size rest))
 
--- The records and the tail that are read from `bytes`, in at most `n` fragments. `payload` is the data of the unfinished record that came
--- before `bytes`.
+-- The records and the tail that are read from `bytes`, in at most `n` fragments. `payload` is the part of the first record's data that
+-- stands in front of `bytes`.
 unfoldable pub read : ℕ → List ℕ → List ℕ → Reading
 read zero payload bytes = ([], TooLong)
 read (suc n) payload bytes =

@@ -8,15 +8,16 @@ pub fn one_reading()
     ensures { OneReading }
 {}
 
-/// Every stream of bytes splits into its `records_of` and its `tail_of`, and in no other way.
+/// Every stream of bytes splits into the records that `records_of` returns and the tail that
+/// `tail_of` returns, and in no other way.
 pub fn read_as_split()
     ensures every { ReadAsSplit }
     ensures alone { ReadAlone }
 {}
 
-/// The function `call_at` returns the call that a record encodes, or the fault for which the record
-/// isn't accepted as a call. The function `port_at` returns the answer to a GETPORT call with the
-/// given arguments.
+/// The function `call_at` returns the call that a record encodes or, if it encodes none, the fault
+/// that says why. The function `port_at` returns the answer to a GETPORT call with the given
+/// arguments.
 pub fn read_as_spelled()
     ensures call { CallAsSpelled }
     ensures port { PortAsSpelled }
@@ -30,8 +31,8 @@ pub fn one_call()
 
 /// No header of a call is a proper prefix of another call's header, and no header of a reply is a
 /// proper prefix of another reply's header. If the same bytes can be split in two ways into a
-/// call's header and a rest, both headers are equal, and so are both rests. Likewise for a reply's
-/// header and a rest.
+/// call's header and a rest, both headers are equal, and so are both rests. The same holds for a
+/// reply's header and a rest.
 pub fn prefix_free()
     ensures calls { CallsPrefixFree }
     ensures replies { RepliesPrefixFree }

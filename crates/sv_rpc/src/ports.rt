@@ -23,8 +23,9 @@ pub struct Ports {
     pub abort: u16,
 }
 
-/// Answers GETPORT with the port of the core or the abort channel, each at version 1 over TCP, or
-/// with 0 for every other program, version or protocol. Bytes after the arguments are ignored.
+/// Answers GETPORT. For the program of the core or the abort channel, at version 1 over TCP, the
+/// answer is the port of that channel. For every other program, version or protocol, the answer is
+/// 0. Bytes after the arguments are ignored.
 ///
 /// # Errors
 /// [`Garbage`] if there are fewer than 16 bytes: the arguments are four numbers of 4 bytes each.

@@ -16,7 +16,8 @@ pub enum Reply {
     Mismatch,
     /// The program is not served here.
     ProgUnavail,
-    /// The program is served in other versions, from `low` to `high`.
+    /// The program isn't served in the version that the call names, only in versions `low` to
+    /// `high`.
     ProgMismatch {
         /// The lowest version that is served.
         low: u32,
@@ -33,7 +34,7 @@ pub enum Reply {
 /// it.
 ///
 /// # Errors
-/// `NoRoom` at the first field that doesn't fit. The fields before it stay written.
+/// `NoRoom` if a field of the header doesn't fit. The fields before that field stay written.
 pub fn write_reply(writer: &mut Writer<'_>, xid: u32, reply: Reply) -> Result<(), XdrFault>
     ensures same_buffer { writer.new.out.ghost_name ≡ writer.old.out.ghost_name }
     ensures writes { WritesEach (map spelling (reply_fields xid reply)) result writer.old
@@ -53,7 +54,7 @@ pub fn write_reply(writer: &mut Writer<'_>, xid: u32, reply: Reply) -> Result<()
 /// caller writes the fragment header in front of it and the arguments after it.
 ///
 /// # Errors
-/// `NoRoom` at the first field that doesn't fit. The fields before it stay written.
+/// `NoRoom` if a field of the header doesn't fit. The fields before that field stay written.
 pub fn write_call(
     writer: &mut Writer<'_>,
     xid: u32,
@@ -68,8 +69,8 @@ pub fn write_call(
     words(writer, &[xid, 0, 2, prog, vers, proc, 0, 0, 0, 0])
 }
 
-/// Writes each number in `words` as an unsigned integer. A 0 also serves as opaque data of length
-/// 0, which have the same encoding.
+/// Writes each number in `words` as an unsigned integer. To write opaque data of length 0, the
+/// caller passes a 0, which has the same encoding.
 fn words(writer: &mut Writer<'_>, words: &[u32]) -> Result<(), XdrFault>
     ensures same_buffer { writer.new.out.ghost_name ≡ writer.old.out.ghost_name }
     ensures writes { WritesEach (map (λ word. spelling (Unsigned word)) words.now) result writer.old

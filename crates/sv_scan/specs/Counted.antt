@@ -1,4 +1,4 @@
--- Which acts of the scanner take effect. These don't: an act that is refused; a sample while no scan is under way; and an input of a
+-- Which acts of the scanner take effect. All do except: an act that is refused; a sample while no scan is under way; and an input of a
 -- channel that doesn't exist.
 use Rattle.std.specs.Prelude.{◌&&◌, not, Bool, true, false, List, [], ◌∷◌, Option, Some, None, is_none, if◌then◌else◌}
 use Rattle.sv_errors.specs.declared.code.Code.{Code}

@@ -40,7 +40,7 @@ pub struct Scanner<A: Allocator = Global> {
     run: Option<Run>,
     /// The readings of the measurement, oldest first; none without a measurement.
     readings: Vec<Reading, A>,
-    /// Which condition words of the status registers the newest act may have changed.
+    /// Which condition words of the status registers the newest act might have changed.
     pub(crate) touched: Touched,
 }
 
@@ -102,7 +102,8 @@ impl<A: Allocator> Scanner<A> {
     ///
     /// # Errors
     /// The first that applies: [`Code::DataOutOfRange`] if this value of the setting isn't allowed;
-    /// [`Code::SettingsConflict`] if the setting can't be changed now. Nothing changes then.
+    /// [`Code::SettingsConflict`] if the setting can't be changed during a measurement, and a
+    /// measurement is under way. Nothing changes then.
     pub fn configure(&mut self, setting: Setting) -> Result<(), Code>
         ensures stands { (acts : List ScanAct) → StandsFor self.old acts
             → StandsFor self.new (ScanAct.Configure setting ∷ acts) }
@@ -129,7 +130,7 @@ impl<A: Allocator> Scanner<A> {
     /// # Errors
     /// The error that [`Scanner::configure`] would return: [`Code::DataOutOfRange`] if this value
     /// of the setting isn't allowed; else [`Code::SettingsConflict`] if the setting can't be
-    /// changed now.
+    /// changed during a measurement, and a measurement is under way.
     pub fn may_set(&self, setting: &Setting) -> Result<(), Code>
         ensures answer { (acts : List ScanAct) → StandsFor self.now acts
             → result ≡ refused_by (setting_fault (effective acts) setting.now) }

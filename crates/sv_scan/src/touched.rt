@@ -1,4 +1,4 @@
-//! Which conditions an act may have changed.
+//! Which condition words of the status registers an act of the scanner might have changed.
 
 ghost use Rattle.std.specs.Prelude.{◌≡◌, List};
 ghost use Rattle.sv_scan.specs.declared.acts.ScanAct.{ScanAct};
@@ -9,21 +9,22 @@ ghost use Rattle.sv_scan.specs.Touched.{IsTouched};
 use crate::scanner::Scanner;
 use std::alloc::Allocator;
 
-/// Which condition words of the status registers the newest act that took effect may have changed
-/// (SCPI-1999, chapter 20). If a field is false, its word is the same as before the act.
+/// Which condition words of the status registers the newest act that took effect might have changed
+/// (SCPI-1999, chapter 20). If a field is false, the act didn't change the word of the field's
+/// name.
 #[derive(Clone, Copy)]
 pub struct Touched {
-    /// Whether the condition word of the operation register may have changed.
+    /// Whether the condition word of the operation register might have changed.
     pub operation: bool,
-    /// Whether the scanner's bits in the condition word of the questionable register may have
+    /// Whether the scanner's bits in the condition word of the questionable register might have
     /// changed.
     pub questionable: bool,
-    /// Whether the condition word of the register of limits may have changed.
+    /// Whether the condition word of the register of limits might have changed.
     pub limit: bool,
 }
 
 impl<A: Allocator> Scanner<A> {
-    /// Which condition words of the status registers the newest act that took effect may have
+    /// Which condition words of the status registers the newest act that took effect might have
     /// changed. A refused act has no effect and changes no word.
     pub fn touched(&self) -> Touched
         ensures value { result ≡ self.now.touched }

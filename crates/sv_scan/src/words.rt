@@ -34,7 +34,7 @@ pub struct Conditions {
     pub limit: u16,
 }
 
-/// The condition word of the operation register in a state.
+/// The condition word of the operation register while the trigger system is in this state.
 pub(crate) fn operation_word(state: State) -> u16
     ensures { result ≡ bit 4 (is_scanning state) + bit 5 (is_waiting state) + bit 8
         (not (is_idle state)) }
@@ -53,9 +53,10 @@ pub(crate) fn questionable_word(overload: bool) -> u16
     mask_if(OVERLOAD, overload)
 }
 
-/// The condition word of the register of limits. If the limits are on, the word says whether the
-/// last reading is below the lower limit or above the upper limit, and whether the live input of
-/// the monitored channel is outside the limits. If the limits are off, the word is 0.
+/// The condition word of the register of limits; 0 if the limits are off. If they are on: bit 0 is
+/// `below`, whether the last reading is below the lower limit; bit 1 is `above`, whether it is
+/// above the upper limit; bit 2 is `outside`, whether the live input of the monitored channel is
+/// outside the limits.
 pub(crate) fn limit_word(limits: bool, below: bool, above: bool, outside: bool) -> u16
     ensures { result ≡ bit 0 (limits && below) + bit 1 (limits && above) + bit 2
         (limits && outside) }

@@ -26,7 +26,8 @@ fall = last_given (elim [ SetFilter up down ↦ Some (without_top_bit down) | Pr
 abbrev pub enable : ℕ → List RegisterAct → ℕ
 enable start = last_given (elim [ SetEnable word ↦ Some (without_top_bit word) | Preset ↦ Some start | _ ↦ None ]) start
 
--- At the newest act, bit k of the condition rises or falls, and before that act the filter for this direction was on for bit k.
+-- At the newest act, bit k of the condition rises while bit k of the positive filter is set, or falls while bit k of the negative filter is
+-- set. The filters are those before this act.
 abbrev pub Passes : ℕ → List RegisterAct → Type 0
 Passes k [] = ⊥
 Passes k (act ∷ before) =

@@ -30,7 +30,7 @@ abbrev pub Reason : List StatusAct → Type 0
 Reason [] = ⊥
 Reason (act ∷ before) = (k : ℕ) × ServiceRequestedAt k (act ∷ before) × (ServiceRequestedAt k before → ⊥)
 
--- The newest act lets a pending request last: it isn't a poll, and the master summary is set after it.
+-- A pending request for service remains pending at the newest act: this act isn't a poll, and the master summary is set after it.
 abbrev pub Lasts : List StatusAct → Type 0
 Lasts (Poll ∷ acts) = ⊥
 Lasts acts = Master acts

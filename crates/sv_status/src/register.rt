@@ -81,8 +81,9 @@ impl Register {
         Register::starting(0)
     }
 
-    /// A register as it is at power on, whose summary is a bit of another register's condition. Its
-    /// enable is 32767 at power on and after a preset. All else is as in [`Register::new`].
+    /// A register as it is at power on, for the case that its summary is a bit of another
+    /// register's condition. Its enable is 32767 at power on and after a preset. All else is as in
+    /// [`Register::new`].
     pub fn nested() -> Register
         ensures { StandsFor 32767 result [] }
     {
@@ -103,9 +104,9 @@ impl Register {
         }
     }
 
-    /// Sets the condition. Bit k of the event register becomes set if bit k of the condition rises
-    /// and bit k of the positive filter is set, or if bit k of the condition falls and bit k of the
-    /// negative filter is set.
+    /// Sets the condition. If bit k of the condition rises and bit k of the positive filter is set,
+    /// bit k of the event register becomes set. The same happens if bit k of the condition falls
+    /// and bit k of the negative filter is set.
     pub fn condition(&mut self, word: u16)
         ensures { (start : ℕ) (acts : List RegisterAct) → StandsFor start self.old acts
             → StandsFor start self.new (RegisterAct.Condition word ∷ acts) }

@@ -14,7 +14,7 @@ const POWER_ON: u8 = 1 << 7;
 /// An act of the register.
 #[derive(Clone, Copy, Debug, PartialEq, Eq)]
 pub enum StandardAct {
-    /// The events occur whose bits are set in this value.
+    /// Each event whose bit is set in this value occurs.
     Occur(u8),
     /// The register is read, which clears it.
     Read,

@@ -63,8 +63,8 @@ impl StatusByte {
     }
 
     /// Sets the summary bits and the service request enable, and returns whether this raises a
-    /// request for service. A request is raised if none was pending, and some summary bit that
-    /// wasn't both set and enabled before is both now.
+    /// request for service. A request is raised if none was pending, and if some summary bit is
+    /// both set and enabled after the update, but wasn't both before it.
     pub fn update(&mut self, bits: u8, enable: u8) -> bool
         ensures stands { (acts : List StatusAct) → StandsFor self.old acts
             → StandsFor self.new (StatusAct.Update bits enable ∷ acts) }

@@ -17,8 +17,8 @@ ArgumentsPrefixFree = (x y : Arguments) (bytes after behind : List ℕ) → proc
     → BeginsWith bytes y behind
     → (x ≡ y) × (after ≡ behind)
 
--- If the same bytes can be split in two ways into the fields of a result and a rest, and both results have the same form, both lists of
--- fields are equal, and so are both rests.
+-- Suppose that the same bytes can be split in two ways into the fields of a result and a rest, and that both results have the same form.
+-- Then both lists of fields are equal, and so are both rests.
 abbrev pub ResultsPrefixFree : Type 0
 ResultsPrefixFree = (x y : Outcome) (bytes after behind : List ℕ) → SameShape x y → BeginsAll bytes (result_fields x) after
     → BeginsAll bytes (result_fields y) behind

@@ -17,7 +17,7 @@ pub data Kind : Type 0 where
   signed unsigned boolean : Kind
   opaque : (most : ℕ) → Kind
 
--- the kind of opaque data without a limit but that of the length field
+-- the kind of opaque data of any length that the length field can express
 abbrev pub any : Kind
 any = opaque 4294967295
 
@@ -29,8 +29,8 @@ Makes (unsigned ∷ kinds) A = ℕ → Makes kinds A
 Makes (boolean ∷ kinds) A = Bool → Makes kinds A
 Makes (opaque most ∷ kinds) A = List ℕ → Makes kinds A
 
--- the value that the function `makes` returns for fields of these kinds, which are read from bytes in order; bytes after the last field are
--- ignored
+-- Reads fields of these kinds from bytes, in order. The result is what the function `makes` returns for the values of the fields, or
+-- `Garbage` if a field can't be read. Bytes after the last field are ignored.
 abbrev pub read : {A : Type 0} → (kinds : List Kind) → Makes kinds A → List ℕ → Result A Garbage
 read [] value bytes = Ok value
 read (signed ∷ kinds) makes bytes = signed_at bytes >>= λ x. read kinds (makes x.0) x.1

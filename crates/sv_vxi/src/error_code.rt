@@ -10,7 +10,8 @@ pub enum ErrorCode {
     NoError = 0,
     /// There is no device of that name.
     NotAccessible = 3,
-    /// There is no such link, or it was created on another connection.
+    /// No link has the number that the call names; or, for a call of the core channel, the link was
+    /// created on another connection.
     InvalidLink = 4,
     /// A parameter is refused. For example, a write has more than 4,096 bytes.
     ParameterError = 5,

@@ -8,9 +8,9 @@ ghost use Rattle.sv_vxi.specs.Reason.{reason_number};
 pub struct Reason {
     /// As many bytes were read as the call requested (REQCNT).
     pub request_count: bool,
-    /// The last byte is the termination character (CHR).
+    /// The read ended with the termination character (CHR).
     pub character: bool,
-    /// The last byte ends the response (END).
+    /// The read ended with the last byte of the response (END).
     pub end: bool,
 }
 

@@ -94,8 +94,8 @@ fn data_unless_error(error: ErrorCode, bytes: &[u8]) -> &[u8]
 ///
 /// # Errors
 /// `TooLong` if the data are longer than the 4,294,967,295 bytes that a length field can express;
-/// nothing is written then. Else `NoRoom` at the first field that doesn't fit; the fields before it
-/// are written.
+/// nothing is written then. Else `NoRoom` if a field of the result doesn't fit; the fields before
+/// that field stay written.
 pub fn write_result(writer: &mut Writer<'_>, outcome: &VxiResult<'_>) -> Result<(), XdrFault>
     ensures same_buffer { writer.new.out.ghost_name ≡ writer.old.out.ghost_name }
     ensures writes { length (data_of (plain_result outcome.now)) < 2 ^ 32

@@ -12,9 +12,9 @@ abbrev pub ◌>>=◌ : {A B : Type 0} → Result A XdrFault → (A → Result B 
 (Ok x) >>= f = f x
 (Err fault) >>= f = Err fault
 
--- The code read from the bytes `old`, returned this `Result`, and left the bytes `new` to be read. The result and `new` agree with `read`,
--- which a function of this file returned for `old`: a fault leaves all bytes. `view` turns a value of the code into one of the
--- specification.
+-- The code read from the bytes `old` and returned this `Result`; the bytes `new` remain to be read. The result and `new` agree with `read`,
+-- which is what a function of this file returns for `old`. After a fault, all bytes remain. `view` turns a value of the code into a value
+-- of the specification.
 abbrev pub IsRead : {X Y : Type 0} → (X → Y) → Result X XdrFault → List ℕ → List ℕ → Result (Y × List ℕ) XdrFault → Type 0
 IsRead view (Ok x) old new read = read ≡ Ok (view x, new)
 IsRead view (Err fault) old new read = (read ≡ Err fault) × (new ≡ old)

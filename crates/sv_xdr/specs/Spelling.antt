@@ -21,11 +21,12 @@ abbrev pub IsTwosComplement : ℕ → ℤ → Type 0
 IsTwosComplement n (pos k) = (k < 2 ^ 31) × (n ≡ k)
 IsTwosComplement n (negsuc k) = (k < 2 ^ 31) × (n + (k + 1) ≡ 2 ^ 32)
 
--- `pad` is the padding after n bytes of data: 0 to 3 zero bytes, with which the length is a multiple of four (sections 3 and 4.10).
+-- `pad` is the padding after n bytes of data: 0 to 3 zero bytes, which make the total length a multiple of four (sections 3 and 4.10).
 abbrev pub IsPad : ℕ → List ℕ → Type 0
 IsPad n pad = (length pad < 4) × ((n + length pad) % 4 ≡ 0) × AllByRecursion (λ byte. byte ≡ 0) pad
 
--- The bytes encode the field. A boolean is the word 0 or 1 (4.4). Opaque data are their length, the data and the padding (4.10).
+-- The bytes encode the field. A boolean is encoded as the number 0 or 1 (4.4), and opaque data as their length, the data and the padding
+-- (4.10).
 abbrev pub Spells : List ℕ → Field → Type 0
 Spells bytes (Unsigned n) = IsWord bytes n
 Spells bytes (Signed z) = (n : ℕ) × IsWord bytes n × IsTwosComplement n z

@@ -45,7 +45,7 @@ impl<'a> Reader<'a> {
     pub fn u32(&mut self) -> Result<u32, XdrFault>
         // If the result is `Ok`, the bytes began with the encoding of the field that was read.
         ensures found { IfOk result (λ n. Begins self.old (Unsigned n) self.new) }
-        // If the encoding of a field comes next, this field is read.
+        // If the bytes begin with the encoding of a field of this kind, that field is read.
         ensures only { (n : ℕ) (after : List ℕ) → Begins self.old (Unsigned n) after
             → (result ≡ Ok n) × (self.new ≡ after) }
         // The result as a function of the bytes. At a fault the reader doesn't move.

@@ -1,4 +1,4 @@
--- The stage that the reading of a unit has reached, and its stage after one more byte (IEEE 488.2, 7.3 and 7.6).
+-- The stages of reading a unit: how one more byte changes the stage that was reached (IEEE 488.2, 7.3 and 7.6).
 use Rattle.std.specs.Prelude.{ℕ, ◌==◌, if◌then◌else◌}
 use Rattle.std.specs.Char.{is_ascii_graphic, is_ascii_alphabetic as is_letter}
 use Rattle.sv_text.specs.White.{is_white}
