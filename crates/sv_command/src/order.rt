@@ -28,7 +28,7 @@ pub enum Order {
     /// `CONFigure:VOLTage`: abort, and configure a measurement, with this channel list if there is
     /// one.
     Configure(Option<ScanList>),
-    /// `MEASure:VOLTage?`: configure as [`Order::Configure`] does, begin a measurement, and answer
+    /// `MEASure:VOLTage?`: configure as [`Order::Configure`] does, begin a measurement, and return
     /// its readings.
     Measure(Option<ScanList>),
 }

@@ -37,8 +37,8 @@ but_last [] = []
 but_last (part ∷ []) = []
 but_last (part ∷ other ∷ others) = part ∷ but_last (other ∷ others)
 
--- the path for the next header, given what this header begins with; the path before this header; and `all`, the mnemonics of that path
--- followed by the header's own
+-- the path for the next header. The arguments are what this header begins with; the path before this header; and `all`, the mnemonics of
+-- that path followed by the header's own.
 abbrev pub kept_by : Lead → List (List ℕ) → List (List ℕ) → List (List ℕ)
 kept_by Common path all = path
 kept_by _ path all = but_last all

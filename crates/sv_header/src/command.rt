@@ -14,7 +14,7 @@ pub enum CommandId {
     Set(SettingName),
     /// `CONFigure:VOLTage[:DC]`: configure a measurement, with the given channels, if any.
     Configure,
-    /// `MEASure:VOLTage[:DC]?`: configure as [`CommandId::Configure`] does, measure, and answer the
+    /// `MEASure:VOLTage[:DC]?`: configure as [`CommandId::Configure`] does, measure, and return the
     /// readings.
     Measure,
 }
@@ -40,7 +40,7 @@ pub enum Action {
     Initiate,
     /// `ABORt`: end the measurement.
     Abort,
-    /// `READ?`: abort, begin a measurement, and answer its readings.
+    /// `READ?`: abort, begin a measurement, and return its readings.
     Read,
 }
 

@@ -15,7 +15,7 @@ pub enum Awaited {
     Readings,
 }
 
-/// A change of the instrument, other than of program text and the response.
+/// A change of the instrument, except changes of program text and of the response.
 #[derive(Drop)]
 pub enum Change {
     /// An act of the scanner.

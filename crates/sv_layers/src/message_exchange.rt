@@ -106,7 +106,7 @@ impl<A: Allocator> Layers<A> {
         self.update_status();
     }
 
-    /// Drops the text of the current message, which mustn't have ended.
+    /// Drops the text of the current message. The message mustn't have ended.
     pub fn drop_unfinished(&mut self)
         requires { IsTrue (is_open self.old.exchange) }
         ensures applied { (log : List Act) → StandsFor self.old log
