@@ -8,7 +8,7 @@ use sv_status::RegisterName;
 /// register can have bit 15 set: the register drops this bit.
 #[derive(Drop)]
 pub enum Order {
-    /// An action without a parameter: a command, or a query whose answer may have to wait.
+    /// An action without a parameter: a command, or a query whose answer might have to wait.
     Do(Action),
     /// A query that is answered at once.
     Ask(Question),

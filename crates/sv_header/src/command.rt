@@ -6,7 +6,7 @@ use sv_status::RegisterName;
 /// same header without it.
 #[derive(Clone, Copy, Debug, PartialEq, Eq)]
 pub enum CommandId {
-    /// A command without a parameter, or a query whose answer may have to wait.
+    /// A command without a parameter, or a query whose answer might have to wait.
     Do(Action),
     /// A query whose answer never has to wait.
     Ask(Question),
@@ -19,7 +19,7 @@ pub enum CommandId {
     Measure,
 }
 
-/// What is done by a command without a parameter, or by a query whose answer may have to wait.
+/// What is done by a command without a parameter, or by a query whose answer might have to wait.
 #[derive(Clone, Copy, Debug, PartialEq, Eq)]
 pub enum Action {
     /// `*CLS`: clear events and the error queue (IEEE 488.2, 10.3).

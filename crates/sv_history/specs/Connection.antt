@@ -98,7 +98,7 @@ next_call acts = if took_no_call acts || is_busy acts then None else slice_get (
 abbrev pub is_idle : List ConnAct → Bool
 is_idle acts = is_none (next_call acts)
 
--- whether the record at the end of the stream is too long: the server stores no byte that comes after it
+-- whether the record at the end of the stream is too long. If it is, the server stores no byte that comes after it.
 abbrev pub is_overlong : List ConnAct → Bool
 is_overlong acts = ends_overlong (tail_of (stream acts))
 

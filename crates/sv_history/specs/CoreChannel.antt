@@ -55,8 +55,8 @@ device_write flags bytes acts =
 abbrev pub term_of : ℕ → ℕ → Option ℕ
 term_of flags term_char = if bit_at flags 7 == 1 then Some (term_char % 256) else None
 
--- the result of a device_read of this response: its first bytes, up to the requested number or to the termination character, whichever
--- comes first; and each reason that applies for ending there
+-- the result of a device_read of this response: the first bytes of the response, up to the requested number or to the termination
+-- character, whichever comes first; and all reasons for ending there that apply
 abbrev pub read_of : List ℕ → ℕ → Option ℕ → Outcome
 read_of bytes most term =
     let count = read_count bytes most term in

@@ -67,7 +67,7 @@ abbrev pub Replies : Option Code → Question → List Act → List Act → Type
 Replies (Some code) asked log new = new ≡ done (Reported code ∷ log)
 Replies None asked log new = (text : List ℕ) × Says asked log text × (new ≡ after_answering text (done (after_query asked log)))
 
--- the log after a command without a parameter, or after a query that may have to wait
+-- the log after a command without a parameter, or after a query whose answer might have to wait
 abbrev pub after_action : Action → List Act → List Act
 after_action action.ClearStatus log = done (Cleared ∷ log)
 after_action action.Reset log = done (Scanned scan.Reset ∷ log)

@@ -28,7 +28,7 @@ is_foreign c (Input channel microvolts) = false
 is_foreign c External = false
 is_foreign c Tick = false
 
--- the events without those of other connections than `c` and of the interrupt channels of other connections
+-- the events that remain when the events of other connections than `c`, and of the interrupt channels of other connections, are left out
 abbrev pub own_events : ℕ → List PlainEvent → List PlainEvent
 own_events c = filter (λ event. not (is_foreign c event))
 

@@ -23,8 +23,8 @@ use Rattle.sv_history.specs.History.{is_port_shut, input_refusal, last_clock, Is
 abbrev pub OneLog : Type 0
 OneLog = (config : Config) (history : List PlainEvent) (a b : List Act) → IsLogOf config history a → IsLogOf config history b → a ≡ b
 
--- If nothing becomes due within `most` milliseconds, that many ticks change only the clock: the log gains only the acts of the ticks. The
--- clock must not be past its last value then.
+-- If nothing becomes due within `most` milliseconds, that many ticks change only the clock: the log gains only the acts of the ticks. After
+-- these ticks the clock must not be past its last value.
 abbrev pub TimeOnlyCounts : Type 0
 TimeOnlyCounts = (config : Config) (history : List PlainEvent) (log : List Act) (most : ℕ) → IsLogOf config history log
     → IsStill most config (device_acts log) → config.clock + ticks (device_acts log) + most ≤ last_clock

@@ -9,7 +9,7 @@ use Rattle.sv_serve.specs.Sweep.{Sweeps}
 use Rattle.sv_net.specs.Sleep.{MaySleep}
 
 -- An action of a loop: a sweep; a wait for reports about sockets; or passing these reports to the wire. A wait has its limit, whether
--- reports came, and when it ended, in nanoseconds since the beginning. The wire is given as its state when it gets the reports.
+-- reports came, and when it ended, in nanoseconds since the beginning. `Told` has the state of the wire when it gets the reports.
 pub data Doing (W : Type 0) : Type 0 where
   MadeSweep : Doing W
   Waited : (limit : Option Duration) (reported : Bool) (ended : ℕ) → Doing W
