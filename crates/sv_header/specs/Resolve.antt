@@ -22,8 +22,8 @@ abbrev pub leads_common : Lead → Bool
 leads_common Common = true
 leads_common _ = false
 
--- A header, with the path before it, fits a row of the table: both or neither belong to a common command; both or neither belong to a
--- query; and the mnemonics of path and header fit the row's nodes.
+-- A header, with the path before it, fits a row of the table: header and row agree on whether they belong to a common command, and on
+-- whether they belong to a query; and the mnemonics of path and header fit the row's nodes.
 abbrev pub FitsRow : List (List ℕ) → List ℕ → Row → Type 0
 FitsRow path header row = (leads_common (lead header) ≡ row.common) × (is_query header ≡ row.query) × Fits (full path header) row.parts
 

@@ -13,7 +13,7 @@ use Rattle.sv_history.specs.declared.event.Port.TheVariants.{Conn, Intr}
 use Rattle.sv_history.specs.Act.{Act, ConnAct, Opened, Piece, CallTaken, Faulted, Replied, BytesTaken, PortClosed, of}
 use Rattle.sv_history.specs.Limits.{max_output}
 
--- the role of the connection after an act that changes it: an opening gives it a role; after a close it has none
+-- the role of the connection after an act that changes the role: an opening gives it a role; after a close it has none
 abbrev pub opening : ConnAct → Option (Option Role)
 opening = elim [ Opened role ↦ Some (Some role) | PortClosed ↦ Some None | _ ↦ None ]
 
@@ -47,7 +47,8 @@ bytes_sent acts = join_pieces (filter_map (elim [ Replied bytes ↦ Some bytes |
 abbrev pub bytes_taken : List ConnAct → ℕ
 bytes_taken acts = total (filter_map (elim [ BytesTaken count ↦ Some count | _ ↦ None ]) (acts_since_opening acts))
 
--- the pending call after an act that changes it: a call that is taken becomes pending; a reply, or a record that isn't a call, ends it
+-- the pending call after an act that changes which call is pending: a call that is taken becomes pending; a reply, or a record that isn't a
+-- call, ends the pending call
 abbrev pub taking : ConnAct → Option (Option (List ℕ))
 taking = elim [ CallTaken call ↦ Some (Some call) | Replied bytes ↦ Some None | Faulted ↦ Some None | _ ↦ None ]
 

@@ -67,8 +67,8 @@ read_of bytes most term =
 abbrev pub reads : List ℕ → ℕ → Option ℕ → CallOutcome
 reads bytes most term = answer_with (Applied (Exchanged (ResponseRead (read_count bytes most term))) ∷ []) (read_of bytes most term)
 
--- device_read: returns bytes of the response, if there is a response; else error 15. If there is no response and none can come without
--- another write, the text of the unfinished message is also dropped, and -420 is reported.
+-- device_read: returns bytes of the response, if there is a response; else error 15. If there is no response, and no response can come
+-- without a further write, the text of the unfinished message is also dropped, and -420 is reported.
 abbrev pub device_read : ℕ → Option ℕ → List DeviceAct → CallOutcome
 device_read most term acts =
     if is_something (response (exchange_acts acts)) then reads (response (exchange_acts acts)) most term

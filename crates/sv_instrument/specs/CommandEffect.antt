@@ -41,8 +41,8 @@ abbrev pub set_list : Option (List ℕ) → List Act → List Act
 set_list None log = log
 set_list (Some channels) log = Scanned (scan.Configure (setting.List channels)) ∷ log
 
--- the log after a measurement is configured: the measurement before is aborted; range (10 V), source of triggers (immediate) and number of
--- scans (1) get their defaults; then the scan list is set, if one is given
+-- the log after a measurement is configured: the previous measurement is aborted; range (10 V), source of triggers (immediate) and number
+-- of scans (1) get their defaults; then the scan list is set, if one is given
 abbrev pub after_configure : Option (List ℕ) → List Act → List Act
 after_configure list log = set_list list
     (Scanned (scan.Configure (setting.Count 1)) ∷ Scanned (scan.Configure (setting.Source Immediate))

@@ -96,7 +96,7 @@ pub data Recut (config : Config) : List PlainEvent → List PlainEvent → Type 
       → reading (stream (of c log) ++ join_pieces pieces) ≡ reading (stream (of c log) ++ join_pieces others) → Recut config past other
       → Recut config (map (Bytes c) pieces ++ past) (map (Bytes c) others ++ other)
 
--- Two histories that differ only in how they are split into pieces and fragments (`Recut`) send the same bytes on each port.
+-- Two histories that differ only in how bytes are split into pieces and records into fragments (`Recut`) send the same bytes on each port.
 abbrev pub RecordsCut : Type 0
 RecordsCut = (config : Config) (history other : List PlainEvent) (log also : List Act) → Recut config history other
     → IsLogOf config history log → IsLogOf config other also → (port : Port) (bytes : List ℕ)

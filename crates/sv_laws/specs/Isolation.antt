@@ -42,8 +42,8 @@ abbrev pub makes_link : Option Request → Bool
 makes_link (Some (CoreRequest call)) = is_create_link call.arguments
 makes_link _ = false
 
--- If the event takes a device_abort, it names no link of connection `c`; and the event neither takes nor refuses a create_link on this
--- connection.
+-- If the event takes a device_abort, this call names no link of connection `c`; and the event neither takes nor refuses a create_link on
+-- this connection.
 abbrev pub LeavesLinksAlone : ℕ → PlainEvent → List Act → Type 0
 LeavesLinksAlone c (Turn d) log = (owner_of (aborted_link (next_request (of d log))) (device_acts log) ≢ Some c)
     × (d ≡ c → makes_link (next_request (of d log)) ≡ false)

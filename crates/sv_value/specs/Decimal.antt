@@ -82,7 +82,7 @@ number_parts text = record {
   suffix = trim_start (behind_exponent (behind_mantissa text));
 }
 
--- whether a suffix, if there is one, begins with a letter
+-- whether a suffix is empty or begins with a letter
 abbrev pub begins_well : List ℕ → Bool
 begins_well suffix = option_map_or is_ascii_alphabetic (slice_get suffix 0) true
 

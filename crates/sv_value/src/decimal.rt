@@ -59,7 +59,7 @@ impl<'a> Decimal<'a> {
     }
 }
 
-/// Whether a suffix, if there is one, begins with a letter.
+/// Whether a suffix is empty or begins with a letter.
 fn begins_well(suffix: &[u8]) -> bool
     ensures { result ≡ begins_well_text suffix.now }
 {
