@@ -56,7 +56,7 @@ taking = elim [ CallTaken call ↦ Some (Some call) | Replied bytes ↦ Some Non
 abbrev pub pending_call : List ConnAct → Option (List ℕ)
 pending_call acts = last_given taking None (acts_since_opening acts)
 
--- whether a call was taken that isn't answered yet
+-- whether a call was taken and isn't answered yet
 abbrev pub is_busy : List ConnAct → Bool
 is_busy acts = is_some (pending_call acts)
 

@@ -20,7 +20,8 @@ pub enum Awaited {
 pub enum Change {
     /// An act of the scanner.
     Scan(ScanAct),
-    /// The unit that is due has to wait for the end of the measurement, and will answer this then.
+    /// The unit that is due has to wait for the end of the measurement. The value is what the unit
+    /// will answer then.
     Hold(Awaited),
     /// An error is reported.
     Report(Code),

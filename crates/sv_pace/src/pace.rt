@@ -72,7 +72,7 @@ fn longer(missed: bool, pause: u32) -> u32
 }
 
 impl Pace {
-    /// Makes the policy at the beginning of a loop, which hasn't waited yet.
+    /// Makes the policy of a loop that begins: the loop hasn't waited yet.
     pub fn new() -> Pace
         ensures times { (result.swept ≡ 0) × (result.worked ≡ 0) }
         ensures stands { StandsFor result [] }

@@ -61,7 +61,8 @@ Serves config c history events piece = (first turn behind : List PlainEvent) × 
     × IsLogOf config (first ++ history) before × IsLogOf config (turn ++ (first ++ history)) after
     × Takes config c before turn × Offers c after piece
 
--- A sweep has these events and these answers of the wire, which agree with each other, and it serves each connection.
+-- A sweep has these events and these answers of the wire. The events and the answers agree with each other, and the sweep serves each
+-- connection.
 abbrev pub IsServed : {W : Type 0} → (W → Heard → W → Type 0) → Config → DriverState W → DriverState W → List PlainEvent → List PlainEvent
     → List Heard → Type 0
 IsServed hears config old new history events piece = StandsFor old.server config history × StandsFor new.server config (events ++ history)

@@ -78,12 +78,13 @@ Comes hears c Failed = Closes hears c
 abbrev pub longest_piece : ℕ
 longest_piece = 16384
 
--- A connection is closed, if the wire answered that it is gone.
+-- A connection is closed if the wire answered that the connection's peer is gone.
 abbrev pub Drops : {W : Type 0} → (W → Heard → W → Type 0) → ℕ → Answer ⊤ → Config → DriverView W → DriverView W → Type 0
 Drops hears c Failed = Closes hears c
 Drops hears c answer = Unchanged
 
--- If the flag says that the connection is open, the driver asks the wire whether its peer is gone, and closes the connection if so.
+-- If the flag says that the connection is open, the driver asks the wire whether the connection's peer is gone. If it is, the connection is
+-- closed.
 abbrev pub ProbesIf : {W : Type 0} → (W → Heard → W → Type 0) → ℕ → Bool → Config → DriverView W → DriverView W → Type 0
 ProbesIf hears c false config before after = after ≡ before
 ProbesIf hears c true config before after = (drops : Bool) × (answer : Answer ⊤) × IsOverlong c config before drops
@@ -153,8 +154,9 @@ ConnectResult c dial (Got all) = Remembers c (Some dial) then IsApplied (Dialed 
 ConnectResult c dial Pending = Remembers c (Some dial)
 ConnectResult c dial Failed = IsApplied (Dialed c false)
 
--- What follows the wire's answer about a peer that was dialed before. If the peer is connected, the server is told so. If the peer still
--- hasn't answered, nothing changes. If it can't be reached, its socket is closed, and the server is told so.
+-- What follows the wire's answer about a peer that was dialed before. If the peer is connected, the server is told that it is. If the peer
+-- still hasn't answered, nothing changes. If the peer can't be reached, its socket is closed, and the server is told that connecting
+-- failed.
 abbrev pub PollResult : {W : Type 0} → (W → Heard → W → Type 0) → ℕ → Answer ⊤ → Config → DriverView W → DriverView W → Type 0
 PollResult hears c (Got all) = IsApplied (Dialed c true)
 PollResult hears c Pending = Unchanged
@@ -176,7 +178,8 @@ abbrev pub Calls : {W : Type 0} → (W → Heard → W → Type 0) → ℕ → C
 Calls hears c config before after =
     (wanted : Option Dial) × Wants c config before wanted × CallsFor hears c wanted (called_of c before) config before after
 
--- The socket of a peer that isn't wanted any more is closed; then the peer that is wanted is dialed.
+-- The socket of a dialed peer to which the interrupt channel needn't be connected any more is closed. Then the peer to which the channel
+-- has to be connected is dialed.
 abbrev pub Dials : {W : Type 0} → (W → Heard → W → Type 0) → ℕ → Config → DriverView W → DriverView W → Type 0
 Dials hears c = LetsGo hears c then Calls hears c
 
