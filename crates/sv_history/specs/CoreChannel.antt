@@ -51,7 +51,7 @@ device_write flags bytes acts =
     else (if has_ended (exchange_acts acts) then only (Size IoTimeout 0)
     else answer_with (Applied (Exchanged (Accepted bytes (bit_at flags 3 == 1))) ∷ []) (Size NoError (length bytes)))
 
--- the termination character: the low eight bits of the argument if its flag (bit 7) is set, else none
+-- the termination character: the low eight bits of `term_char` if bit 7 of the flags is set, else none
 abbrev pub term_of : ℕ → ℕ → Option ℕ
 term_of flags term_char = if bit_at flags 7 == 1 then Some (term_char % 256) else None
 

@@ -35,7 +35,8 @@ abbrev pub abort_acts : Option ℕ → List Act → List Act
 abort_acts (Some c) log = acts_of c (failure_effect Abort c (core_call_in (pending_call (of c log))))
 abort_acts None log = []
 
--- the acts of a record that was taken: the act of taking it; its own effect; and the end of the suspended call that it aborts, if any
+-- the acts of a record that was taken: the act of taking the record; the record's own effect; and the end of the suspended call that the
+-- record aborts, if any
 abbrev pub taken_acts : ℕ → List ℕ → Effect → Option ℕ → List Act → List Act
 taken_acts c bytes effect aborts log =
     let acts = acts_of c effect ++ On c (CallTaken bytes) ∷ [] in abort_acts aborts (acts ++ log) ++ acts

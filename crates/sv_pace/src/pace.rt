@@ -23,8 +23,8 @@ const MOST_SLEEPS: u32 = 1_024;
 /// What a loop of sweeps remembers: times, in nanoseconds since its beginning, and how its waits
 /// ended.
 ///
-/// If polling found nothing of late, as on a machine whose cores are busy, it isn't worthwhile: the
-/// server sleeps without polling, and polls again only now and then.
+/// If polling found nothing of late, as on a machine whose cores are busy, polling isn't
+/// worthwhile: the server sleeps without polling, and polls again only now and then.
 #[derive(Drop)]
 pub struct Pace {
     /// When the last sweep began.

@@ -14,7 +14,7 @@ digits_size text = position_or_len (λ b. not (is_ascii_digit b)) text
 abbrev pub digits_in : List ℕ → List ℕ
 digits_in text = take (digits_size text) text
 
--- the text after the digits that it begins with
+-- the text after its leading digits
 abbrev pub behind_digits : List ℕ → List ℕ
 behind_digits text = drop (digits_size text) text
 
