@@ -36,8 +36,8 @@ NoneLate = (config : Config) (history : List PlainEvent) (log : List Act) (c : �
     → (IsExpired (config.clock + ticks (device_acts log)) (wait_acts (device_acts log)) c → ⊥) × (CanResume (device_acts log) c → ⊥)
 
 -- The server's queries (its methods `is_open`, `room`, `waiting` and `dial`) allow this event by their answers: an Open of a free number;
--- Bytes, if there is room and they fit it; a Took of at most the bytes that wait, if any wait; a Close of an open port; a Dialed while a
--- create_intr_chan waits for it. Or it is an Input that isn't refused, or the external trigger.
+-- Bytes that fit the room of a connection, if the room isn't 0; a Took of at most the bytes that wait, if any wait; a Close of an open
+-- port; or a Dialed while a create_intr_chan waits for it. Or the event is an Input that isn't refused, or the external trigger.
 abbrev pub Suits : PlainEvent → List ChannelAct → List Act → Type 0
 Suits (Open c role) channel_log log = (c < 16) × (is_open (of c log) ≡ false)
 Suits (Bytes c piece) channel_log log = (c < 16) × (0 < room (of c log)) × (length piece ≤ room (of c log))
