@@ -55,8 +55,9 @@ impl Door {
     }
 
     /// Returns how many milliseconds to sleep at most before the next accept. This is 100 if it is
-    /// known that no connection waits. Else it is 1, doubled for each accept but the first that
-    /// failed since an accept last succeeded; but at most 100.
+    /// known that no connection waits. Else it is 1 until a second accept has failed, and doubled
+    /// at each failed accept from the second one on, but at most 100. An accept that succeeds sets
+    /// it back to 1.
     pub(crate) fn patience(&self) -> u32
         ensures { result ≤ 100 }
     {

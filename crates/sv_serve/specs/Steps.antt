@@ -83,8 +83,8 @@ abbrev pub Drops : {W : Type 0} → (W → Heard → W → Type 0) → ℕ → A
 Drops hears c Failed = Closes hears c
 Drops hears c answer = Unchanged
 
--- If the flag says that the connection is open, the driver asks the wire whether the connection's peer is gone. If it is, the connection is
--- closed.
+-- If the flag says that the connection is open: the driver asks the wire whether the connection's peer is gone, and closes the connection
+-- if the peer is gone.
 abbrev pub ProbesIf : {W : Type 0} → (W → Heard → W → Type 0) → ℕ → Bool → Config → DriverView W → DriverView W → Type 0
 ProbesIf hears c false config before after = after ≡ before
 ProbesIf hears c true config before after = (drops : Bool) × (answer : Answer ⊤) × IsOverlong c config before drops
