@@ -8,7 +8,7 @@ use sv_status::RegisterName;
 /// register can have bit 15 set: the register drops this bit.
 #[derive(Drop)]
 pub enum Order {
-    /// An action without a parameter: a command, or a query whose answer may have to wait.
+    /// An action without a parameter: a command, or a query whose answer might have to wait.
     Do(Action),
     /// A query that is answered at once.
     Ask(Question),
@@ -28,7 +28,7 @@ pub enum Order {
     /// `CONFigure:VOLTage`: abort, and configure a measurement, with this channel list if there is
     /// one.
     Configure(Option<ScanList>),
-    /// `MEASure:VOLTage?`: configure as [`Order::Configure`] does, begin a measurement, and answer
+    /// `MEASure:VOLTage?`: configure as [`Order::Configure`] does, begin a measurement, and return
     /// its readings.
     Measure(Option<ScanList>),
 }

@@ -30,7 +30,7 @@ maybe short more = record { short = codes short; long = codes short ++ codes mor
 abbrev pub row : Bool → Bool → List Part → CommandId → Row
 row common query parts command = record { common = common; query = query; parts = parts; command = command }
 
--- The two texts are equal if upper and lower case aren't distinguished.
+-- The two texts are equal, apart from upper and lower case.
 abbrev pub Same : List ℕ → List ℕ → Type 0
 Same sent form = map to_ascii_lowercase sent ≡ map to_ascii_lowercase form
 

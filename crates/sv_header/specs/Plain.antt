@@ -10,7 +10,7 @@ use Rattle.sv_header.specs.Pattern.{Part}
 abbrev pub part : Node → Part
 part node = record { short = node.short.now; long = node.long.now; optional = node.optional }
 
--- the mnemonics of a text, which colons separate; none if there is no text
+-- the mnemonics of a text, in which colons separate them; none if there is no text
 abbrev pub sent_of : Option (Bor (List ℕ)) → List (List ℕ)
 sent_of None = []
 sent_of (Some text) = cut_at 58 text.now

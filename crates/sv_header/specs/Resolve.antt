@@ -22,8 +22,8 @@ abbrev pub leads_common : Lead → Bool
 leads_common Common = true
 leads_common _ = false
 
--- A header, with the path before it, fits a row of the table: both or neither belong to a common command; both or neither belong to a
--- query; and the mnemonics of path and header fit the row's nodes.
+-- A header, with the path before it, fits a row of the table: header and row agree on whether they belong to a common command, and on
+-- whether they belong to a query; and the mnemonics of path and header fit the row's nodes.
 abbrev pub FitsRow : List (List ℕ) → List ℕ → Row → Type 0
 FitsRow path header row = (leads_common (lead header) ≡ row.common) × (is_query header ≡ row.query) × Fits (full path header) row.parts
 
@@ -37,8 +37,8 @@ but_last [] = []
 but_last (part ∷ []) = []
 but_last (part ∷ other ∷ others) = part ∷ but_last (other ∷ others)
 
--- the path for the next header, given what this header begins with; the path before this header; and `all`, the mnemonics of that path
--- followed by the header's own
+-- the path for the next header. The arguments are what this header begins with; the path before this header; and `all`, the mnemonics of
+-- that path followed by the header's own.
 abbrev pub kept_by : Lead → List (List ℕ) → List (List ℕ) → List (List ℕ)
 kept_by Common path all = path
 kept_by _ path all = but_last all

@@ -45,8 +45,8 @@ impl Branch {
     }
 }
 
-/// Splits siblings into the first one, the nodes below it, and the other siblings. Returns `None`
-/// if there are no siblings.
+/// Splits a list of sibling nodes into the first sibling, the nodes below it, and the later
+/// siblings. Returns `None` if the list is empty.
 pub(crate) fn parted(branches: &[Branch]) -> Option<(&Branch, &[Branch], &[Branch])>
     ensures { MatchOption result (branches.now ≡ [])
         (λ parts. IsParted branches.now parts.0.now parts.1.now parts.2.now) }

@@ -6,7 +6,7 @@ use sv_status::RegisterName;
 /// same header without it.
 #[derive(Clone, Copy, Debug, PartialEq, Eq)]
 pub enum CommandId {
-    /// A command without a parameter, or a query whose answer may have to wait.
+    /// A command without a parameter, or a query whose answer might have to wait.
     Do(Action),
     /// A query whose answer never has to wait.
     Ask(Question),
@@ -14,12 +14,12 @@ pub enum CommandId {
     Set(SettingName),
     /// `CONFigure:VOLTage[:DC]`: configure a measurement, with the given channels, if any.
     Configure,
-    /// `MEASure:VOLTage[:DC]?`: configure as [`CommandId::Configure`] does, measure, and answer the
+    /// `MEASure:VOLTage[:DC]?`: configure as [`CommandId::Configure`] does, measure, and return the
     /// readings.
     Measure,
 }
 
-/// What is done by a command without a parameter, or by a query whose answer may have to wait.
+/// What is done by a command without a parameter, or by a query whose answer might have to wait.
 #[derive(Clone, Copy, Debug, PartialEq, Eq)]
 pub enum Action {
     /// `*CLS`: clear events and the error queue (IEEE 488.2, 10.3).
@@ -40,7 +40,7 @@ pub enum Action {
     Initiate,
     /// `ABORt`: end the measurement.
     Abort,
-    /// `READ?`: abort, begin a measurement, and answer its readings.
+    /// `READ?`: abort, begin a measurement, and return its readings.
     Read,
 }
 

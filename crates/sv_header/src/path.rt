@@ -74,7 +74,7 @@ impl Model for Path {
 }
 
 impl Path {
-    /// The empty path, at the beginning of a message.
+    /// Returns the empty path, with which a message begins.
     pub fn root() -> Path
         ensures { result ≡ [] }
     {

@@ -39,7 +39,8 @@ impl Node {
         }
     }
 
-    /// Returns all mnemonics of `left`, if this node may be left out; else `None`.
+    /// Returns all mnemonics of `left` if this node is optional, so that a header can omit it; else
+    /// `None`.
     pub(crate) fn absent<'a>(&self, left: &Mnemonics<'a>) -> Option<Mnemonics<'a>>
         ensures { IsAllOf (left_of left.now) (part self.now) result }
     {

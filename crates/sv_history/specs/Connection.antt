@@ -13,7 +13,7 @@ use Rattle.sv_history.specs.declared.event.Port.TheVariants.{Conn, Intr}
 use Rattle.sv_history.specs.Act.{Act, ConnAct, Opened, Piece, CallTaken, Faulted, Replied, BytesTaken, PortClosed, of}
 use Rattle.sv_history.specs.Limits.{max_output}
 
--- the role of the connection after an act that changes it: an opening gives it a role; after a close it has none
+-- the role of the connection after an act that changes the role: an opening gives it a role; after a close it has none
 abbrev pub opening : ConnAct → Option (Option Role)
 opening = elim [ Opened role ↦ Some (Some role) | PortClosed ↦ Some None | _ ↦ None ]
 
@@ -47,7 +47,8 @@ bytes_sent acts = join_pieces (filter_map (elim [ Replied bytes ↦ Some bytes |
 abbrev pub bytes_taken : List ConnAct → ℕ
 bytes_taken acts = total (filter_map (elim [ BytesTaken count ↦ Some count | _ ↦ None ]) (acts_since_opening acts))
 
--- the pending call after an act that changes it: a call that is taken becomes pending; a reply, or a record that isn't a call, ends it
+-- the pending call after an act that changes which call is pending: a call that is taken becomes pending; a reply, or a record that isn't a
+-- call, ends the pending call
 abbrev pub taking : ConnAct → Option (Option (List ℕ))
 taking = elim [ CallTaken call ↦ Some (Some call) | Replied bytes ↦ Some None | Faulted ↦ Some None | _ ↦ None ]
 
@@ -55,7 +56,7 @@ taking = elim [ CallTaken call ↦ Some (Some call) | Replied bytes ↦ Some Non
 abbrev pub pending_call : List ConnAct → Option (List ℕ)
 pending_call acts = last_given taking None (acts_since_opening acts)
 
--- whether a call was taken that isn't answered yet
+-- whether a call was taken and isn't answered yet
 abbrev pub is_busy : List ConnAct → Bool
 is_busy acts = is_some (pending_call acts)
 
@@ -98,7 +99,7 @@ next_call acts = if took_no_call acts || is_busy acts then None else slice_get (
 abbrev pub is_idle : List ConnAct → Bool
 is_idle acts = is_none (next_call acts)
 
--- whether the record at the end of the stream is too long: the server stores no byte that comes after it
+-- whether the record at the end of the stream is too long. If it is, the server stores no byte that comes after it.
 abbrev pub is_overlong : List ConnAct → Bool
 is_overlong acts = ends_overlong (tail_of (stream acts))
 

@@ -51,12 +51,12 @@ device_write flags bytes acts =
     else (if has_ended (exchange_acts acts) then only (Size IoTimeout 0)
     else answer_with (Applied (Exchanged (Accepted bytes (bit_at flags 3 == 1))) ∷ []) (Size NoError (length bytes)))
 
--- the termination character: the low eight bits of the argument if its flag (bit 7) is set, else none
+-- the termination character: the low eight bits of `term_char` if bit 7 of the flags is set, else none
 abbrev pub term_of : ℕ → ℕ → Option ℕ
 term_of flags term_char = if bit_at flags 7 == 1 then Some (term_char % 256) else None
 
--- the result of a device_read of this response: its first bytes, up to the requested number or to the termination character, whichever
--- comes first; and each reason that applies for ending there
+-- the result of a device_read of this response: the first bytes of the response, up to the requested number or to the termination
+-- character, whichever comes first; and all reasons for ending there that apply
 abbrev pub read_of : List ℕ → ℕ → Option ℕ → Outcome
 read_of bytes most term =
     let count = read_count bytes most term in
@@ -67,8 +67,8 @@ read_of bytes most term =
 abbrev pub reads : List ℕ → ℕ → Option ℕ → CallOutcome
 reads bytes most term = answer_with (Applied (Exchanged (ResponseRead (read_count bytes most term))) ∷ []) (read_of bytes most term)
 
--- device_read: returns bytes of the response, if there is a response; else error 15. If there is no response and none can come without
--- another write, the text of the unfinished message is also dropped, and -420 is reported.
+-- device_read: returns bytes of the response, if there is a response; else error 15. If there is no response, and no response can come
+-- without a further write, the text of the unfinished message is also dropped, and -420 is reported.
 abbrev pub device_read : ℕ → Option ℕ → List DeviceAct → CallOutcome
 device_read most term acts =
     if is_something (response (exchange_acts acts)) then reads (response (exchange_acts acts)) most term

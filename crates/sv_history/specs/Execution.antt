@@ -28,7 +28,7 @@ request_effect config polled c (AbortRequest xid lid) acts = only_reply (result_
 request_effect config polled c (PortRequest xid args) acts =
     only_reply (port_reply xid (port_at (record { core = config.core; abort = config.abort }) args))
 
--- the connection whose suspended call is ended by this request, a device_abort; `None` if the request ends no suspended call
+-- the connection of the suspended call that this request, a device_abort, ends; `None` if the request ends no suspended call
 abbrev pub aborts : Request → List DeviceAct → Option ℕ
 aborts (AbortRequest xid lid) acts = if_waiting (owner_of (lid_of (Some lid)) acts) (lid_of (Some lid)) acts
 aborts _ acts = None

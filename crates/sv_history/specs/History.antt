@@ -30,12 +30,13 @@ use Rattle.sv_history.specs.PolledStatus.{IsPolled}
 use Rattle.sv_history.specs.Settling.{Settles}
 use Rattle.sv_history.specs.Limits.{longest_reply}
 
--- the acts by which a device_abort ends the suspended call of a connection with error 23; none if it ends no call
+-- the acts by which a device_abort ends, with error 23, the suspended call of a connection; none if it ends no call
 abbrev pub abort_acts : Option ℕ → List Act → List Act
 abort_acts (Some c) log = acts_of c (failure_effect Abort c (core_call_in (pending_call (of c log))))
 abort_acts None log = []
 
--- the acts of a record that was taken: the act of taking it; its own effect; and the end of the suspended call that it aborts, if any
+-- the acts of a record that was taken: the act of taking the record; the record's own effect; and the end of the suspended call that the
+-- record aborts, if any
 abbrev pub taken_acts : ℕ → List ℕ → Effect → Option ℕ → List Act → List Act
 taken_acts c bytes effect aborts log =
     let acts = acts_of c effect ++ On c (CallTaken bytes) ∷ [] in abort_acts aborts (acts ++ log) ++ acts
@@ -110,7 +111,7 @@ refuse_refusal acts =
 abbrev pub took_refusal : ℕ → List ℕ → Option Refused
 took_refusal count bytes = if nat_lt (length bytes) count then Some NotSent else None
 
--- the refusal of an event that needs an open connection: `NoConn` if it isn't open, else `other`
+-- the refusal of an event that needs an open connection: `NoConn` if the connection isn't open, else `other`
 abbrev pub unless_shut : ℕ → List Act → Option Refused → Option Refused
 unless_shut c log other = if is_shut c log then Some NoConn else other
 

@@ -24,7 +24,7 @@ enable_srq c true lid handle = if nat_lt max_handle (length handle) then only (P
     else answer_with (Channel (SrqEnabled lid c handle) ∷ []) (Plain NoError)
 enable_srq c false lid handle = answer_with (Channel (SrqDisabled lid) ∷ []) (Plain NoError)
 
--- whether an interrupt channel may connect to this address and port: the address is in 127.0.0.0/8, and the port is 1 to 65535
+-- whether the server connects an interrupt channel to this address and port: the address is in 127.0.0.0/8, and the port is 1 to 65535
 abbrev pub is_peer : ℕ → ℕ → Bool
 is_peer host_addr host_port = (host_addr / 16777216 == 127) && nat_lt 0 host_port && nat_lt host_port 65536
 

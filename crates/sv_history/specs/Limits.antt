@@ -1,4 +1,4 @@
--- How many bytes may wait to be sent on a connection.
+-- How many bytes can wait to be sent on a connection.
 use Rattle.std.specs.Prelude.{ℕ, ◌+◌}
 use Rattle.sv_exchange.specs.Limits.{max_read}
 

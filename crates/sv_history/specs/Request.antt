@@ -15,8 +15,8 @@ use Rattle.sv_history.specs.Act.{ConnAct}
 use Rattle.sv_history.specs.Connection.{next_call, open_role}
 use Rattle.sv_history.specs.CoreCall.{CoreCall}
 
--- what a record requests: nothing, since the record isn't a call; a reply that the call's header, or arguments that can't be read, already
--- decide; a call of the core channel; device_abort; or GETPORT
+-- what a record requests: nothing, because the record isn't a call; a reply that is already decided, by the call's header or because the
+-- arguments can't be read; a call of the core channel; device_abort; or GETPORT
 pub data Request : Type 0 where
   NoCall : Request
   Decided : (xid : ℕ) (reply : Reply) → Request
@@ -24,7 +24,7 @@ pub data Request : Type 0 where
   AbortRequest : (xid : ℕ) (lid : ℤ) → Request
   PortRequest : (xid : ℕ) (args : List ℕ) → Request
 
--- the program that a connection serves, its version, and its procedures besides 0, the null procedure
+-- the program that a connection serves: its number, its version, and the numbers of its procedures except the null procedure (0)
 abbrev pub program_of : Role → ℕ × ℕ × List ℕ
 program_of Core = (395183, 1, core_calls)
 program_of Abort = (395184, 1, abort_calls)
@@ -46,8 +46,8 @@ procedure_request Core call = core_request call.xid (arguments_at call.proc call
 procedure_request Abort call = abort_request call.xid (arguments_at call.proc call.args)
 procedure_request Portmap call = PortRequest call.xid call.args
 
--- What a call requests. The first of these that applies decides the reply: the call isn't for the role's program; not for the program's
--- version; it is for the null procedure; it is for an unknown procedure.
+-- What a call requests. The first of these that applies decides the reply: the call isn't for the role's program; it isn't for the
+-- program's version; it is for the null procedure; it is for an unknown procedure.
 abbrev pub call_request : Role → PlainCall → Request
 call_request role call =
     let (program, version, procedures) = program_of role in

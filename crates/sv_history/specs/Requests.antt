@@ -1,13 +1,14 @@
 -- The log of the interrupt channels (VXI-11 revision 1.0, section B.6, device_intr_srq; IEEE 488.2, 11.3). It has the acts of the channels,
--- and each request for service that is raised. For each link that is destroyed it has an act that disables the link's service requests.
+-- and each request for service that is raised. For each link that is destroyed, the log has an act that disables the link's service
+-- requests.
 use Rattle.std.specs.Prelude.{◌≡◌, ◌↔◌, Bool, true, false, List, [], ◌∷◌}
 use Rattle.sv_links.specs.Links.{LinkAct, Destroyed}
 use Rattle.sv_links.specs.Channels.{ChannelAct, SrqDisabled, Requested}
 use Rattle.sv_layers.specs.StatusByte.{IsRaised}
 use Rattle.sv_history.specs.Act.{DeviceAct, Linked, Channel, Applied, instrument_acts}
 
--- the log of the interrupt channels after an act of a link; if the act destroys the link, an act is added that disables its service
--- requests
+-- the log of the interrupt channels after an act of a link; if the act destroys the link, an act that disables the link's service requests
+-- is added
 abbrev pub link_told : LinkAct → List ChannelAct → List ChannelAct
 link_told (Destroyed lid) channel_log = SrqDisabled lid ∷ channel_log
 link_told _ channel_log = channel_log

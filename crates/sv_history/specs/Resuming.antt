@@ -30,7 +30,8 @@ abbrev pub resume_outcome : Config → ℕ → ℕ → Arguments → Option (Wai
 resume_outcome config polled c arguments (Some wait) acts = suspend_by (Again c wait.0 (deadline config (Some wait.1) acts))
 resume_outcome config polled c arguments None acts = leaving c (own_call config polled c arguments (Waited (Left c) ∷ acts))
 
--- the effect of a suspended call, whose outcome `does` gives; if there is no call of the core channel, only the suspension ends
+-- the effect of a suspended call: the function `does` gives the outcome for the call's arguments; if there is no call of the core channel,
+-- only the suspension ends
 abbrev pub effect_of : ℕ → (Arguments → CallOutcome) → Option CoreCall → Effect
 effect_of c does (Some call) = call_effect call.xid (does call.arguments)
 effect_of c does None = record { own = []; adds = Waited (Left c) ∷ [] }

@@ -111,8 +111,8 @@ pub struct Dial {
     pub port: u16,
 }
 
-/// Why an event was refused. A refused event changed nothing, and isn't in the history. The
-/// numbers, as `refused as u8`, are those that a replay prints.
+/// Why an event was refused. A refused event changed nothing, and isn't in the history. A replay
+/// prints the number of the refusal, which is `refused as u8`.
 #[derive(Clone, Copy, Debug, PartialEq, Eq, Error)]
 pub enum Refused {
     /// Memory for a link or an interrupt channel was refused.

@@ -41,8 +41,8 @@ abbrev pub set_list : Option (List ℕ) → List Act → List Act
 set_list None log = log
 set_list (Some channels) log = Scanned (scan.Configure (setting.List channels)) ∷ log
 
--- the log after a measurement is configured: the measurement before is aborted; range (10 V), source of triggers (immediate) and number of
--- scans (1) get their defaults; then the scan list is set, if one is given
+-- the log after a measurement is configured: the previous measurement is aborted; range (10 V), source of triggers (immediate) and number
+-- of scans (1) get their defaults; then the scan list is set, if one is given
 abbrev pub after_configure : Option (List ℕ) → List Act → List Act
 after_configure list log = set_list list
     (Scanned (scan.Configure (setting.Count 1)) ∷ Scanned (scan.Configure (setting.Source Immediate))
@@ -67,7 +67,7 @@ abbrev pub Replies : Option Code → Question → List Act → List Act → Type
 Replies (Some code) asked log new = new ≡ done (Reported code ∷ log)
 Replies None asked log new = (text : List ℕ) × Says asked log text × (new ≡ after_answering text (done (after_query asked log)))
 
--- the log after a command without a parameter, or after a query that may have to wait
+-- the log after a command without a parameter, or after a query whose answer might have to wait
 abbrev pub after_action : Action → List Act → List Act
 after_action action.ClearStatus log = done (Cleared ∷ log)
 after_action action.Reset log = done (Scanned scan.Reset ∷ log)

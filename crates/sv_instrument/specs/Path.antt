@@ -9,7 +9,7 @@ use Rattle.sv_layers.specs.declared.change.Awaited.{Awaited}
 use Rattle.sv_layers.specs.Act.{Act, exchange_acts}
 use Rattle.sv_instrument.specs.HeldUnit.{held_unit}
 
--- Reading these units, which are listed with the last one first, results in this path.
+-- Reading these units in order results in this path. The list has the last unit first.
 abbrev pub Leaves : List (List ℕ) → List (List ℕ) → Type 0
 Leaves [] path = path ≡ []
 Leaves (unit ∷ before) path =

@@ -51,7 +51,7 @@ abbrev pub instrument_measure : Kept → ℕ
 instrument_measure kept = 2 * (2 * exchange_measure kept.layers.exchange + one_if_unheld kept.held)
     + waits (state_by kept.layers)
 
--- If a unit waits for the end of the measurement, then the message exchange has a unit that is due, which is this one.
+-- If a unit waits for the end of the measurement, this unit is the one that is due in message exchange.
 abbrev pub IsHeldRight : Option Awaited → LayerState → Type 0
 IsHeldRight None layers = ⊤
 IsHeldRight (Some awaited) layers = IsUnitDue (next_of layers.exchange)

@@ -4,7 +4,7 @@ use Rattle.sv_scan.specs.Condition.{bit}
 use Rattle.sv_layers.specs.Act.{Act}
 use Rattle.sv_layers.specs.StatusByte.{IsRaised}
 
--- Of these acts, which follow the log, `count` raise a request for service.
+-- Of these acts, which came after the log, `count` acts raise a request for service.
 abbrev pub Raise : List Act → List Act → ℕ → Type 0
 Raise [] log count = count ≡ 0
 Raise (act ∷ acts) log count = (raised : Bool) × (before : ℕ) × ((raised ≡ true) ↔ IsRaised (act ∷ (acts ++ log))) × Raise acts log before

@@ -16,7 +16,7 @@ use Rattle.sv_instrument.specs.Path.{IsPath}
 use Rattle.sv_instrument.specs.QueryResponse.{readings_text}
 use Rattle.sv_instrument.specs.CommandEffect.{Performs, done, after_answering}
 
--- the log after a unit ends that waited for the end of the measurement: the unit is done, and its answer is added to the response
+-- the log after a unit that waited for the end of the measurement ends: the unit is done, and its answer is added to the response
 abbrev pub after_release : Awaited → List Act → List Act
 after_release Nothing log = done log
 after_release One log = after_answering (codes "1") (done log)
@@ -36,8 +36,8 @@ Starts unit log new = (path behind : List (List ℕ)) × (outcome : Result Order
 abbrev pub after_interrupt : List Act → List Act
 after_interrupt log = Reported QueryInterrupted ∷ Exchanged Interrupted ∷ log
 
--- The step that is due leads from `log` to `new`. It depends on whether a unit is held, and on what is due in message exchange. A held unit
--- ends only while no measurement is under way.
+-- The step that is due leads from `log` to `new`. Which step is due depends on whether a unit is held, and on what is due in message
+-- exchange. A held unit ends only while no measurement is under way.
 abbrev pub StepOf : Option Awaited → Due → List Act → List Act → Type 0
 StepOf (Some awaited) next log new = (is_idle log ≡ true) × (new ≡ after_release awaited log)
 StepOf None NothingDue log new = ⊥

@@ -51,7 +51,7 @@ pub(crate) fn perform<A: Allocator>(
 }
 
 /// Performs an action, which has no parameter. If the unit has to wait for the end of the
-/// measurement, returns what it will answer then; else `None`.
+/// measurement, returns what the unit will answer then; else `None`.
 fn act<A: Allocator>(layers: &mut Layers<A>, action: Action) -> Option<Awaited>
     requires { IsUnitDue (next_of layers.old.exchange) }
     ensures behaves { (start log : List Act) → Counts start layers.old log

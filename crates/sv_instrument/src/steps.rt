@@ -109,8 +109,8 @@ impl<A: Allocator> Instrument<A> {
         self.layers.apply(Change::Report(Code::InputBufferOverrun));
     }
 
-    /// Drops the response to the previous message, which the new message interrupts, and starts the
-    /// unit that is due.
+    /// Drops the response to the previous message, because the new message interrupts it. Then
+    /// starts the unit that is due.
     fn interrupt(&mut self)
         requires free { self.old.held ≡ None }
         requires due { next_of self.old.layers.exchange ≡ InterruptDue }

@@ -58,8 +58,9 @@ pub record Feeds (c : ℕ) (config : Config) (past events : List PlainEvent) (be
 abbrev pub NoneWaits : List WaitAct → Type 0
 NoneWaits acts = (c : ℕ) → (waits c acts ≢ Some ForInput) × (waits c acts ≢ Some ForResponse)
 
--- After a history, `one` has a single write of x and y. `two` has a write of x without the END flag, and then a write of y. Both leave the
--- same unfinished record. No byte of x is a new line, and no read or write was suspended before.
+-- Two lists of events that can follow the history `past`: `one` has a single write of x followed by y; `two` has a write of x without the
+-- END flag, and then a write of y. Both leave the same unfinished record. No byte of x is a new line, and no read or write was suspended
+-- before.
 pub record AreCut (c lid : ℕ) (x y : List ℕ) (ended : Bool) (config : Config) (past one two : List PlainEvent) : Type 0 where
   pub before : List Act
   pub whole : List Act
@@ -74,9 +75,9 @@ pub record AreCut (c lid : ℕ) (x y : List ℕ) (ended : Bool) (config : Config
   pub writes_first : IsWritten lid x false (without_pieces (of c before)) middle
   pub writes_second : IsWritten lid y ended middle (without_pieces (of c cut))
 
--- One history has a single write, where the other has it cut into two writes (`AreCut`). If the same events are added to both, and both are
--- still histories, these events add the same bytes to each port. The writes themselves add the same bytes to each port, except to the
--- connection on which they come.
+-- One history has a single write, where the other has it cut into two writes (`AreCut`). If the same events are added to both histories,
+-- and none of these events is refused, they add the same bytes to each port. The writes themselves add the same bytes to each port, except
+-- to the connection on which they come.
 abbrev pub WritesCut : Type 0
 WritesCut = (c lid : ℕ) (x y : List ℕ) (ended : Bool) (config : Config) (past one two events : List PlainEvent) (log other : List Act)
     → AreCut c lid x y ended config past one two → IsLogOf config (events ++ (one ++ past)) log
@@ -95,7 +96,7 @@ pub data Recut (config : Config) : List PlainEvent → List PlainEvent → Type 
       → reading (stream (of c log) ++ join_pieces pieces) ≡ reading (stream (of c log) ++ join_pieces others) → Recut config past other
       → Recut config (map (Bytes c) pieces ++ past) (map (Bytes c) others ++ other)
 
--- Two histories that differ only in how they are split into pieces and fragments (`Recut`) send the same bytes on each port.
+-- Two histories that differ only in how bytes are split into pieces and records into fragments (`Recut`) send the same bytes on each port.
 abbrev pub RecordsCut : Type 0
 RecordsCut = (config : Config) (history other : List PlainEvent) (log also : List Act) → Recut config history other
     → IsLogOf config history log → IsLogOf config other also → (port : Port) (bytes : List ℕ)

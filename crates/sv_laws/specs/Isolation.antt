@@ -28,7 +28,7 @@ is_foreign c (Input channel microvolts) = false
 is_foreign c External = false
 is_foreign c Tick = false
 
--- the events without those of other connections than `c` and of the interrupt channels of other connections
+-- the events that remain when the events of other connections than `c`, and of the interrupt channels of other connections, are left out
 abbrev pub own_events : ℕ → List PlainEvent → List PlainEvent
 own_events c = filter (λ event. not (is_foreign c event))
 
@@ -42,8 +42,8 @@ abbrev pub makes_link : Option Request → Bool
 makes_link (Some (CoreRequest call)) = is_create_link call.arguments
 makes_link _ = false
 
--- If the event takes a device_abort, it names no link of connection `c`; and the event neither takes nor refuses a create_link on this
--- connection.
+-- If the event takes a device_abort, this call names no link of connection `c`; and the event neither takes nor refuses a create_link on
+-- this connection.
 abbrev pub LeavesLinksAlone : ℕ → PlainEvent → List Act → Type 0
 LeavesLinksAlone c (Turn d) log = (owner_of (aborted_link (next_request (of d log))) (device_acts log) ≢ Some c)
     × (d ≡ c → makes_link (next_request (of d log)) ≡ false)

@@ -23,8 +23,8 @@ use Rattle.sv_history.specs.History.{is_port_shut, input_refusal, last_clock, Is
 abbrev pub OneLog : Type 0
 OneLog = (config : Config) (history : List PlainEvent) (a b : List Act) → IsLogOf config history a → IsLogOf config history b → a ≡ b
 
--- If nothing becomes due within `most` milliseconds, that many ticks change only the clock: the log gains only the acts of the ticks. The
--- clock must not be past its last value then.
+-- If nothing becomes due within `most` milliseconds, that many ticks change only the clock: the log gains only the acts of the ticks. After
+-- these ticks the clock must not be past its last value.
 abbrev pub TimeOnlyCounts : Type 0
 TimeOnlyCounts = (config : Config) (history : List PlainEvent) (log : List Act) (most : ℕ) → IsLogOf config history log
     → IsStill most config (device_acts log) → config.clock + ticks (device_acts log) + most ≤ last_clock
@@ -36,8 +36,8 @@ NoneLate = (config : Config) (history : List PlainEvent) (log : List Act) (c : �
     → (IsExpired (config.clock + ticks (device_acts log)) (wait_acts (device_acts log)) c → ⊥) × (CanResume (device_acts log) c → ⊥)
 
 -- The server's queries (its methods `is_open`, `room`, `waiting` and `dial`) allow this event by their answers: an Open of a free number;
--- Bytes, if there is room and they fit it; a Took of at most the bytes that wait, if any wait; a Close of an open port; a Dialed while a
--- create_intr_chan waits for it. Or it is an Input that isn't refused, or the external trigger.
+-- Bytes that fit the room of a connection, if the room isn't 0; a Took of at most the bytes that wait, if any wait; a Close of an open
+-- port; or a Dialed while a create_intr_chan waits for it. Or the event is an Input that isn't refused, or the external trigger.
 abbrev pub Suits : PlainEvent → List ChannelAct → List Act → Type 0
 Suits (Open c role) channel_log log = (c < 16) × (is_open (of c log) ≡ false)
 Suits (Bytes c piece) channel_log log = (c < 16) × (0 < room (of c log)) × (length piece ≤ room (of c log))

@@ -17,7 +17,7 @@ pub data Act : Type 0 where
   Purged : Act
   -- an act of the scanner: its inputs, settings and trigger system
   Scanned : (act : ScanAct) → Act
-  -- a unit began that can end only when no measurement is under way; `awaited` is what the unit will answer then
+  -- a unit began, but it can end only when no measurement is under way; `awaited` is what the unit will answer then
   Held : (awaited : Awaited) → Act
   -- the acts of the error queue: an error is added to the queue, or the queue's oldest error is removed
   Reported : (code : Code) → Act

@@ -18,8 +18,8 @@ is_same _ _ = false
 abbrev pub start : RegisterName → ℕ
 start = elim [ Limit ↦ 32767 | _ ↦ 0 ]
 
--- what an act that sets a mask of register `other` sets for register `name`: the mask without bit 15 if they are the same register; else
--- `None`
+-- the new mask of register `name` after an act that sets this mask for register `other`: the mask without bit 15 if both are the same
+-- register; else `None`
 abbrev pub mask_for : RegisterName → RegisterName → ℕ → Option ℕ
 mask_for name other mask = if is_same name other then Some (without_top_bit mask) else None
 
@@ -39,8 +39,8 @@ enable name = last_given (elim [ Enabled other mask ↦ mask_for name other mask
 abbrev pub has_bit : ℕ → ℕ → Bool
 has_bit word k = bit_at word k == 1
 
--- whether the newest act changes bit k of the condition, and bit k of the transition filter for this direction was set before the act. The
--- positive filter is for a change to 1, the negative one for a change to 0.
+-- whether the newest act changes bit k of the condition, and the filter for this change had bit k set before the act: the positive filter
+-- for a change to 1, the negative filter for a change to 0
 abbrev pub passes : (List Act → ℕ) → RegisterName → ℕ → List Act → Bool
 passes condition name k [] = false
 passes condition name k (act ∷ before) =

@@ -24,39 +24,39 @@ abbrev pub OwnActs : Type 0
 OwnActs = (log : List Act) → ((layer_logs log).exchange ≡ exchange_acts log) × ((layer_logs log).errors ≡ queue_acts log)
     × ((layer_logs log).scanner ≡ scan_acts log) × ((layer_logs log).service ≡ service log)
 
--- The condition, the filters and the enable of a register have the same values according to its own log and to the instrument's log.
+-- A register's own log and the instrument's log give the register the same condition, filters and enable.
 abbrev pub SameWords : Type 0
 SameWords = (name : RegisterName) (log : List Act) → (register.condition (register_acts name (layer_logs log)) ≡ condition name log)
     × (register.rise (register_acts name (layer_logs log)) ≡ rise name log)
     × (register.fall (register_acts name (layer_logs log)) ≡ fall name log)
     × (register.enable (start name) (register_acts name (layer_logs log)) ≡ enable name log)
 
--- The enable mask of the standard events has the same value according to their own log and to the instrument's log.
+-- The log of the standard events and the instrument's log give the standard events the same enable mask.
 abbrev pub SameEnable : Type 0
 SameEnable = (log : List Act) → standard.enable (layer_logs log).standard ≡ standard_enable log
 
--- According to a register's own log, a bit of its event register is set exactly if it is set according to the instrument's log.
+-- A register's own log and the instrument's log agree on which bits of its event register are set.
 abbrev pub SameEvents : Type 0
 SameEvents = (name : RegisterName) (k : ℕ) (log : List Act)
     → register.EventStands k (register_acts name (layer_logs log)) ↔ EventStands name k log
 
--- According to the layers' logs an `*OPC` is pending exactly if one is pending according to the instrument's log.
+-- The layers' logs and the instrument's log agree on whether an `*OPC` is pending.
 abbrev pub SameWaiting : Type 0
 SameWaiting = (log : List Act) → ((layer_logs log).waits ≡ true) ↔ Waits log
 
--- In the layers' logs, an act makes the event operation complete (bit 0) occur exactly if, according to the instrument's log, an `*OPC`
--- completes at this act.
+-- The layers' logs and the instrument's log agree on whether an `*OPC` completes at an act. In the layers' logs it completes if the act
+-- makes the event operation complete (bit 0) occur.
 abbrev pub SameCompletion : Type 0
 SameCompletion = (act : Act) (before : List Act) → (completes : Bool)
     × ((after_complete (after_begin act (layer_logs before))).standard ≡ Occur (bit 0 completes)
     ∷ (after_begin act (layer_logs before)).standard)
     × ((completes ≡ true) ↔ Completes (act ∷ before))
 
--- According to the log of the standard events, a standard event bit is set exactly if it is set according to the instrument's log.
+-- The log of the standard events and the instrument's log agree on which standard event bits are set.
 abbrev pub SameStandardEvents : Type 0
 SameStandardEvents = (k : ℕ) (log : List Act) → standard.Stands k (layer_logs log).standard ↔ Stands k log
 
--- According to the layers' logs, a summary bit of the status byte is set exactly if it is set according to the instrument's log.
+-- The layers' logs and the instrument's log agree on which summary bits of the status byte are set.
 abbrev pub SameSummaries : Type 0
 SameSummaries = (word : ℕ) (log : List Act) → IsSummary word (layer_logs log) → (k : ℕ) → (bit_at word k ≡ 1) ↔ SummaryBit k log
 
@@ -65,17 +65,16 @@ abbrev pub OneAccount : Type 0
 OneAccount = (log : List Act) → (status_log : List StatusAct) × IsStatus log status_log
     × ((other : List StatusAct) → IsStatus log other → other ≡ status_log)
 
--- According to the status byte's own acts, a request for service is pending exactly if one is pending according to the instrument's log.
+-- The status byte's own acts and the instrument's log agree on whether a request for service is pending.
 abbrev pub SameRequests : Type 0
 SameRequests = (log : List Act) (status_log : List StatusAct) → IsStatus log status_log → status.Request status_log ↔ Request log
 
--- According to the status byte's own acts, the newest act raises a request for service exactly if it raises one according to the
--- instrument's log.
+-- The status byte's own acts and the instrument's log agree on whether the newest act raises a request for service.
 abbrev pub SameRaising : Type 0
 SameRaising = (log : List Act) → RaisedAt log ↔ IsRaised log
 
--- The bits of the status byte that a poll returns are the same according to the status byte's own acts and to the instrument's log. The
--- same holds for the bits that `*STB?` returns.
+-- The status byte's own acts and the instrument's log agree on the bits of the status byte that a poll returns, and on the bits that
+-- `*STB?` returns.
 abbrev pub SameStatus : Type 0
 SameStatus = (log : List Act) (status_log : List StatusAct) → IsStatus log status_log → (k : ℕ)
     → (status.StatusBit k status_log ↔ PolledBit k log) × (status.MasterBit k status_log ↔ MasterBit k log)

@@ -15,12 +15,13 @@ pub enum Awaited {
     Readings,
 }
 
-/// A change of the instrument, other than of program text and the response.
+/// A change of the instrument, except changes of program text and of the response.
 #[derive(Drop)]
 pub enum Change {
     /// An act of the scanner.
     Scan(ScanAct),
-    /// The unit that is due has to wait for the end of the measurement, and will answer this then.
+    /// The unit that is due has to wait for the end of the measurement. The value is what the unit
+    /// will answer then.
     Hold(Awaited),
     /// An error is reported.
     Report(Code),

@@ -27,7 +27,7 @@ const SUMMARY: u16 = 1 << 9;
 
 impl<A: Allocator> Layers<A> {
     /// Ends a change, which was already applied to the layer that it belongs to: updates one status
-    /// register after the other. If the condition of a register may have changed, the transitions
+    /// register after the other. If the condition of a register might have changed, the transitions
     /// of its bits first pass the register's filters as they were before the change. Then the
     /// change's direct effect on the register is applied. A nested register is updated before the
     /// register whose condition contains the nested register's summary.
@@ -87,7 +87,7 @@ fn summary_bit(stands: bool) -> u16
     if stands { SUMMARY } else { 0 }
 }
 
-/// Sets the condition of a register to `word`, if `touched` says that the condition may have
+/// Sets the condition of a register to `word`, if `touched` says that the condition might have
 /// changed. The transitions of the condition bits pass the register's filters.
 fn compare(register: &mut Register, touched: bool, word: u16)
     ensures { (start : ℕ) (acts : List RegisterAct) → Registers start register.old acts

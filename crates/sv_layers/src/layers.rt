@@ -102,7 +102,7 @@ impl<A: Allocator> Layers<A> {
         &self.exchange
     }
 
-    /// The error queue.
+    /// Returns the error queue.
     pub fn errors(&self) -> &ErrorQueue<A>
         ensures { (log : List Act) → StandsFor self.now log → Queues result.now (queue_acts log) }
     {

@@ -93,7 +93,7 @@ impl<A: Allocator> Layers<A> {
         fits
     }
 
-    /// Drops the first `count` bytes of the response, which a client has read.
+    /// Drops the first `count` bytes of the response: a client has read them.
     pub fn take(&mut self, count: usize)
         requires { count ≤ length (shown_by self.old.exchange) }
         ensures applied { (log : List Act) → StandsFor self.old log
@@ -106,7 +106,7 @@ impl<A: Allocator> Layers<A> {
         self.update_status();
     }
 
-    /// Drops the text of the current message, which mustn't have ended.
+    /// Drops the text of the current message. The message mustn't have ended.
     pub fn drop_unfinished(&mut self)
         requires { IsTrue (is_open self.old.exchange) }
         ensures applied { (log : List Act) → StandsFor self.old log

@@ -23,14 +23,14 @@ impl<A: Allocator> Layers<A> {
         self.standard.event()
     }
 
-    /// The enable of the standard events (IEEE 488.2, 11.5.1).
+    /// Returns the enable of the standard events (IEEE 488.2, 11.5.1).
     pub fn standard_enable(&self) -> u8
         ensures { (log : List Act) → StandsFor self.now log → result ≡ standard_enable_of log }
     {
         self.standard.enable()
     }
 
-    /// The status byte, with the master summary in bit 6 (IEEE 488.2, 11.2.2.2).
+    /// Returns the status byte, with the master summary in bit 6 (IEEE 488.2, 11.2.2.2).
     pub fn status_byte(&self) -> u8
         ensures { (log : List Act) → StandsFor self.now log → (k : ℕ)
             → (bit_at result k ≡ 1) ↔ MasterBit k log }
@@ -38,7 +38,7 @@ impl<A: Allocator> Layers<A> {
         self.status.status()
     }
 
-    /// The service request enable (IEEE 488.2, 11.3.2).
+    /// Returns the service request enable (IEEE 488.2, 11.3.2).
     pub fn service(&self) -> u8
         ensures { (log : List Act) → StandsFor self.now log → result ≡ service_of log }
     {
@@ -53,28 +53,28 @@ impl<A: Allocator> Layers<A> {
         self.register(name).event()
     }
 
-    /// The condition of a register (SCPI-1999, chapter 20).
+    /// Returns the condition of a register (SCPI-1999, chapter 20).
     pub fn condition(&self, name: RegisterName) -> u16
         ensures { (log : List Act) → StandsFor self.now log → result ≡ condition_of name log }
     {
         self.register(name).condition_word()
     }
 
-    /// The enable of a register (SCPI-1999, chapter 20).
+    /// Returns the enable of a register (SCPI-1999, chapter 20).
     pub fn enabled(&self, name: RegisterName) -> u16
         ensures { (log : List Act) → StandsFor self.now log → result ≡ enable_of name log }
     {
         self.register(name).enable()
     }
 
-    /// The positive transition filter of a register (SCPI-1999, chapter 20).
+    /// Returns the positive transition filter of a register (SCPI-1999, chapter 20).
     pub fn rise(&self, name: RegisterName) -> u16
         ensures { (log : List Act) → StandsFor self.now log → result ≡ rise_of name log }
     {
         self.register(name).rise()
     }
 
-    /// The negative transition filter of a register (SCPI-1999, chapter 20).
+    /// Returns the negative transition filter of a register (SCPI-1999, chapter 20).
     pub fn fall(&self, name: RegisterName) -> u16
         ensures { (log : List Act) → StandsFor self.now log → result ≡ fall_of name log }
     {

@@ -1,4 +1,4 @@
--- What a loop of sweeps does: it makes sweeps, and waits between them. Lists of its actions have the newest first.
+-- What a loop of sweeps does: it makes sweeps, and waits between them. A list of a loop's actions has the newest action first.
 use Rattle.std.specs.Prelude.{◌≡◌, ℕ, ◌-◌, ◌/◌, ◌<◌, min, Bool, true, false, List, [], ◌∷◌, length, Option, Some, None}
 use Rattle.std.specs.declared.time.Duration.{Duration}
 use Rattle.sv_logs.specs.Since.{last_given}
@@ -9,7 +9,7 @@ use Rattle.sv_serve.specs.Sweep.{Sweeps}
 use Rattle.sv_net.specs.Sleep.{MaySleep}
 
 -- An action of a loop: a sweep; a wait for reports about sockets; or passing these reports to the wire. A wait has its limit, whether
--- reports came, and when it ended, in nanoseconds since the beginning. The wire is given as its state when it gets the reports.
+-- reports came, and when it ended, in nanoseconds since the beginning. `Told` has the state of the wire when it gets the reports.
 pub data Doing (W : Type 0) : Type 0 where
   MadeSweep : Doing W
   Waited : (limit : Option Duration) (reported : Bool) (ended : ℕ) → Doing W
@@ -36,7 +36,8 @@ handed_in [] = []
 handed_in (MadeSweep ∷ doings) = ticks_between (swept_at doings) (time_of doings) ∷ handed_in doings
 handed_in (_ ∷ doings) = handed_in doings
 
--- whether the loop's last action was a wait, whose reports weren't passed to the sockets yet; true also if there was no action yet
+-- whether the loop's last action was a wait, so that the reports of this wait weren't passed to the sockets yet; also true if there was no
+-- action yet
 abbrev pub is_fresh : {W : Type 0} → List (Doing W) → Bool
 is_fresh = elim [ MadeSweep ∷ doings ↦ false | Told wire ∷ doings ↦ false | _ ↦ true ]
 

@@ -38,9 +38,9 @@ abbrev pub At : {S A : Type 0} → ℕ → (S → S → Type 0) → Answer A →
 At n step answer before after =
     (place : Option _) × Does step answer (slice_index_or before n None) place × (after ≡ slice_set before n place)
 
--- What a call of a method of the wire, which returned this answer, does to the sockets: only the socket for which the method was called can
--- change. Two things are known of a stream: the bytes that can still be read from it (`left`), and the bytes that were written to it
--- (`sent`).
+-- What one call of a method of the wire, with the answer that it returned, does to the sockets. Only the socket for which the method was
+-- called can change. Two things are known of a stream: the bytes that can still be read from it (`left`), and the bytes that were written
+-- to it (`sent`).
 abbrev pub Hears : {S : Type 0} → (S → Option (List ℕ)) → (S → Option (List ℕ)) → List (Option S) → Heard → List (Option S) → Type 0
 Hears left sent before (WasAccepted role (Some c) (Got all)) after = (stream : _) × (after ≡ slice_set before c (Some stream))
 Hears left sent before (WasAccepted role number answer) after = after ≡ before

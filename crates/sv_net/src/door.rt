@@ -10,11 +10,11 @@ use std::net::{Ipv4Addr, Net as Network, SocketAddr, SocketAddrV4};
 use sv_pace::STILL;
 use sv_serve::Answer;
 
-/// A listening socket, and whether connections may be waiting to be accepted.
+/// A listening socket, and whether connections might be waiting to be accepted.
 #[derive(Drop)]
 pub(crate) struct Door {
     listener: TcpListener,
-    /// Connections may be waiting to be accepted.
+    /// Connections might be waiting to be accepted.
     knocked: Cell<bool>,
     /// How many milliseconds to wait before the next accept, if the last accept failed; else 0.
     delay: Cell<u32>,
@@ -37,25 +37,27 @@ impl Door {
         registry.register(&mut self.listener, token, Interest::READABLE)
     }
 
-    /// Records a report of the system about the socket: connections may be waiting to be accepted.
+    /// Records a report of the system about the socket: connections might be waiting to be
+    /// accepted.
     pub(crate) fn report(&self) {
         self.knocked.set(true);
     }
 
-    /// Whether a connection may be waiting to be accepted.
+    /// Whether a connection might be waiting to be accepted.
     pub(crate) fn is_knocked(&self) -> bool {
         self.knocked.get()
     }
 
-    /// Whether the next accept is due at once: a connection may be waiting to be accepted, and the
-    /// last accept didn't fail.
+    /// Whether the next accept is due at once: a connection might be waiting to be accepted, and
+    /// the last accept didn't fail.
     pub(crate) fn is_waiting(&self) -> bool {
         self.knocked.get() & (self.delay.get() == 0)
     }
 
     /// Returns how many milliseconds to sleep at most before the next accept. This is 100 if it is
-    /// known that no connection waits. Else it is 1, doubled at each accept that fails after an
-    /// earlier one failed, but at most 100.
+    /// known that no connection waits. Else it is 1 until a second accept has failed, and doubled
+    /// at each failed accept from the second one on, but at most 100. An accept that succeeds sets
+    /// it back to 1.
     pub(crate) fn patience(&self) -> u32
         ensures { result ≤ 100 }
     {
@@ -66,7 +68,7 @@ impl Door {
         }
     }
 
-    /// Accepts a connection, if one may be waiting.
+    /// Accepts a connection, if one might be waiting.
     pub(crate) fn accept(&self) -> Answer<TcpStream> {
         if !self.knocked.get() {
             return Answer::Pending;

@@ -17,7 +17,7 @@ use std::net::Net as Network;
 use sv_serve::{Answer, Wire};
 use sv_server::{Dial, Port, Role};
 
-/// How many sockets there may be: first those of sixteen connections, then those of their interrupt
+/// How many sockets there can be: first those of sixteen connections, then those of their interrupt
 /// channels.
 const SOCKETS: usize = 32;
 
@@ -146,13 +146,13 @@ impl<N: Network + Drop, A: Allocator, S: Stream> Net<N, A, S> {
         }
     }
 
-    /// Whether an accept is due at once on at least one port: a connection may be waiting there to
-    /// be accepted, and the last accept on the port didn't fail.
+    /// Whether an accept is due at once on at least one port: a connection might be waiting there
+    /// to be accepted, and the last accept on the port didn't fail.
     pub(crate) fn is_called(&self) -> bool {
         self.doors[0].is_waiting() | self.doors[1].is_waiting() | self.doors[2].is_waiting()
     }
 
-    /// Whether a connection may be waiting to be accepted on at least one port. A failed accept
+    /// Whether a connection might be waiting to be accepted on at least one port. A failed accept
     /// doesn't make this false.
     pub(crate) fn is_knocked(&self) -> bool {
         self.doors[0].is_knocked() | self.doors[1].is_knocked() | self.doors[2].is_knocked()

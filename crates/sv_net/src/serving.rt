@@ -133,7 +133,8 @@ fn pause<M: Machine<S>, N: Network + Drop, A: Allocator, S: Stream>(
 }
 
 /// Polls until something is reported, or until as many polls were made as are allowed between two
-/// sweeps. If polling isn't worthwhile any more, sleeps instead. Returns when the wait ended.
+/// sweeps. If polling isn't worthwhile any more, sleeps instead. Returns the time at which the wait
+/// ended.
 fn spin<M: Machine<S>, N: Network + Drop, A: Allocator, S: Stream>(
     machine: &mut M,
     driver: &Driver<Net<N, A, S>, A>,
@@ -161,8 +162,8 @@ fn spin<M: Machine<S>, N: Network + Drop, A: Allocator, S: Stream>(
     Ok(now)
 }
 
-/// Sleeps until something is reported about a socket or something is due, and returns when the
-/// sleep ended.
+/// Sleeps until something is reported about a socket or something is due. Returns the time at which
+/// the sleep ended.
 fn sleep<M: Machine<S>, N: Network + Drop, A: Allocator, S: Stream>(
     machine: &mut M,
     driver: &Driver<Net<N, A, S>, A>,

@@ -36,7 +36,7 @@ fn is_idle<N: Network + Drop, A: Allocator, S: Stream>(
 }
 
 /// Returns how many milliseconds after the last sweep the server may sleep at most: until something
-/// may become due, or until the next accept is due.
+/// might become due, or until the next accept is due.
 fn longest<N: Network + Drop, A: Allocator, S: Stream>(driver: &Driver<Net<N, A, S>, A>) -> u32
     ensures { (result ≡ 1) ⊎ ((result ≤ 100) × IsIdle 100 driver.now) }
 {

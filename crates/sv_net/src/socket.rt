@@ -20,15 +20,15 @@ const DROPPED: usize = 1_024;
 #[derive(Drop)]
 pub(crate) struct Socket<S: Stream> {
     stream: S,
-    /// Bytes or the end of the stream may be waiting to be read.
+    /// Bytes or the end of the stream might be waiting to be read.
     readable: Cell<bool>,
-    /// A write may take bytes.
+    /// The socket might accept bytes of a write.
     writable: Cell<bool>,
     /// The peer has ended its stream: the system won't report again that bytes can be read.
     ended: Cell<bool>,
     /// The socket was reset, or is closed in both directions.
     broken: Cell<bool>,
-    /// Urgent bytes may be waiting: a read ends in front of them, even if more bytes follow.
+    /// Urgent bytes might be waiting: a read ends in front of them, even if more bytes follow.
     urgent: Cell<bool>,
 }
 
@@ -101,12 +101,12 @@ impl<S: Stream> Socket<S> {
         self.broken.get()
     }
 
-    /// Whether bytes or the end of the stream may be waiting to be read.
+    /// Whether bytes or the end of the stream might be waiting to be read.
     pub(crate) fn is_readable(&self) -> bool {
         self.readable.get()
     }
 
-    /// Whether a write may take bytes, or the socket may have finished connecting.
+    /// Whether the socket might accept bytes of a write, or might have finished connecting.
     pub(crate) fn is_writable(&self) -> bool {
         self.writable.get()
     }
@@ -158,7 +158,7 @@ impl<S: Stream> Socket<S> {
         }
     }
 
-    /// Writes as many of the bytes as the socket takes, and returns how many it took.
+    /// Writes as many of the bytes as the socket accepts, and returns how many it accepted.
     pub(crate) fn write(&mut self, bytes: &[u8]) -> Answer<usize>
         ensures within { IsWithin result (length bytes.now) }
         ensures takes { Takes S.contents bytes.now result self.old self.new }

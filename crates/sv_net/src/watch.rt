@@ -22,8 +22,8 @@ pub struct Watch<A: Allocator = Global> {
 
 impl<A: Allocator + Copy> Watch<A> {
     /// Listens on three ports of 127.0.0.1: those of the core channel, the abort channel and the
-    /// port mapper. Returns the watch, which waits for reports, and the sockets. None of the
-    /// sockets is connected yet.
+    /// port mapper. Returns the watch that waits for reports, and the sockets. None of the sockets
+    /// is connected yet.
     ///
     /// # Errors
     /// If a port can't be listened on, or memory is refused (`ErrorKind::OutOfMemory`).

@@ -27,7 +27,7 @@ fn has_work_on<N: Network + Drop, A: Allocator, S: Stream>(
     goes_on || has_input(driver, conn, socket) || has_work_for(driver, conn)
 }
 
-/// Whether the next sweep may find input on a connection: the socket is broken; or bytes may be
+/// Whether the next sweep might find input on a connection: the socket is broken; or bytes might be
 /// waiting, and the connection has room for them or discards them.
 fn has_input<N: Network + Drop, A: Allocator, S: Stream>(
     driver: &Driver<Net<N, A, S>, A>,

@@ -23,8 +23,8 @@ sleeps (Found ∷ waits) = 0
 sleeps (Missed ∷ waits) = 0
 sleeps (Slept ∷ waits) = suc (sleeps waits)
 
--- In how many waits the server sleeps without polling, after one more run of polls that found nothing. The number is 0 unless the run
--- before found nothing too. Then it is twice the number after the run before, at least 1 and at most 1,024.
+-- In how many waits the server sleeps without polling, after one more run of polls that found nothing. If the run before found something,
+-- the number is 0. Else it is twice the number after the run before, but at least 1 and at most 1,024.
 abbrev pub longer : Bool → ℕ → ℕ
 longer false pause = 0
 longer true pause = min (max (pause * 2) 1) 1024

@@ -23,8 +23,8 @@ const MOST_SLEEPS: u32 = 1_024;
 /// What a loop of sweeps remembers: times, in nanoseconds since its beginning, and how its waits
 /// ended.
 ///
-/// If polling found nothing of late, as on a machine whose cores are busy, it isn't worthwhile: the
-/// server sleeps without polling, and polls again only now and then.
+/// If polling found nothing of late, as on a machine whose cores are busy, polling isn't
+/// worthwhile: the server sleeps without polling, and polls again only now and then.
 #[derive(Drop)]
 pub struct Pace {
     /// When the last sweep began.
@@ -72,7 +72,7 @@ fn longer(missed: bool, pause: u32) -> u32
 }
 
 impl Pace {
-    /// Makes the policy at the beginning of a loop, which hasn't waited yet.
+    /// Makes the policy of a loop that begins: the loop hasn't waited yet.
     pub fn new() -> Pace
         ensures times { (result.swept ≡ 0) × (result.worked ≡ 0) }
         ensures stands { StandsFor result [] }

@@ -42,12 +42,12 @@ begins port (PeerAnswered d (Got all)) = is_same port (Intr d)
 begins port (WasClosed (Conn d)) = is_same port (Conn d)
 begins _ _ = false
 
--- the bytes that were read on a port, if this answer of the wire is that of a read of the port; else none
+-- the bytes that were read on a port, if this is the wire's answer to a read of the port; else none
 abbrev pub read : Port → Heard → List ℕ
 read port (WasRead d most (Got bytes)) = if is_same port (Conn d) then bytes else []
 read _ _ = []
 
--- the bytes that the wire took for a port, if this answer of the wire is that of a write to the port; else none
+-- the bytes that the wire took for a port, if this is the wire's answer to a write to the port; else none
 abbrev pub taken_bytes : Port → Heard → List ℕ
 taken_bytes port (WasWritten other bytes (Got n)) = if is_same port other then take n bytes else []
 taken_bytes _ _ = []

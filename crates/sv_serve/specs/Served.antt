@@ -48,20 +48,21 @@ abbrev pub Takes : Config → ℕ → List Act → List PlainEvent → Type 0
 Takes config c before turn = (turn ≡ Turn c ∷ []) ⊎ (((turn ≡ Refuse c ∷ []) × Answers config (Turn c) before (Err NoMemory))
     ⊎ ((turn ≡ []) × ((is_idle (of c before) ≡ true) ⊎ (free (of c before) < longest_reply))))
 
--- All bytes that wait on a connection, if any, are passed to the wire in one write. The write may have further bytes after these.
+-- All bytes that wait on a connection, if any, are passed to the wire in one write. The write can have further bytes after these.
 abbrev pub Offers : ℕ → List Act → List Heard → Type 0
 Offers c log piece = (waiting (of c log) ≡ []) ⊎ ((more : List ℕ) × (answer : Answer ℕ) × (newer older : List Heard)
     × (piece ≡ newer ++ (WasWritten (Conn c) (waiting (of c log) ++ more) answer ∷ older)))
 
--- After all reads of a sweep, the next call of a connection is taken or refused, if that is possible (`Takes`). The bytes that wait on the
--- connection then are passed to the wire in the same sweep.
+-- After all reads of a sweep, the next call of a connection is taken or refused, if that is possible (`Takes`). After that, the bytes that
+-- wait on the connection are passed to the wire in the same sweep.
 abbrev pub Serves : Config → ℕ → List PlainEvent → List PlainEvent → List Heard → Type 0
 Serves config c history events piece = (first turn behind : List PlainEvent) × (before after : List Act)
     × (events ≡ behind ++ (turn ++ first)) × AllByRecursion (λ event. (d : ℕ) (bytes : List ℕ) → event ≡ Bytes d bytes → ⊥) behind
     × IsLogOf config (first ++ history) before × IsLogOf config (turn ++ (first ++ history)) after
     × Takes config c before turn × Offers c after piece
 
--- A sweep has these events and these answers of the wire, which agree with each other, and it serves each connection.
+-- A sweep has these events and these answers of the wire. The events and the answers agree with each other, and the sweep serves each
+-- connection.
 abbrev pub IsServed : {W : Type 0} → (W → Heard → W → Type 0) → Config → DriverState W → DriverState W → List PlainEvent → List PlainEvent
     → List Heard → Type 0
 IsServed hears config old new history events piece = StandsFor old.server config history × StandsFor new.server config (events ++ history)

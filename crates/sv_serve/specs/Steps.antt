@@ -78,12 +78,13 @@ Comes hears c Failed = Closes hears c
 abbrev pub longest_piece : ℕ
 longest_piece = 16384
 
--- A connection is closed, if the wire answered that it is gone.
+-- A connection is closed if the wire answered that the connection's peer is gone.
 abbrev pub Drops : {W : Type 0} → (W → Heard → W → Type 0) → ℕ → Answer ⊤ → Config → DriverView W → DriverView W → Type 0
 Drops hears c Failed = Closes hears c
 Drops hears c answer = Unchanged
 
--- If the flag says that the connection is open, the driver asks the wire whether its peer is gone, and closes the connection if so.
+-- If the flag says that the connection is open: the driver asks the wire whether the connection's peer is gone, and closes the connection
+-- if the peer is gone.
 abbrev pub ProbesIf : {W : Type 0} → (W → Heard → W → Type 0) → ℕ → Bool → Config → DriverView W → DriverView W → Type 0
 ProbesIf hears c false config before after = after ≡ before
 ProbesIf hears c true config before after = (drops : Bool) × (answer : Answer ⊤) × IsOverlong c config before drops
@@ -94,8 +95,8 @@ ProbesIf hears c true config before after = (drops : Bool) × (answer : Answer �
 abbrev pub Probes : {W : Type 0} → (W → Heard → W → Type 0) → ℕ → Config → DriverView W → DriverView W → Type 0
 Probes hears c config before after = (opened : Bool) × IsOpen (Conn c) config before opened × ProbesIf hears c opened config before after
 
--- If a connection has room, at most `room` and at most 16,384 bytes are read. Without room the driver only asks the wire whether the peer
--- is gone.
+-- If a connection has room for at least one byte, it is read: at most `room` bytes, and at most 16,384. Without room the driver only asks
+-- the wire whether the peer is gone.
 abbrev pub ReadsUpTo : {W : Type 0} → (W → Heard → W → Type 0) → ℕ → ℕ → Config → DriverView W → DriverView W → Type 0
 ReadsUpTo hears room c config before after = ((room ≡ 0) × Probes hears c config before after)
     ⊎ ((0 < room) × (answer : Answer (List ℕ)) × IsPiece answer (min room longest_piece)
@@ -153,14 +154,15 @@ ConnectResult c dial (Got all) = Remembers c (Some dial) then IsApplied (Dialed 
 ConnectResult c dial Pending = Remembers c (Some dial)
 ConnectResult c dial Failed = IsApplied (Dialed c false)
 
--- What follows the wire's answer about a peer that was dialed before. If the peer is connected, the server is told so. If the peer still
--- hasn't answered, nothing changes. If it can't be reached, its socket is closed, and the server is told so.
+-- What follows the wire's answer about a peer that was dialed before. If the peer is connected, the server is told that it is. If the peer
+-- still hasn't answered, nothing changes. If the peer can't be reached, its socket is closed, and the server is told that connecting
+-- failed.
 abbrev pub PollResult : {W : Type 0} → (W → Heard → W → Type 0) → ℕ → Answer ⊤ → Config → DriverView W → DriverView W → Type 0
 PollResult hears c (Got all) = IsApplied (Dialed c true)
 PollResult hears c Pending = Unchanged
 PollResult hears c Failed = ClosesChannel hears c then IsApplied (Dialed c false)
 
--- If a channel has to be connected, its peer is dialed. If a peer was dialed already, the driver asks the wire whether that peer has
+-- If a channel has to be connected: its peer is dialed; or, if a peer was dialed already, the driver asks the wire whether that peer has
 -- answered.
 abbrev pub CallsFor : {W : Type 0} → (W → Heard → W → Type 0) → ℕ → Option Dial → Option Dial → Config → DriverView W → DriverView W
     → Type 0
@@ -170,13 +172,14 @@ CallsFor hears c (Some dial) None config before after =
 CallsFor hears c (Some dial) (Some called) config before after =
     (answer : Answer ⊤) × (Hears hears (PeerAnswered c answer) then PollResult hears c answer) config before after
 
--- If a connection's interrupt channel has to be connected, its peer is dialed. If a peer was dialed already, the driver asks the wire
+-- If a connection's interrupt channel has to be connected: its peer is dialed; or, if a peer was dialed already, the driver asks the wire
 -- whether that peer has answered.
 abbrev pub Calls : {W : Type 0} → (W → Heard → W → Type 0) → ℕ → Config → DriverView W → DriverView W → Type 0
 Calls hears c config before after =
     (wanted : Option Dial) × Wants c config before wanted × CallsFor hears c wanted (called_of c before) config before after
 
--- The socket of a peer that isn't wanted any more is closed; then the peer that is wanted is dialed.
+-- The socket of a dialed peer to which the interrupt channel needn't be connected any more is closed. Then the peer to which the channel
+-- has to be connected is dialed.
 abbrev pub Dials : {W : Type 0} → (W → Heard → W → Type 0) → ℕ → Config → DriverView W → DriverView W → Type 0
 Dials hears c = LetsGo hears c then Calls hears c
 
@@ -202,13 +205,13 @@ abbrev pub WritesTo : {W : Type 0} → (W → Heard → W → Type 0) → Port �
 WritesTo hears port config before after =
     (bytes : List ℕ) × Waits port config before bytes × WritesAll hears port bytes config before after
 
--- If the flag says that the connection is at fault, the connection is closed if no bytes wait on it.
+-- The connection is closed if both hold: the flag says that it is at fault; and no bytes wait to be sent on it.
 abbrev pub EndsIf : {W : Type 0} → (W → Heard → W → Type 0) → ℕ → Bool → Config → DriverView W → DriverView W → Type 0
 EndsIf hears c false config before after = after ≡ before
 EndsIf hears c true config before after =
     (bytes : List ℕ) × Waits (Conn c) config before bytes × ClosesIf hears c (length bytes == 0) config before after
 
--- If the server says that a connection is at fault, the connection is closed if no bytes wait on it.
+-- A connection is closed if both hold: the server says that it is at fault; and no bytes wait to be sent on it.
 abbrev pub Ends : {W : Type 0} → (W → Heard → W → Type 0) → ℕ → Config → DriverView W → DriverView W → Type 0
 Ends hears c config before after =
     (faulted : Bool) × IsFaulted c config before faulted × EndsIf hears c faulted config before after

@@ -12,7 +12,7 @@ use Rattle.sv_serve.specs.Heard.{Heard}
 use Rattle.sv_serve.specs.DriverView.{DriverView, ◌then◌, ForEach}
 use Rattle.sv_serve.specs.Steps.{Given, Accepts, ReadsFrom, Turns, Dials, WritesTo, Ends}
 
--- The server is given an event, which it may refuse.
+-- The server is given an event, and applies or refuses it.
 abbrev pub Applies : {W : Type 0} → PlainEvent → Config → DriverView W → DriverView W → Type 0
 Applies event config before after = (result : Result Did Refused) × Given event result config before after
 

@@ -18,7 +18,7 @@ abbrev pub time_events : ℕ → List Entry → List PlainEvent
 time_events zero entries = entry_events 0 entries
 time_events (suc n) entries = entry_events (suc n) entries ++ Tick ∷ time_events n entries
 
--- how many milliseconds pass in all these sweeps together, given those of each sweep
+-- how many milliseconds pass in all these sweeps together, given the milliseconds of each sweep
 abbrev pub handed_ticks : List ℕ → ℕ
 handed_ticks [] = 0
 handed_ticks (ticks ∷ passed) = handed_ticks passed + ticks

@@ -57,8 +57,8 @@ impl<W: Wire + Drop, A: Allocator> Driver<W, A> {
         self.cancel_if_unwanted(conn, called);
     }
 
-    /// Closes the socket of the peer `called`, if it was dialed for a connection's interrupt
-    /// channel, and the channel is neither open nor still has to be connected to this peer.
+    /// `called` is the peer that was dialed for a connection's interrupt channel, if there is one.
+    /// Closes its socket, unless the channel is open or still has to be connected to this peer.
     fn cancel_if_unwanted(&mut self, conn: u8, called: Option<Dial>)
         requires { conn < 16 }
         ensures { Steps (CancelsUnwanted W.hears conn called) self.old self.new }

@@ -59,8 +59,8 @@ impl<W: Wire + Drop, A: Allocator> Model for Driver<W, A> {
 }
 
 impl<W: Wire + Drop, A: Allocator> Driver<W, A> {
-    /// Makes a driver at the beginning of its scenario, which has dialed no peer yet. Allocates the
-    /// read buffer.
+    /// Makes a driver that is at the beginning of its scenario and has dialed no peer yet.
+    /// Allocates the read buffer.
     ///
     /// # Errors
     /// If memory is refused.

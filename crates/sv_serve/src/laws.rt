@@ -14,9 +14,10 @@ pub fn carried<W: Wire>()
     ensures { Carried W.hears }
 {}
 
-/// After all reads of a sweep, the next call of each connection is taken, if there is such a call
-/// and the output has room for its reply. The bytes that then wait to be sent are passed to the
-/// wire in the same sweep.
+/// After all reads of a sweep, the next call of each connection is taken, if there is a call to
+/// take and the output has room for the longest reply. If memory for this call is refused, the call
+/// is answered with error 9. The bytes that then wait to be sent are passed to the wire in the same
+/// sweep.
 pub fn served<W: Wire>()
     ensures { Served W.hears }
 {}

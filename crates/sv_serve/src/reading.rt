@@ -46,7 +46,8 @@ impl<W: Wire + Drop, A: Allocator> Driver<W, A> {
         self.read_up_to(room, conn);
     }
 
-    /// Reads at most `room` bytes of a connection, which has room for that many.
+    /// Reads at most `room` bytes of a connection; `room` is how many bytes it has room for. If
+    /// `room` is 0, checks whether the connection's peer is gone instead.
     fn read_up_to(&mut self, room: u32, conn: u8)
         requires { conn < 16 }
         ensures { From (λ (config : Config) (at : DriverView W). HasRoom conn config at room)

@@ -34,7 +34,7 @@ impl<W: Wire + Drop, A: Allocator> Driver<W, A> {
         }
     }
 
-    /// Makes one write of the bytes that wait on a port. The wire may take only some of them.
+    /// Makes one write of the bytes that wait on a port. The wire might take only some of them.
     #[inline(always)]
     fn write(&mut self, port: Port)
         requires { port_number port < 16 }

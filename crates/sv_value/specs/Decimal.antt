@@ -14,11 +14,11 @@ digits_size text = position_or_len (λ b. not (is_ascii_digit b)) text
 abbrev pub digits_in : List ℕ → List ℕ
 digits_in text = take (digits_size text) text
 
--- the text after the digits that it begins with
+-- the text after its leading digits
 abbrev pub behind_digits : List ℕ → List ℕ
 behind_digits text = drop (digits_size text) text
 
--- the text after its sign, if it has one
+-- the text after its sign; the whole text if it has no sign
 abbrev pub behind_sign : List ℕ → List ℕ
 behind_sign [] = []
 behind_sign (b ∷ text) = if b == 43 || b == 45 then text else b ∷ text
@@ -63,11 +63,11 @@ pub record Parts : Type 0 where
   pub exponent : List ℕ
   pub suffix : List ℕ
 
--- the text after its sign, if it has one, and the digits that follow
+-- the text that remains after an optional sign and the digits behind the sign
 abbrev pub behind_whole : List ℕ → List ℕ
 behind_whole text = behind_digits (behind_sign text)
 
--- the text after the mantissa, which is a sign, digits, and a point with digits
+-- the text that remains after the mantissa: after an optional sign, digits, and an optional point with digits
 abbrev pub behind_mantissa : List ℕ → List ℕ
 behind_mantissa text = behind_fraction (behind_whole text)
 
@@ -82,7 +82,7 @@ number_parts text = record {
   suffix = trim_start (behind_exponent (behind_mantissa text));
 }
 
--- whether a suffix, if there is one, begins with a letter
+-- whether a suffix is empty or begins with a letter
 abbrev pub begins_well : List ℕ → Bool
 begins_well suffix = option_map_or is_ascii_alphabetic (slice_get suffix 0) true
 

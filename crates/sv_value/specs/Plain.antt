@@ -19,7 +19,7 @@ plain number = record {
   suffix = number.suffix.now;
 }
 
--- An `Amount` of the code represents this result, which is a number and not an error. The amount has the number's sign, and the number's
+-- This result is a number and not an error, and an `Amount` of the code represents it: the amount has the number's sign, and the number's
 -- magnitude, capped at 10 ^ 18.
 abbrev pub StandsFor : Amount → Result ℤ Code → Type 0
 StandsFor amount answer = (magnitude : ℕ) × (answer ≡ Ok (signed amount.negative magnitude))

@@ -8,7 +8,7 @@ abbrev pub sign : ℤ → ℕ
 sign (pos n) = 43
 sign (negsuc n) = 45
 
--- a number with six digits, with leading zeros
+-- a number in decimal, with leading zeros if it has fewer than six digits
 abbrev pub six_digits : ℕ → List ℕ
 six_digits n = replicate (6 - length (decimal n)) 48 ++ decimal n
 

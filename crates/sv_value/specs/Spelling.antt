@@ -21,7 +21,7 @@ IsSign text minus = ((text ≡ []) × (minus ≡ false)) ⊎ ((text ≡ 43 ∷ [
 abbrev pub IsFraction : List ℕ → List ℕ → Type 0
 IsFraction text digits = ((text ≡ []) × (digits ≡ [])) ⊎ ((text ≡ 46 ∷ digits) × AreDigits digits)
 
--- The text is an E, with or without white space around it, a sign or none, and these digits, of which there is at least one.
+-- The text is an exponent: an E, with or without white space around it; a sign or none; and these digits, at least one.
 abbrev pub IsExponent : List ℕ → Bool → List ℕ → Type 0
 IsExponent text minus digits = (before behind sign : List ℕ) × (letter : ℕ) × (text ≡ before ++ letter ∷ (behind ++ (sign ++ digits)))
     × IsSpace before × ((letter ≡ 69) ⊎ (letter ≡ 101)) × IsSpace behind × IsSign sign minus × AreDigits digits × (digits ≢ [])

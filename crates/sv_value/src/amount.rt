@@ -30,8 +30,9 @@ pub(crate) struct Amount {
 }
 
 impl Amount {
-    /// Returns a decimal number times 10 to the power `power`, rounded to a whole number; or its
-    /// error. `power` is `None` if the suffix isn't allowed: then the error is `suffix_code`.
+    /// Returns a decimal number times 10 to the power `power`, rounded to a whole number; or the
+    /// error of the number. `power` is `None` if the suffix isn't allowed: then the error is
+    /// `suffix_code`.
     pub(crate) fn of(
         number: &Decimal<'_>,
         power: Option<u64>,

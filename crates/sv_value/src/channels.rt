@@ -14,7 +14,8 @@ use arrayvec::ArrayVec;
 use sv_errors::{Code, LONGEST_LIST, is_channel};
 use sv_text::{first_part, trim};
 
-/// The first and the last channel number of an item, each capped at a bound beyond every channel.
+/// The first and the last channel number of an item, each capped at a bound above every channel
+/// number.
 #[derive(Clone, Copy, Debug)]
 struct Span {
     first: u64,
@@ -125,8 +126,8 @@ fn ends_of(item: &[u8]) -> Option<Span>
     }
 }
 
-/// Returns the first and the last number of an item such as `3:7`, given the texts in front of its
-/// first colon and behind it; `None` if these texts aren't two numbers.
+/// Returns the first and the last number of an item such as `3:7`, given the texts before and after
+/// its first colon; `None` if these texts aren't two numbers.
 fn two_ends(front: &[u8], back: &[u8]) -> Option<Span>
     ensures { result ≡ ends_up_to (span_of (front.now ∷ cut_at 58 back.now)) }
 {

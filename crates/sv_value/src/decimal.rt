@@ -59,7 +59,7 @@ impl<'a> Decimal<'a> {
     }
 }
 
-/// Whether a suffix, if there is one, begins with a letter.
+/// Whether a suffix is empty or begins with a letter.
 fn begins_well(suffix: &[u8]) -> bool
     ensures { result ≡ begins_well_text suffix.now }
 {
@@ -95,8 +95,9 @@ fn fraction(text: &[u8]) -> (&[u8], &[u8])
     }
 }
 
-/// Reads an exponent at the front of a text: returns whether it is negative, its digits, and the
-/// text after it. If there is no exponent, returns `false`, no digits, and the whole text.
+/// Reads an exponent at the front of a text: returns whether the exponent is negative, its digits,
+/// and the text after the exponent. If there is no exponent, returns `false`, no digits, and the
+/// whole text.
 fn exponent(text: &[u8]) -> (bool, &[u8], &[u8])
     ensures minus { result.0 ≡ is_down text.now }
     ensures digits { result.1.now ≡ exponent_in text.now }

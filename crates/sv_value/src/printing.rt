@@ -114,7 +114,7 @@ fn put_number<A: Allocator>(out: &mut Vec<u8, A>, value: i16)
     append(out, Buffer::new().format(value).as_bytes());
 }
 
-/// The text of an error, at most 31 bytes.
+/// Returns the text of an error. The text has at most 31 bytes.
 fn short_text(code: Code) -> &'static str
     ensures value { result.now ≡ text_of code }
     ensures short { length result.now ≤ 31 }

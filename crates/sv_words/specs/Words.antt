@@ -32,7 +32,7 @@ abbrev pub IfGiven : Option Text → (Text → Type 0) → Type 0
 IfGiven (Some text) P = P text
 IfGiven None P = ⊥
 
--- The values of the five options, which `value` finds by their names, say what to serve.
+-- `value` finds the value of an option by its name. The values of the five options say what to serve.
 abbrev pub ServesBy : (Text → Option Text) → Serve → Type 0
 ServesBy value serve = IfGiven (value (codes "core")) (λ text. IsCount 65535 text serve.core)
     × IfGiven (value (codes "abort")) (λ text. IsCount 65535 text serve.abort)

@@ -9,7 +9,7 @@ use thiserror::Error;
 /// Why the program stopped.
 #[derive(Clone, Copy, Debug, PartialEq, Eq, Error)]
 pub enum ProgramFault {
-    /// The words of the command line aren't ones that the program accepts.
+    /// The program doesn't accept the words of the command line.
     #[error("bad words")]
     BadWords,
     /// A script or a scenario can't be run; input or output failed; or memory was refused.

@@ -60,7 +60,7 @@ abbrev pub Follows : List ℕ → List (List ℕ) → List (List ℕ) → List A
 Follows unit front behind log new = (outcome : Result Order Code) × IsReadAs front unit outcome behind × Does outcome log new
 
 -- The number that measures how many steps of the instrument remain is smaller than before. If a unit waits for the end of the measurement,
--- the exchange has a unit that is due, which is this one.
+-- this unit is the one that is due in message exchange.
 pub record Advances (before after : LayerState) (held_unit : Option Awaited) : Type 0 where
   pub less : 2 * exchange_measure after.exchange + one_if_unheld held_unit < 2 * exchange_measure before.exchange + 1
   pub right : IsHeldRight held_unit after

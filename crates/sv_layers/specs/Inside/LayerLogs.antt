@@ -1,6 +1,6 @@
--- The log of each layer, from the instrument's acts. An act first changes its own layer. Then each status register is updated. It gets its
--- new condition, and the transitions pass its filters as they were before the act; after that the act changes the register directly, if it
--- is an act on this register. A nested register is updated before the register above it, whose condition contains the nested summary.
+-- The log of each layer, from the instrument's acts. An act first changes its own layer. Then each status register is updated. The register
+-- gets its new condition, and the transitions pass its filters as they were before the act. Then, if the act is an act on this register, it
+-- changes the register directly. A nested register is updated before the register above it, whose condition contains the nested summary.
 use Rattle.std.specs.Prelude.{◌≡◌, ℕ, Bool, true, false, not, ◌&&◌, List, [], ◌∷◌, if◌then◌else◌}
 use Rattle.sv_errors.specs.Code.{standard_event_of}
 use Rattle.sv_errors.specs.ErrorQueue.{is_full}
