@@ -372,8 +372,8 @@ impl<A: Allocator> Server<A> {
         }
     }
 
-    /// Ends the suspended call of connection `aborts`, which a device_abort aborts. Does nothing if
-    /// `aborts` is `None`.
+    /// Ends the suspended call of connection `aborts`, because a device_abort aborts that call.
+    /// Does nothing if `aborts` is `None`.
     fn abort(&mut self, aborts: Option<u8>)
         ensures { (config : Config) (log : List Act) → Represents self.old config log
             → ((conn : ℕ) → aborts ≡ Some conn → waits conn (wait_acts (device_acts log)) ≡ None
@@ -440,12 +440,12 @@ impl<A: Allocator> Server<A> {
     ///
     /// # Errors
     /// The first check that fails decides. The check for `NoConn` comes first: an Open has a number
-    /// above 15, or another event names a connection or an interrupt channel that isn't open. Then
-    /// an Open may fail with `ConnInUse`, Bytes with `NoRoom`, a Took with `NotSent`, and a Dialed
-    /// with `NoDial`. A Turn that finds a call fails with `NoRoom` if there is room for fewer than
-    /// 8,232 bytes of replies. A Refuse fails with `NotRefusable`, or else with `NoRoom` like a
-    /// Turn. An Input fails with `BadChannel`, or else with `BadInput`. A Tick fails with
-    /// `TimeOver`.
+    /// above 15; or an event other than Open names a connection or an interrupt channel that isn't
+    /// open. After that check, an Open can fail with `ConnInUse`, Bytes with `NoRoom`, a Took with
+    /// `NotSent`, and a Dialed with `NoDial`. A Turn that finds a call fails with `NoRoom` if there
+    /// is room for fewer than 8,232 bytes of replies. A Refuse fails with `NotRefusable`, or else
+    /// with `NoRoom` like a Turn. An Input fails with `BadChannel`, or else with `BadInput`. A Tick
+    /// fails with `TimeOver`.
     ///
     /// If no check fails, a Turn may still be refused with `NoMemory`, but only if its call makes a
     /// link, waits for the lock to make a link, or asks for an interrupt channel. The same Turn may

@@ -84,7 +84,7 @@ fn made<'a>(
     Ok(Driver::new(heap, server, wire, scenario)?)
 }
 
-/// Makes a sweep, and prints the driver's calls of the wire in this sweep.
+/// Makes a sweep, and prints which functions of the wire the driver called in this sweep.
 fn sweep<W: Write + Drop>(
     heap: &FailingAllocator<Global>,
     driver: &mut Played<'_>,

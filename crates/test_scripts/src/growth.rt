@@ -30,8 +30,8 @@ const SET_UP: Config = Config {
 #[derive(Drop)]
 struct Growing<'a> {
     alloc: Global,
-    /// If true, a call that finds no memory is refused, and then sent again. If false, its event is
-    /// just tried again.
+    /// What happens if a Turn finds no memory for its call. If true, the call is refused, and then
+    /// sent again. If false, only the Turn is tried again.
     refuses: bool,
     server: Played<'a>,
     told: String,
@@ -110,9 +110,9 @@ impl Growing<'_> {
         Ok(found_none)
     }
 
-    /// Handles an event that found no memory. If `refuses` is true, first refuses its call, and
-    /// sends the call again with `brought`, the `bytes` line that brought the call. Then tries the
-    /// event again, whose line is `line`.
+    /// Handles an event that found no memory. If `refuses` is true, first refuses the event's call,
+    /// and sends the call again by `brought`, the `bytes` line that brought the call. Then tries
+    /// the event of `line` again.
     fn go_on(&mut self, brought: &str, line: &str) -> io::Result<()> {
         if self.refuses {
             let conn = line.strip_prefix("turn ").unwrap_or("");
@@ -126,8 +126,8 @@ impl Growing<'_> {
         Ok(())
     }
 
-    /// Executes a line. If its event finds no memory and yet changed the server's answers, appends
-    /// `changed` to the output.
+    /// Executes a line. If the line's event finds no memory, tries it again. If the event found no
+    /// memory but changed the server's answers, appends `changed` to the output.
     fn step(&mut self, brought: &str, line: &str) -> io::Result<()> {
         let before = self.asked()?;
         if !self.apply(line)? {
@@ -140,8 +140,8 @@ impl Growing<'_> {
     }
 }
 
-/// Begins a play of a script: makes a new server, and executes no line yet. If memory for the
-/// server is refused, makes the server again.
+/// Begins to play a script: makes a new server, and executes no line yet. If memory for the server
+/// is refused, makes the server again.
 fn start<'a>(
     alloc: Global,
     heap: &'a FailingAllocator<Global>,
