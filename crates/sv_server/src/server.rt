@@ -62,7 +62,7 @@ impl<A: Allocator> Model for Server<A> {
     ghost invariant = { λ a. length a.connections.items ≡ 16 };
 }
 
-/// Sixteen connections, none of them open.
+/// Makes sixteen connections, none of them open.
 fn connections<A: Allocator + Copy>(alloc: A) -> Result<Vec<Connection<A>, A>, AllocError>
     ensures { IfOk result (λ connections. (length connections.items ≡ 16)
         × ((c : ℕ) (other : KeptConnection) → c < 16
@@ -207,8 +207,8 @@ impl<A: Allocator> Server<A> {
         self.device.is_still(ticks)
     }
 
-    /// The connection of this number; `None` above 15. No history has acts of a connection above
-    /// 15.
+    /// The connection of this number; `None` if the number is above 15. No history has acts of a
+    /// connection with a number above 15.
     pub(crate) fn connection(&self, conn: u8) -> Option<&Connection<A>>
         ensures { (config : Config) (log : List Act) → Represents self.now config log
             → MatchOption result (of conn log ≡ [])

@@ -93,7 +93,7 @@ impl Stage {
         serve(&self.rt, &mut self.watch, &mut self.driver, sweeps)
     }
 
-    /// Whether the server has bytes to send on a connection whose socket doesn't take them.
+    /// Whether the server has bytes to send that the socket of their connection doesn't accept yet.
     pub(crate) fn waits(&self) -> bool {
         let server = self.driver.server();
         (0..16).any(|conn| !server.waiting(Port::Conn(conn)).is_empty())

@@ -9,10 +9,10 @@
 //! |---|---|
 //! | `= WORDS` | the title, which is the row's first line |
 //! | `clock MILLISECONDS` | the clock at the beginning; 0 without this line |
-//! | `memory N` | the Nth allocation that is made to create the driver fails |
+//! | `memory N` | when the driver is created, the Nth allocation fails |
 //! | `0 input 1 250000` | an entry of a scenario; all entries come before the sweeps |
 //! | `sweep TICKS` | a sweep in which this many milliseconds pass |
-//! | `sweep TICKS memory N` | the same; the Nth allocation since the sweep began fails |
+//! | `sweep TICKS memory N` | a sweep as above, whose Nth allocation fails |
 //! | `CALL: ANSWER` | below a sweep: the wire's answer to this call in the sweep |
 //! | `still N` | below a sweep: prints whether nothing becomes due within N milliseconds |
 //! | `played` | below a sweep: prints whether the scenario is at its end |

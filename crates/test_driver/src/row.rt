@@ -11,7 +11,8 @@ use sv_replay::{Entry, read_scenario};
 use sv_serve::Driver;
 use sv_server::{Config, Server};
 
-/// The text between the milliseconds of a sweep and the number of the allocation that it refuses.
+/// In a `sweep` line: the text between the milliseconds that pass and the number of the allocation
+/// that fails.
 const MEMORY: &str = " memory ";
 
 /// The driver with which a row (a test case) is played.
