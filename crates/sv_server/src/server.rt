@@ -164,8 +164,8 @@ impl<A: Allocator> Server<A> {
         }
     }
 
-    /// Whether the connection is at fault, and can only be closed: a record was taken that isn't a
-    /// call; or a record came that is too long, and all records before it are finished.
+    /// Whether the connection is at fault, so that it can only be closed: a record was taken that
+    /// isn't a call; or a record came that is too long, and all records before it are finished.
     pub fn faulted(&self, conn: u8) -> bool
         ensures { (config : Config) (history : List PlainEvent) → StandsFor self.now config history
             → Answered (λ log. is_faulted (of conn log)) config history result }

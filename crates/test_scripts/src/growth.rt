@@ -64,7 +64,7 @@ impl Growing<'_> {
         Ok(asked)
     }
 
-    /// Appends the bytes that wait on a port to the output, and lets the peer take them.
+    /// Appends to the output the bytes that wait on a port, and lets the peer take them.
     fn take(&mut self, letter: char, conn: u8, port: Port) -> io::Result<()> {
         let bytes = self.server.waiting(port);
         tell(&mut self.told, letter, conn, bytes)?;
@@ -73,7 +73,7 @@ impl Growing<'_> {
         Ok(())
     }
 
-    /// Appends the bytes that wait on each connection to the output, and lets the peers take them.
+    /// Appends to the output the bytes that wait on each connection, and lets the peers take them.
     fn take_connections(&mut self) -> io::Result<()> {
         for conn in 0..CONNECTIONS {
             self.take('c', conn, Port::Conn(conn))?;
@@ -81,7 +81,7 @@ impl Growing<'_> {
         Ok(())
     }
 
-    /// Appends the bytes that wait on each interrupt channel to the output, and lets the peers take
+    /// Appends to the output the bytes that wait on each interrupt channel, and lets the peers take
     /// them.
     fn take_channels(&mut self) -> io::Result<()> {
         for conn in 0..CONNECTIONS {
@@ -90,8 +90,8 @@ impl Growing<'_> {
         Ok(())
     }
 
-    /// Applies the event of a line. Appends the refusal, if there is one, and the bytes that then
-    /// wait on all ports to the output. Returns true if the event found no memory.
+    /// Applies the event of a line. Appends to the output the refusal, if there is one, and the
+    /// bytes that then wait on all ports. Returns true if the event found no memory.
     fn apply(&mut self, line: &str) -> io::Result<bool> {
         let mut buffer = [0; LONGEST];
         if line.len() > LONGEST {
