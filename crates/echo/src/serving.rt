@@ -78,8 +78,9 @@ impl Served {
         })
     }
 
-    /// Polls one time, and waits at most for `limit`, if there is one. Accepts connections, and
-    /// sends back the bytes that came. Returns whether the poll reported anything.
+    /// Polls one time. The poll waits at most for `limit`, or without a limit if that is `None`.
+    /// Accepts connections, and sends back the bytes that came. Returns whether the poll reported
+    /// anything.
     fn spin(&mut self, limit: Option<Duration>) -> io::Result<bool> {
         self.poll.poll(&mut self.events, limit)?;
         for event in self.events.iter() {
@@ -116,8 +117,8 @@ pub(crate) fn serve(rt: &HostRuntime, port: u16, looks: u32) -> io::Result<()> {
     Ok(())
 }
 
-/// How long the next poll may sleep if `left` polls remain: without a limit (`None`), except before
-/// the last few polls.
+/// How long the next poll may sleep if `left` polls remain. Only the last few polls have a limit;
+/// `None` means without a limit.
 fn sleep_time(pace: &Pace, now: u64, left: u32) -> Option<Duration> {
     if left > FEW {
         return None;

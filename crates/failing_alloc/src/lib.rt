@@ -36,8 +36,8 @@ mod tests;
 /// resize it. So each growth counts as one allocation, and may be the one that is refused.
 pub struct FailingAllocator<B: Allocator> {
     inner: B,
-    // The number of the allocation that is refused, counted from the next one; 0 if none is to be
-    // refused.
+    // Which of the coming allocations is refused: 1 is the next one, 2 the one after it, and so on.
+    // 0 if none is refused.
     left: Cell<u64>,
 }
 

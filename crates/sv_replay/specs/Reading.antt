@@ -95,7 +95,7 @@ role_at word =
     else (if bytes_eq word (codes "abort") then Some Abort
     else (if bytes_eq word (codes "portmap") then Some Portmap else None))
 
--- the result of connecting an interrupt channel that this word means
+-- the result that this word means: whether an interrupt channel was connected
 unfoldable pub ok_at : List ℕ → Option Bool
 ok_at word = if bytes_eq word (codes "ok") then Some true else (if bytes_eq word (codes "failed") then Some false else None)
 

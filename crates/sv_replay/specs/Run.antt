@@ -30,9 +30,10 @@ PrintedUpTo lines fault text = (events after : List PlainEvent) × IsScript line
 abbrev pub IsWhole : List (List ℕ) → Option (List ℕ) → Type 0
 IsWhole behind rest = (behind ≢ []) ⊎ IsAtEnd rest
 
--- What a run prints for the text that it read. Success: the output for all lines. A bad line: the output for the lines before it. The
--- reader failed: the output for all complete lines. Memory was refused, or the writer failed (maybe while the run stopped for another
--- fault): the output for some lines from the beginning of the text, perhaps for none. The output for the last of them may be incomplete.
+-- What a run prints for the text that it read. On success: the output for all lines. At a bad line: the output for the lines before it. If
+-- the reader failed: the output for all complete lines. If memory was refused or the writer failed: the output for some lines from the
+-- beginning of the text, perhaps for none; the output for the last of these lines can be incomplete. The writer can also fail after another
+-- fault has stopped the run.
 abbrev pub Runs : List ℕ → Option (List ℕ) → Result ⊤ RunFault → List ℕ → Type 0
 Runs read rest (Ok all) text = Printed (parts read) text
 Runs read rest (Err (BadLine n)) text = (lines behind : List (List ℕ)) × (line : List ℕ) × (parts read ≡ lines ++ line ∷ behind)

@@ -30,9 +30,9 @@ last_tick least entries = fold (λ tick entry. entry.tick) least entries
 abbrev pub IsBadFrom : ℕ → List ℕ → Type 0
 IsBadFrom least line = (65536 < length line) ⊎ ((line ≢ []) × ((entry : Entry) → SaysEntry line entry → entry.tick < least))
 
--- The result of reading a scenario's text. Success: the lines of the text describe these entries. A bad line: the lines before it describe
--- entries, and the line isn't valid after them. Out of memory: the first lines describe entries, the next line is valid after them, and
--- memory for its entry was refused.
+-- The result of reading a scenario's text. On success: the lines of the text describe these entries. At a bad line: the lines before it
+-- describe entries, and the bad line isn't valid after them. Out of memory: the first lines describe entries, the next line is valid after
+-- them, and memory for the entry of this next line was refused.
 abbrev pub Reads : List ℕ → Result (List Entry) ScenarioFault → Type 0
 Reads text (Ok entries) = Tells 0 (parts text) entries
 Reads text (Err (BadLine n)) = (front behind : List (List ℕ)) × (line : List ℕ) × (entries : List Entry)

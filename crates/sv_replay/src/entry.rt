@@ -27,7 +27,7 @@ pub enum Stimulus {
 /// An entry of a scenario: what happens, and when.
 #[derive(Clone, Copy, Debug, PartialEq, Eq)]
 pub struct Entry {
-    /// When it happens, in ticks of a millisecond, from 0 to 999,999,999,999,999,999.
+    /// When it happens, in ticks of one millisecond each, from 0 to 999,999,999,999,999,999.
     pub tick: u64,
     /// What happens.
     pub stimulus: Stimulus,
@@ -78,7 +78,7 @@ fn entry_of(line: &[u8]) -> Option<Entry>
     Some(Entry { tick, stimulus })
 }
 
-/// Reads a stimulus. The text is cut at its first space, into a word and the text after it.
+/// Reads a stimulus. Cuts the text at its first space, into a word and the text after the space.
 #[tactic(auto, unfolding(crate::specs::EntryReading::stimulus_at))]
 fn stimulus_of(text: &[u8]) -> Option<Stimulus>
     ensures { result ≡ stimulus_at text.now }

@@ -10,7 +10,7 @@ use std::io::{ErrorKind, Read};
 pub struct InputFault;
 
 /// A reader of which contracts can state what each read returned. Every type that implements `Read`
-/// is a `Source`, whose `gives` holds for any result of a read.
+/// is a `Source`. The `gives` of such a type holds for any result of a read.
 pub trait Source: Read {
     ghost use Rattle.std.specs.Prelude.{⊤};
     ghost use Rattle.sv_replay.specs.Reads.{Gave};
@@ -20,7 +20,7 @@ pub trait Source: Read {
     ghost gives: { Self → Gave → Self → Type 0 } = { λ before gave after. ⊤ };
 
     /// Makes one read, into a buffer with room. Returns the number of bytes that came; `None` at
-    /// the reader's end. A read that a signal interrupts gives no bytes, but a later read may.
+    /// the reader's end. If a signal interrupts the read, returns 0; a later read can give bytes.
     ///
     /// # Errors
     /// If the reader fails.

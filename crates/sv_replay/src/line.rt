@@ -33,7 +33,7 @@ pub fn read_line<'a>(line: &[u8], buffer: &'a mut [u8]) -> Option<Line<'a>>
     line_of(line, buffer)
 }
 
-/// Reads a line. The line is cut at its first space, into a word and the text after it.
+/// Reads a line. Cuts the line at its first space, into a word and the text after the space.
 #[tactic(auto, unfolding(crate::specs::Reading::line_at))]
 fn line_of<'a>(line: &[u8], buffer: &'a mut [u8]) -> Option<Line<'a>>
     requires { length line.now ≤ length buffer.old }
@@ -54,7 +54,7 @@ pub(crate) fn cut(text: &[u8]) -> Option<(&[u8], &[u8])>
     Some((&text[..at], &text[at + 1..]))
 }
 
-/// Reads a line of one word.
+/// Reads a line that is empty or has one word.
 #[tactic(auto, unfolding(crate::specs::Reading::lone_at))]
 fn lone<'a>(word: &[u8]) -> Option<Line<'a>>
     ensures { option_map plain_line result ≡ lone_at word.now }
@@ -67,7 +67,7 @@ fn lone<'a>(word: &[u8]) -> Option<Line<'a>>
     }
 }
 
-/// Reads a line of several words, the first of which is `word`.
+/// Reads a line of several words. `word` is the first word, and `text` is the text after it.
 #[tactic(auto, unfolding(crate::specs::Reading::words_at))]
 fn words<'a>(word: &[u8], text: &[u8], buffer: &'a mut [u8]) -> Option<Line<'a>>
     requires { length text.now ≤ length buffer.old }
@@ -80,8 +80,8 @@ fn words<'a>(word: &[u8], text: &[u8], buffer: &'a mut [u8]) -> Option<Line<'a>>
     }
 }
 
-/// Reads an event of a connection. `word` is the first word of the line, and `text` is the text
-/// after that word.
+/// Reads an event of a connection or an interrupt channel. `word` is the first word of the line,
+/// and `text` is the text after that word.
 #[tactic(auto, unfolding(crate::specs::Reading::event_at))]
 fn event<'a>(word: &[u8], text: &[u8], buffer: &'a mut [u8]) -> Option<Event<'a>>
     requires { length text.now ≤ length buffer.old }

@@ -41,7 +41,7 @@ pub(crate) fn plain(digits: &[u8], most: u64) -> Option<u64>
     number(digits, most)
 }
 
-/// The number of a connection or of a channel, from 0 to 255.
+/// Reads the number of a connection or of a channel, from 0 to 255.
 pub(crate) fn byte(digits: &[u8]) -> Option<u8>
     ensures { result ≡ plain_at 255 digits.now }
 {
@@ -60,7 +60,7 @@ pub(crate) fn short(digits: &[u8]) -> Option<u64>
     number(digits, MOST_OF_18)
 }
 
-/// Reads a voltage of at most 18 digits, without a sign.
+/// Reads a whole number of microvolts: at most 18 digits, without a sign.
 fn unsigned(digits: &[u8]) -> Option<i64>
     ensures exact { result ≡ option_map pos (short_at digits.now) }
     ensures positive { IfSome result (λ n. pos 0 ≤ℤ n) }
@@ -68,7 +68,7 @@ fn unsigned(digits: &[u8]) -> Option<i64>
     Some(short(digits)? as i64)
 }
 
-/// Reads a voltage of at most 18 digits, which may have a minus sign before them.
+/// Reads a whole number of microvolts: at most 18 digits, perhaps with a minus sign before them.
 #[tactic(auto, unfolding(crate::specs::Reading::voltage_at))]
 pub(crate) fn voltage(text: &[u8]) -> Option<i64>
     ensures { result ≡ voltage_at text.now }

@@ -14,7 +14,7 @@ pub const LONGEST_LINE: usize = 65_536;
 /// The size of the buffer in bytes: room for a line with its new line, and for the text that is
 /// read after it.
 const SIZE: usize = 131_072;
-/// How many times a reader may be read. After that, a request for more is an input fault.
+/// How many times a reader may be read. A further attempt to read is an input fault.
 const MOST_READS: u32 = 4_294_967_294;
 
 /// Text that was read and isn't used yet.

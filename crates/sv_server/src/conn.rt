@@ -15,7 +15,7 @@ pub struct Conn {
 }
 
 impl Conn {
-    /// Checks a number; `None` if it is above 15.
+    /// Makes a `Conn` of a number; `None` if the number is above 15.
     pub fn new(number: u8) -> Option<Conn>
         ensures { MatchOption result (16 ≤ number) (λ conn. conn.number ≡ number) }
     {

@@ -218,7 +218,7 @@ impl<A: Allocator> Device<A> {
     }
 
     /// Sends service requests on the interrupt channels, for the requests for service that the
-    /// instrument raised. `raised` is the number of the requests that it raised.
+    /// instrument raised. `raised` says how many it raised.
     fn raise(&mut self, raised: u8)
         ensures stands { (config : Config) (acts : List DeviceAct) (adds : List InstrumentAct)
             → HasDone adds self.old config acts → Raise adds (instrument_acts acts) raised

@@ -62,7 +62,7 @@ impl<A: Allocator> Model for Server<A> {
     ghost invariant = { λ a. length a.connections.items ≡ 16 };
 }
 
-/// Sixteen connections, none of them open.
+/// Makes sixteen connections, none of them open.
 fn connections<A: Allocator + Copy>(alloc: A) -> Result<Vec<Connection<A>, A>, AllocError>
     ensures { IfOk result (λ connections. (length connections.items ≡ 16)
         × ((c : ℕ) (other : KeptConnection) → c < 16
@@ -164,8 +164,8 @@ impl<A: Allocator> Server<A> {
         }
     }
 
-    /// Whether the connection is at fault, and can only be closed: a record was taken that isn't a
-    /// call; or a record came that is too long, and all records before it are finished.
+    /// Whether the connection is at fault, so that it can only be closed: a record was taken that
+    /// isn't a call; or a record came that is too long, and all records before it are finished.
     pub fn faulted(&self, conn: u8) -> bool
         ensures { (config : Config) (history : List PlainEvent) → StandsFor self.now config history
             → Answered (λ log. is_faulted (of conn log)) config history result }
@@ -207,8 +207,8 @@ impl<A: Allocator> Server<A> {
         self.device.is_still(ticks)
     }
 
-    /// The connection of this number; `None` above 15. No history has acts of a connection above
-    /// 15.
+    /// The connection of this number; `None` if the number is above 15. No history has acts of a
+    /// connection with a number above 15.
     pub(crate) fn connection(&self, conn: u8) -> Option<&Connection<A>>
         ensures { (config : Config) (log : List Act) → Represents self.now config log
             → MatchOption result (of conn log ≡ [])
@@ -372,8 +372,8 @@ impl<A: Allocator> Server<A> {
         }
     }
 
-    /// Ends the suspended call of connection `aborts`, which a device_abort aborts. Does nothing if
-    /// `aborts` is `None`.
+    /// Ends the suspended call of connection `aborts`, because a device_abort aborts that call.
+    /// Does nothing if `aborts` is `None`.
     fn abort(&mut self, aborts: Option<u8>)
         ensures { (config : Config) (log : List Act) → Represents self.old config log
             → ((conn : ℕ) → aborts ≡ Some conn → waits conn (wait_acts (device_acts log)) ≡ None
@@ -440,12 +440,12 @@ impl<A: Allocator> Server<A> {
     ///
     /// # Errors
     /// The first check that fails decides. The check for `NoConn` comes first: an Open has a number
-    /// above 15, or another event names a connection or an interrupt channel that isn't open. Then
-    /// an Open may fail with `ConnInUse`, Bytes with `NoRoom`, a Took with `NotSent`, and a Dialed
-    /// with `NoDial`. A Turn that finds a call fails with `NoRoom` if there is room for fewer than
-    /// 8,232 bytes of replies. A Refuse fails with `NotRefusable`, or else with `NoRoom` like a
-    /// Turn. An Input fails with `BadChannel`, or else with `BadInput`. A Tick fails with
-    /// `TimeOver`.
+    /// above 15; or an event other than Open names a connection or an interrupt channel that isn't
+    /// open. After that check, an Open can fail with `ConnInUse`, Bytes with `NoRoom`, a Took with
+    /// `NotSent`, and a Dialed with `NoDial`. A Turn that finds a call fails with `NoRoom` if there
+    /// is room for fewer than 8,232 bytes of replies. A Refuse fails with `NotRefusable`, or else
+    /// with `NoRoom` like a Turn. An Input fails with `BadChannel`, or else with `BadInput`. A Tick
+    /// fails with `TimeOver`.
     ///
     /// If no check fails, a Turn may still be refused with `NoMemory`, but only if its call makes a
     /// link, waits for the lock to make a link, or asks for an interrupt channel. The same Turn may

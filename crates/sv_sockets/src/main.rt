@@ -22,7 +22,7 @@
 //! | `i listens PORT` | the peer listens on a port of 127.0.0.1 |
 //! | `i accepts` | the peer accepts a connection on that port, which is its stream from then on |
 //! | `a pours N 8000..` | the peer sends these calls N times, or until the sockets are full |
-//! | `a drains N SIZE` | sends its unsent calls; prints if N replies of SIZE bytes come in order |
+//! | `a drains N SIZE` | sends unsent calls; prints whether N replies of SIZE bytes come in order |
 //! | `start` | a time measurement starts |
 //! | `passed MILLISECONDS` | prints whether this time has passed since `start` |
 //! | `sleep SWEEPS` | the server makes this many sweeps |

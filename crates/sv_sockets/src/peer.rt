@@ -86,7 +86,7 @@ impl Peer {
         }
     }
 
-    /// Sends as many bytes as the socket takes, and returns how many they were.
+    /// Sends as many of the unsent bytes as the socket accepts. Returns how many it accepted.
     pub(crate) fn send(&mut self) -> io::Result<usize> {
         let Some(stream) = &mut self.stream else {
             return Ok(0);

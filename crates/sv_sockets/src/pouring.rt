@@ -30,7 +30,7 @@ fn number_records(records: &mut Vec<u8>) -> io::Result<()> {
     Ok(())
 }
 
-/// Returns `count` copies of `records`, one after the other. All calls in them are numbered from 1
+/// Returns `count` copies of `records`, one after the other. Numbers all calls in the copies from 1
 /// on.
 fn repeated(alloc: Global, records: &[u8], count: u32) -> io::Result<Vec<u8>> {
     let mut all = Vec::new(alloc);

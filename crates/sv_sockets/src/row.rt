@@ -129,7 +129,7 @@ fn send(stage: &mut Stage, name: char, text: &str) -> io::Result<()> {
     Ok(())
 }
 
-/// Executes a line that begins with the letter of a peer and prints a result.
+/// Executes a line that begins with the letter of a peer. Prints the result of the line.
 fn show_of<W: Write + Drop>(
     stage: &mut Stage,
     name: char,

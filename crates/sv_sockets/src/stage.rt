@@ -19,8 +19,8 @@ const TRIES: u32 = 2_000;
 const LOOKS: u32 = 10_000_000;
 /// How many sweeps the server makes between two checks of whether bytes have come to a peer.
 const SWEEPS: u32 = 2;
-/// How many sweeps the server makes between two checks of two peers, if the row compares which of
-/// them gets its bytes first.
+/// For a row that compares which of two peers gets its bytes first: how many sweeps the server
+/// makes between two checks.
 const MORE_SWEEPS: u32 = 4;
 
 /// The error for a row that can't be played.
@@ -54,7 +54,7 @@ pub(crate) struct Stage {
     watch: Watch<Global>,
     driver: Driver<Net<HostRuntime, Global>, Global>,
     pub(crate) peers: Vec<Peer>,
-    /// When the last time measurement started.
+    /// When the measurement of time started.
     start: Instant,
 }
 
@@ -93,7 +93,7 @@ impl Stage {
         serve(&self.rt, &mut self.watch, &mut self.driver, sweeps)
     }
 
-    /// Whether the server has bytes to send on a connection whose socket doesn't take them.
+    /// Whether the server has bytes to send that the socket of their connection doesn't accept yet.
     pub(crate) fn waits(&self) -> bool {
         let server = self.driver.server();
         (0..16).any(|conn| !server.waiting(Port::Conn(conn)).is_empty())
@@ -119,8 +119,8 @@ impl Stage {
         Ok(peer.ended || peer.came.len() >= count)
     }
 
-    /// Makes this number of sweeps. Fails if ten seconds have passed since `begun`, when a peer
-    /// began to wait.
+    /// Makes this number of sweeps. Fails if ten seconds have passed since `begun`, the moment at
+    /// which a peer began to wait.
     fn serve_on(&mut self, begun: Instant, sweeps: u32) -> io::Result<()> {
         if begun.elapsed(&self.rt)?.as_secs() >= PATIENCE {
             return Err(late());

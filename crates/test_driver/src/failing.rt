@@ -1,5 +1,5 @@
-//! Rows (test cases) with peers: prints what each peer gets, and whether it still gets every byte
-//! if one of the driver's calls of the wire fails.
+//! Rows (test cases) with peers. Prints what each peer gets, and whether the peer still gets every
+//! byte if one operation of the wire, such as a read or a write, fails.
 
 use crate::peers::{Call, Peer, Peers};
 use crate::row::{bad, number};
@@ -8,7 +8,7 @@ use std::io::{self, BufWriter, Write};
 use sv_serve::Driver;
 use sv_server::{Config, Server};
 
-/// For each kind of call, a row makes fewer calls of the wire than this.
+/// In one play of a row, the driver calls each function of the wire fewer times than this.
 const MOST: u64 = 1_000;
 
 /// A row: the number of its sweeps, and a line of hexadecimal for each of its peers.
@@ -21,7 +21,7 @@ struct Row<'a> {
 /// The driver with which a test case (a row of lines) is played.
 type Played = Driver<Peers, Global>;
 
-/// The kinds of calls of the wire that are made to fail, each with the word for it.
+/// The functions of the wire that are made to fail, each with the word that is printed for it.
 const CALLS: [(Call, &str); 5] = [
     (Call::Accept, "accept"),
     (Call::Read, "read"),
@@ -75,9 +75,9 @@ fn show<W: Write + Drop>(
     writeln!(writer)
 }
 
-/// The word for a peer's result in a run in which a call fails: `struck` if it was a call for this
-/// peer; else `whole` if the peer got the same bytes as `whole`, this peer in the run without a
-/// failure; else `lacks bytes`.
+/// The word for a peer's result in a run in which one call to the wire fails: `struck` if the call
+/// was for this peer; else `whole` if the peer got the same bytes as in the run without a failure,
+/// where this peer was `whole`; else `lacks bytes`.
 fn outcome(peer: &Peer, whole: &Peer) -> &'static str {
     if peer.struck {
         "struck"
@@ -88,9 +88,9 @@ fn outcome(peer: &Peer, whole: &Peer) -> &'static str {
     }
 }
 
-/// Prints the result for each peer: whether a call for this peer failed; if not, whether the peer
-/// got every byte. Prints nothing if the call that is to fail wasn't made. Returns whether it was
-/// made.
+/// Prints the result for each peer: whether a call to the wire for this peer failed; if not,
+/// whether the peer got every byte. If the call that is to fail wasn't made, prints nothing and
+/// returns false; else returns true.
 fn compare<W: Write + Drop>(
     peers: &Peers,
     whole: &Peers,
@@ -108,8 +108,8 @@ fn compare<W: Write + Drop>(
     Ok(true)
 }
 
-/// Plays the row while one call of the wire fails. Prints the result for each peer. Returns whether
-/// the call that fails was made.
+/// Plays the row. One call that the driver makes to the wire fails. Prints the result for each
+/// peer. Returns whether the call that is to fail was made.
 fn fail_once<W: Write + Drop>(
     alloc: Global,
     row: Row<'_>,
@@ -123,7 +123,8 @@ fn fail_once<W: Write + Drop>(
     compare(driver.wire(), whole, (word, left), writer)
 }
 
-/// For each call of this kind: plays the row while that call fails.
+/// For each call that the driver makes to this function of the wire: plays the row, and that call
+/// fails.
 fn fail_each<W: Write + Drop>(
     alloc: Global,
     row: Row<'_>,
@@ -139,7 +140,8 @@ fn fail_each<W: Write + Drop>(
     Err(bad())
 }
 
-/// For each kind of call, and for each call of that kind: plays the row while that call fails.
+/// For each function of the wire, and for each call that the driver makes to this function: plays
+/// the row, and that call fails.
 fn fail_all<W: Write + Drop>(
     alloc: Global,
     row: Row<'_>,
@@ -161,8 +163,8 @@ fn show_each<W: Write + Drop>(peers: &Peers, writer: &mut BufWriter<W>) -> io::R
     Ok(())
 }
 
-/// Plays a row, whose first line is the number of sweeps. Prints what each peer gets, and then, for
-/// each call of the wire, the result of a run in which that call fails.
+/// Plays a row, whose first line is the number of sweeps. Prints what each peer gets. Then prints,
+/// for each call that the driver makes to the wire, the result of a run in which that call fails.
 pub(crate) fn play<W: Write + Drop>(
     alloc: Global,
     text: &str,
@@ -178,8 +180,8 @@ pub(crate) fn play<W: Write + Drop>(
     report(alloc, row, whole.wire(), writer)
 }
 
-/// Prints what each peer gets, and then, for each call of the wire, the result of a run in which
-/// that call fails.
+/// Prints what each peer gets. Then prints, for each call that the driver makes to the wire, the
+/// result of a run in which that call fails.
 fn report<W: Write + Drop>(
     alloc: Global,
     row: Row<'_>,

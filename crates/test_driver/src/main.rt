@@ -1,7 +1,7 @@
 //! Plays the test cases, called rows, of the standard input. Each row gets a new driver over a wire
-//! whose answers are given by the lines of the row. Prints the title of each row, and then the
-//! calls that the driver made on the wire. The crate `sv_recording` records these calls as the
-//! trace that the laws of `sv_serve` are about.
+//! whose answers are given by the lines of the row. Prints the title of each row, and then which
+//! functions of the wire the driver called. The crate `sv_recording` records these function calls
+//! as the trace that the laws of `sv_serve` are about.
 //!
 //! A row has these lines:
 //!
@@ -9,21 +9,21 @@
 //! |---|---|
 //! | `= WORDS` | the title, which is the row's first line |
 //! | `clock MILLISECONDS` | the clock at the beginning; 0 without this line |
-//! | `memory N` | the Nth allocation that is made to create the driver fails |
+//! | `memory N` | when the driver is created, the Nth allocation fails |
 //! | `0 input 1 250000` | an entry of a scenario; all entries come before the sweeps |
 //! | `sweep TICKS` | a sweep in which this many milliseconds pass |
-//! | `sweep TICKS memory N` | the same; the Nth allocation since the sweep began fails |
+//! | `sweep TICKS memory N` | a sweep as above, whose Nth allocation fails |
 //! | `CALL: ANSWER` | below a sweep: the wire's answer to this call in the sweep |
 //! | `still N` | below a sweep: prints whether nothing becomes due within N milliseconds |
 //! | `played` | below a sweep: prints whether the scenario is at its end |
 //!
 //! A row whose first line is `peers N` makes N sweeps. It has a line of hexadecimal for each peer,
 //! which sends these bytes on the core channel. The row prints what each peer gets on its
-//! connection and on its interrupt channel, as `c0 80..` and `i0 80..`. Then the row is played once
-//! for each call of the wire, and that call fails: the first accept, the second accept, and so on;
-//! and likewise for `read`, `write`, `dial` and `dialed`. Each time, the row prints for each peer:
-//! `struck` if a call for the peer failed; else `whole` if the peer got every byte; else `lacks
-//! bytes`.
+//! connection and on its interrupt channel, as `c0 80..` and `i0 80..`. Then the row is played
+//! again for each call that the driver made to the wire, and that call fails: the first accept, the
+//! second accept, and so on; and likewise for `read`, `write`, `dial` and `dialed`. Each time, the
+//! row prints for each peer: `struck` if a call for the peer failed; else `whole` if the peer got
+//! every byte; else `lacks bytes`.
 //!
 //! A row whose first line is `pace` queries the decisions of a loop of sweeps. Times are in
 //! nanoseconds since the loop began. `ticks NOW` prints how many milliseconds pass. `sleep_time NOW
@@ -34,14 +34,15 @@
 //! that find nothing. Each run begins as soon as the loop may poll again, and the row prints how
 //! many times the loop sleeps before the run.
 //!
-//! Each call of the wire is printed as a line: `core 0` accepts a connection as number 0, and
-//! `core -` accepts one that is dropped; `read 0`; `probe 0`, with ` drops` if bytes that come are
-//! dropped; `write c0 80..` with the bytes in hexadecimal, or `write i0 80..` for an interrupt
-//! channel; `dial 0 7f000001:4242`; `dialed 0`; `close c0`. A line `CALL: ANSWER` names the call in
-//! the same way, but without what follows its number or port; `core` has no number. The answer
-//! `yes` means that a connection comes, or that a peer answers; `fails` is a fault; `later` means
-//! that there is nothing yet; a number is how many bytes are taken; hexadecimal digits are bytes
-//! that come. A call without such a line is pending, except that a write takes all bytes.
+//! Each call that the driver makes to the wire is printed as a line: `core 0` accepts a connection
+//! as number 0, and `core -` accepts one that is dropped; `read 0`; `probe 0`, with ` drops` if
+//! bytes that come are dropped; `write c0 80..` with the bytes in hexadecimal, or `write i0 80..`
+//! for an interrupt channel; `dial 0 7f000001:4242`; `dialed 0`; `close c0`. A line `CALL: ANSWER`
+//! names the call in the same way, but without what follows its number or port; `core` has no
+//! number. The answer `yes` means that a connection comes, or that a peer answers; `fails` is a
+//! fault; `later` means that there is nothing yet; a number is how many bytes are taken;
+//! hexadecimal digits are bytes that come. Without such a line, the wire answers that there is
+//! nothing yet, except that a write takes all bytes.
 #![tactic(auto)]
 
 mod failing;

@@ -4,7 +4,7 @@ use crate::row::{bad, number};
 use std::io::{self, BufWriter, Write};
 use sv_pace::Pace;
 
-/// The loop sleeps fewer times than this before it may poll again.
+/// The loop sleeps fewer times than this before it may poll again without sleeping.
 const MOST: u32 = 10_000;
 
 /// Converts a number of polls or of milliseconds. A number above 32 bits becomes the greatest one.
@@ -23,8 +23,8 @@ fn sleeps(pace: &mut Pace, now: u64) -> io::Result<u32> {
     Err(bad())
 }
 
-/// Makes `count` runs of polls that find nothing, each as soon as the loop may poll again. For each
-/// run, prints how many times the loop sleeps before it.
+/// Makes `count` runs of polls that find nothing. Each run begins as soon as the loop may poll
+/// without sleeping. For each run, prints how many times the loop sleeps before the run.
 fn miss<W: Write + Drop>(pace: &mut Pace, count: u64, writer: &mut BufWriter<W>) -> io::Result<()> {
     for _ in 0..count {
         pace.work(0);

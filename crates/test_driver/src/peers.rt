@@ -1,4 +1,5 @@
-//! Peers that send all their bytes at once, over a wire of which one call fails.
+//! Peers that send all their bytes at once, and their wire. One call that the driver makes to the
+//! wire fails.
 
 ghost use Rattle.std.specs.Prelude.{◌≤◌, length};
 ghost use Rattle.sv_serve.specs.Heard.{IsWithin};
@@ -7,7 +8,7 @@ use std::alloc::Global;
 use sv_serve::{Answer, Wire};
 use sv_server::{Dial, Port, Role};
 
-/// A kind of call of a wire.
+/// A function of the wire that can be made to fail.
 #[derive(Clone, Copy, Debug, PartialEq, Eq)]
 pub(crate) enum Call {
     Accept,
@@ -20,17 +21,19 @@ pub(crate) enum Call {
 /// A peer of the core channel.
 #[derive(Drop)]
 pub(crate) struct Peer {
-    /// The bytes that the peer sends, and how many of these bytes were read.
+    /// The bytes that the peer sends.
     sends: Vec<u8>,
+    /// How many of the bytes that the peer sends were read.
     read: usize,
     /// The number of the peer's connection, as long as the connection is open.
     conn: Option<u8>,
     /// Whether the peer has connected.
     came: bool,
-    /// Whether a call for the peer failed.
+    /// Whether a call that the driver made to the wire for this peer failed.
     pub(crate) struck: bool,
-    /// The bytes that the peer got on its connection, and those on its interrupt channel.
+    /// The bytes that the peer got on its connection.
     pub(crate) got: Vec<u8>,
+    /// The bytes that the peer got on its interrupt channel.
     pub(crate) called: Vec<u8>,
 }
 
@@ -77,13 +80,13 @@ impl Peer {
     }
 }
 
-/// A wire to peers. One of its calls fails.
+/// A wire to peers. One call that the driver makes to the wire fails.
 #[derive(Drop)]
 pub(crate) struct Peers {
     pub(crate) peers: Vec<Peer>,
     fails: Call,
-    /// How many calls of the kind `fails` remain up to and including the one that fails; 0 after
-    /// that call was made.
+    /// How many calls to the function `fails` remain up to and including the one that fails; 0
+    /// after that call was made.
     left: u64,
 }
 
@@ -96,8 +99,8 @@ fn number(port: Port) -> u8 {
 }
 
 impl Peers {
-    /// Makes a wire to these peers. Of the calls of the kind `fails`, the one with the number
-    /// `left` fails, counted from 1.
+    /// Makes a wire to these peers. Of the driver's calls to the function `fails`, the one with the
+    /// number `left` fails, counted from 1.
     pub(crate) fn new(peers: Vec<Peer>, fails: Call, left: u64) -> Peers {
         Peers { peers, fails, left }
     }
@@ -107,7 +110,7 @@ impl Peers {
         self.left > 0
     }
 
-    /// Counts a call of this kind, and returns whether it fails.
+    /// Counts a call to this function of the wire, and returns whether the call fails.
     fn strikes(&mut self, call: Call) -> bool {
         if call != self.fails || self.left == 0 {
             return false;
@@ -121,8 +124,8 @@ impl Peers {
         self.peers.iter_mut().find(|peer| peer.conn == Some(conn))
     }
 
-    /// Counts a call for the peer of this connection, and returns whether the call fails. If it
-    /// fails, marks the peer as struck.
+    /// Counts a call to this function of the wire for the peer of this connection. Returns whether
+    /// the call fails. If it fails, marks the peer as struck.
     fn strikes_at(&mut self, call: Call, conn: u8) -> bool {
         let fails = self.strikes(call);
         if fails {

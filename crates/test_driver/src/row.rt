@@ -11,7 +11,8 @@ use sv_replay::{Entry, read_scenario};
 use sv_serve::Driver;
 use sv_server::{Config, Server};
 
-/// The text between the milliseconds of a sweep and the number of the allocation that it refuses.
+/// In a `sweep` line: the text between the milliseconds that pass and the number of the allocation
+/// that fails.
 const MEMORY: &str = " memory ";
 
 /// The driver with which a row (a test case) is played.
@@ -84,7 +85,7 @@ fn made<'a>(
     Ok(Driver::new(heap, server, wire, scenario)?)
 }
 
-/// Makes a sweep, and prints the driver's calls of the wire in this sweep.
+/// Makes a sweep, and prints which functions of the wire the driver called in this sweep.
 fn sweep<W: Write + Drop>(
     heap: &FailingAllocator<Global>,
     driver: &mut Played<'_>,

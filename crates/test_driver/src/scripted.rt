@@ -18,7 +18,7 @@ pub(crate) struct Scripted {
     row: String,
     /// The number of the sweep that is under way, counted from 1.
     pub(crate) sweep: Cell<usize>,
-    /// The call that is made now, as a line of the row writes it before its answer.
+    /// The call that the driver is making, in the form that a row's line `CALL: ANSWER` has for it.
     asked: String,
 }
 
@@ -65,7 +65,7 @@ impl Scripted {
         }
     }
 
-    /// The row's answer to this call.
+    /// The row's answer to this call in the sweep that is under way; `None` if the row has none.
     fn says(&self, asked: &str) -> Option<&str> {
         let lines = self.row.split("\nsweep ").nth(self.sweep.get())?;
         for line in lines.lines() {

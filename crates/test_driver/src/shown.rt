@@ -1,4 +1,4 @@
-//! The calls of a wire, printed as lines.
+//! The calls that a driver makes to its wire, printed as lines.
 
 use std::io::{self, BufWriter, Write};
 use sv_recording::Call;
@@ -35,7 +35,7 @@ fn show_written<W: Write + Drop>(
     writeln!(writer)
 }
 
-/// Prints a call of a wire.
+/// Prints a call that the driver made to the wire.
 pub(crate) fn show<W: Write + Drop>(call: &Call, writer: &mut BufWriter<W>) -> io::Result<()> {
     match call {
         Call::Accept { role, conn, .. } => match conn {

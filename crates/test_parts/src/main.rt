@@ -11,11 +11,11 @@
 //! | `cut BYTE TEXT` | the first place of the byte, and the texts before and after it |
 //! | `parts TEXT` | the parts of a header |
 //! | `unit TEXT` | the header and the parameters of a unit, each with its place and its kind |
-//! | `headers TEXT` | the commands that the headers of a message name, with `;` between two |
+//! | `headers TEXT` | the command that each header names; the text has `;` between two headers |
 //! | `orders MESSAGE` | what each unit of a message asks for |
 //! | `arity HEADER` | how many parameters the header's command takes at most |
 //! | `voltage UNIT`, `boolean UNIT`, `keyword UNIT`, `channels UNIT` | a unit's first parameter |
-//! | `whole LOW HIGH UNIT` | a unit's first parameter, as a whole number |
+//! | `whole LOW HIGH UNIT` | a unit's first parameter, as a whole number from LOW to HIGH |
 //! | `print MICROVOLTS` | the voltage, printed as response data |
 //! | `response voltage UNIT` | the unit's first parameter, printed as response data |
 //! | `response channels UNIT`, `response source UNIT` | a list or a source, as response data |

@@ -51,8 +51,9 @@ pub(crate) fn put_session(
     Ok(())
 }
 
-/// Takes steps of the instrument until no step is due. Returns how many requests for service they
-/// raised. Each function below that returns a number also returns how many such requests it raised.
+/// Takes steps of the instrument until no step is due. Returns how many requests for service these
+/// steps raised. Each function below that returns a number returns how many such requests it
+/// raised.
 fn settle(instrument: &mut Instrument) -> u64 {
     let mut sum = 0u64;
     while let Some(raised) = step(instrument) {
@@ -132,7 +133,7 @@ fn put_reasons(out: &mut String, read: &Read<'_>) -> Result<(), Fault> {
     Ok(())
 }
 
-/// Lets `count` milliseconds pass, and after each takes all steps that are due.
+/// Lets `count` milliseconds pass. After each millisecond, takes all steps that are due.
 fn tick(instrument: &mut Instrument, count: u16) -> u64 {
     let mut sum = 0u64;
     for _ in 0..count {

@@ -40,7 +40,7 @@ fn put_whole(out: &mut String, text: &str) -> Result<(), Fault> {
     put(out, whole(&token, value_of(low)?, value_of(high)?))
 }
 
-/// Prints a voltage, up to 1,000 V in magnitude, as response data.
+/// Prints a voltage as response data. `value` is in microvolts, and at most 1,000 V in magnitude.
 fn put_printed(out: &mut String, value: i64) -> Result<(), Fault> {
     if value.unsigned_abs() > MOST {
         return Err(Fault::Unknown);

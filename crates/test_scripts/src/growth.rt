@@ -30,8 +30,8 @@ const SET_UP: Config = Config {
 #[derive(Drop)]
 struct Growing<'a> {
     alloc: Global,
-    /// If true, a call that finds no memory is refused, and then sent again. If false, its event is
-    /// just tried again.
+    /// What happens if a Turn finds no memory for its call. If true, the call is refused, and then
+    /// sent again. If false, only the Turn is tried again.
     refuses: bool,
     server: Played<'a>,
     told: String,
@@ -64,7 +64,7 @@ impl Growing<'_> {
         Ok(asked)
     }
 
-    /// Appends the bytes that wait on a port to the output, and lets the peer take them.
+    /// Appends to the output the bytes that wait on a port, and lets the peer take them.
     fn take(&mut self, letter: char, conn: u8, port: Port) -> io::Result<()> {
         let bytes = self.server.waiting(port);
         tell(&mut self.told, letter, conn, bytes)?;
@@ -73,7 +73,7 @@ impl Growing<'_> {
         Ok(())
     }
 
-    /// Appends the bytes that wait on each connection to the output, and lets the peers take them.
+    /// Appends to the output the bytes that wait on each connection, and lets the peers take them.
     fn take_connections(&mut self) -> io::Result<()> {
         for conn in 0..CONNECTIONS {
             self.take('c', conn, Port::Conn(conn))?;
@@ -81,7 +81,7 @@ impl Growing<'_> {
         Ok(())
     }
 
-    /// Appends the bytes that wait on each interrupt channel to the output, and lets the peers take
+    /// Appends to the output the bytes that wait on each interrupt channel, and lets the peers take
     /// them.
     fn take_channels(&mut self) -> io::Result<()> {
         for conn in 0..CONNECTIONS {
@@ -90,8 +90,8 @@ impl Growing<'_> {
         Ok(())
     }
 
-    /// Applies the event of a line. Appends the refusal, if there is one, and the bytes that then
-    /// wait on all ports to the output. Returns true if the event found no memory.
+    /// Applies the event of a line. Appends to the output the refusal, if there is one, and the
+    /// bytes that then wait on all ports. Returns true if the event found no memory.
     fn apply(&mut self, line: &str) -> io::Result<bool> {
         let mut buffer = [0; LONGEST];
         if line.len() > LONGEST {
@@ -110,9 +110,9 @@ impl Growing<'_> {
         Ok(found_none)
     }
 
-    /// Handles an event that found no memory. If `refuses` is true, first refuses its call, and
-    /// sends the call again with `brought`, the `bytes` line that brought the call. Then tries the
-    /// event again, whose line is `line`.
+    /// Handles an event that found no memory. If `refuses` is true, first refuses the event's call,
+    /// and sends the call again by `brought`, the `bytes` line that brought the call. Then tries
+    /// the event of `line` again.
     fn go_on(&mut self, brought: &str, line: &str) -> io::Result<()> {
         if self.refuses {
             let conn = line.strip_prefix("turn ").unwrap_or("");
@@ -126,8 +126,8 @@ impl Growing<'_> {
         Ok(())
     }
 
-    /// Executes a line. If its event finds no memory and yet changed the server's answers, appends
-    /// `changed` to the output.
+    /// Executes a line. If the line's event finds no memory, tries it again. If the event found no
+    /// memory but changed the server's answers, appends `changed` to the output.
     fn step(&mut self, brought: &str, line: &str) -> io::Result<()> {
         let before = self.asked()?;
         if !self.apply(line)? {
@@ -140,8 +140,8 @@ impl Growing<'_> {
     }
 }
 
-/// Begins a play of a script: makes a new server, and executes no line yet. If memory for the
-/// server is refused, makes the server again.
+/// Begins to play a script: makes a new server, and executes no line yet. If memory for the server
+/// is refused, makes the server again.
 fn start<'a>(
     alloc: Global,
     heap: &'a FailingAllocator<Global>,

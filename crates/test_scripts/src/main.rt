@@ -1,11 +1,11 @@
-//! Plays the test cases, called rows, of the standard input. Each row gets parts of its own. Prints
-//! the title of each row, and then its results.
+//! Plays the test cases, called rows, of the standard input. No row depends on an earlier row.
+//! Prints the title of each row, and then the results of the row.
 //!
 //! A title is a line `= WORDS`. The text of a row begins after its title and ends before the next
 //! title. The new line right before that title doesn't belong to the text. So an empty line before
 //! the next title means that the text ends in a new line; without it the text ends in the middle of
-//! a line. The first line of a text may begin with `! `. It then says what the text is and what is
-//! printed:
+//! a line. If the first line of a text begins with `! `, that line says what the text is and what
+//! is printed:
 //!
 //! - no such line: a script; prints what its replay prints, and the fault of the replay if there is
 //!   one;

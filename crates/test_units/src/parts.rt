@@ -37,7 +37,7 @@ fn acts_happen_in_their_order(rt: HostRuntime) -> Result<(), Fail> {
     Ok(())
 }
 
-/// If there is no room for all four bytes of a word of the header, none of these bytes is written.
+/// If there is no room for all four bytes of a field of the header, none of these bytes is written.
 #[test]
 fn writes_the_header_of_a_call(rt: HostRuntime) -> Result<(), Fail> {
     let wanted: [u8; 40] =

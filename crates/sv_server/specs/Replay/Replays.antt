@@ -15,10 +15,10 @@ use Rattle.sv_history.specs.History.{IsLogOf, Answers, history_after}
 use Rattle.sv_history.specs.Print.{head_of, ports_after, lines_of, with_tooks, print_of}
 use Rattle.sv_server.specs.Replay.TakenByWriter.{IsFront}
 
--- Success: all lines for the event were written, and the peers took all bytes that these lines show. Out of memory: the line of the refusal
--- was written, and the peers took nothing. The writer failed in the line of the refusal: the peers took nothing. The writer failed later:
--- the lines of the ports `shown` (perhaps none) were written, and their peers took the bytes that these lines show; then a prefix of the
--- lines of the ports `others` was written, whose peers took nothing.
+-- On success, all lines for the event were written, and the peers took all bytes that these lines show. If memory was refused, the line of
+-- the refusal was written, and the peers took nothing. If the writer failed in the line of the refusal, the peers took nothing. If it
+-- failed later: the lines of the ports `shown` (perhaps none) were written, and the peers of these ports took the bytes; then a prefix of
+-- the lines of the ports `others` was written, and the peers of those ports took nothing.
 abbrev pub IsReplayWritten : Result Did Refused → List ChannelAct → List Act → List PlainEvent → Result ⊤ ReplayFault → List ℕ
     → List PlainEvent
     → Type 0

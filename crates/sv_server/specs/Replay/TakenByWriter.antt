@@ -1,4 +1,4 @@
--- Which part of a text a writer accepted, if the write of the text succeeded or failed.
+-- Which part of a text a writer accepted: the whole text if the write succeeded, a prefix if it failed.
 use Rattle.std.specs.Prelude.{◌≡◌, ℕ, List, ◌++◌, Option, Result, Ok, Err, ⊤}
 use Rattle.std.specs.Io.KnownBytes.{Appends}
 

@@ -11,22 +11,24 @@ use sv_rpc::{Reply, put_record, write_reply};
 use sv_vxi::{VxiResult, write_result};
 use sv_xdr::Writer;
 
-/// The longest reply with the header of its fragment, in bytes: ten 4-byte words, and the data of a
-/// read.
+/// The size of the longest reply in bytes, with the header of its fragment: ten 4-byte fields, and
+/// the data of a read.
 pub const LONGEST_REPLY: usize = 40 + MAX_READ;
-/// The longest reply without the header of its fragment, in bytes: the reply's header (24), error,
-/// reason and length (4 each), and the data of a read.
+/// The size of the longest reply in bytes, without the header of its fragment: the reply's header
+/// (24 bytes), error, reason and length (4 bytes each), and the data of a read.
 const LONGEST_TEXT: usize = LONGEST_REPLY - 4;
-/// The most data of a brief answer, in bytes. Only an answer to a device_read may have more data.
+/// An answer with at most this many bytes of data counts as brief. Only an answer to a device_read
+/// can have more data.
 const BRIEF_DATA: usize = 256;
-/// The longest reply with a brief answer, in bytes, without the header of its fragment.
+/// The size in bytes of the longest reply that has at most 256 bytes of data, without the header of
+/// its fragment.
 const BRIEF_TEXT: usize = LONGEST_TEXT - MAX_READ + BRIEF_DATA;
 
 /// The answer to a call.
 #[derive(Clone, Copy)]
 pub enum Answer<'a> {
-    /// A reply that has only a header. The header or the arguments of the call decide it, without
-    /// the device.
+    /// A reply that has only a header. It follows from the header or the arguments of the call; the
+    /// device isn't used.
     Header(Reply),
     /// The TCP port that is the result of a GETPORT.
     Port(u32),
@@ -49,7 +51,7 @@ pub fn put_reply<A: Allocator>(out: &mut Vec<u8, A>, xid: u32, answer: &Answer<'
     }
 }
 
-/// Whether an answer has at most 256 bytes of data. Its reply is then written into a smaller
+/// Whether an answer has at most 256 bytes of data. If so, its reply is written into a smaller
 /// buffer, which is cleared faster.
 fn is_brief(answer: &Answer<'_>) -> bool
     ensures { result ≡ true → HasAtMost 256 answer.now }

@@ -36,7 +36,7 @@ pub struct CoreCall<'a> {
 pub enum Request<'a> {
     /// Nothing: the record isn't a call.
     NoCall,
-    /// A call whose header or arguments decide the reply, without the device.
+    /// A call whose reply follows from its header or its arguments; the device isn't used.
     Decided {
         /// The xid of the call.
         xid: u32,
@@ -181,7 +181,7 @@ fn procedure_request<'a>(role: Role, call: &Call<'a>) -> Request<'a>
     }
 }
 
-/// Makes the request of a call whose header decides the reply, without the device.
+/// Makes the request of a call whose reply follows from its header; the device isn't used.
 fn decided<'a>(call: &Call<'a>, reply: Reply) -> Request<'a>
     ensures { plain_request result ≡ Decided call.now.xid reply }
 {

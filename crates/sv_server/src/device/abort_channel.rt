@@ -21,8 +21,7 @@ use sv_vxi::{ErrorCode, VxiResult};
 pub struct Aborted {
     /// The result that the reply gives.
     pub result: VxiResult<'static>,
-    /// The connection whose suspended call device_abort ends; `None` if device_abort ends no call.
-    /// The suspended call names the same link as device_abort.
+    /// If device_abort ends a suspended call: the connection of that call. Else `None`.
     pub conn: Option<u8>,
 }
 
@@ -91,8 +90,8 @@ impl<A: Allocator> Device<A> {
         }
     }
 
-    /// The connection whose suspended call a device_abort of this link ends: its suspended call
-    /// names the link. `None` if there is no such call.
+    /// The connection that made this link, if its suspended call names the link: a device_abort of
+    /// the link ends that call. Else `None`.
     fn aborted(&self, lid: Option<u32>) -> Option<u8>
         ensures { (config : Config) (acts : List DeviceAct) → IsDevice self.now config acts
             → result ≡ where_waiting_with (owner_for lid acts) lid acts }

@@ -31,7 +31,7 @@ use sv_vxi::{Args, ErrorCode, LinkCall};
 /// make.
 const MOST_LINKS: u8 = MAX_LINKS as u8;
 
-/// What stops a call.
+/// Why a call isn't executed now.
 #[derive(Clone, Copy)]
 pub enum Stop {
     /// The call fails with this error.
@@ -99,9 +99,9 @@ impl<A: Allocator> Device<A> {
         }
     }
 
-    /// What a call waits for besides the lock, and its timeout in milliseconds; `None` if the call
-    /// needn't wait. A device_write waits while the instrument hasn't finished a message that came
-    /// completely. A device_read waits until the instrument can answer it.
+    /// If a call has to wait for something other than the lock: what it waits for, and its timeout
+    /// in milliseconds. Else `None`. A device_write waits while the instrument hasn't finished a
+    /// message that came completely. A device_read waits until the instrument can answer it.
     pub(super) fn device_wait(&self, call: &LinkCall<'_>) -> Option<(Wait, u32)>
         ensures answer { (config : Configured) (acts : List DeviceAct)
             → IsDevice self.now config acts
@@ -116,7 +116,8 @@ impl<A: Allocator> Device<A> {
         }
     }
 
-    /// What a device_write waits for, and its timeout in milliseconds; `None` if it needn't wait.
+    /// If a device_write has to wait now: what it waits for, and its timeout in milliseconds. Else
+    /// `None`.
     fn input_wait(&self, timeout: u32) -> Option<(Wait, u32)>
         ensures answer { (config : Configured) (acts : List DeviceAct)
             → IsDevice self.now config acts
@@ -131,7 +132,8 @@ impl<A: Allocator> Device<A> {
         Some((Wait::Input, timeout))
     }
 
-    /// What a device_read waits for, and its timeout in milliseconds; `None` if it needn't wait.
+    /// If a device_read has to wait now: what it waits for, and its timeout in milliseconds. Else
+    /// `None`.
     fn response_wait(&self, timeout: u32) -> Option<(Wait, u32)>
         ensures answer { (config : Configured) (acts : List DeviceAct)
             → IsDevice self.now config acts
@@ -175,7 +177,7 @@ impl<A: Allocator> Device<A> {
         None
     }
 
-    /// What stops a call that has to wait for the device; `None` if it needn't wait.
+    /// If the call has to wait for the device: what it waits for, and its timeout. Else `None`.
     fn device_stop(&self, call: &LinkCall<'_>) -> Option<Stop>
         ensures { (config : Configured) (acts : List DeviceAct) → IsDevice self.now config acts
             → option_map plain_stop result ≡ option_map (λ (wait : Wait × ℕ). Awaits wait.0
@@ -235,8 +237,8 @@ impl<A: Allocator> Device<A> {
         }
     }
 
-    /// The value of the clock at which a call that is suspended now times out; `None` if it has no
-    /// timeout.
+    /// For a call that is suspended at this moment with this timeout: the value of the clock at
+    /// which the call times out. `None` if the timeout is `None`.
     pub(super) fn deadline(&self, timeout: Option<u32>) -> Option<u64>
         ensures { (config : Configured) (acts : List DeviceAct) → IsDevice self.now config acts
             → result ≡ deadline_for config timeout acts }
@@ -247,8 +249,7 @@ impl<A: Allocator> Device<A> {
         }
     }
 
-    /// If the call is create_link, allocates the memory for its link, unless no more links may be
-    /// made.
+    /// If the call is create_link and one more link may be made, allocates the memory for the link.
     fn reserve(&mut self, args: &Args<'_>) -> Result<(), AllocError>
         ensures ok { (config : Configured) (acts : List DeviceAct) → IsDevice self.old config acts
             → OnOk result (IsDevice self.new config acts
@@ -363,7 +364,7 @@ impl<A: Allocator> Device<A> {
         Ok(self.own_call(conn, args))
     }
 
-    /// Executes a call whose arguments were read, unless something stops it.
+    /// Executes a call with these arguments. If something stops the call, it fails or is suspended.
     pub fn admit(&mut self, conn: Conn, args: &Args<'_>) -> Result<CallOutcome, AllocError>
         ensures { Admits result conn.number (plain_arguments args.now) self.old self.new }
     {

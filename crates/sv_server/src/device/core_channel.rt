@@ -179,7 +179,8 @@ impl<A: Allocator> Device<A> {
         CallOutcome::Result(nothing_read(ErrorCode::IoTimeout))
     }
 
-    /// The bytes of the response that a read returns, and why they end there.
+    /// Returns the bytes of the response that a read would return, and the reasons why the read
+    /// would end after these bytes.
     pub fn peek_response(&self, most: u32, term: Option<u8>) -> Read<'_>
         ensures within { length result.bytes.now
             ≤ length (shown_by self.now.instrument.layers.exchange) }
@@ -245,7 +246,7 @@ impl<A: Allocator> Device<A> {
         CallOutcome::Result(plain(ErrorCode::NoError))
     }
 
-    /// Executes a call on a link. Nothing stops the call.
+    /// Executes a call that nothing stops, on the link `lid`.
     fn link_call(&mut self, conn: Conn, lid: u32, call: &LinkCall<'_>) -> CallOutcome
         ensures ends { (config : Configured) (polled : ℕ) (acts : List DeviceAct)
             → IsDeviceAt self.old config polled acts

@@ -46,7 +46,8 @@ impl<A: Allocator> Device<A> {
         self.intr.is_open(conn.number)
     }
 
-    /// Executes device_enable_srq of a link, if the connection owns the link.
+    /// Executes device_enable_srq of a link. If the connection doesn't own the link, the result is
+    /// the error for an invalid link.
     pub(super) fn device_enable_srq(
         &mut self,
         conn: Conn,

@@ -85,8 +85,8 @@ impl<A: Allocator> Device<A> {
         }
     }
 
-    /// What a call that waited for the lock has to wait for next, and its timeout in milliseconds;
-    /// `None` if it needn't wait again.
+    /// If a call that waited for the lock has to wait again: what it waits for next, and its
+    /// timeout in milliseconds. Else `None`.
     fn next_wait(&self, args: &Args<'_>) -> Option<(Wait, u32)>
         ensures answer { (config : Config) (acts : List DeviceAct) → IsDevice self.now config acts
             → result ≡ next_wait Wait.Lock (plain_arguments args.now) acts }

@@ -30,7 +30,8 @@ pub enum Executed {
 }
 
 impl Executed {
-    /// The connection whose suspended call a device_abort ends; `None` if it ends none.
+    /// If the record is a device_abort that ends a suspended call: the connection of that call.
+    /// Else `None`.
     pub fn aborts(&self) -> Option<u8>
         ensures { result ≡ aborted_by self.now }
     {

@@ -52,8 +52,8 @@ fn unless_modest(call: CoreCall<'_>) -> Option<CoreCall<'_>>
 }
 
 /// Takes the next call of an open connection, and answers it with error 9 (out of resources)
-/// without executing it. Fails if the call isn't one that may be refused, or if the output has no
-/// room for the reply.
+/// without executing it. Fails if the next call isn't create_link or create_intr_chan, or if the
+/// output has too little room for the longest reply.
 pub fn refuse<A: Allocator>(connection: &mut Connection<A>, role: Role) -> Result<(), Refused>
     requires { connection.old.role ≡ Some role }
     ensures acts { (acts : List ConnAct) → IsConnection connection.old acts

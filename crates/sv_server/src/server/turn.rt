@@ -31,8 +31,8 @@ pub enum Turned {
     Idle,
     /// A record was taken. Its call was executed or suspended; or the record isn't a call.
     Done {
-        /// The connection whose suspended call is ended by the call that was taken (a
-        /// device_abort); `None` if it ends none.
+        /// If the call that was taken is a device_abort that ends a suspended call: the connection
+        /// of the suspended call. Else `None`.
         aborts: Option<u8>,
     },
 }

@@ -11,21 +11,23 @@ use Rattle.sv_history.specs.Reply.{reply_record}
 use Rattle.sv_server.specs.declared.connection.reply.Answer.{Answer}
 use Rattle.sv_server.specs.declared.connection.reply.Answer.TheVariants as answers
 
--- Four functions of an answer: `reply_of` gives the kind of its reply; `fields_of` the fields after the reply's header; `answer_text` the
--- bytes of the header and the fields; and `answer_bytes` these bytes as a record.
+-- the kind of the reply that carries an answer
 abbrev pub reply_of : Answer → Reply
 reply_of (answers.Header reply) = reply
 reply_of (answers.Port port) = Success
 reply_of (answers.Result outcome) = Success
 
+-- the fields of an answer, which come after the header of its reply
 abbrev pub fields_of : Answer → List Field
 fields_of (answers.Header reply) = []
 fields_of (answers.Port port) = Unsigned port ∷ []
 fields_of (answers.Result outcome) = result_fields (plain_result outcome)
 
+-- the bytes of an answer's reply: the header and the fields
 abbrev pub answer_text : ℕ → Answer → List ℕ
 answer_text xid answer = concat (map spelling (reply_fields xid (reply_of answer) ++ fields_of answer))
 
+-- the bytes of an answer's reply, as a record
 abbrev pub answer_bytes : ℕ → Answer → List ℕ
 answer_bytes xid answer = reply_record xid (reply_of answer) (fields_of answer)
 

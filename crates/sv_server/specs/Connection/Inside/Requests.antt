@@ -7,11 +7,11 @@ use Rattle.sv_server.specs.declared.connection.request.CoreCall.{CoreCall as Tak
 use Rattle.sv_server.specs.declared.connection.request.Request.{Request as Asked}
 use Rattle.sv_server.specs.declared.connection.request.Request.TheVariants as requests
 
--- Two functions turn a value of the code into plain data: `plain_core_call` a call of the core channel, `plain_request` the request that a
--- record makes.
+-- the code's value for a call of the core channel, as plain data
 abbrev pub plain_core_call : TakenCall → CoreCall
 plain_core_call call = record { xid = call.xid; arguments = plain_arguments call.args }
 
+-- the code's value for the request that a record makes, as plain data
 abbrev pub plain_request : Asked → Request
 plain_request requests.NoCall = NoCall
 plain_request (requests.Decided xid reply) = Decided xid reply

@@ -1,4 +1,4 @@
--- The outcome of a call that begins, or of one that was suspended, in terms of the code's types.
+-- The outcome of a call that begins, or of a suspended call that continues, in terms of the code's types.
 use Rattle.std.specs.Prelude.{◌≡◌, ◌⊎◌, ℕ, ◌+◌, ◌<◌, ◌≤◌, List, [], ◌∷◌, ◌++◌, map, Bool, true, false, Option, Some, None, Result, IfOk, OnErr, ⊤}
 use Rattle.sv_vxi.specs.Arguments.{Arguments, CreateLink, is_create_link}
 use Rattle.sv_vxi.specs.Results.{Outcome as VxiOutcome, plain_result, data_of}
@@ -27,7 +27,7 @@ use Rattle.sv_server.specs.declared.device.admission.Stop.{Stop as StoppedBy}
 use Rattle.sv_server.specs.declared.device.admission.Stop.TheVariants as stops
 use Rattle.sv_server.specs.Device.Representation.{Device, IsDevice, HasPlace}
 
--- why a call can't be executed now (an error, or a wait), as plain data
+-- why a call can't be executed now, as plain data: it fails with an error, or it has to wait
 abbrev pub plain_stop : StoppedBy → Stop
 plain_stop (stops.Fails error) = Fails error
 plain_stop (stops.Awaits wait timeout) = Awaits wait timeout
@@ -87,8 +87,8 @@ pub record Does {O : Type 0} (IsSo : Config → ℕ → List DeviceAct → O →
   pub brief : IfOk result (λ outcome. IsShort outcome)
   pub err : OnErr result (new ≡ old)
 
--- The effect of a function that begins a call, if `IsAt` holds of the device's acts before. `Admits` states this effect for any acts;
--- `AdmitsAt` states it for acts after which `stop` is what prevents the call's execution.
+-- What a function that begins a call does, if `IsAt` holds of the acts that the device had before. `Admits` states this for any such acts.
+-- `AdmitsAt` states it only for acts after which the reason that the call can't be executed is `stop`.
 abbrev pub Begins : (List DeviceAct → Type 0) → {E : Type 0} → Result Outcome E → ℕ → Arguments → Device → Device → Type 0
 Begins IsAt result c arguments old new =
     Does (λ config polled acts outcome. IsAt acts

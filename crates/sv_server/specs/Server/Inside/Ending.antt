@@ -58,7 +58,7 @@ IsBriefly (executions.Answered answer) = IsShort answer
 IsBriefly (executions.Aborts aborted) = data_of (plain_result aborted.result) ≡ []
 IsBriefly (executions.Call outcome) = IsBrief outcome
 
--- the connection whose suspended call the taken record aborts; `None` if the record aborts no call
+-- if the record that was taken aborts a suspended call: the connection of that call; else `None`
 abbrev pub aborted_by : Executed → Option ℕ
 aborted_by (executions.Aborts aborted) = aborted.conn
 aborted_by _ = None
