@@ -121,7 +121,8 @@ pub enum Refused {
     /// The connection's number is in use.
     #[error("the connection is open already")]
     ConnInUse = 2,
-    /// The number is above 15, or no connection or interrupt channel of this number is open.
+    /// The number is above 15, or the connection or interrupt channel that the event names isn't
+    /// open.
     #[error("there is no such connection")]
     NoConn = 3,
     /// A Bytes event has more bytes than the connection has room for; or, at a Turn or a Refuse,
