@@ -29,9 +29,9 @@ impl<A: Allocator> Layers<A> {
     /// Ends a change, which was already applied to the layer that it belongs to: updates one status
     /// register after the other. If the condition of a register might have changed, the transitions
     /// of its bits first pass the register's filters as they were before the change. Then follows
-    /// what the change itself does to the register, such as setting a filter or clearing its events.
-    /// A nested register is updated before the register whose condition has the nested register's
-    /// summary.
+    /// what the change itself does to the register, such as setting a filter or clearing its
+    /// events. A nested register is updated before the register whose condition has the nested
+    /// register's summary.
     pub(crate) fn end(&mut self, change: &Change)
         ensures stands { (log : List Act) (act : Act) (status_log : List StatusAct)
             → EndsAs (act_of change.now) act
