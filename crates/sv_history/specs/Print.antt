@@ -1,4 +1,5 @@
--- What a replay prints for an event: its refusal, and a line for each port on which bytes wait.
+-- What a replay prints for an event: the refusal, if the event was refused, and a line for each connection and each interrupt channel on
+-- which bytes wait to be sent.
 use Rattle.std.specs.Prelude.{ℕ, zero, suc, ◌-◌, Bool, true, false, List, [], ◌∷◌, ◌++◌, map, length, codes, decimal, nat_lt, Result, Ok, Err, if◌then◌else◌}
 use Rattle.hex.specs.Hex.{encode_lower}
 use Rattle.sv_links.specs.Channels.{ChannelAct}

@@ -7,11 +7,11 @@ use sv_status::RegisterName;
 /// What a held unit will answer when the measurement ends.
 #[derive(Clone, Copy)]
 pub enum Awaited {
-    /// Nothing: `*WAI` (IEEE 488.2, 12.5.1).
+    /// No answer, for `*WAI` (IEEE 488.2, 12.5.1).
     Nothing,
-    /// `1`: `*OPC?` (IEEE 488.2, 12.5.3).
+    /// The answer `1`, which `*OPC?` returns (IEEE 488.2, 12.5.3).
     One,
-    /// The readings: `READ?` and `MEASure?` (SCPI-1999, volume 2, chapter 3).
+    /// The readings, which `READ?` and `MEASure?` return (SCPI-1999, volume 2, chapter 3).
     Readings,
 }
 

@@ -19,8 +19,8 @@ heard_of (Dial conn dial answer) = WasDialed conn dial answer
 heard_of (Dialed conn answer) = PeerAnswered conn answer
 heard_of (Close port) = WasClosed port
 
--- the state of a recorder: the wire to which it passes the calls; the calls that were recorded, the newest first; and whether all calls
--- were recorded
+-- the state of a recorder: the wire whose functions it calls for the driver; these calls and their answers, the newest first; and whether
+-- all calls were recorded
 pub record Recording (W : Type 0) : Type 0 where
   pub wire : W
   pub trace : List Heard

@@ -107,10 +107,10 @@ pub record IsCarried (config : Config) (history : List PlainEvent) (trace : List
   pub lets_go : EachHeard (λ heard older. (c : ℕ) → heard ≡ WasClosed (Intr c) → Follows (ends_port (Intr c)) older ⊎ Once (λ earlier.
       (log : List Act) × IsLogOf config earlier log × (is_port_shut (Intr c) log ≡ true)) history older) trace
 
--- Each sweep adds its own events to the history and its own answers of the wire to the trace, and serves each connection. The history's
--- timed events are exactly these: a Tick for each millisecond that the sweeps were given, up to the end of the clock; and the event of each
--- entry of the scenario that was due. For these events there are three premises: the clock is in range; the driver had counted no
--- millisecond at the start; and the scenario is a valid one.
+-- Each sweep serves each connection. It adds its own events to the history, and what the wire answered in the sweep to the trace. The
+-- history's timed events are exactly these: a Tick for each millisecond that the sweeps were given, up to the end of the clock; and the
+-- event of each entry of the scenario that was due. For these events there are three premises: the clock is in range; the driver had
+-- counted no millisecond at the start; and the scenario is a valid one.
 abbrev pub InSweeps : {W : Type 0} (hears : W → Heard → W → Type 0) → Config → (start : DriverState W) (passed : List ℕ)
     (now : DriverState W)
     → Swept hears passed start now → List PlainEvent → List Heard → Type 0

@@ -22,7 +22,8 @@ pub record State : Type 0 where
   pub device : Device
   pub connections_used : ℕ
 
--- The call of this entry was taken and has no reply yet. If the call is create_link, the entry says that the call waits for the lock.
+-- The suspended call that this entry of the queue stands for was taken and has no reply yet. If the call is create_link, the entry says
+-- that the call waits for the lock.
 abbrev pub IsTaken : List Act → Entry → Type 0
 IsTaken log entry = (call : List ℕ) × (pending_call (of entry.conn log) ≡ Some call)
     × (creates_link (core_call call) ≡ true → creates entry ≡ true)
