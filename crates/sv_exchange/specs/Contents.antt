@@ -5,9 +5,9 @@ use Rattle.sv_exchange.specs.declared.exchange.Next.TheVariants as next
 use Rattle.sv_exchange.specs.Exchange.{ExchangeAct, Symbol, Byte, end_mark, text, messages, messages_finished, current, units_done, has_overrun, has_dropped, answers, units, is_something, joined_answers, response, Due, NothingDue, OverrunDue, InterruptDue, UnitDue, FinishDue, due_unit}
 use Rattle.sv_exchange.specs.Limits.{max_message}
 
--- the state: the part of the current message that wasn't executed yet, and whether this message has ended; the text after this message, and
--- whether END follows that text; whether the current message is too long, was reported as too long, and lost its answers; whether the
--- output is the answers of the current message, or else the response; and the output
+-- the state: the part of the current message that wasn't executed yet; whether this message has ended; the text after this message; whether
+-- END follows that text; whether the current message is too long; whether it was reported as too long; whether its answers were dropped;
+-- whether the output is the answers of the current message (else it is the response); and the output
 pub record Contents : Type 0 where
   pub rest : List ℕ
   pub ended : Bool

@@ -81,9 +81,8 @@ impl Register {
         Register::starting(0)
     }
 
-    /// A register as it is at power on, for the case that its summary is a bit of another
-    /// register's condition. Its enable is 32767 at power on and after a preset. All else is as in
-    /// [`Register::new`].
+    /// A register whose summary is a bit of another register's condition, as it is at power on. Its
+    /// enable is 32767 at power on and after a preset. All else is as in [`Register::new`].
     pub fn nested() -> Register
         ensures { StandsFor 32767 result [] }
     {
