@@ -80,7 +80,7 @@ readable_of false output = output
 abbrev pub shown_by : Contents → List ℕ
 shown_by contents = readable_of contents.answering contents.output
 
--- the next unit of the current message; `None` unless the message has ended, isn't too long, and lost no answers
+-- the next unit of the current message; `None` if no unit remains, the message hasn't ended, it is too long, or its answers were dropped
 abbrev pub unit_of : Contents → Option (List ℕ)
 unit_of contents = if contents.ended && (not contents.overlong && not contents.answers_dropped) then slice_get (units contents.rest) 0
     else None
@@ -94,7 +94,7 @@ next_of contents = if contents.overlong && not contents.overrun_reported then Ov
 abbrev pub IsUnitDue : Due → Type 0
 IsUnitDue due = (unit : List ℕ) × (due ≡ UnitDue unit)
 
--- whether a unit is allowed to give an answer: the current message has ended and lost no answers, and there is no response to read
+-- whether a unit is allowed to give an answer: the current message has ended, its answers weren't dropped, and there is no response to read
 abbrev pub may_respond : Contents → Bool
 may_respond contents = contents.ended && (not contents.answers_dropped && not (is_something (shown_by contents)))
 

@@ -69,7 +69,7 @@ pub record IsUnsigned (text : List ℕ) : Type 0 where
 
 -- The header read so far has the form that the stage requires (7.6.1). `WhiteSpace`: it is empty. `Asterisk`: it is an asterisk. `Colon`: a
 -- mnemonic must follow it. `CommonMnemonic`: it is a common command's header. `Mnemonic`: it is another command's header. `QuerySign`: it
--- ends in a question mark. At later stages: it is a complete header.
+-- is a header with its question mark. At later stages: it is a complete header.
 abbrev pub HeaderEnds : Stage → List ℕ → Type 0
 HeaderEnds WhiteSpace text = text ≡ []
 HeaderEnds Asterisk text = text ≡ 42 ∷ []

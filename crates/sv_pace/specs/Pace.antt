@@ -23,8 +23,8 @@ sleeps (Found ∷ waits) = 0
 sleeps (Missed ∷ waits) = 0
 sleeps (Slept ∷ waits) = suc (sleeps waits)
 
--- In how many waits the server sleeps without polling, after a wait in which it polled and found nothing. The flag says whether it also
--- found nothing in the wait before that in which it polled, and `pause` is the number that applied then. If the flag is false, the new
+-- In how many waits the server has to sleep without polling, after a wait in which it polled and found nothing. The flag says whether it
+-- also found nothing the previous time it polled in a wait, and `pause` is the number that applied then. If the flag is false, the new
 -- number is 0. Else it is twice `pause`, but at least 1 and at most 1,024.
 abbrev pub longer : Bool → ℕ → ℕ
 longer false pause = 0
@@ -35,8 +35,8 @@ abbrev pub is_any : ℕ → Bool
 is_any zero = false
 is_any (suc n) = true
 
--- in how many waits the server sleeps without polling before it polls again, if this many waits ended as `Missed` since the newest `Found`:
--- 0, 0, 1, 2, 4 .. for 0, 1, 2, 3, 4 .. missed waits
+-- in how many waits the server has to sleep without polling before it may poll again, if this many waits ended as `Missed` since the newest
+-- `Found`: 0, 0, 1, 2, 4 .. for 0, 1, 2, 3, 4 .. missed waits
 abbrev pub pause_after : ℕ → ℕ
 pause_after zero = 0
 pause_after (suc n) = longer (is_any n) (pause_after n)
@@ -50,8 +50,8 @@ after_wait (suc n) true waits = Found ∷ waits
 after_wait (suc n) false waits = Missed ∷ waits
 
 -- The state of the policy: when the last sweep began, and when something was last reported about a socket, both in nanoseconds; whether the
--- server found nothing in the last wait in which it polled; in how many waits it sleeps without polling after that wait; and how many of
--- these waits remain.
+-- server found nothing in the last wait in which it polled; in how many waits after that wait it has to sleep without polling; and how many
+-- of these waits remain.
 pub record Kept : Type 0 where
   pub swept : ℕ
   pub worked : ℕ

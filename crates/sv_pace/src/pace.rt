@@ -7,9 +7,9 @@ use std::marker::Model;
 
 /// How many milliseconds a server sleeps at most, if nothing is due earlier.
 pub const STILL: u32 = 100;
-/// If nothing will ever be due and more sweeps than this remain, a server sleeps until something is
-/// reported. If fewer sweeps remain, it makes a sweep at least every [`STILL`] milliseconds, so
-/// that the loop ends.
+/// A server runs for a given number of sweeps. If nothing will ever be due and more sweeps than
+/// this remain, it sleeps until something is reported about a socket. If not more than this remain,
+/// it makes a sweep at least every [`STILL`] milliseconds, so that the run ends.
 pub const FEW: u32 = 1_000_000;
 /// By how many milliseconds one sweep advances the server's clock at most, even if the sweep before
 /// is longer ago.
@@ -19,7 +19,7 @@ const MOST_TICKS: u64 = 1_000;
 const WINDOW: u64 = 50_000;
 /// How many nanoseconds a millisecond has.
 const MILLISECOND: u64 = 1_000_000;
-/// In how many waits in a row the server sleeps without polling, at most.
+/// In how many waits the server has to sleep without polling, at most, before it may poll again.
 const MOST_SLEEPS: u32 = 1_024;
 
 /// What a loop of sweeps remembers: times, in nanoseconds since its beginning, and how its waits
@@ -35,9 +35,10 @@ pub struct Pace {
     worked: u64,
     /// Whether the server found nothing in the last wait in which it polled.
     missed: bool,
-    /// In how many waits the server sleeps without polling, after the last wait in which it polled.
+    /// In how many waits the server has to sleep without polling, after the last one in which it
+    /// polled.
     pause: u32,
-    /// In how many more waits the server sleeps without polling, before it may poll again.
+    /// In how many more waits the server has to sleep without polling, before it may poll again.
     left: u32,
 }
 
@@ -58,9 +59,9 @@ impl Model for Pace {
     ghost invariant = { λ a. a.pause ≤ 1024 };
 }
 
-/// Returns in how many waits the server sleeps without polling, after a wait in which it polled and
-/// found nothing. `missed` says whether it also found nothing in the wait before that in which it
-/// polled, and `pause` is the number that was returned then.
+/// Returns in how many waits the server has to sleep without polling, after a wait in which it
+/// polled and found nothing. `missed` says whether it also found nothing the previous time it
+/// polled in a wait, and `pause` is the number that applied then.
 fn longer(missed: bool, pause: u32) -> u32
     requires { pause ≤ 1024 }
     ensures value { result ≡ longer missed pause }
@@ -116,8 +117,8 @@ impl Pace {
         (self.left == 0) & (now.saturating_sub(self.worked) < WINDOW)
     }
 
-    /// Records the end of a wait: the server polled `looks` times, and then found something, or
-    /// gave up and slept.
+    /// Records how a wait ended. `looks` is how many times the server polled in this wait. `found`
+    /// says whether it found something; if it didn't, it gave up polling and slept.
     pub fn end(&mut self, looks: u32, found: bool)
         ensures times { (self.new.swept ≡ self.old.swept) × (self.new.worked ≡ self.old.worked) }
         ensures stands { (waits : List Wait) → StandsFor self.old waits

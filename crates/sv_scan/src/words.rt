@@ -47,7 +47,8 @@ pub(crate) fn operation_word(state: State) -> u16
     }
 }
 
-/// The scanner's bits of the questionable register: whether the last reading is an overload.
+/// The scanner's part of the condition word of the questionable register: bit 0 is `overload`,
+/// whether the last reading is an overload.
 pub(crate) fn questionable_word(overload: bool) -> u16
     ensures { result ≡ bit 0 overload }
 {
@@ -69,7 +70,7 @@ pub(crate) fn limit_word(limits: bool, below: bool, above: bool, outside: bool) 
     }
 }
 
-/// The mask if `holds` is true, else 0.
+/// `mask` if `holds` is true, else 0.
 fn mask_if(mask: u16, holds: bool) -> u16
     ensures { result ≡ (if holds then mask else 0) }
 {
