@@ -21,7 +21,7 @@ pub data ExchangeAct : Type 0 where
   Interrupted : ExchangeAct
   ResponseRead : (count : ℕ) → ExchangeAct
 
--- program text: bytes, and a mark after the last byte of a write with END
+-- a symbol of program text: a byte, or the mark after the last byte of a write with END
 pub data Symbol : Type 0 where
   Byte : ℕ → Symbol
   End : Symbol

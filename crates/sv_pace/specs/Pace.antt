@@ -41,8 +41,8 @@ abbrev pub pause_after : ℕ → ℕ
 pause_after zero = 0
 pause_after (suc n) = longer (is_any n) (pause_after n)
 
--- The list of waits after one more wait. The number says how many times the server polled in this wait; the flag says whether the wait
--- found something. A wait that found something without a poll isn't added to the list: it doesn't show whether polling pays.
+-- The list of waits after one more wait. The number says how many times the server polled in this wait; the flag says whether it found
+-- something. If it found something without a poll, the wait isn't added to the list, because the wait doesn't show whether polling pays.
 abbrev pub after_wait : ℕ → Bool → List Wait → List Wait
 after_wait zero true waits = waits
 after_wait zero false waits = Slept ∷ waits

@@ -22,8 +22,8 @@ const MILLISECOND: u64 = 1_000_000;
 /// In how many waits the server has to sleep without polling, at most, before it may poll again.
 const MOST_SLEEPS: u32 = 1_024;
 
-/// What a loop of sweeps remembers: times, in nanoseconds since its beginning, and how its waits
-/// ended.
+/// What a server's loop of sweeps remembers: two times, in nanoseconds since the loop began, and
+/// how the waits between its sweeps ended.
 ///
 /// If the server found nothing in the last two waits in which it polled, as on a machine whose
 /// cores are busy, it polls only now and then: in the waits between, it sleeps without polling.
