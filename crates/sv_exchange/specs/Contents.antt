@@ -5,9 +5,9 @@ use Rattle.sv_exchange.specs.declared.exchange.Next.TheVariants as next
 use Rattle.sv_exchange.specs.Exchange.{ExchangeAct, Symbol, Byte, end_mark, text, messages, messages_finished, current, units_done, has_overrun, has_dropped, answers, units, is_something, joined_answers, response, Due, NothingDue, OverrunDue, InterruptDue, UnitDue, FinishDue, due_unit}
 use Rattle.sv_exchange.specs.Limits.{max_message}
 
--- the state: the part of the current message that wasn't executed yet, and whether this message has ended; the text after this message, and
--- whether END follows that text; whether the current message is too long, was reported as too long, and lost its answers; whether the
--- output is the answers of the current message, or else the response; and the output
+-- the state: the part of the current message that wasn't executed yet; whether this message has ended; the text after this message; whether
+-- END follows that text; whether the current message is too long; whether it was reported as too long; whether its answers were dropped;
+-- whether the output is the answers of the current message (else it is the response); and the output
 pub record Contents : Type 0 where
   pub rest : List ℕ
   pub ended : Bool
@@ -80,7 +80,7 @@ readable_of false output = output
 abbrev pub shown_by : Contents → List ℕ
 shown_by contents = readable_of contents.answering contents.output
 
--- the next unit of the current message; `None` unless the message has ended, isn't too long, and lost no answers
+-- the next unit of the current message; `None` if no unit remains, the message hasn't ended, it is too long, or its answers were dropped
 abbrev pub unit_of : Contents → Option (List ℕ)
 unit_of contents = if contents.ended && (not contents.overlong && not contents.answers_dropped) then slice_get (units contents.rest) 0
     else None
@@ -94,7 +94,7 @@ next_of contents = if contents.overlong && not contents.overrun_reported then Ov
 abbrev pub IsUnitDue : Due → Type 0
 IsUnitDue due = (unit : List ℕ) × (due ≡ UnitDue unit)
 
--- whether a unit is allowed to give an answer: the current message has ended and lost no answers, and there is no response to read
+-- whether a unit is allowed to give an answer: the current message has ended, its answers weren't dropped, and there is no response to read
 abbrev pub may_respond : Contents → Bool
 may_respond contents = contents.ended && (not contents.answers_dropped && not (is_something (shown_by contents)))
 

@@ -21,7 +21,7 @@ pub data ExchangeAct : Type 0 where
   Interrupted : ExchangeAct
   ResponseRead : (count : ℕ) → ExchangeAct
 
--- program text: bytes, and a mark after the last byte of a write with END
+-- a symbol of program text: a byte, or the mark after the last byte of a write with END
 pub data Symbol : Type 0 where
   Byte : ℕ → Symbol
   End : Symbol
@@ -44,7 +44,8 @@ symbols_of (_ ∷ acts) = symbols_of acts
 abbrev pub text : List ExchangeAct → List Symbol
 text acts = symbols_of (since drops_text acts)
 
--- The text, cut at each new line and each mark. Each part but the last is a message that has ended. The last part is a message that hasn't.
+-- The text, cut at each new line and each END mark. Each part but the last is a message that has ended. The last part is a message that
+-- hasn't ended yet.
 abbrev pub messages : List Symbol → List (List ℕ)
 messages [] = [] ∷ []
 messages (End ∷ symbols) = [] ∷ messages symbols
@@ -101,7 +102,8 @@ is_something (x ∷ xs) = true
 abbrev pub units : List ℕ → List (List ℕ)
 units bytes = filter is_something (map trim (cut_at 59 bytes))
 
--- the unit of the current message to execute next; `None` unless the message has ended, isn't too long, and lost no answers
+-- the unit of the current message to execute next; `None` if no unit remains, the message hasn't ended, it is too long, or its answers were
+-- dropped
 abbrev pub next_unit : List ExchangeAct → Option (List ℕ)
 next_unit acts =
     if has_ended acts && (not (is_long acts) && not (has_dropped (current acts))) then slice_get (units (message acts))

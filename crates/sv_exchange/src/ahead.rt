@@ -42,8 +42,8 @@ impl Ahead {
         ahead
     }
 
-    /// Reads on in a text that has grown. If `anew` is true, reads the text again from its start
-    /// instead.
+    /// Reads the bytes that were appended to `text` since it was last read. If `anew` is true,
+    /// forgets what was read, and reads `text` from its start.
     pub(crate) fn look_on(&mut self, text: &[u8], anew: bool)
         requires { anew ≡ false → IsBegun self.old text.now }
         ensures { IsLooked self.new text.now }

@@ -67,9 +67,9 @@ pub record IsUnsigned (text : List ℕ) : Type 0 where
   pub header : is_header text ≡ true
   pub unsigned : is_query text ≡ false
 
--- The header read so far has the form that the stage requires (7.6.1). By stage, the header is: empty; an asterisk; a text that a mnemonic
--- must follow; the header of a common command; the header of any other command; or a header with its question mark. At later stages it is a
--- complete header.
+-- The header read so far has the form that the stage requires (7.6.1). `WhiteSpace`: it is empty. `Asterisk`: it is an asterisk. `Colon`: a
+-- mnemonic must follow it. `CommonMnemonic`: it is a common command's header. `Mnemonic`: it is another command's header. `QuerySign`: it
+-- is a header with its question mark. At later stages: it is a complete header.
 abbrev pub HeaderEnds : Stage → List ℕ → Type 0
 HeaderEnds WhiteSpace text = text ≡ []
 HeaderEnds Asterisk text = text ≡ 42 ∷ []

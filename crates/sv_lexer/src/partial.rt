@@ -20,7 +20,7 @@ const MOST: usize = 12;
 /// how long the mnemonics are.
 #[derive(Debug, Drop)]
 pub struct Partial {
-    /// The part of a unit in which the bytes read so far end.
+    /// How far the unit was read: the part of the unit to which the last byte read belongs.
     stage: Stage,
     /// How many bytes the unit has so far.
     size: usize,

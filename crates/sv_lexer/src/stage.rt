@@ -6,7 +6,8 @@ ghost use Rattle.sv_lexer.specs.Inside.Stage.{behind_graphic as graphic, behind_
 
 use sv_text::is_space;
 
-/// The part of a unit in which the bytes read so far end (IEEE 488.2, 7.3 and 7.6).
+/// How far a unit was read: the part of the unit to which the last byte read belongs (IEEE 488.2,
+/// 7.3 and 7.6).
 #[derive(Clone, Copy, Debug)]
 pub(crate) enum Stage {
     /// No byte was read yet, or only white space before the program header.

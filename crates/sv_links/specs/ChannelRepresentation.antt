@@ -8,8 +8,8 @@ use Rattle.sv_links.specs.declared.channel.Stage.TheVariants.{Closed, Prepared, 
 use Rattle.sv_links.specs.Limits.{max_connections, max_enabled}
 use Rattle.sv_links.specs.Channels.{ChannelAct, enabled_links, peer, bytes_taken, calls, calls_left}
 
--- the state of one interrupt channel: its stage; how many calls were appended since it was opened; for each call that the peer didn't take
--- completely, how many of its bytes are still to be sent; and all these bytes, joined
+-- the state of one interrupt channel: its stage; how many device_intr_srq calls were appended since the channel was opened; for each of
+-- these calls that the peer didn't take completely, how many of its bytes are still to be sent; and all these bytes, joined
 pub record Channel : Type 0 where
   pub stage : Stage
   pub made : ℕ

@@ -70,7 +70,8 @@ calls_left count (call ∷ calls) = if nat_lt count (length call) then drop coun
 abbrev pub may_call : ℕ → List (List ℕ) → Bool
 may_call count calls = nat_lt (length (calls_left count calls)) max_calls && nat_lt (length calls) 4294967295
 
--- `calls`, and after them one more call with this handle if `may_call` allows it; the calls of a channel are numbered from 1
+-- `calls` and, if the channel is open and `may_call` allows it, one more call with this handle after them; the calls of a channel are
+-- numbered from 1
 abbrev pub add_call : Option Peer → ℕ → List (List ℕ) → List ℕ → List (List ℕ)
 add_call (Some what) count calls handle = if may_call count calls then calls ++ request (length calls + 1) what handle ∷ [] else calls
 add_call None count calls handle = calls

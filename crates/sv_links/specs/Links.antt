@@ -58,7 +58,7 @@ closing conn acts = reverse (map Destroyed (links_of conn acts))
 abbrev pub lock_order : List LinkAct → List ℕ
 lock_order = filter_map (elim [ Locked lid ↦ Some lid | _ ↦ None ])
 
--- whether a link was locked, and since then neither unlocked nor destroyed
+-- whether a link got the lock, and since then neither freed the lock nor was destroyed
 abbrev pub is_locked : ℕ → List LinkAct → Bool
 is_locked lid [] = false
 is_locked lid (Locked other ∷ acts) = other == lid || is_locked lid acts
@@ -66,8 +66,8 @@ is_locked lid (Unlocked other ∷ acts) = not (other == lid) && is_locked lid ac
 is_locked lid (Destroyed other ∷ acts) = not (other == lid) && is_locked lid acts
 is_locked lid (_ ∷ acts) = is_locked lid acts
 
--- the link that holds the lock: of all links that were locked, and since then neither unlocked nor destroyed, the one locked last; `None`
--- if the lock is free
+-- the link that holds the lock: of all links that got the lock, and since then neither freed it nor were destroyed, the one that got it
+-- last; `None` if the lock is free
 abbrev pub holder : List LinkAct → Option ℕ
 holder acts = find (λ lid. is_locked lid acts) (lock_order acts)
 

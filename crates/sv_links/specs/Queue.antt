@@ -15,7 +15,7 @@ abbrev pub IsOnce : List Entry → Type 0
 IsOnce [] = ⊤
 IsOnce (entry ∷ entries) = IsFree entry.conn entries × IsOnce entries
 
--- The connection of each entry is below this number.
+-- The number of each entry's connection is below `most`.
 abbrev pub IsBelow : ℕ → List Entry → Type 0
 IsBelow most entries = AllByRecursion (λ entry. entry.conn < most) entries
 

@@ -29,7 +29,8 @@ pub(crate) enum Stage {
 #[derive(Drop)]
 pub(crate) struct Channel<A: Allocator> {
     stage: Stage,
-    /// How many calls were appended since the channel was opened, including those that wait.
+    /// How many device_intr_srq calls were appended since the channel was opened, including those
+    /// that still wait to be sent.
     made: u32,
     /// For each call that the peer didn't take completely: how many of its bytes are still to be
     /// sent.

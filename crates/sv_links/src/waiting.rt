@@ -52,9 +52,9 @@ pub fn is_locked_out(holder: Option<u32>, named: Option<u32>) -> bool
 }
 
 impl Entry {
-    /// Whether the call can resume: it waits for the lock, and no link but its own holds the lock;
-    /// it waits for the device to accept a write, and `can_write` is true; or it waits for the
-    /// device to answer a read, and `can_read` is true.
+    /// Whether the call can resume: it waits for the lock, and no link other than the one that it
+    /// names holds the lock; it waits for the device to accept a write, and `can_write` is true; or
+    /// it waits for the device to answer a read, and `can_read` is true.
     fn is_able(&self, holder: Option<u32>, can_write: bool, can_read: bool) -> bool
         ensures { result ≡ is_there holder can_write can_read self.now.lid (Some self.now.wait) }
     {
@@ -201,8 +201,8 @@ impl<A: Allocator> Waiting<A> {
     }
 
     /// The oldest call that can resume; `None` if no call can. `holder` is the link that holds the
-    /// lock. `can_write` says whether a write is accepted now, and `can_read` whether a read is
-    /// answered now.
+    /// lock. `can_write` says whether the device accepts a write now, and `can_read` whether it
+    /// answers a read now.
     pub fn oldest_able(&self, holder: Option<u32>, can_write: bool, can_read: bool) -> Option<Entry>
         ensures answer { (acts : List WaitAct) → IsQueue self.now acts
             → IsOldest acts (IsAble holder can_write can_read acts)

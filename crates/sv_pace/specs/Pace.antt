@@ -9,22 +9,23 @@ pub data Wait : Type 0 where
   Missed : Wait
   Slept : Wait
 
--- how many runs of polls have found nothing since a run of polls last found something
+-- how many waits ended as `Missed` since the newest wait that ended as `Found`
 abbrev pub misses : List Wait → ℕ
 misses [] = 0
 misses (Found ∷ waits) = 0
 misses (Missed ∷ waits) = suc (misses waits)
 misses (Slept ∷ waits) = misses waits
 
--- in how many waits the server has slept without polling, since the last wait in which it polled
+-- how many waits ended as `Slept` since the newest wait in which the server polled
 abbrev pub sleeps : List Wait → ℕ
 sleeps [] = 0
 sleeps (Found ∷ waits) = 0
 sleeps (Missed ∷ waits) = 0
 sleeps (Slept ∷ waits) = suc (sleeps waits)
 
--- In how many waits the server sleeps without polling, after one more run of polls that found nothing. If the run before found something,
--- the number is 0. Else it is twice the number after the run before, but at least 1 and at most 1,024.
+-- In how many waits the server has to sleep without polling, after a wait in which it polled and found nothing. The flag says whether it
+-- also found nothing the previous time it polled in a wait, and `pause` is the number that applied then. If the flag is false, the new
+-- number is 0. Else it is twice `pause`, but at least 1 and at most 1,024.
 abbrev pub longer : Bool → ℕ → ℕ
 longer false pause = 0
 longer true pause = min (max (pause * 2) 1) 1024
@@ -34,22 +35,23 @@ abbrev pub is_any : ℕ → Bool
 is_any zero = false
 is_any (suc n) = true
 
--- in how many waits the server sleeps without polling before it polls again, if this many runs of polls in a row found nothing: after 0, 1,
--- 2, 3, 4 .. runs in 0, 0, 1, 2, 4 .. waits
+-- in how many waits the server has to sleep without polling before it may poll again, if this many waits ended as `Missed` since the newest
+-- `Found`: 0, 0, 1, 2, 4 .. for 0, 1, 2, 3, 4 .. missed waits
 abbrev pub pause_after : ℕ → ℕ
 pause_after zero = 0
 pause_after (suc n) = longer (is_any n) (pause_after n)
 
--- The list of waits after one more wait. The number says how many times the server polled in this wait; the flag says whether the wait
--- found something. A wait that found something without a poll isn't added to the list: it doesn't show whether polling pays.
+-- The list of waits after one more wait. The number says how many times the server polled in this wait; the flag says whether it found
+-- something. If it found something without a poll, the wait isn't added to the list, because the wait doesn't show whether polling pays.
 abbrev pub after_wait : ℕ → Bool → List Wait → List Wait
 after_wait zero true waits = waits
 after_wait zero false waits = Slept ∷ waits
 after_wait (suc n) true waits = Found ∷ waits
 after_wait (suc n) false waits = Missed ∷ waits
 
--- The state of the policy: when the last sweep began, and when something was last reported, both in nanoseconds; whether the last run of
--- polls found nothing; in how many waits the server sleeps without polling after that run; and how many of these waits remain.
+-- The state of the policy: when the last sweep began, and when something was last reported about a socket, both in nanoseconds; whether the
+-- server found nothing in the last wait in which it polled; in how many waits after that wait it has to sleep without polling; and how many
+-- of these waits remain.
 pub record Kept : Type 0 where
   pub swept : ℕ
   pub worked : ℕ
@@ -63,6 +65,6 @@ pub record StandsFor (kept : Kept) (waits : List Wait) : Type 0 where
   pub pause : kept.pause ≡ pause_after (misses waits)
   pub left : kept.left ≡ pause_after (misses waits) - sleeps waits
 
--- The server may poll again: it has slept without polling in as many waits as it has to.
+-- The server may poll again: since it last polled, it has slept without polling in as many waits as `pause_after` says.
 abbrev pub IsDue : List Wait → Type 0
 IsDue waits = pause_after (misses waits) ≤ sleeps waits

@@ -7,35 +7,38 @@ use std::marker::Model;
 
 /// How many milliseconds a server sleeps at most, if nothing is due earlier.
 pub const STILL: u32 = 100;
-/// If nothing will ever be due and more sweeps than this remain, a server sleeps until something is
-/// reported. If fewer sweeps remain, it makes a sweep at least every [`STILL`] milliseconds, so
-/// that the loop ends.
+/// A server runs for a given number of sweeps. If nothing will ever be due and more sweeps than
+/// this remain, it sleeps until something is reported about a socket. If not more than this remain,
+/// it makes a sweep at least every [`STILL`] milliseconds, so that the run ends.
 pub const FEW: u32 = 1_000_000;
-/// How many milliseconds one sweep lets pass at most, even if the sweep before is longer ago.
+/// By how many milliseconds one sweep advances the server's clock at most, even if the sweep before
+/// is longer ago.
 const MOST_TICKS: u64 = 1_000;
-/// For how many nanoseconds after a report the server may poll without sleeping.
+/// For how many nanoseconds the server may poll without sleeping, after something was reported
+/// about a socket.
 const WINDOW: u64 = 50_000;
 /// How many nanoseconds a millisecond has.
 const MILLISECOND: u64 = 1_000_000;
-/// How many times the server sleeps at most between one run of polls and the next one.
+/// In how many waits the server has to sleep without polling, at most, before it may poll again.
 const MOST_SLEEPS: u32 = 1_024;
 
-/// What a loop of sweeps remembers: times, in nanoseconds since its beginning, and how its waits
-/// ended.
+/// What a server's loop of sweeps remembers: two times, in nanoseconds since the loop began, and
+/// how the waits between its sweeps ended.
 ///
-/// If polling found nothing of late, as on a machine whose cores are busy, polling isn't
-/// worthwhile: the server sleeps without polling, and polls again only now and then.
+/// If the server found nothing in the last two waits in which it polled, as on a machine whose
+/// cores are busy, it polls only now and then: in the waits between, it sleeps without polling.
 #[derive(Drop)]
 pub struct Pace {
     /// When the last sweep began.
     swept: u64,
-    /// When something was last reported.
+    /// When something was last reported about a socket.
     worked: u64,
-    /// Whether the last run of polls found nothing.
+    /// Whether the server found nothing in the last wait in which it polled.
     missed: bool,
-    /// How many times the server sleeps between one run of polls and the next one.
+    /// In how many waits the server has to sleep without polling, after the last one in which it
+    /// polled.
     pause: u32,
-    /// How many sleeps remain before the next run of polls.
+    /// In how many more waits the server has to sleep without polling, before it may poll again.
     left: u32,
 }
 
@@ -56,9 +59,9 @@ impl Model for Pace {
     ghost invariant = { λ a. a.pause ≤ 1024 };
 }
 
-/// Returns in how many waits the server sleeps without polling, after one more run of polls that
-/// found nothing. `missed` says whether the run before found nothing, and `pause` how many such
-/// sleeps followed that run.
+/// Returns in how many waits the server has to sleep without polling, after a wait in which it
+/// polled and found nothing. `missed` says whether it also found nothing the previous time it
+/// polled in a wait, and `pause` is the number that applied then.
 fn longer(missed: bool, pause: u32) -> u32
     requires { pause ≤ 1024 }
     ensures value { result ≡ longer missed pause }
@@ -86,8 +89,8 @@ impl Pace {
         }
     }
 
-    /// Begins a sweep, and returns how many whole milliseconds have passed since the sweep before,
-    /// at most 1,000.
+    /// Begins a sweep, and returns how many milliseconds of the clock have begun since the sweep
+    /// before, at most 1,000.
     pub fn ticks(&mut self, now: u64) -> u32
         ensures count { result ≡ min (now / 1000000 - self.old.swept / 1000000) 1000 }
         ensures kept { self.new ≡ record self.old { swept = now } }
@@ -104,8 +107,9 @@ impl Pace {
         self.worked = now;
     }
 
-    /// Whether to poll again without sleeping: something was reported less than 50 microseconds
-    /// ago; and polling found something of late, or it is time to try polling again.
+    /// Whether to poll instead of sleeping: something was reported about a socket less than 50
+    /// microseconds before `now`, and no wait remains in which the server has to sleep without
+    /// polling.
     pub fn is_spinning(&self, now: u64) -> bool
         ensures { (waits : List Wait) → StandsFor self.now waits
             → (result ≡ true) ↔ ((now - self.now.worked < 50000) × IsDue waits) }
@@ -113,8 +117,8 @@ impl Pace {
         (self.left == 0) & (now.saturating_sub(self.worked) < WINDOW)
     }
 
-    /// Records the end of a wait: the server polled `looks` times, and then found something, or
-    /// gave up and slept.
+    /// Records how a wait ended. `looks` is how many times the server polled in this wait. `found`
+    /// says whether it found something; if it didn't, it gave up polling and slept.
     pub fn end(&mut self, looks: u32, found: bool)
         ensures times { (self.new.swept ≡ self.old.swept) × (self.new.worked ≡ self.old.worked) }
         ensures stands { (waits : List Wait) → StandsFor self.old waits
@@ -137,7 +141,7 @@ impl Pace {
         self.left = self.left.saturating_sub(1);
     }
 
-    /// Records that a run of polls found something.
+    /// Records a wait in which the server polled and found something.
     fn spin_hit(&mut self)
         ensures times { (self.new.swept ≡ self.old.swept) × (self.new.worked ≡ self.old.worked) }
         ensures stands { (waits : List Wait) → StandsFor self.new (Wait.Found ∷ waits) }
@@ -147,7 +151,7 @@ impl Pace {
         self.left = 0;
     }
 
-    /// Records that a run of polls found nothing.
+    /// Records a wait in which the server polled and found nothing.
     fn spin_miss(&mut self)
         ensures times { (self.new.swept ≡ self.old.swept) × (self.new.worked ≡ self.old.worked) }
         ensures stands { (waits : List Wait) → StandsFor self.old waits
@@ -158,8 +162,9 @@ impl Pace {
         self.left = self.pause;
     }
 
-    /// Returns how many nanoseconds the server may sleep until `ticks` whole milliseconds have
-    /// passed since the last sweep; 0 if they have already passed.
+    /// Returns how many nanoseconds the server may sleep: until `ticks` milliseconds have passed
+    /// since the start of the millisecond in which the last sweep began; 0 if they have already
+    /// passed.
     pub fn sleep_time(&self, now: u64, ticks: u32) -> u64
         ensures { result ≡ ticks * 1000000 - (now - self.now.swept / 1000000 * 1000000) }
     {

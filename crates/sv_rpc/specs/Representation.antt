@@ -23,8 +23,8 @@ tail_of place.TooLong payload header = TooLong
 abbrev pub held_of : List ℕ → List ℕ → List ℕ → Place → Records
 held_of bytes lengths header place = record { records = cut lengths bytes; tail = tail_of place (drop (sum lengths) bytes) header }
 
--- how many bytes fit beyond the counted room: 4 while the unfinished record has no data, because `used_by` already counts 4 bytes for this
--- record that aren't used yet; 0 afterwards
+-- how many bytes fit in addition to those that `used_by` leaves free: 4 while the unfinished record has no data, because `used_by` already
+-- counts 4 bytes for this record that aren't used yet; 0 afterwards
 abbrev pub spare_of : List ℕ → ℕ
 spare_of [] = 4
 spare_of (b ∷ payload) = 0

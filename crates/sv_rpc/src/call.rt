@@ -64,7 +64,7 @@ pub fn read_call(bytes: &[u8]) -> Result<Call<'_>, CallFault>
     // `CallIs` holds for no other result.
     ensures only { (outcome : Result PlainCall CallFault) → CallIs bytes.now outcome
         → plain_call_result result ≡ outcome }
-    // The result as a function of the bytes. It is a call or one of two faults.
+    // The result, a call or one of two faults, is what `call_at` returns for the bytes.
     ensures exact { plain_call_result result ≡ call_at bytes.now }
 {
     call_of(bytes)

@@ -32,7 +32,7 @@ pub struct Ports {
 #[tactic(auto, unfolding(crate::specs::Ports::port_at))]
 pub fn getport(args: &[u8], ports: Ports) -> Result<u32, Garbage>
     ensures answer { PortIs ports args.now result }
-    // The answer as a function of the bytes.
+    // The answer is what `port_at` returns for the bytes.
     ensures exact { result ≡ port_at ports args.now }
 {
     let mut reader = Reader::new(args);

@@ -267,7 +267,7 @@ impl<A: Allocator> RecordBuf<A> {
         }
     }
 
-    /// Ends the unfinished record, which is now complete.
+    /// Adds the unfinished record, all bytes of which have come, to the complete records.
     fn finish(&mut self)
         requires header { IsBeforeHeader self.old.tail }
         requires fits { used_by self.old.records self.old.tail ≤ capacity }

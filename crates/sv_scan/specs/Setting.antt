@@ -66,7 +66,7 @@ is_possible (Lower limit) = is_within limit
 is_possible (Count scans) = nat_le 1 scans && nat_le scans most_scans
 is_possible _ = true
 
--- whether a setting can only be changed in the idle state
+-- whether a setting can only be changed while no measurement is under way
 abbrev pub is_fixed : Setting → Bool
 is_fixed (SetList channels) = true
 is_fixed (Range wanted) = true

@@ -46,7 +46,7 @@ pub(crate) fn is_possible(setting: &Setting) -> bool
     }
 }
 
-/// Whether a setting can only be changed in the idle state.
+/// Whether a setting can only be changed while no measurement is under way.
 pub(crate) fn is_fixed(setting: &Setting) -> bool
     ensures { result ≡ has_to_wait setting.now }
 {

@@ -185,7 +185,7 @@ impl<A: Allocator> Scanner<A> {
         Ok(())
     }
 
-    /// Whether the controller can wait for readings.
+    /// Whether the controller can wait for the readings of a measurement, as `READ?` does.
     ///
     /// # Errors
     /// [`Code::TriggerDeadlock`] if the trigger source is the bus: the controller can't send a

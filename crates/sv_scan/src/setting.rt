@@ -4,7 +4,7 @@ use crate::scan_list::ScanList;
 use sv_errors::Source;
 
 /// A setting and its value. [`Setting::Monitor`] and the settings of the limits can be changed at
-/// any time, the other settings only in the idle state.
+/// any time, the other settings only while no measurement is under way.
 #[derive(Clone, Copy, Debug)]
 pub enum Setting {
     /// The channels of a scan, in order; at least one. The default is channel 1.

@@ -6,11 +6,11 @@ ghost use Rattle.sv_scan.specs.Condition.{bit};
 
 use crate::setting::State;
 
-/// Bit of the operation register: measuring.
+/// Bit of the operation register: a scan is under way.
 const MEASURING: u16 = 1 << 4;
-/// Bit of the operation register: waiting for a trigger.
+/// Bit of the operation register: a scan waits for its trigger.
 const WAITING: u16 = 1 << 5;
-/// Bit of the operation register: acquisition in progress.
+/// Bit of the operation register: a measurement is under way.
 const ACQUIRING: u16 = 1 << 8;
 /// Bit of the questionable register: the last reading is an overload.
 const OVERLOAD: u16 = 1 << 0;
@@ -24,7 +24,8 @@ const OUTSIDE: u16 = 1 << 2;
 /// The condition words of the status registers, as they are now (SCPI-1999, chapter 20).
 #[derive(Clone, Copy, Debug, PartialEq, Eq)]
 pub struct Conditions {
-    /// Bit 4: measuring; bit 5: waiting for a trigger; bit 8: acquisition in progress.
+    /// Bit 4: a scan is under way; bit 5: a scan waits for its trigger; bit 8: a measurement is
+    /// under way.
     pub operation: u16,
     /// Bit 0: the last reading is an overload. All other bits are 0. The caller adds bit 9, the
     /// summary of the register of limits.
@@ -46,7 +47,8 @@ pub(crate) fn operation_word(state: State) -> u16
     }
 }
 
-/// The scanner's bits of the questionable register: whether the last reading is an overload.
+/// The scanner's part of the condition word of the questionable register: bit 0 is `overload`,
+/// whether the last reading is an overload.
 pub(crate) fn questionable_word(overload: bool) -> u16
     ensures { result ≡ bit 0 overload }
 {
@@ -68,7 +70,7 @@ pub(crate) fn limit_word(limits: bool, below: bool, above: bool, outside: bool) 
     }
 }
 
-/// The mask if `holds` is true, else 0.
+/// `mask` if `holds` is true, else 0.
 fn mask_if(mask: u16, holds: bool) -> u16
     ensures { result ≡ (if holds then mask else 0) }
 {

@@ -19,14 +19,14 @@ const ALL: u16 = 32767;
 pub enum RegisterAct {
     /// The condition word becomes this value.
     Condition(u16),
-    /// The transition filters become these values, without bit 15.
+    /// The transition filters become these values, with bit 15 cleared.
     SetFilter {
         /// The positive transition filter.
         rise: u16,
         /// The negative transition filter.
         fall: u16,
     },
-    /// The enable becomes this value, without bit 15.
+    /// The enable becomes this value, with bit 15 cleared.
     SetEnable(u16),
     /// The event register is read, which clears it.
     ReadEvent,
@@ -81,9 +81,8 @@ impl Register {
         Register::starting(0)
     }
 
-    /// A register as it is at power on, for the case that its summary is a bit of another
-    /// register's condition. Its enable is 32767 at power on and after a preset. All else is as in
-    /// [`Register::new`].
+    /// A register whose summary is a bit of another register's condition, as it is at power on. Its
+    /// enable is 32767 at power on and after a preset. All else is as in [`Register::new`].
     pub fn nested() -> Register
         ensures { StandsFor 32767 result [] }
     {
@@ -117,7 +116,7 @@ impl Register {
         self.condition = word;
     }
 
-    /// Sets both transition filters, without bit 15.
+    /// Sets both transition filters to these values, with bit 15 cleared.
     pub fn set_filter(&mut self, rise: u16, fall: u16)
         ensures { (start : ℕ) (acts : List RegisterAct) → StandsFor start self.old acts
             → StandsFor start self.new (RegisterAct.SetFilter rise fall ∷ acts) }
@@ -126,7 +125,7 @@ impl Register {
         self.fall = fall % MASK_END;
     }
 
-    /// Sets the enable, without bit 15.
+    /// Sets the enable to this value, with bit 15 cleared.
     pub fn set_enable(&mut self, enable: u16)
         ensures { (start : ℕ) (acts : List RegisterAct) → StandsFor start self.old acts
             → StandsFor start self.new (RegisterAct.SetEnable enable ∷ acts) }

@@ -6,15 +6,15 @@ use Rattle.sv_xdr.specs.declared.fault.XdrFault.{XdrFault}
 use Rattle.sv_xdr.specs.declared.fault.XdrFault.TheVariants.{Short, BadPad, BadBool, TooLong}
 use Rattle.sv_xdr.specs.Spelling.{pad_len}
 
--- the next step of a reading: `f` applied to what the step before read; the fault of that step if it failed
+-- the next step of a reading: `f` applied to the value that the previous step returned; if that step failed, its fault
 infixl 10 ◌>>=◌
 abbrev pub ◌>>=◌ : {A B : Type 0} → Result A XdrFault → (A → Result B XdrFault) → Result B XdrFault
 (Ok x) >>= f = f x
 (Err fault) >>= f = Err fault
 
--- The code read from the bytes `old` and returned this `Result`; the bytes `new` remain to be read. The result and `new` agree with `read`,
--- which is what a function of this file returns for `old`. After a fault, all bytes remain. `view` turns a value of the code into a value
--- of the specification.
+-- A function of the code read a field from the bytes `old`. It returned this `Result`, and the bytes `new` remain to be read. Both agree
+-- with `read`, which is what a function of this file returns for `old`. After a fault, all bytes remain. `view` turns a value of the code
+-- into a value of the specification.
 abbrev pub IsRead : {X Y : Type 0} → (X → Y) → Result X XdrFault → List ℕ → List ℕ → Result (Y × List ℕ) XdrFault → Type 0
 IsRead view (Ok x) old new read = read ≡ Ok (view x, new)
 IsRead view (Err fault) old new read = (read ≡ Err fault) × (new ≡ old)

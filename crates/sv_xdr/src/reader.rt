@@ -48,7 +48,8 @@ impl<'a> Reader<'a> {
         // If the bytes begin with the encoding of a field of this kind, that field is read.
         ensures only { (n : ℕ) (after : List ℕ) → Begins self.old (Unsigned n) after
             → (result ≡ Ok n) × (self.new ≡ after) }
-        // The result as a function of the bytes. At a fault the reader doesn't move.
+        // The result is what `unsigned_at` returns for the bytes. After a fault, the reader is
+        // where it was.
         ensures exact { IsRead (λ n. n) result self.old self.new (unsigned_at self.old) }
     {
         if self.rest.len() < 4 {

@@ -23,8 +23,8 @@ fault_of DataSpace p = length_fault_of p
 fault_of Illegal p = Some InvalidCharacter
 fault_of _ p = Some SyntaxError
 
--- Where the program data of a unit begin or end, if the unit ends at this stage. `in_data` is the position at which they begin or end if
--- the unit has program data. If the unit has none, the result is `behind_header`, the position after the unit's header.
+-- Used for both ends of a unit's program data: the position of that end, if the unit ends at this stage. It is `in_data` if the unit has
+-- program data; else it is `behind_header`, the position after the unit's header.
 abbrev pub data_of : Stage → (behind_header in_data : ℕ) → ℕ
 data_of ProgramData behind_header in_data = in_data
 data_of DataSpace behind_header in_data = in_data
