@@ -117,7 +117,7 @@ pub(crate) static STATUS_NODES: [Branch; 20] = status_nodes!(
     LIMIT, 5, Limit;
 );
 
-/// The nodes of the settings: what is measured, and how (SCPI-1999, volume 2).
+/// The nodes of the settings that say what is measured, and how (SCPI-1999, volume 2).
 pub(crate) static SETTINGS: [Branch; 16] = [
     group!(ROUTE, 2),
     sets!(SCAN, SettingName::ScanList),

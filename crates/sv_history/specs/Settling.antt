@@ -15,7 +15,7 @@ use Rattle.sv_history.specs.Request.{core_call_in}
 use Rattle.sv_history.specs.Effect.{acts_of}
 use Rattle.sv_history.specs.Resuming.{resume_effect, failure_effect, late}
 
--- The instrument takes a step for which `IsSuch` holds, and which adds acts to its log.
+-- The instrument takes a step: `IsSuch` holds of its log before and after the step. The step adds acts to the instrument's log.
 abbrev pub InstrumentDoes : (List InstrumentAct → List InstrumentAct → Type 0) → List Act → List Act → Type 0
 InstrumentDoes IsSuch log new = (adds : List InstrumentAct)
     × IsSuch (instrument_acts (device_acts log)) (adds ++ instrument_acts (device_acts log))

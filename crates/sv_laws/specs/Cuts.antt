@@ -75,9 +75,9 @@ pub record AreCut (c lid : ℕ) (x y : List ℕ) (ended : Bool) (config : Config
   pub writes_first : IsWritten lid x false (without_pieces (of c before)) middle
   pub writes_second : IsWritten lid y ended middle (without_pieces (of c cut))
 
--- One history has a single write, where the other has it cut into two writes (`AreCut`). If the same events are added to both histories,
--- and none of these events is refused, they add the same bytes to each port. The writes themselves add the same bytes to each port, except
--- to the connection on which they come.
+-- One history has a single write; a second history has this write cut into two writes (`AreCut`). If the same further events are added to
+-- both histories, and none of these events is refused, they add the same bytes to each port in both histories. The single write and the two
+-- writes also add the same bytes to each port, except to the connection on which they come.
 abbrev pub WritesCut : Type 0
 WritesCut = (c lid : ℕ) (x y : List ℕ) (ended : Bool) (config : Config) (past one two events : List PlainEvent) (log other : List Act)
     → AreCut c lid x y ended config past one two → IsLogOf config (events ++ (one ++ past)) log

@@ -39,8 +39,9 @@ pub fn none_late()
     ensures { NoneLate }
 {}
 
-/// An event that the answers of the server's queries allow is never refused. So the server loses no
-/// bytes that come while there is room for them, and removes all bytes that the peer took.
+/// An event that the answers of the server's queries allow is never refused. So the server stores
+/// all bytes that come while there is room for them, and removes from its output all bytes that the
+/// peer took.
 pub fn nothing_lost()
     ensures { NothingLost }
 {}

@@ -3,49 +3,51 @@
 
 ghost use Rattle.sv_layers.specs.Laws.{OwnActs, SameWords, SameEvents, SameWaiting, SameCompletion, SameStandardEvents, SameEnable, SameSummaries, OneAccount, SameRequests, SameRaising, SameStatus};
 
-/// The logs of message exchange, error queue and scanner contain exactly those of the instrument's
-/// acts that belong to the layer. The service request enable is the one that was set last.
+/// The layers' logs of message exchange, error queue and scanner each consist of exactly those acts
+/// of the instrument's log that belong to this layer. The layers' service request enable is the one
+/// that was set last.
 pub fn own_acts()
     ensures { OwnActs }
 {}
 
-/// The condition, the filters and the enable of a status register are those that SCPI-1999, chapter
-/// 20, derives from the log.
+/// Each status register of the layers has the condition, the filters and the enable that SCPI-1999,
+/// chapter 20, prescribes for the acts of the instrument's log.
 pub fn same_words()
     ensures { SameWords }
 {}
 
-/// A bit of an event register is set exactly if the rules of SCPI-1999, chapter 20, set it after
-/// the acts of the log.
+/// Each event register of the layers has exactly those bits set that SCPI-1999, chapter 20,
+/// prescribes for the acts of the instrument's log.
 pub fn same_events()
     ensures { SameEvents }
 {}
 
-/// An `*OPC` is pending exactly if it is pending by the rules of IEEE 488.2, 12.5.2, after the acts
-/// of the log.
+/// The layers have an `*OPC` pending exactly if IEEE 488.2, 12.5.2, says so for the acts of the
+/// instrument's log.
 pub fn same_waiting()
     ensures { SameWaiting }
 {}
 
-/// The event operation complete occurs at an act exactly if an `*OPC` completes at this act by the
-/// rules of IEEE 488.2, 12.5.2, given the log up to this act.
+/// At an act the layers' standard events get the event operation complete exactly if IEEE 488.2,
+/// 12.5.2, says that an `*OPC` completes at this act, given the instrument's log up to it.
 pub fn same_completion()
     ensures { SameCompletion }
 {}
 
-/// A standard event is set exactly if the rules of IEEE 488.2, 11.5.1, set it after the acts of the
-/// log.
+/// The layers have exactly those standard events set that IEEE 488.2, 11.5.1, prescribes for the
+/// acts of the instrument's log.
 pub fn same_standard_events()
     ensures { SameStandardEvents }
 {}
 
-/// The enable of the standard events is the one that was set last in the log (IEEE 488.2, 11.5.1).
+/// The layers' enable of the standard events is the one that the instrument's log set last (IEEE
+/// 488.2, 11.5.1).
 pub fn same_enable()
     ensures { SameEnable }
 {}
 
-/// The summary bits of the status byte are those that IEEE 488.2, 11.2.1, and SCPI-1999, chapter
-/// 20, derive from the log.
+/// The layers' status byte has the summary bits that IEEE 488.2, 11.2.1, and SCPI-1999, chapter 20,
+/// prescribe for the acts of the instrument's log.
 pub fn same_summaries()
     ensures { SameSummaries }
 {}
@@ -55,20 +57,20 @@ pub fn one_account()
     ensures { OneAccount }
 {}
 
-/// A request for service is pending exactly if it is pending by the rules of IEEE 488.2, 11.3,
-/// after the acts of the log.
+/// The layers' status byte has a request for service pending exactly if IEEE 488.2, 11.3, says so
+/// for the acts of the instrument's log.
 pub fn same_requests()
     ensures { SameRequests }
 {}
 
-/// An act raises a request for service exactly if it raises one by the rules of IEEE 488.2, 11.3,
-/// given the log up to this act.
+/// The layers' status byte raises a request for service at an act exactly if IEEE 488.2, 11.3, says
+/// so, given the instrument's log up to this act.
 pub fn same_raising()
     ensures { SameRaising }
 {}
 
-/// The status byte is the one that IEEE 488.2, 11.2.2, derives from the log, both as a poll reads
-/// it and as `*STB?` reads it.
+/// A poll and `*STB?` read from the layers the status bytes that IEEE 488.2, 11.2.2, prescribes for
+/// the acts of the instrument's log.
 pub fn same_status()
     ensures { SameStatus }
 {}

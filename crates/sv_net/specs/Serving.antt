@@ -46,8 +46,8 @@ abbrev pub is_told : {W : Type 0} → List (Doing W) → Bool
 is_told = last_given (elim [ Waited limit true ended ↦ Some false | Told wire ↦ Some true | _ ↦ None ]) true
 
 -- These actions of a loop lead from the driver's state `start` to its state `now`. Each sweep lets the milliseconds since the previous
--- sweep pass. A sweep that lets at least one pass comes before the reports of the last wait are passed to the sockets. No wait is longer
--- than allowed, and each wait begins after all earlier reports were passed to the sockets.
+-- sweep pass. If this is at least one millisecond, the reports of the last wait are passed to the sockets only after the sweep. No wait is
+-- longer than allowed, and each wait begins after all earlier reports were passed to the sockets.
 abbrev pub Serves : {W : Type 0} → (W → Heard → W → Type 0) → List (Doing W) → DriverState W → DriverState W → Type 0
 Serves hears [] start now = now ≡ start
 Serves hears (MadeSweep ∷ doings) start now = let ticks = ticks_between (swept_at doings) (time_of doings) in

@@ -17,13 +17,13 @@ abbrev pub Gives : {S : Type 0} → (S → Option (List ℕ)) → Answer (List �
 Gives left (Got bytes) old new = Consumes (left old) (left new) bytes
 Gives left answer old new = Keeps (left old) (left new)
 
--- With `drops`, a probe reads and discards bytes that came. Without `drops`, the stream doesn't change.
+-- A probe with `drops` (the flag is true) reads and discards bytes that came. A probe without `drops` doesn't change the stream.
 abbrev pub Skips : {S : Type 0} → (S → Option (List ℕ)) → Bool → S → S → Type 0
 Skips left true old new = (dropped : Answer (List ℕ)) × Gives left dropped old new
 Skips left false old new = Keeps (left old) (left new)
 
--- A write that took `n` bytes appends the first `n` of its bytes to those that were sent on the stream. A write that waits or failed
--- doesn't change the stream.
+-- If a write returns that the stream took `n` bytes, the first `n` of the write's bytes are appended to those that were sent on the stream.
+-- If it returns `Pending` or `Failed`, the stream doesn't change.
 abbrev pub Takes : {S : Type 0} → (S → Option (List ℕ)) → List ℕ → Answer ℕ → S → S → Type 0
 Takes sent bytes (Got n) old new = Appends (sent old) (sent new) (take n bytes)
 Takes sent bytes answer old new = Keeps (sent old) (sent new)

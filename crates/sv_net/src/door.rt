@@ -55,9 +55,9 @@ impl Door {
     }
 
     /// Returns how many milliseconds to sleep at most before the next accept. This is 100 if it is
-    /// known that no connection waits. Else it is 1 until a second accept has failed, and doubled
-    /// at each failed accept from the second one on, but at most 100. An accept that succeeds sets
-    /// it back to 1.
+    /// known that no connection waits. Else it is 1 at first, and again after each accept that
+    /// succeeds. The first failed accept after that leaves it at 1, and each further failed accept
+    /// doubles it, up to 100.
     pub(crate) fn patience(&self) -> u32
         ensures { result ≤ 100 }
     {

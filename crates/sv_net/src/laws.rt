@@ -17,9 +17,9 @@ pub fn own_sockets()
         → socket_number port ≡ socket_number other → port ≡ other }
 {}
 
-/// The law of a driver over any wire holds if these sockets are the wire: the server receives what
-/// is read from the sockets, and what is written to the sockets is what the server sends. The law
-/// covers the sweeps of [`serve`](crate::serve).
+/// The law `carried` of `sv_serve` holds for a driver whose wire is these sockets: the server
+/// receives what is read from the sockets, and what is written to the sockets is what the server
+/// sends. The law covers the sweeps of [`serve`](crate::serve).
 pub fn carried<N: Network + Drop, A: Allocator, S: Stream>()
     ensures { Carried (Hears S.remaining S.contents) }
 {

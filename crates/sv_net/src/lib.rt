@@ -1,6 +1,6 @@
 //! The sockets of a server, over mio: the wire of a driver on a real machine. The methods of this
-//! wire don't block: what the system last reported about a socket says whether a method has
-//! something to do.
+//! wire don't block. A read, write or accept that would have blocked isn't tried again until the
+//! system reports something about the socket.
 #![tactic(auto)]
 
 mod door;

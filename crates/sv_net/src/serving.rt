@@ -68,8 +68,8 @@ fn run<M: Machine<S>, N: Network + Drop, A: Allocator, S: Stream>(
     Ok(())
 }
 
-/// Makes a sweep. If whole milliseconds have passed since the previous sweep, they pass in this
-/// sweep, and the sockets get the reports of the last wait only after this sweep, for the next one.
+/// Makes a sweep in which `ticks` milliseconds pass. If `ticks` is 0, the sockets get the reports
+/// of the last wait before the sweep. Else the sockets get these reports after the sweep.
 fn sweep<M: Machine<S>, N: Network + Drop, A: Allocator, S: Stream>(
     machine: &mut M,
     driver: &mut Driver<Net<N, A, S>, A>,
@@ -106,9 +106,9 @@ fn wait<M: Machine<S>, S: Stream>(
 }
 
 /// Waits until the next sweep is to begin, and returns the time then. `left` sweeps remain. If the
-/// next sweep has something to do, it begins after a single poll. While polling is worthwhile, this
-/// poll is made before the check whether the sweep has something to do. If the poll finds a report,
-/// the sweep begins without this check.
+/// next sweep has work (`has_work`), it begins after a single poll. If it has no work, the loop
+/// sleeps. But if `pace` says to poll without sleeping, the loop polls first. If this poll finds a
+/// report, or if the sweep has work, the sweep begins. Else the loop goes on polling (`spin`).
 fn pause<M: Machine<S>, N: Network + Drop, A: Allocator, S: Stream>(
     machine: &mut M,
     driver: &Driver<Net<N, A, S>, A>,
@@ -133,8 +133,8 @@ fn pause<M: Machine<S>, N: Network + Drop, A: Allocator, S: Stream>(
 }
 
 /// Polls until something is reported, or until as many polls were made as are allowed between two
-/// sweeps. If polling isn't worthwhile any more, sleeps instead. Returns the time at which the wait
-/// ended.
+/// sweeps. As soon as `pace` says not to poll any more, sleeps instead. Returns the time at which
+/// the last poll or the sleep ended.
 fn spin<M: Machine<S>, N: Network + Drop, A: Allocator, S: Stream>(
     machine: &mut M,
     driver: &Driver<Net<N, A, S>, A>,

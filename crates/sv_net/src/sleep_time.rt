@@ -48,8 +48,8 @@ fn longest<N: Network + Drop, A: Allocator, S: Stream>(driver: &Driver<Net<N, A,
 }
 
 /// Returns how long the server may sleep at most, with `left` sweeps remaining. Returns `None` (no
-/// limit) only if nothing will ever be due. The timeout of a call is at most 4,294,967,295 ms
-/// (VXI-11 revision 1.0, section B.4.4).
+/// limit) only if nothing will ever be due: no entry of the scenario remains, and nothing becomes
+/// due within 4,294,967,295 ms, the longest timeout of a call (VXI-11 revision 1.0, section B.4.4).
 pub(crate) fn sleep_time<N: Network + Drop, A: Allocator, S: Stream>(
     driver: &Driver<Net<N, A, S>, A>,
     pace: &Pace,

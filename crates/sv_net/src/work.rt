@@ -39,8 +39,9 @@ fn has_input<N: Network + Drop, A: Allocator, S: Stream>(
     socket.is_broken() || socket.is_readable() && reads
 }
 
-/// Whether the next sweep has something to do on the connection's interrupt channel even if no
-/// report comes.
+/// Whether the next sweep has something to do on a connection's interrupt channel even if no report
+/// comes: the socket might accept bytes or have finished connecting; and bytes wait to be sent, or
+/// the channel still has to be connected.
 fn has_work_for<N: Network + Drop, A: Allocator, S: Stream>(
     driver: &Driver<Net<N, A, S>, A>,
     conn: u8,
@@ -53,7 +54,8 @@ fn has_work_for<N: Network + Drop, A: Allocator, S: Stream>(
     channel.is_writable() && wanted
 }
 
-/// Whether the next sweep has something to do even if no report comes.
+/// Whether the next sweep has something to do even if no report comes: an accept is due at once, or
+/// there is something to do on a connection or its interrupt channel.
 pub(crate) fn has_work<N: Network + Drop, A: Allocator, S: Stream>(
     driver: &Driver<Net<N, A, S>, A>,
 ) -> bool {

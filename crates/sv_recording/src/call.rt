@@ -6,7 +6,8 @@ use sv_server::{Dial, Port, Role};
 /// One call of a wire's method, with its answer.
 #[derive(Drop)]
 pub enum Call {
-    /// An accept: whether a connection of this role was accepted, under this number.
+    /// An accept: whether a connection of this role was accepted, under the number `conn`. If
+    /// `conn` is `None`, the connection was dropped.
     Accept {
         role: Role,
         conn: Option<u8>,

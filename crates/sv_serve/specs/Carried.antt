@@ -82,7 +82,7 @@ EachHeard IsSuch (heard ∷ trace) = IsSuch heard trace × EachHeard IsSuch trac
 abbrev pub Follows : (Heard → Bool) → List Heard → Type 0
 Follows is_such trace = (last : Heard) × (older : List Heard) × (trace ≡ last ∷ older) × (is_such last ≡ true)
 
--- `IsSo` held of the history at the moment when the wire had given exactly the answers of `trace`.
+-- There was a moment at which the wire had given exactly the answers of `trace`, and `IsSo` held of the history up to then.
 abbrev pub Once : (List PlainEvent → Type 0) → List PlainEvent → List Heard → Type 0
 Once IsSo history trace = (later earlier : List PlainEvent) × (history ≡ later ++ earlier)
     × (filter is_outer earlier ≡ flat_map event_of trace) × IsSo earlier

@@ -49,7 +49,8 @@ impl<W: Wire + Drop, A: Allocator> Driver<W, A> {
         None
     }
 
-    /// Opens the connection at the server, if the wire accepted one.
+    /// If the wire accepted a connection under the number `conn`, opens it at the server under this
+    /// number.
     fn open(&mut self, role: Role, conn: Option<u8>, answer: Answer<()>)
         ensures { From (IsLowest conn) (Opens role conn answer) self.old self.new }
     {

@@ -6,10 +6,10 @@ ghost use Rattle.sv_serve.specs.Served.{Served};
 
 use crate::wire::Wire;
 
-/// Every byte that is read enters its connection's stream, and every byte that the wire takes is
-/// one that the history sends: in order, none lost or doubled. The events from the wire are exactly
-/// those that its answers cause. As time passes, exactly the entries of the scenario that are due
-/// are applied.
+/// In any number of sweeps, every byte that is read from the wire enters the stream of its
+/// connection, and every byte that the wire takes is one that the server sends: in order, none lost
+/// or doubled. The events that the wire causes at the server are exactly those that its answers
+/// stand for. As time passes, exactly the entries of the scenario that are due are applied.
 pub fn carried<W: Wire>()
     ensures { Carried W.hears }
 {}

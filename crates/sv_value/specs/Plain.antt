@@ -19,8 +19,8 @@ plain number = record {
   suffix = number.suffix.now;
 }
 
--- This result is a number and not an error, and an `Amount` of the code represents it: the amount has the number's sign, and the number's
--- magnitude, capped at 10 ^ 18.
+-- `answer` is a number and not an error, and `amount` represents this number: `amount` has the number's sign, and the number's magnitude,
+-- capped at 10 ^ 18.
 abbrev pub StandsFor : Amount → Result ℤ Code → Type 0
 StandsFor amount answer = (magnitude : ℕ) × (answer ≡ Ok (signed amount.negative magnitude))
     × (amount.magnitude ≡ min magnitude 1000000000000000000)

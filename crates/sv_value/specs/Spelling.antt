@@ -48,7 +48,8 @@ Spells text number = (sign fraction tail : List ℕ) × (text ≡ sign ++ (numbe
     × AreDigits number.whole
     × IsFraction fraction number.fraction × ((number.whole ≢ []) ⊎ (number.fraction ≢ [])) × IsTail tail number
 
--- A text is a number with these parts exactly if `number_parts` returns them for it and `is_spelled` holds of them.
+-- The syntax (`Spells`) and the reading of numbers agree: a text is a number with the parts `number` exactly if `number_parts` returns
+-- `number` for this text, and `is_spelled` holds of `number`.
 abbrev pub ReadAsSpelled : Type 0
 ReadAsSpelled = (text : List ℕ) (number : Parts) → Spells text number ↔ ((is_spelled (number_parts text) ≡ true)
     × (number_parts text ≡ number))

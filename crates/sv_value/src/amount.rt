@@ -31,8 +31,8 @@ pub(crate) struct Amount {
 
 impl Amount {
     /// Returns a decimal number times 10 to the power `power`, rounded to a whole number; or the
-    /// error of the number. `power` is `None` if the suffix isn't allowed: then the error is
-    /// `suffix_code`.
+    /// error of the number. `power` is `None` if the suffix isn't allowed: then a number that is
+    /// otherwise well-formed has the error `suffix_code`.
     pub(crate) fn of(
         number: &Decimal<'_>,
         power: Option<u64>,

@@ -33,7 +33,7 @@ pub(crate) fn command<'a>(alloc: Global) -> Result<Command<'a>, AllocError>
         .arg(option(alloc, "sweeps"))
 }
 
-/// Whether a word begins with a plus. No number on the command line can have one.
+/// Whether a word begins with a plus. A number on the command line must not begin with a plus.
 fn has_plus(word: &str) -> bool
     ensures { result ≡ (slice_index word.now 0 == 43) }
 {
