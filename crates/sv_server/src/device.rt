@@ -42,7 +42,7 @@ use sv_rpc::Ports;
 /// The last value of the clock, in milliseconds.
 const LAST_CLOCK: u64 = 9_223_372_036_854_775_807;
 
-/// What all connections share.
+/// The device: the state that all connections share.
 #[derive(Drop)]
 pub struct Device<A: Allocator> {
     links: Links<A>,
