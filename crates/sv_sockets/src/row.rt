@@ -69,7 +69,7 @@ pub(crate) fn play<W: Write + Drop>(
     Ok(())
 }
 
-/// Executes a line of the row.
+/// Executes a line of the row (the test case), and prints the line's result, if it has one.
 fn step<W: Write + Drop>(
     stage: &mut Stage,
     line: &str,

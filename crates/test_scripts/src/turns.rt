@@ -6,7 +6,7 @@ use failing_alloc::FailingAllocator;
 use std::alloc::Global;
 use std::io::{self, BufWriter, Write};
 
-/// The function that is called again and again makes fewer allocations than this.
+/// The function that `each` calls again and again must make fewer allocations than this.
 const MOST: u64 = 1000;
 
 /// Calls `make` again and again: first its first allocation is refused, then its second, and so on;

@@ -64,9 +64,9 @@ fn lock_stop(call: &LinkCall<'_>) -> Option<Stop>
     }
 }
 
-/// What stops create_intr_chan. `there` says whether the connection's interrupt channel is already
-/// open. The call fails if it is; if `prog_family` isn't TCP (0); or if the address or the port
-/// isn't allowed. Else the call is suspended until its peer is connected.
+/// What stops create_intr_chan. The call fails if the connection's interrupt channel is already
+/// open (then `there` is true), if `prog_family` isn't TCP (0), or if the address or the port isn't
+/// allowed. Else the call is suspended until its peer is connected.
 fn channel_stop(there: bool, host_addr: u32, host_port: u32, prog_family: u32) -> Stop
     ensures { plain_stop result ≡ channel_stop_for there host_addr host_port prog_family }
 {
