@@ -63,7 +63,7 @@ pair_at high low = do
   l ← hex_digit_at low
   Some (16 * h + l)
 
--- the text without its first character if this is a space
+-- the text without its first character, if that character is a space; else the whole text
 abbrev pub after_space : List ℕ → List ℕ
 after_space [] = []
 after_space (byte ∷ bytes) = if byte == 32 then bytes else (byte ∷ bytes)

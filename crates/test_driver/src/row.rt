@@ -65,8 +65,8 @@ fn scenario<'a>(
     }
 }
 
-/// Makes the driver with which a row is played. If the row has a line `memory N`, the Nth of the
-/// driver's allocations is refused.
+/// Makes the driver with which a row is played. If the row has a line `memory N`, the Nth
+/// allocation of `Driver::new` is refused.
 fn made<'a>(
     alloc: Global,
     heap: &'a FailingAllocator<Global>,

@@ -128,7 +128,7 @@ pub(crate) fn play<W: Write + Drop>(
     }
 }
 
-/// Prints the lines that a script prints, except those that end in this text.
+/// Replays a script. Prints the lines of the replay's output, except those that end in `ending`.
 pub(crate) fn play_without<W: Write + Drop>(
     alloc: Global,
     ending: &str,

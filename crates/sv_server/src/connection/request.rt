@@ -76,7 +76,7 @@ impl Request<'_> {
     }
 }
 
-/// The program that a connection serves.
+/// The number of the RPC program that a connection of this role serves.
 fn program_of(role: Role) -> u32
     ensures { result ≡ (program_for role).0 }
 {
@@ -87,7 +87,7 @@ fn program_of(role: Role) -> u32
     }
 }
 
-/// The version of the program that a connection serves.
+/// The version of the RPC program that a connection of this role serves.
 fn version_of(role: Role) -> u32
     ensures { result ≡ (program_for role).1 }
 {

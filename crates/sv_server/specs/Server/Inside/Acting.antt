@@ -92,7 +92,7 @@ Steps Nothing config log new = IsSettled config log × Represents new config log
 Steps Instrument config log new = (next : List Act) × IsNext config log next × Represents new config next
 Steps Call config log new = (next : List Act) × IsNext config log next × Represents new config next
 
--- Every log in which the steps from `mid` can end is also a log in which the steps from `log` can end.
+-- If the due steps that begin at the log `mid` can end in a log, the due steps that begin at `log` can end in that log as well.
 abbrev pub Reaches : Config → List Act → List Act → Type 0
 Reaches config log mid = (n : ℕ) (new : List Act) → SettlesIn n config mid new → (m : ℕ) × SettlesIn m config log new
 
