@@ -93,7 +93,7 @@ impl Stage {
         serve(&self.rt, &mut self.watch, &mut self.driver, sweeps)
     }
 
-    /// Whether the server has bytes to send that the socket of their connection doesn't accept yet.
+    /// Whether bytes wait in the server to be sent on at least one of the sixteen connections.
     pub(crate) fn waits(&self) -> bool {
         let server = self.driver.server();
         (0..16).any(|conn| !server.waiting(Port::Conn(conn)).is_empty())
