@@ -54,12 +54,12 @@ impl<B: Allocator> FailingAllocator<B> {
     /// Refuses one allocation: of the allocations made from now on, the one with this number,
     /// counted from 1. All other allocations are passed on. With 0 no allocation is refused.
     ///
-    /// A second call replaces the number of the first.
+    /// A second call of `refuse` replaces the number that the first call chose.
     pub fn refuse(&self, number: u64) {
         self.left.set(number);
     }
 
-    /// Whether the allocation to refuse hasn't been made yet.
+    /// Whether an allocation was chosen to be refused and hasn't been made yet.
     pub fn is_armed(&self) -> bool {
         self.left.get() != 0
     }

@@ -10,7 +10,8 @@ use std::process::ExitCode;
 use sv_replay::{RunFault, run_replay};
 use sv_words::{ProgramFault, Words, read_words};
 
-/// Runs the program: `replay` replays the standard input, `serve` serves sockets.
+/// Runs the program. The command `replay` replays a script from the standard input; the command
+/// `serve` serves clients over sockets.
 fn main(rt: HostRuntime) -> ExitCode {
     match program(&rt) {
         Ok(()) => ExitCode::SUCCESS,
@@ -44,7 +45,7 @@ fn words_fault(error: &Error) -> ProgramFault {
     }
 }
 
-/// Replays the standard input onto the standard output.
+/// Replays the script of the standard input. Prints to the standard output.
 fn replay(rt: &HostRuntime) -> Result<(), RunFault> {
     let alloc = rt.alloc();
     let mut writer = BufWriter::new(alloc, io::writer(rt)).map_err(|_| RunFault::Memory)?;

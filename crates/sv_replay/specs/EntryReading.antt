@@ -23,7 +23,7 @@ lone_stimulus_at word = if bytes_eq word (codes "external") then Some External e
 unfoldable pub worded_stimulus_at : List ℕ → List ℕ → Option Stimulus
 worded_stimulus_at word text = if bytes_eq word (codes "input") then accepted_at text else None
 
--- a stimulus, read from its text; the second argument is the two parts of the text around its first space, or `None` without a space
+-- a stimulus, read from its text; the second argument is the text cut at its first space, or `None` if the text has no space
 abbrev pub cut_stimulus_at : List ℕ → Option (List ℕ × List ℕ) → Option Stimulus
 cut_stimulus_at text None = lone_stimulus_at text
 cut_stimulus_at text (Some cut) = worded_stimulus_at cut.0 cut.1

@@ -63,7 +63,7 @@ pair_at high low = do
   l ← hex_digit_at low
   Some (16 * h + l)
 
--- the text without its first character if this is a space
+-- the text without its first character, if that character is a space; else the whole text
 abbrev pub after_space : List ℕ → List ℕ
 after_space [] = []
 after_space (byte ∷ bytes) = if byte == 32 then bytes else (byte ∷ bytes)
@@ -167,8 +167,7 @@ words_at word text =
     if bytes_eq word (codes "tick") then ticks_at text
     else (if bytes_eq word (codes "input") then option_map One (input_at text) else option_map One (event_at word text))
 
--- the meaning of a line, read from the line; the second argument is the two parts of the line around its first space, or `None` without a
--- space
+-- the meaning of a line, read from the line; the second argument is the line cut at its first space, or `None` if the line has no space
 abbrev pub cut_line_at : List ℕ → Option (List ℕ × List ℕ) → Option Line
 cut_line_at line None = lone_at line
 cut_line_at line (Some cut) = words_at cut.0 cut.1

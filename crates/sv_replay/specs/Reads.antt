@@ -1,4 +1,4 @@
--- How often a reader was read, and what each read returned.
+-- How often a replay read from its reader, and what each read returned.
 use Rattle.std.specs.Prelude.{◌≡◌, ◌⊎◌, ℕ, ◌≤◌, List, [], ◌∷◌, length, Option, Bool, Result, Ok, Err, ⊤}
 use Rattle.sv_replay.specs.declared.fault.RunFault.{RunFault}
 use Rattle.sv_replay.specs.declared.fault.RunFault.TheVariants.{Input}
@@ -14,7 +14,7 @@ abbrev pub Reads : {S : Type 0} → (S → Gave → S → Type 0) → S → List
 Reads gives first [] last = last ≡ first
 Reads gives first (gave ∷ reads) last = (between : _) × Reads gives first reads between × gives between gave last
 
--- how many times a reader may be read
+-- the most reads that one run of a replay may make
 abbrev pub most_reads : ℕ
 most_reads = 4294967294
 

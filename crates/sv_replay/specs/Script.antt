@@ -35,8 +35,8 @@ Prints config history (event ∷ events) text after =
     × Prints config middle events rest after
     × (text ≡ first ++ rest)
 
--- These events happen in order after a history, up to an event at which the replay stops. The text is the print of the events before that
--- event, and then the part of that event's print that was written.
+-- These events happen in order after a history, up to an event at which the replay stops. The text is what the replay wrote for the events
+-- before that event, and then the part of the output for that event that was still written.
 abbrev pub Stops : Config → List PlainEvent → List PlainEvent → ReplayFault → List ℕ → List PlainEvent → Type 0
 Stops config history events fault text after = (done others : List PlainEvent) × (event : PlainEvent) × (events ≡ done ++ event ∷ others)
     × (first last : List ℕ) × (middle : List PlainEvent) × Prints config history done first middle

@@ -45,7 +45,8 @@ WhileGoing (Ok true) fact = fact
 WhileGoing answer fact = Unit {0}
 
 -- The progress of a step after which the run goes on. The step executes one line, or makes one read. The step preserves two bounds: the
--- executed lines plus the stored bytes are at most 131,072 per read, and at most 4294967294 reads were made.
+-- number of executed lines plus the number of stored bytes is at most 131,072 times the number of reads; and at most 4294967294 reads were
+-- made.
 pub record Progress (lines : ℕ) (held : Held) (done : ℕ) (left : Held) : Type 0 where
   pub counted : done + left.reads ≡ lines + held.reads + 1
   pub bounded : lines + length held.text ≤ 131072 * held.reads → done + length left.text ≤ 131072 * left.reads

@@ -27,7 +27,7 @@ fn pair(high: u8, low: u8) -> Option<u8>
     Some(16 * high + low)
 }
 
-/// The text without its first character if this is a space.
+/// The text without its first character, if that character is a space; else the whole text.
 fn skip_space(text: &[u8]) -> &[u8]
     ensures value { result.now ≡ after_space text.now }
     ensures no_longer { length result.now ≤ length text.now }

@@ -5,12 +5,12 @@ ghost use Rattle.sv_replay.specs.Text.{IsBehind};
 
 use std::io::{ErrorKind, Read};
 
-/// The reader failed, or was read as many times as allowed.
+/// The reader failed, or had already been read as many times as allowed.
 #[derive(Clone, Copy, Debug, PartialEq, Eq)]
 pub struct InputFault;
 
 /// A reader of which contracts can state what each read returned. Every type that implements `Read`
-/// is a `Source`. The `gives` of such a type holds for any result of a read.
+/// is a `Source`, with a `gives` that holds for any result of a read.
 pub trait Source: Read {
     ghost use Rattle.std.specs.Prelude.{⊤};
     ghost use Rattle.sv_replay.specs.Reads.{Gave};

@@ -48,7 +48,7 @@ pub(crate) fn byte(digits: &[u8]) -> Option<u8>
     Some(plain(digits, 255)? as u8)
 }
 
-/// The value of at most 18 digits.
+/// The value of these digits, if there are at most 18; they may begin with zeros.
 #[tactic(auto, unfolding(crate::specs::Reading::short_at))]
 pub(crate) fn short(digits: &[u8]) -> Option<u64>
     ensures exact { result ≡ short_at digits.now }

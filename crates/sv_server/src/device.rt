@@ -42,7 +42,7 @@ use sv_rpc::Ports;
 /// The last value of the clock, in milliseconds.
 const LAST_CLOCK: u64 = 9_223_372_036_854_775_807;
 
-/// What all connections share.
+/// The device: the state that all connections share.
 #[derive(Drop)]
 pub struct Device<A: Allocator> {
     links: Links<A>,
@@ -231,8 +231,9 @@ impl<A: Allocator> Device<A> {
         }
     }
 
-    /// If the instrument did something (`raised` is `Some`), sends the requests for service that it
-    /// raised. Returns whether the instrument did something.
+    /// Sends service requests on the interrupt channels after a step of the instrument. `raised` is
+    /// the number of requests for service that the step raised, or `None` if the instrument took no
+    /// step. Returns whether the instrument took a step.
     fn raise_if(&mut self, raised: Option<u8>) -> bool
         ensures some { (count : ℕ) → raised ≡ Some count → (config : Config)
             (acts : List DeviceAct) (adds : List InstrumentAct)

@@ -189,7 +189,7 @@ impl<A: Allocator> Server<A> {
     }
 
     /// One more than the highest number of a connection that was ever opened; 0 if none was.
-    /// Connections with this number or a higher one have nothing to do.
+    /// Connections with this number or a higher number were never opened.
     pub fn connections_used(&self) -> u8
         ensures { (config : Config) (history : List PlainEvent) → StandsFor self.now config history
             → (log : List Act) × IsLogOf config history log × IsUsed result log }

@@ -11,7 +11,7 @@
 //! | Line | What it says |
 //! |---|---|
 //! | `= WORDS` | the title, which is the row's first line |
-//! | `0 input 1 250000` | an entry of the scenario; all entries come before the other lines |
+//! | `0 input 1 250000` | an entry of the scenario; an empty line ends the entries |
 //! | `a core` | the peer connects to the core channel; `abort` and `portmap` are the other ports |
 //! | `a < 8000..` | the peer sends these bytes, which may have blanks between them |
 //! | `a > N` | waits until N bytes have come to the peer, and prints them |

@@ -1,4 +1,5 @@
-//! A row: its scenario, and its steps.
+//! Plays a row, which is a test case: makes a server with the row's scenario, and executes the
+//! row's other lines.
 
 use crate::peer::Peer;
 use crate::pouring::{is_in_order, pour};
@@ -6,7 +7,7 @@ use crate::stage::{PORTS, Stage, bad};
 use std::alloc::Global;
 use std::io::{self, BufWriter, Write};
 
-/// For how many sweeps nothing may come to a peer that has to be silent.
+/// How many sweeps the server makes for a line `a silent`, while nothing may come to peer a.
 const SILENCE: u32 = 20;
 /// How many bytes of the first reply are printed when a peer drains many replies.
 const SHOWN: usize = 64;
@@ -52,7 +53,7 @@ fn show<W: Write + Drop>(bytes: &[u8], writer: &mut BufWriter<W>) -> io::Result<
     writeln!(writer)
 }
 
-/// Plays a row, and prints its title and the results of its steps.
+/// Plays a row (a test case). Prints its title, and the results of its lines.
 pub(crate) fn play<W: Write + Drop>(
     rt: HostRuntime,
     row: &str,
@@ -68,7 +69,7 @@ pub(crate) fn play<W: Write + Drop>(
     Ok(())
 }
 
-/// Executes a line of the row.
+/// Executes a line of the row (the test case), and prints the line's result, if it has one.
 fn step<W: Write + Drop>(
     stage: &mut Stage,
     line: &str,
@@ -87,7 +88,7 @@ fn step<W: Write + Drop>(
     }
 }
 
-/// Executes a line that begins with the letter of a peer.
+/// Executes a line that begins with the letter `name` of a peer.
 fn do_as<W: Write + Drop>(
     stage: &mut Stage,
     name: char,
@@ -129,7 +130,8 @@ fn send(stage: &mut Stage, name: char, text: &str) -> io::Result<()> {
     Ok(())
 }
 
-/// Executes a line that begins with the letter of a peer. Prints the result of the line.
+/// Executes a line that begins with the letter `name` of a peer and has a result. Prints the
+/// result.
 fn show_of<W: Write + Drop>(
     stage: &mut Stage,
     name: char,

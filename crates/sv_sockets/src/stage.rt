@@ -23,7 +23,7 @@ const SWEEPS: u32 = 2;
 /// makes between two checks.
 const MORE_SWEEPS: u32 = 4;
 
-/// The error for a row that can't be played.
+/// The error for a row (a test case) that can't be played.
 pub(crate) fn bad() -> Error {
     Error::from(ErrorKind::InvalidData)
 }
@@ -59,7 +59,7 @@ pub(crate) struct Stage {
 }
 
 impl Stage {
-    /// A new server with this scenario, and no peers.
+    /// Makes a new server with this scenario, and no peers.
     pub(crate) fn new(rt: HostRuntime, scenario: &str) -> io::Result<Stage> {
         let Ok(scenario) = read_scenario(rt.alloc(), scenario.as_bytes()) else {
             return Err(bad());
@@ -93,7 +93,7 @@ impl Stage {
         serve(&self.rt, &mut self.watch, &mut self.driver, sweeps)
     }
 
-    /// Whether the server has bytes to send that the socket of their connection doesn't accept yet.
+    /// Whether bytes wait in the server to be sent on at least one of the sixteen connections.
     pub(crate) fn waits(&self) -> bool {
         let server = self.driver.server();
         (0..16).any(|conn| !server.waiting(Port::Conn(conn)).is_empty())

@@ -58,7 +58,7 @@ fn played(alloc: Global, sweeps: u64, wire: Peers) -> io::Result<Played> {
     Ok(driver)
 }
 
-/// Prints bytes that came on a port, if there are any.
+/// Prints the bytes that a peer got on a port, if it got any.
 fn show<W: Write + Drop>(
     letter: char,
     number: usize,
@@ -123,8 +123,8 @@ fn fail_once<W: Write + Drop>(
     compare(driver.wire(), whole, (word, left), writer)
 }
 
-/// For each call that the driver makes to this function of the wire: plays the row, and that call
-/// fails.
+/// Plays the row again for each call that the driver makes to this function of the wire. In each
+/// run, that call fails.
 fn fail_each<W: Write + Drop>(
     alloc: Global,
     row: Row<'_>,
@@ -140,8 +140,8 @@ fn fail_each<W: Write + Drop>(
     Err(bad())
 }
 
-/// For each function of the wire, and for each call that the driver makes to this function: plays
-/// the row, and that call fails.
+/// Plays the row again for each call that the driver makes to any of the wire's five functions that
+/// can fail. In each run, that call fails.
 fn fail_all<W: Write + Drop>(
     alloc: Global,
     row: Row<'_>,

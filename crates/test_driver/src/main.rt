@@ -31,8 +31,8 @@
 //! without sleeping. Three lines print nothing: `work NOW` tells the loop that a poll at NOW
 //! reported a ready socket; `found N` tells it that a wait of N polls ended with such a report;
 //! `nothing N` tells it that a wait of N polls ended without one. `vain N` makes N runs of polls
-//! that find nothing. Each run begins as soon as the loop may poll again, and the row prints how
-//! many times the loop sleeps before the run.
+//! that find nothing. Each run begins as soon as the loop may poll without sleeping, and the row
+//! prints how many times the loop sleeps before the run.
 //!
 //! Each call that the driver makes to the wire is printed as a line: `core 0` accepts a connection
 //! as number 0, and `core -` accepts one that is dropped; `read 0`; `probe 0`, with ` drops` if

@@ -7,7 +7,8 @@ use sv_pace::Pace;
 /// The loop sleeps fewer times than this before it may poll again without sleeping.
 const MOST: u32 = 10_000;
 
-/// Converts a number of polls or of milliseconds. A number above 32 bits becomes the greatest one.
+/// Converts a number of polls or of milliseconds to 32 bits. A number that doesn't fit becomes the
+/// greatest 32-bit number.
 fn count_of(number: u64) -> u32 {
     number.min(u64::from(u32::MAX)) as u32
 }
@@ -34,7 +35,7 @@ fn miss<W: Write + Drop>(pace: &mut Pace, count: u64, writer: &mut BufWriter<W>)
     writeln!(writer)
 }
 
-/// Executes a line.
+/// Executes a line of a `pace` row.
 fn step<W: Write + Drop>(pace: &mut Pace, line: &str, writer: &mut BufWriter<W>) -> io::Result<()> {
     let (word, text) = line.split_once(' ').unwrap_or((line, ""));
     let (first, second) = text.split_once(' ').unwrap_or((text, "0"));
@@ -66,7 +67,7 @@ fn keep(pace: &mut Pace, word: &str, number: u64) -> io::Result<()> {
     Ok(())
 }
 
-/// Plays the lines of a row.
+/// Plays the lines of a `pace` row.
 pub(crate) fn play<W: Write + Drop>(lines: &str, writer: &mut BufWriter<W>) -> io::Result<()> {
     let mut pace = Pace::new();
     for line in lines.lines() {

@@ -23,7 +23,7 @@ pub(crate) enum Call {
 pub(crate) struct Peer {
     /// The bytes that the peer sends.
     sends: Vec<u8>,
-    /// How many of the bytes that the peer sends were read.
+    /// How many bytes the driver has read from the peer.
     read: usize,
     /// The number of the peer's connection, as long as the connection is open.
     conn: Option<u8>,

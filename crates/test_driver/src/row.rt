@@ -1,4 +1,5 @@
-//! A row: the lines before its sweeps, and the sweeps.
+//! Plays a row, which is a test case: makes a driver as the row's first lines say, and makes the
+//! row's sweeps.
 
 use crate::scripted::Scripted;
 use crate::shown::show;
@@ -18,7 +19,7 @@ const MEMORY: &str = " memory ";
 /// The driver with which a row (a test case) is played.
 type Played<'a> = Driver<Recorder<Scripted>, &'a FailingAllocator<Global>>;
 
-/// The error for a row that can't be played.
+/// The error for a row (a test case) that can't be played.
 pub(crate) fn bad() -> Error {
     Error::from(ErrorKind::InvalidData)
 }
@@ -64,8 +65,8 @@ fn scenario<'a>(
     }
 }
 
-/// Makes the driver with which a row is played. With a line `memory N` in the row, the Nth
-/// allocation that creates the driver is refused.
+/// Makes the driver with which a row is played. If the row has a line `memory N`, the Nth
+/// allocation of `Driver::new` is refused.
 fn made<'a>(
     alloc: Global,
     heap: &'a FailingAllocator<Global>,

@@ -19,7 +19,7 @@ pub(crate) fn put_commands(out: &mut String, table: &Table, text: &str) -> Resul
     Ok(())
 }
 
-/// Prints how many parameters the command that a header names takes at most.
+/// Finds the command that a header names. Prints the most parameters that this command takes.
 pub(crate) fn put_arity(out: &mut String, table: &Table, text: &str) -> Result<(), Fault> {
     match table.resolve(&Path::root(), text.as_bytes()) {
         Ok(command) => put(out, command.most_parameters()),

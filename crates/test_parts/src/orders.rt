@@ -25,7 +25,7 @@ pub(crate) fn put_orders(
     Ok(())
 }
 
-/// Prints what a unit asks for, or its fault.
+/// Prints the order that a unit gives to the instrument, or the unit's fault.
 fn put_order(out: &mut String, order: &Result<Order, Code>) -> Result<(), Fault> {
     match order {
         Ok(Order::Set(setting)) => put_setting(out, setting),

@@ -1,5 +1,5 @@
-//! Answers the lines of a test: performs a line's act on the part of the instrument that it names,
-//! and prints the result.
+//! Answers the lines of a test: performs the act of each line on the part of the instrument that
+//! the line names, and prints the result.
 
 use crate::codes::put_code;
 use crate::fields::{put_call, put_read, put_written};
@@ -22,7 +22,7 @@ use sv_rpc::RecordBuf;
 use sv_scan::Scanner;
 use sv_status::{Register, StandardEvent, StatusByte};
 
-/// The parts on which acts are performed, and the table of commands.
+/// The parts of the instrument on which the lines perform acts, and the table of commands.
 #[derive(Drop)]
 pub(crate) struct Parts {
     commands: Table,
@@ -36,7 +36,7 @@ pub(crate) struct Parts {
 }
 
 impl Parts {
-    /// New parts.
+    /// Makes new parts, on which no act has been performed.
     pub(crate) fn new(alloc: Global) -> Result<Parts, AllocError> {
         Ok(Parts {
             commands: Table::new(alloc)?,

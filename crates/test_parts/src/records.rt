@@ -5,7 +5,7 @@ use std::alloc::Global;
 use sv_rpc::RecordBuf;
 
 /// Prints the answer of a buffer of records to an act. If the act changes the buffer, the answer is
-/// for how many bytes the buffer then has room.
+/// how many more bytes the buffer then has room for.
 pub(crate) fn put_records(
     alloc: Global,
     out: &mut String,

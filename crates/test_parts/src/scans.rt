@@ -55,7 +55,7 @@ fn setting_of(name: &str, value: &str) -> Result<Setting, Fault> {
     }
 }
 
-/// The source of triggers with this name.
+/// The trigger source that has this name.
 fn source_of(name: &str) -> Result<Source, Fault> {
     match name {
         "immediate" => Ok(Source::Immediate),

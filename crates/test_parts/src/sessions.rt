@@ -52,8 +52,8 @@ pub(crate) fn put_session(
 }
 
 /// Takes steps of the instrument until no step is due. Returns how many requests for service these
-/// steps raised. Each function below that returns a number returns how many such requests it
-/// raised.
+/// steps raised. The functions `step`, `tell`, `read`, `tick` and `apply` also return how many
+/// requests for service they raised.
 fn settle(instrument: &mut Instrument) -> u64 {
     let mut sum = 0u64;
     while let Some(raised) = step(instrument) {

@@ -25,7 +25,7 @@ use sv_server::{Config, Did, Event, Port, Server};
 /// The most bytes that a line may have.
 const LONGEST: usize = 32_800;
 
-/// The server of a row. The row may refuse memory to this server.
+/// The server on which a row (a test case) is played. The row can refuse memory to this server.
 type Played<'a> = Server<&'a FailingAllocator<Global>>;
 
 /// Reads the number of a connection.
@@ -77,7 +77,7 @@ fn replayed<W: Write + Drop>(
 
 /// Prints the server's answers about a connection: whether a call can be taken; whether the
 /// connection is at fault; its room for bytes; how many bytes wait on the connection and on its
-/// interrupt channel; and where to dial, if a create_intr_chan waits for that.
+/// interrupt channel; and, if a create_intr_chan waits for its peer, the address and port to dial.
 fn ask<W: Write + Drop>(
     server: &Played<'_>,
     conn: u8,
@@ -129,7 +129,7 @@ fn ration<W: Write + Drop>(
     }
 }
 
-/// Executes a line.
+/// Executes a line of an `! events` row.
 fn step<W: Write + Drop>(
     heap: &FailingAllocator<Global>,
     server: &mut Played<'_>,
@@ -152,7 +152,7 @@ fn step<W: Write + Drop>(
     }
 }
 
-/// Executes lines.
+/// Executes lines of an `! events` row.
 fn steps<W: Write + Drop>(
     heap: &FailingAllocator<Global>,
     server: &mut Played<'_>,

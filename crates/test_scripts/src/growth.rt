@@ -1,6 +1,6 @@
 //! Scripts that are played again and again on a new server: first the server's first allocation is
-//! refused, then its second, and so on. An event that finds no memory is tried again; or its call
-//! is refused, and sent again.
+//! refused, then its second, and so on. In a `! growth` row, an event that finds no memory is tried
+//! again. In a `! growth, refused` row, its call is refused, and then sent again.
 
 use crate::turns::each;
 use crate::words::bad;
@@ -51,7 +51,7 @@ fn tell(told: &mut String, letter: char, conn: u8, bytes: &[u8]) -> io::Result<(
 }
 
 impl Growing<'_> {
-    /// Asks the server about each connection, and returns the answers as text.
+    /// Queries the server's state of each connection. Returns the answers as text.
     fn asked(&self) -> io::Result<String> {
         let mut asked = String::new(self.alloc);
         for conn in 0..CONNECTIONS {

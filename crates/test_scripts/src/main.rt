@@ -90,7 +90,7 @@ fn replay<W: Write + Drop>(alloc: Global, text: &str, writer: &mut BufWriter<W>)
     }
 }
 
-/// Prints the outcome of a text of this kind.
+/// Plays the text of a row, whose first line was `! ` and the kind. Prints the results.
 fn play<W: Write + Drop>(
     alloc: Global,
     kind: &str,

@@ -9,10 +9,11 @@ use std::alloc::Global;
 use std::io::{self, BufWriter, Write};
 use sv_replay::{RunFault, run_replay};
 
-/// The reader of a `! reads` row is read fewer times than this.
+/// In a `! reads` row, one run of the replay reads from its input fewer times than this.
 const MOST_READS: u64 = 1_000;
 
-/// How the reader and the writer behave, according to these words of the first line.
+/// How the reader and the writer of a replay behave, according to these words after the `! ` in the
+/// first line of its text.
 fn manner_of(words: &str) -> io::Result<Manner> {
     let ample = Manner::ample();
     if let Some(count) = words.strip_prefix("output takes ") {
@@ -42,8 +43,8 @@ fn manner_of(words: &str) -> io::Result<Manner> {
     }
 }
 
-/// What is printed for a replay: how many bytes the writer took, but only if `narrow` is true; the
-/// bytes; and the fault, if there is one, on a line of its own.
+/// Returns the text that the test prints for a replay. If `narrow` is true, it begins with how many
+/// bytes the writer took. Then come these bytes and, on a line of its own, the fault, if any.
 fn told(
     alloc: Global,
     taken: &[u8],
@@ -69,7 +70,7 @@ fn told(
     Ok(outcome)
 }
 
-/// What a replay prints, and its fault, if it has one.
+/// Runs a replay of a script. Returns what the replay prints, and its fault, if any.
 fn outcome(
     alloc: Global,
     heap: &FailingAllocator<Global>,
@@ -79,7 +80,8 @@ fn outcome(
     Ok(read_out(alloc, heap, manner, script)?.0)
 }
 
-/// What a replay prints, its fault, if it has one, and how many times the reader was read.
+/// Runs a replay of a script. Returns two values: what the replay prints, with its fault, if any;
+/// and how many times the replay read from its input.
 fn read_out(
     alloc: Global,
     heap: &FailingAllocator<Global>,
@@ -104,7 +106,9 @@ fn read_out(
     Ok((told, source.reads))
 }
 
-/// Prints the outcome of a script whose reader and writer behave as these words say.
+/// Replays a script with a reader and a writer that behave as these words say. Prints the output of
+/// the replay, and its fault, if any. For `memory`, does so for each allocation that can be
+/// refused.
 pub(crate) fn play<W: Write + Drop>(
     alloc: Global,
     words: &str,
@@ -124,7 +128,7 @@ pub(crate) fn play<W: Write + Drop>(
     }
 }
 
-/// Prints the lines that a script prints, except those that end in this text.
+/// Replays a script. Prints the lines of the replay's output, except those that end in `ending`.
 pub(crate) fn play_without<W: Write + Drop>(
     alloc: Global,
     ending: &str,

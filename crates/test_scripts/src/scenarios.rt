@@ -19,7 +19,7 @@ fn told(alloc: Global, entry: Entry) -> io::Result<String> {
     Ok(line)
 }
 
-/// The entries of a scenario, a line each, or its fault.
+/// Reads a scenario. Returns its entries, a line each, or the fault, as text.
 fn outcome(alloc: Global, heap: &FailingAllocator<Global>, text: &str) -> io::Result<String> {
     let mut outcome = String::new(alloc);
     match read_scenario(heap, text.as_bytes()) {

@@ -6,12 +6,12 @@ use failing_alloc::FailingAllocator;
 use std::alloc::Global;
 use std::io::{self, BufWriter, Write};
 
-/// The function that is called again and again makes fewer allocations than this.
+/// The function that `each` calls again and again must make fewer allocations than this.
 const MOST: u64 = 1000;
 
 /// Calls `make` again and again: first its first allocation is refused, then its second, and so on;
 /// at last none is refused. Prints each outcome that differs from the outcome before it, `again` if
-/// an outcome came more than once in a row, and after `all` the outcome with all memory.
+/// an outcome came more than once in a row, and after `all` the outcome without a refusal.
 pub(crate) fn each<W: Write + Drop, F: Fn(&FailingAllocator<Global>) -> io::Result<String>>(
     alloc: Global,
     make: F,

@@ -3,7 +3,8 @@
 use std::fmt::{Debug, Display};
 use std::test::Fail;
 
-/// Fails unless `found` is the wanted value. The failure shows both values, and says what they are.
+/// Fails unless `found` is the wanted value. The failure shows both values, and then `of`, which
+/// says what was compared.
 pub(crate) fn same<T: Copy + Debug + PartialEq, W: Display + Drop>(
     found: T,
     wanted: T,

@@ -21,7 +21,8 @@ fn faults_have_their_texts_and_statuses(rt: HostRuntime) -> Result<(), Fail> {
     Ok(())
 }
 
-/// Fails unless the words of a text, separated by one space, are read as wanted.
+/// Cuts `text` at its spaces into the words of a command line. Fails unless the program reads these
+/// words as wanted.
 fn are_read(
     alloc: Global,
     text: &'static str,

@@ -17,9 +17,9 @@ use sv_vxi::procedure::{
 };
 use sv_vxi::{Args, read_args};
 
-/// The null procedure, which every program has.
+/// The number of the null procedure, which every program has.
 const NULL: u32 = 0;
-/// GETPORT of the port mapper.
+/// The number of the port mapper's procedure GETPORT.
 const GETPORT: u32 = 3;
 
 /// A call of the core channel.
@@ -27,7 +27,7 @@ const GETPORT: u32 = 3;
 pub struct CoreCall<'a> {
     /// The xid of the call.
     pub xid: u32,
-    /// Its arguments.
+    /// The arguments of the call.
     pub args: Args<'a>,
 }
 
@@ -45,14 +45,14 @@ pub enum Request<'a> {
     },
     /// A call of the core channel.
     Core(CoreCall<'a>),
-    /// device_abort.
+    /// A call of device_abort.
     Abort {
         /// The xid of the call.
         xid: u32,
         /// The link whose call is aborted.
         lid: i32,
     },
-    /// GETPORT.
+    /// A call of the port mapper's GETPORT.
     Port {
         /// The xid of the call.
         xid: u32,
@@ -76,7 +76,7 @@ impl Request<'_> {
     }
 }
 
-/// The program that a connection serves.
+/// The number of the RPC program that a connection of this role serves.
 fn program_of(role: Role) -> u32
     ensures { result ≡ (program_for role).0 }
 {
@@ -87,7 +87,7 @@ fn program_of(role: Role) -> u32
     }
 }
 
-/// The version of the program that a connection serves.
+/// The version of the RPC program that a connection of this role serves.
 fn version_of(role: Role) -> u32
     ensures { result ≡ (program_for role).1 }
 {

@@ -63,7 +63,7 @@ impl<A: Allocator> Device<A> {
         }
     }
 
-    /// Whether the call of a connection is suspended and names this link.
+    /// Whether the connection has a suspended call that names this link.
     fn waits_with(&self, conn: u8, lid: u32) -> bool
         ensures { (config : Config) (acts : List DeviceAct) → IsDevice self.now config acts
             → result ≡ (is_some (waits conn (wait_acts acts))
@@ -75,7 +75,7 @@ impl<A: Allocator> Device<A> {
         }
     }
 
-    /// Returns `conn` if its call is suspended and names this link, else `None`.
+    /// Returns `conn` if this connection has a suspended call that names the link, else `None`.
     fn if_waiting(&self, conn: u8, lid: Option<u32>) -> Option<u8>
         ensures { (config : Config) (acts : List DeviceAct) → IsDevice self.now config acts
             → result ≡ where_waiting_with (Some conn) lid acts }

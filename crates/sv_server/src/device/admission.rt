@@ -65,8 +65,8 @@ fn lock_stop(call: &LinkCall<'_>) -> Option<Stop>
 }
 
 /// What stops create_intr_chan. The call fails if the connection's interrupt channel is already
-/// open (`there`), if `prog_family` isn't TCP (0), or if the address or the port isn't allowed.
-/// Else the call is suspended until its peer is connected.
+/// open (then `there` is true), if `prog_family` isn't TCP (0), or if the address or the port isn't
+/// allowed. Else the call is suspended until its peer is connected.
 fn channel_stop(there: bool, host_addr: u32, host_port: u32, prog_family: u32) -> Stop
     ensures { plain_stop result ≡ channel_stop_for there host_addr host_port prog_family }
 {
@@ -286,8 +286,8 @@ impl<A: Allocator> Device<A> {
         });
     }
 
-    /// Suspends a create_intr_chan until its peer is connected, and allocates the memory for its
-    /// channel.
+    /// Suspends a create_intr_chan until its peer is connected. Allocates the memory for the
+    /// interrupt channel.
     fn await_peer(
         &mut self,
         conn: Conn,

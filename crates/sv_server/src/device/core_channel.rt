@@ -159,9 +159,9 @@ impl<A: Allocator> Device<A> {
         CallOutcome::Result(written(ErrorCode::NoError, bytes.len() as u32))
     }
 
-    /// device_read: if the instrument has a response, the outcome is that bytes of the response are
-    /// read. If it has none, the bytes of the unfinished message are dropped, and the result is a
-    /// timeout.
+    /// device_read: if the instrument has a response, the outcome is `Reads`, and the caller then
+    /// reads bytes of the response. If it has none, the bytes of the unfinished message are
+    /// dropped, and the result is a timeout.
     fn device_read(&mut self, most: u32, term: Option<u8>) -> CallOutcome
         ensures ends { (config : Configured) (acts : List DeviceAct) → IsDevice self.old config acts
             → OutcomeIs result self.new config acts (device_read most term acts) }

@@ -1,5 +1,5 @@
-//! Results of calls that fail, or that return nothing but their success. Each call's result has the
-//! fields that VXI-11 gives it.
+//! Makes the results of calls that fail, and the results of calls that succeed without data. Each
+//! call's result has the fields that VXI-11 gives it.
 
 ghost use Rattle.std.specs.Prelude.{◌≡◌, ℤ, pos, []};
 ghost use Rattle.sv_vxi.specs.Arguments.{OnLink};

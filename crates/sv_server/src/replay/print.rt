@@ -100,7 +100,7 @@ fn put_name<W: Write>(writer: &mut W, port: Port) -> Result<(), WriteFault>
     }
 }
 
-/// Writes the line that shows the bytes that wait on a port; no line if none wait.
+/// Writes a line with the bytes that wait to be sent on a port. Writes nothing if no bytes wait.
 pub fn put_line<W: Write>(writer: &mut W, port: Port, bytes: &[u8]) -> Result<(), WriteFault>
     ensures { IsTakenByWriter (W.contents writer.old) (W.contents writer.new) result
         (port_line port bytes.now) }

@@ -7,9 +7,9 @@ ghost use Rattle.sv_server.specs.Server.Inside.Acting.{IsInput};
 use sv_errors::{MOST_MICROVOLTS, is_channel};
 use sv_history::{Did, Refused};
 
-/// Why an Input is refused that sets this channel to this voltage in microvolts. `BadChannel` if
-/// there is no such channel; else `BadInput` if the voltage is beyond plus or minus 1,000,000,000;
-/// else `None`: the Input isn't refused.
+/// Why the server refuses an Input of this channel and this voltage in microvolts. `BadChannel` if
+/// the channel doesn't exist; else `BadInput` if the voltage is beyond plus or minus 1,000,000,000.
+/// `None` if the Input isn't refused.
 pub fn input_refusal(channel: u8, microvolts: i64) -> Option<Refused>
     ensures { result ≡ refusal_of channel microvolts }
 {

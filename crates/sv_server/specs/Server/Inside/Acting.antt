@@ -44,7 +44,7 @@ Acts config event log (Err NoMemory) new = IsRefusal config event log None
     × ((polled : ℕ) → IsPolled polled (device_acts log) → wants_memory (device_acts (own_acts config polled event log)) ≡ true)
 Acts config event log (Err refused) new = IsRefusal config event log (Some refused)
 
--- whether an event is an Open, Bytes or a Took; after such an event no step is due
+-- whether an event is an Open, a Bytes or a Took: after an event of these three kinds, no step is due
 abbrev pub is_quiet : PlainEvent → Bool
 is_quiet (Open c role) = true
 is_quiet (Bytes c piece) = true
@@ -92,7 +92,7 @@ Steps Nothing config log new = IsSettled config log × Represents new config log
 Steps Instrument config log new = (next : List Act) × IsNext config log next × Represents new config next
 Steps Call config log new = (next : List Act) × IsNext config log next × Represents new config next
 
--- Every log in which the steps from `mid` can end is also a log in which the steps from `log` can end.
+-- If the due steps that begin at the log `mid` can end in a log, the due steps that begin at `log` can end in that log as well.
 abbrev pub Reaches : Config → List Act → List Act → Type 0
 Reaches config log mid = (n : ℕ) (new : List Act) → SettlesIn n config mid new → (m : ℕ) × SettlesIn m config log new
 

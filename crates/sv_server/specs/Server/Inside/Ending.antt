@@ -70,7 +70,7 @@ Concludes effect config acts before connection device =
 
 -- ---- a record that was taken
 
--- whether a record asks for a create_link
+-- whether a record is a call of create_link
 abbrev pub asks_for_link : Request → Bool
 asks_for_link (CoreRequest call) = is_create_link call.arguments
 asks_for_link _ = false
