@@ -30,7 +30,7 @@ use Rattle.sv_history.specs.PolledStatus.{IsPolled}
 use Rattle.sv_history.specs.Settling.{Settles}
 use Rattle.sv_history.specs.Limits.{longest_reply}
 
--- the acts by which a device_abort ends, with error 23, the suspended call of a connection; none if it ends no call
+-- the acts by which a device_abort makes the suspended call of a connection fail with error 23; none if there is no such call
 abbrev pub abort_acts : Option ℕ → List Act → List Act
 abort_acts (Some c) log = acts_of c (failure_effect Abort c (core_call_in (pending_call (of c log))))
 abort_acts None log = []

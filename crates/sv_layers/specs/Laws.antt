@@ -18,8 +18,8 @@ use Rattle.sv_layers.specs.StatusByte.{service, SummaryBit, Request, IsRaised, P
 use Rattle.sv_layers.specs.Inside.LayerLogs.{layer_logs, after_begin, after_complete, register_acts}
 use Rattle.sv_layers.specs.Inside.Representation.{IsSummary, IsStatus, RaisedAt}
 
--- The layer's log of message exchange consists of exactly the acts of message exchange in the instrument's log. The same holds for the
--- error queue and for the scanner. The service request enable in the layers' logs is the one that was set last.
+-- The log of the layer of message exchange has exactly those acts of the instrument's log that are acts of message exchange. The same holds
+-- for the error queue and for the scanner. The service request enable in the layers' logs is the one that was set last.
 abbrev pub OwnActs : Type 0
 OwnActs = (log : List Act) → ((layer_logs log).exchange ≡ exchange_acts log) × ((layer_logs log).errors ≡ queue_acts log)
     × ((layer_logs log).scanner ≡ scan_acts log) × ((layer_logs log).service ≡ service log)

@@ -47,7 +47,7 @@ parameter_place unit index = rest_place unit + part_place index (parts (rest uni
 abbrev pub is_blank : List ℕ → Bool
 is_blank part = is_empty (trim part)
 
--- the first fault of the parameters: a parenthesis isn't closed (-171), or a parameter is empty (-102); `None` if there is no fault
+-- the fault of the parameters: -171 if a parenthesis isn't closed; else -102 if a parameter is empty; else `None`
 abbrev pub parameters_fault : List ℕ → Option Code
 parameters_fault unit =
     if is_open (reverse (rest unit)) then Some InvalidExpression

@@ -25,8 +25,8 @@ const MOST_SLEEPS: u32 = 1_024;
 /// What a server's loop of sweeps remembers: two times, in nanoseconds since the loop began, and
 /// how the waits between its sweeps ended.
 ///
-/// If the server found nothing in the last two waits in which it polled, as on a machine whose
-/// cores are busy, it polls only now and then: in the waits between, it sleeps without polling.
+/// If no report came in the last two waits in which the server polled, it polls only in some of the
+/// next waits; in the others it sleeps at once. So it polls little on a machine whose cores are busy.
 #[derive(Drop)]
 pub struct Pace {
     /// When the last sweep began.

@@ -113,7 +113,8 @@ fn show<W: Write + Drop>(
     writeln!(writer)
 }
 
-/// Chooses the allocation that is refused. For `?`, prints whether the chosen allocation was made.
+/// Chooses the allocation that is refused. For `?`, prints whether the program has come to the
+/// chosen allocation.
 fn ration<W: Write + Drop>(
     heap: &FailingAllocator<Global>,
     text: &str,
