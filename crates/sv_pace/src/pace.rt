@@ -26,7 +26,8 @@ const MOST_SLEEPS: u32 = 1_024;
 /// how the waits between its sweeps ended.
 ///
 /// If no report came in the last two waits in which the server polled, it polls only in some of the
-/// next waits; in the others it sleeps at once. So it polls little on a machine whose cores are busy.
+/// next waits; in the others it sleeps at once. So it polls little on a machine whose cores are
+/// busy.
 #[derive(Drop)]
 pub struct Pace {
     /// When the last sweep began.
