@@ -84,7 +84,9 @@ impl<A: Allocator> Server<A> {
             × ShowsAll config history channel_log log result self.new text }
     {
         for number in 0..32 {
-            self.show(port_of(number), writer)?;
+            if number >= 16 || number < self.connections_used {
+                self.show(port_of(number), writer)?;
+            }
         }
         Ok(())
     }

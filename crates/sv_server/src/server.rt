@@ -43,7 +43,7 @@ pub struct Server<A: Allocator = Global> {
     pub(crate) connections: Vec<Connection<A>, A>,
     pub(crate) device: Device<A>,
     /// One more than the highest number of a connection that was ever opened; 0 if none was.
-    connections_used: u8,
+    pub(crate) connections_used: u8,
 }
 
 impl<A: Allocator> Model for Server<A> {

@@ -9,7 +9,7 @@ use Rattle.sv_history.specs.declared.event.Port.{Port}
 use Rattle.sv_server.specs.declared.replay.print.WriteFault.{WriteFault}
 use Rattle.sv_history.specs.Event.{PlainEvent}
 use Rattle.sv_links.specs.Channels.{ChannelAct}
-use Rattle.sv_history.specs.Act.{Act, BytesTaken}
+use Rattle.sv_history.specs.Act.{Act, BytesTaken, of}
 use Rattle.sv_history.specs.Connection.{waiting, waiting_on}
 use Rattle.sv_server.specs.Server.State.{State}
 use Rattle.sv_history.specs.Print.{port_of, below, ports, port_line, lines_of, with_took, with_tooks}
@@ -116,6 +116,26 @@ so_far_more config history channel_log log n next old new text first mid last up
             ∙ sym (tooks_more channel_log n log history)) stands,
         λ m h. shown_other n m (waiting_on after (port_of n) now) after now (omega arith) ∙ same m (omega arith),
       ),
+    )
+
+-- the port of a connection that was never used has no line
+pub so_far_skip : (config : Config) (history : List PlainEvent) (channel_log : List ChannelAct) (log : List Act) (n next : ℕ)
+    (state : State) (text : List ℕ) → next ≡ suc n → n < 16 → state.connections_used ≤ n
+    → SoFar config history channel_log log n state text → SoFar config history channel_log log next state text
+so_far_skip config history channel_log log n next state text up within unused (is, after, now, (is_log, rep, settled, hears), same) =
+    let none : of n now ≡ [] = rep.connections_used.0 n unused in
+    let here : waiting_on channel_log (port_of n) log ≡ [] = sym (same n (omega arith)) ∙ rw (lt-ltb n 16 within, none) refl in
+    rw up (
+      is ∙ sym (lines_more channel_log n log
+          ∙ (ap (λ (bytes : List ℕ). lines_of channel_log (first_ports n) log ++ port_line (port_of n) bytes) here
+          ∙ append-nil (lines_of channel_log (first_ports n) log))),
+      after,
+      now,
+      subst (λ (h : List PlainEvent). StandsBy state config h after now)
+          (sym (tooks_more channel_log n log history
+          ∙ ap (λ (bytes : List ℕ). with_took (port_of n) bytes (with_tooks channel_log (first_ports n) log history)) here))
+          (is_log, rep, settled, hears),
+      λ m h. same m (omega arith),
     )
 
 pub so_far_all : (config : Config) (history : List PlainEvent) (channel_log : List ChannelAct) (log : List Act) (n : ℕ) (new : State)

@@ -1,21 +1,18 @@
 -- How a connection and the device change when a record that was taken is finished, or when a suspended call continues.
-use Rattle.std.specs.Prelude.{◌≡◌, ◌⊎◌, ℕ, ◌<◌, List, [], ◌∷◌, ◌++◌, map, Bool, true, false, Option, None, Result, ⊤}
+use Rattle.std.specs.Prelude.{◌≡◌, ℕ, ◌<◌, List, [], ◌∷◌, ◌++◌, Bool, true, false, Option, None, Result, ⊤}
 use Rattle.sv_vxi.specs.Arguments.{is_create_link}
 use Rattle.sv_vxi.specs.Results.{plain_result, data_of}
 use Rattle.sv_links.specs.declared.waiting.Entry.{Entry}
-use Rattle.sv_links.specs.declared.waiting.Wait.{Wait}
 use Rattle.sv_links.specs.Links.{holder, is_locked_out}
-use Rattle.sv_links.specs.Waiting.{waits}
-use Rattle.sv_links.specs.Queue.{creations, without, anew}
+use Rattle.sv_links.specs.Queue.{creations, without}
 use Rattle.sv_exchange.specs.Exchange.{response}
 use Rattle.sv_history.specs.declared.event.Config.{Config}
-use Rattle.sv_history.specs.Act.{ConnAct, DeviceAct, Faulted, Replied, link_acts, wait_acts, exchange_acts}
+use Rattle.sv_history.specs.Act.{ConnAct, DeviceAct, Faulted, Replied, link_acts, exchange_acts}
 use Rattle.sv_history.specs.Effect.{Effect, call_effect}
 use Rattle.sv_history.specs.CoreCall.{CoreCall, creates_link}
 use Rattle.sv_history.specs.Request.{Request, CoreRequest}
 use Rattle.sv_history.specs.CoreChannel.{reads}
 use Rattle.sv_history.specs.Execution.{request_effect, aborts}
-use Rattle.sv_history.specs.Interrupts.{is_dialing}
 use Rattle.sv_history.specs.Resuming.{resume_effect, failure_effect, connect_effect}
 use Rattle.sv_history.specs.History.{wants_memory}
 use Rattle.sv_server.specs.declared.connection.reply.Answer.TheVariants.{Result as Told}

@@ -1,13 +1,15 @@
-use Rattle.std.proofs.Common.{[], ◌+◌, ℕ, List, subst, arith}
+use Rattle.std.proofs.Common.{[], ◌+◌, ℕ, List, ap, subst, arith}
 use Rattle.std.specs.Prelude.{Ok}
 use Rattle.std.specs.Io.KnownBytes.{Appends}
 use Rattle.sv_history.specs.declared.event.Port.{Port}
 use Rattle.sv_history.specs.Event.{PlainEvent}
 use Rattle.sv_history.specs.Act.{Act}
 use Rattle.sv_links.specs.Channels.{ChannelAct}
+use Rattle.sv_server.specs.Server.State.{State}
 use Rattle.sv_server.specs.Replay.Inside.Showing.{StandsBy, ShowsPort}
 use Rattle.sv_server.proofs.OnReplay.Taking.{appends_none}
-use Rattle.sv_server.proofs.OnReplay.Ports.{so_far_none, so_far_more, so_far_all, so_far_stop}
+use Rattle.sv_server.proofs.OnReplay.Ports.{so_far_none, so_far_more, so_far_skip, so_far_all, so_far_stop}
+use Rattle.sv_server.proofs.server.Server.show_all.Goals.{then-number-ge16+in_ok-show, else-number-ge16+else-number-self}
 use Rattle.sv_server.proofs.server.Server.show_all.Goals as goal
 
 pub loop-number-init : goal.loop-number-init
@@ -24,11 +26,20 @@ returns-in_err-show g c = λ config history channel_log log s.
 pub loop-number-preserved : goal.loop-number-preserved
 loop-number-preserved g c = λ config history channel_log log s.
     let (text, put, so) = c.loop-number.invariant config history channel_log log s in
-    so_far_more config history channel_log log c.loop-number.number (c.loop-number.number + 1) c.loop-number.self c.show.new.self text _ _ _
-    (omega arith) so put (subst (λ (port : Port). (h : List PlainEvent) (after : List ChannelAct) (now : List Act)
-    → StandsBy c.loop-number.self config h after now
-    → (line : List ℕ) × Appends (g.W.Write.contents c.loop-number.writer) (g.W.Write.contents c.show.new.writer) line
-    × ShowsPort port config h after now (Ok tt) c.show.new.self line) c.port_of.ensures (c.in_ok-show.ensures config))
+    elim c.if-number-ge16.branch [
+      | then-number-ge16+in_ok-show w ↦ rw (w.self-is, w.writer-is)
+          (so_far_more config history channel_log log c.loop-number.number (c.loop-number.number + 1) c.loop-number.self w.show.new.self text
+          _ _ _ (omega arith) so put (subst (λ (port : Port). (h : List PlainEvent) (after : List ChannelAct) (now : List Act)
+          → StandsBy c.loop-number.self config h after now
+          → (line : List ℕ) × Appends (g.W.Write.contents c.loop-number.writer) (g.W.Write.contents w.show.new.writer) line
+          × ShowsPort port config h after now (Ok tt) w.show.new.self line) w.port_of.ensures (w.in_ok-show.ensures config)))
+      | else-number-ge16+else-number-self w ↦ rw (w.self-is, w.writer-is) (
+        text,
+        put,
+        so_far_skip config history channel_log log c.loop-number.number (c.loop-number.number + 1) c.loop-number.self text
+            (omega arith) (omega (arith, w.if-number-ge16.false)) (omega (arith, w.if-number-self.false, ap (λ (st : State). st.connections_used) c.self.view_is)) so,
+      )
+    ]
 
 pub returns : goal.returns
 returns g c = λ config history channel_log log s.
