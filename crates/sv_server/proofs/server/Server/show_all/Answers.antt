@@ -1,4 +1,4 @@
-use Rattle.std.proofs.Common.{[], ◌+◌, ℕ, List, ap, subst, arith}
+use Rattle.std.proofs.Common.{[], ◌+◌, ◌<◌, ◌≤◌, ℕ, List, ap, subst, arith}
 use Rattle.std.specs.Prelude.{Ok}
 use Rattle.std.specs.Io.KnownBytes.{Appends}
 use Rattle.sv_history.specs.declared.event.Port.{Port}
@@ -26,19 +26,21 @@ returns-in_err-show g c = λ config history channel_log log s.
 pub loop-number-preserved : goal.loop-number-preserved
 loop-number-preserved g c = λ config history channel_log log s.
     let (text, put, so) = c.loop-number.invariant config history channel_log log s in
+    let n : ℕ = c.loop-number.number in
+    let old : State = c.loop-number.self in
     elim c.if-number-ge16.branch [
       | then-number-ge16+in_ok-show w ↦ rw (w.self-is, w.writer-is)
-          (so_far_more config history channel_log log c.loop-number.number (c.loop-number.number + 1) c.loop-number.self w.show.new.self text
-          _ _ _ (omega arith) so put (subst (λ (port : Port). (h : List PlainEvent) (after : List ChannelAct) (now : List Act)
-          → StandsBy c.loop-number.self config h after now
+          (so_far_more config history channel_log log n (n + 1) old w.show.new.self text _ _ _ (omega arith) so put
+          (subst (λ (port : Port). (h : List PlainEvent) (after : List ChannelAct) (now : List Act)
+          → StandsBy old config h after now
           → (line : List ℕ) × Appends (g.W.Write.contents c.loop-number.writer) (g.W.Write.contents w.show.new.writer) line
           × ShowsPort port config h after now (Ok tt) w.show.new.self line) w.port_of.ensures (w.in_ok-show.ensures config)))
-      | else-number-ge16+else-number-self w ↦ rw (w.self-is, w.writer-is) (
-        text,
-        put,
-        so_far_skip config history channel_log log c.loop-number.number (c.loop-number.number + 1) c.loop-number.self text
-            (omega arith) (omega (arith, w.if-number-ge16.false)) (omega (arith, w.if-number-self.false, ap (λ (st : State). st.connections_used) c.self.view_is)) so,
-      )
+      | else-number-ge16+else-number-self w ↦
+          let within : n < 16 = omega (arith, w.if-number-ge16.false) in
+          let seen = ap (λ (st : State). st.connections_used) c.self.view_is in
+          let unused : old.connections_used ≤ n = omega (arith, w.if-number-self.false, seen) in
+          rw (w.self-is, w.writer-is)
+          (text, put, so_far_skip config history channel_log log n (n + 1) old text (omega arith) within unused so)
     ]
 
 pub returns : goal.returns
