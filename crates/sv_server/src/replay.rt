@@ -76,7 +76,7 @@ impl<A: Allocator> Server<A> {
     }
 
     /// Writes the lines of all ports on which bytes wait to be sent, and drops the bytes that the
-    /// lines show.
+    /// lines show. A connection that was never opened has no bytes, and isn't looked at.
     fn show_all<W: Write>(&mut self, writer: &mut W) -> Result<(), WriteFault>
         ensures { (config : Config) (history : List PlainEvent) (channel_log : List ChannelAct)
             (log : List Act) → StandsBy self.old config history channel_log log
