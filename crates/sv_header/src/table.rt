@@ -21,8 +21,9 @@ macro_rules! group {
     };
 }
 
-/// A node, given the number of nodes below it and the commands of the two headers that end at it:
-/// first of the header without a question mark, then of the header with one.
+/// A node, given the number of nodes below it and the commands of the two headers that end at the
+/// node. First comes the command of the header without a question mark, then that of the header
+/// with one.
 macro_rules! ending {
     ($node:ident, $below:literal, $plain:expr, $query:expr) => {
         Branch {

@@ -34,7 +34,7 @@ pub(crate) fn carry_out<A: Allocator>(layers: &mut Layers<A>, change: Change) ->
     None
 }
 
-/// Keeps the unit that is due waiting for the end of the measurement, instead of ending it now.
+/// Makes the unit that is due wait for the end of the measurement, instead of ending the unit now.
 /// Returns `awaited`, which is what the unit will answer then.
 pub(crate) fn hold<A: Allocator>(layers: &mut Layers<A>, awaited: Awaited) -> Option<Awaited>
     requires { IsUnitDue (next_of layers.old.exchange) }

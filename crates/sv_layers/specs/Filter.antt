@@ -18,8 +18,8 @@ is_same _ _ = false
 abbrev pub start : RegisterName → ℕ
 start = elim [ Limit ↦ 32767 | _ ↦ 0 ]
 
--- the new mask of register `name` after an act that sets this mask for register `other`: the mask without bit 15 if both are the same
--- register; else `None`
+-- what an act that sets this mask for register `other` means for register `name`: if both are the same register, its new mask is this
+-- mask without bit 15; else `None`
 abbrev pub mask_for : RegisterName → RegisterName → ℕ → Option ℕ
 mask_for name other mask = if is_same name other then Some (without_top_bit mask) else None
 

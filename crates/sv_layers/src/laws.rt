@@ -28,8 +28,8 @@ pub fn same_waiting()
     ensures { SameWaiting }
 {}
 
-/// At an act the layers' standard events get the event operation complete exactly if IEEE 488.2,
-/// 12.5.2, says that an `*OPC` completes at this act, given the instrument's log up to it.
+/// At an act, the layers set the standard event operation complete exactly if IEEE 488.2, 12.5.2,
+/// says that an `*OPC` completes at this act, given the instrument's log up to the act.
 pub fn same_completion()
     ensures { SameCompletion }
 {}
@@ -69,8 +69,8 @@ pub fn same_raising()
     ensures { SameRaising }
 {}
 
-/// A poll and `*STB?` read from the layers the status bytes that IEEE 488.2, 11.2.2, prescribes for
-/// the acts of the instrument's log.
+/// The status bytes that a poll and `*STB?` return are those that IEEE 488.2, 11.2.2, prescribes
+/// for the acts of the instrument's log.
 pub fn same_status()
     ensures { SameStatus }
 {}

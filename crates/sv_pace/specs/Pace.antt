@@ -23,9 +23,9 @@ sleeps (Found ∷ waits) = 0
 sleeps (Missed ∷ waits) = 0
 sleeps (Slept ∷ waits) = suc (sleeps waits)
 
--- In how many waits the server has to sleep without polling, after a wait in which it polled and found nothing. The flag says whether it
--- also found nothing the previous time it polled in a wait, and `pause` is the number that applied then. If the flag is false, the new
--- number is 0. Else it is twice `pause`, but at least 1 and at most 1,024.
+-- In how many waits the server has to sleep without polling, after a wait in which it polled and found nothing. The flag says whether
+-- the server also found nothing in the wait before, among those in which it polled. If so, `pause` is the number for that wait, and the
+-- new number is twice `pause`, but at least 1 and at most 1,024. If not, the new number is 0.
 abbrev pub longer : Bool → ℕ → ℕ
 longer false pause = 0
 longer true pause = min (max (pause * 2) 1) 1024

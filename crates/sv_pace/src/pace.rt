@@ -61,8 +61,9 @@ impl Model for Pace {
 }
 
 /// Returns in how many waits the server has to sleep without polling, after a wait in which it
-/// polled and found nothing. `missed` says whether it also found nothing the previous time it
-/// polled in a wait, and `pause` is the number that applied then.
+/// polled and found nothing. `missed` says whether the server also found nothing in the wait
+/// before, among those in which it polled. If so, `pause` is the number that this function returned
+/// for that wait.
 fn longer(missed: bool, pause: u32) -> u32
     requires { pause ≤ 1024 }
     ensures value { result ≡ longer missed pause }

@@ -6,8 +6,9 @@ use Rattle.sv_replay.specs.declared.scenario.ScenarioFault.TheVariants.{BadLine,
 use Rattle.sv_replay.specs.Script.{parts}
 use Rattle.sv_replay.specs.Scenario.{SaysFrom, Tells, last_tick, IsBadFrom}
 
--- What reading one line of a scenario does. `number` is the number of the line, `least` is the tick of the last entry before it, and `old`
--- and `new` are the scenario's entries without and with the line. A success returns the tick of the last entry in `new`.
+-- What reading one line of a scenario does. `number` is the number of the line, `least` is the tick of the last entry before it, `old` are
+-- the scenario's entries before the line is read, and `new` are those after it is read. A success returns the tick of the last entry in
+-- `new`.
 abbrev pub Adds : ℕ → List ℕ → ℕ → List Entry → List Entry → Result ℕ ScenarioFault → Type 0
 Adds least line number old new (Ok tick) = ((line ≡ []) × (new ≡ old) × (tick ≡ least))
     ⊎ ((entry : Entry) × SaysFrom least line entry × (new ≡ old ++ entry ∷ []) × (tick ≡ entry.tick))

@@ -42,7 +42,8 @@ use sv_vxi::ErrorCode;
 pub struct Server<A: Allocator = Global> {
     pub(crate) connections: Vec<Connection<A>, A>,
     pub(crate) device: Device<A>,
-    /// One more than the highest number of a connection that was ever opened; 0 if none was.
+    /// The highest number of a connection that was ever opened, plus 1; 0 if no connection was ever
+    /// opened.
     pub(crate) connections_used: u8,
 }
 
@@ -188,8 +189,8 @@ impl<A: Allocator> Server<A> {
         }
     }
 
-    /// One more than the highest number of a connection that was ever opened; 0 if none was.
-    /// Connections with this number or a higher number were never opened.
+    /// The highest number of a connection that was ever opened, plus 1; 0 if no connection was ever
+    /// opened. Connections with this number or a higher number were never opened.
     pub fn connections_used(&self) -> u8
         ensures { (config : Config) (history : List PlainEvent) → StandsFor self.now config history
             → (log : List Act) × IsLogOf config history log × IsUsed result log }

@@ -92,7 +92,8 @@ InBounds _ = Unit {0}
 abbrev pub BeginsWith : List ℕ → Arguments → List ℕ → Type 0
 BeginsWith bytes arguments after = InBounds arguments × BeginsAll bytes (argument_fields arguments) after
 
--- What the bytes are as arguments of the call with this number: these arguments, or garbage. Bytes after the last field are ignored.
+-- If the bytes are read as arguments of the call with this number, the result is these arguments, or garbage. Bytes after the last
+-- field are ignored.
 abbrev pub ArgumentsAre : ℕ → List ℕ → Result Arguments Garbage → Type 0
 ArgumentsAre proc bytes (Ok arguments) = (procedure_of arguments ≡ proc) × (after : List ℕ) × BeginsWith bytes arguments after
 ArgumentsAre proc bytes (Err garbage) = (arguments : Arguments) (after : List ℕ) → procedure_of arguments ≡ proc

@@ -76,8 +76,8 @@ fn show<W: Write + Drop>(
 }
 
 /// The word for a peer's result in a run in which one call to the wire fails: `struck` if the call
-/// was for this peer; else `whole` if the peer got the same bytes as in the run without a failure,
-/// where this peer was `whole`; else `lacks bytes`.
+/// was for this peer; else `whole` if the peer got the same bytes as in the run without a failure;
+/// else `lacks bytes`. The argument `whole` is the same peer in that run.
 fn outcome(peer: &Peer, whole: &Peer) -> &'static str {
     if peer.struck {
         "struck"

@@ -26,8 +26,9 @@
 //! every byte; else `lacks bytes`.
 //!
 //! A row whose first line is `pace` queries the decisions of a loop of sweeps. Times are in
-//! nanoseconds since the loop began. `ticks NOW` prints how many milliseconds pass. `sleep_time NOW
-//! TICKS` prints how long the loop may sleep. `eager NOW` prints whether the loop polls again
+//! nanoseconds since the loop began. `ticks NOW` prints how many milliseconds pass in a sweep that
+//! begins at NOW. `sleep_time NOW TICKS` prints for how many nanoseconds the loop may sleep at NOW,
+//! if it has nothing to do for TICKS milliseconds. `eager NOW` prints whether the loop polls again
 //! without sleeping. Three lines print nothing: `work NOW` tells the loop that a poll at NOW
 //! reported a ready socket; `found N` tells it that a wait of N polls ended with such a report;
 //! `nothing N` tells it that a wait of N polls ended without one. `vain N` makes N runs of polls

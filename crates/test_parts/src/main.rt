@@ -7,7 +7,7 @@
 //! | `new` | none; acts after this line are performed on new parts |
 //! | `times N LINE` | the answers of the line, which is executed N times |
 //! | `white TEXT` | for each byte, whether it is white space |
-//! | `trim TEXT` | the text without white space at both ends, then in front, then at the end |
+//! | `trim TEXT` | the text three times: trimmed at both ends, in front only, at the end only |
 //! | `cut BYTE TEXT` | the first place of the byte, and the texts before and after it |
 //! | `parts TEXT` | the parts of a header |
 //! | `unit TEXT` | the header and the parameters of a unit, each with its place and its kind |

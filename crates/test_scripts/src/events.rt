@@ -10,7 +10,7 @@
 //! | `times N` | the lines up to the next `times` are executed N times |
 //! | `ask 0` | prints the server's answers about a connection |
 //! | `show c0` | prints the bytes that wait on a port |
-//! | `used` | prints one more than the highest number of a connection that was ever opened |
+//! | `used` | prints the highest number of a connection that was ever opened, plus 1 |
 //!
 //! For an event that was refused, the number of the refusal is printed. For a Turn that found no
 //! call, `idle` is printed. For any other event nothing is printed.

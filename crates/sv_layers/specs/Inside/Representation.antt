@@ -42,7 +42,8 @@ pub record LayerState : Type 0 where
   pub waits : Bool
   pub requests : ℕ
 
--- `word` is a status byte with exactly those summary bits set that are set according to these logs of the layers.
+-- The summary bits that are set in the status byte `word` are exactly those that these logs of the layers
+-- require.
 pub record IsSummary (word : ℕ) (at : LayerLogs) : Type 0 where
   pub operates : Bool
   pub happened : Bool

@@ -23,8 +23,8 @@ fault_of DataSpace p = length_fault_of p
 fault_of Illegal p = Some InvalidCharacter
 fault_of _ p = Some SyntaxError
 
--- Used for both ends of a unit's program data: the position of that end, if the unit ends at this stage. It is `in_data` if the unit has
--- program data; else it is `behind_header`, the position after the unit's header.
+-- where the program data of a unit begin, or where they end; the definition is used for both positions. If the unit has program data,
+-- the position is `in_data`; else it is `behind_header`, the position after the header. The unit ends at this stage.
 abbrev pub data_of : Stage → (behind_header in_data : ℕ) → ℕ
 data_of ProgramData behind_header in_data = in_data
 data_of DataSpace behind_header in_data = in_data

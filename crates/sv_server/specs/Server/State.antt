@@ -15,8 +15,8 @@ use Rattle.sv_history.specs.Settling.{IsSettled}
 use Rattle.sv_history.specs.Queries.{IsUsed}
 use Rattle.sv_history.specs.History.{IsLogOf}
 
--- the state of the server: sixteen connections; the device; and one more than the highest number of a connection that was ever opened, or 0
--- if none was
+-- the state of the server: sixteen connections; the device; and the highest number of a connection that was ever opened, plus 1 (0 if no
+-- connection was ever opened)
 pub record State : Type 0 where
   pub connections : List Connection
   pub device : Device

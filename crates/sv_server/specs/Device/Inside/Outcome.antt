@@ -87,8 +87,8 @@ pub record Does {O : Type 0} (IsSo : Config → ℕ → List DeviceAct → O →
   pub brief : IfOk result (λ outcome. IsShort outcome)
   pub err : OnErr result (new ≡ old)
 
--- What a function that begins a call does to the device. This is stated only if `IsAt` holds for the acts of the device before the call.
--- `Admits` allows any acts. `AdmitsAt` allows only acts after which `stop` is what stops the call, or `None` if nothing stops it.
+-- What a function that begins a call does to the device, if `IsAt` holds of the acts that the device did before the call. With `Admits`
+-- these can be any acts. With `AdmitsAt` they are acts after which the call is stopped by `stop`, or by nothing if `stop` is `None`.
 abbrev pub Begins : (List DeviceAct → Type 0) → {E : Type 0} → Result Outcome E → ℕ → Arguments → Device → Device → Type 0
 Begins IsAt result c arguments old new =
     Does (λ config polled acts outcome. IsAt acts
