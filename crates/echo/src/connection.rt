@@ -11,7 +11,7 @@ pub(crate) struct Connection {
 }
 
 impl Connection {
-    /// Makes a connection of this stream. The system reports events of the stream under this token.
+    /// Makes a connection from this stream. The system's reports about the stream have this token.
     pub(crate) fn new(
         mut stream: TcpStream,
         registry: &Registry,

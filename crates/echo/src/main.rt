@@ -21,7 +21,7 @@ fn main(rt: HostRuntime) -> ExitCode {
     }
 }
 
-/// Reads the port and the number of polls, and serves.
+/// Reads the port and the number of polls from the command line, and serves the port.
 fn program(rt: &HostRuntime) -> io::Result<()> {
     let mut words = env::args(rt)?;
     let _program = words.next();

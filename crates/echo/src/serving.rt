@@ -1,4 +1,4 @@
-//! Serving a port.
+//! Serves a port: accepts connections, and sends back the bytes that come.
 
 use crate::connection::Connection;
 use mio::net::TcpListener;
@@ -78,9 +78,9 @@ impl Served {
         })
     }
 
-    /// Polls one time. The poll waits at most for `limit`, or without a limit if that is `None`.
-    /// Accepts connections, and sends back the bytes that came. Returns whether the poll reported
-    /// anything.
+    /// Polls once. The poll waits at most for the time `limit`. If `limit` is `None`, only an event
+    /// ends the poll. Accepts connections, and sends back the bytes that came. Returns whether the
+    /// poll reported anything.
     fn spin(&mut self, limit: Option<Duration>) -> io::Result<bool> {
         self.poll.poll(&mut self.events, limit)?;
         for event in self.events.iter() {
@@ -117,8 +117,8 @@ pub(crate) fn serve(rt: &HostRuntime, port: u16, looks: u32) -> io::Result<()> {
     Ok(())
 }
 
-/// How long the next poll may sleep if `left` polls remain. Only the last few polls have a limit;
-/// `None` means without a limit.
+/// Returns how long the next poll may sleep if `left` polls remain. `None` means that there is no
+/// limit: more than `FEW` polls remain.
 fn sleep_time(pace: &Pace, now: u64, left: u32) -> Option<Duration> {
     if left > FEW {
         return None;
@@ -126,8 +126,8 @@ fn sleep_time(pace: &Pace, now: u64, left: u32) -> Option<Duration> {
     Some(Duration::from_nanos(pace.sleep_time(now, STILL)))
 }
 
-/// Records the result of a poll: `came` says whether it found something. Returns how many polls
-/// without sleep have found nothing since the last wait ended.
+/// Records the result of a poll: `came` says whether the poll found something. Returns how many
+/// polls without sleep have found nothing since the last wait ended.
 fn keep(pace: &mut Pace, now: u64, tries: u32, spinning: bool, came: bool) -> u32 {
     if came {
         pace.work(now);

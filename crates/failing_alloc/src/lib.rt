@@ -8,8 +8,8 @@
 //! for number in 1..100 {
 //!     heap.refuse(number);
 //!     let outcome = code_under_test(&heap);
-//!     // If no allocation was refused, the code makes fewer allocations than `number`, and
-//!     // `outcome` is its answer with all memory.
+//!     // If `heap` is still armed, no allocation was refused: the code makes fewer allocations
+//!     // than `number`, and `outcome` is what it returns without a refusal.
 //!     if heap.is_armed() { .. }
 //! }
 //! ```
@@ -42,8 +42,7 @@ pub struct FailingAllocator<B: Allocator> {
 }
 
 impl<B: Allocator> FailingAllocator<B> {
-    /// Makes an allocator that passes every call on to `inner`, until `refuse` chooses an
-    /// allocation that is refused.
+    /// Makes an allocator over `inner`. It refuses nothing until `refuse` chooses an allocation.
     pub fn new(inner: B) -> FailingAllocator<B> {
         FailingAllocator {
             inner,
@@ -51,15 +50,16 @@ impl<B: Allocator> FailingAllocator<B> {
         }
     }
 
-    /// Refuses one allocation: of the allocations made from now on, the one with this number,
-    /// counted from 1. All other allocations are passed on. With 0 no allocation is refused.
+    /// Chooses one allocation that is refused: the one with this number. The next allocation has
+    /// the number 1. All other allocations are passed on. If the number is 0, no allocation is
+    /// refused.
     ///
     /// A second call of `refuse` replaces the number that the first call chose.
     pub fn refuse(&self, number: u64) {
         self.left.set(number);
     }
 
-    /// Whether an allocation was chosen to be refused and hasn't been made yet.
+    /// Whether `refuse` chose an allocation that hasn't been made yet.
     pub fn is_armed(&self) -> bool {
         self.left.get() != 0
     }

@@ -31,13 +31,14 @@ fn program(rt: &HostRuntime) -> Result<(), ProgramFault> {
     }
 }
 
-/// The words of the command line, with the name of the program first.
+/// Returns the words of the command line, with the name of the program first.
 fn own_words(rt: &HostRuntime) -> Result<Vec<String<Global>, Global>, ProgramFault> {
     let words = env::args(rt).map_err(|error| words_fault(&error))?;
     Ok(words.collect(rt.alloc())?)
 }
 
-/// The fault if the command line can't be read: memory was refused, or a word isn't text.
+/// Returns the program's fault if the command line can't be read: memory was refused, or a word
+/// isn't text.
 fn words_fault(error: &Error) -> ProgramFault {
     match error.kind() {
         ErrorKind::OutOfMemory => ProgramFault::Run(RunFault::Memory),

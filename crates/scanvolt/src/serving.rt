@@ -1,4 +1,4 @@
-//! Serving sockets.
+//! Serves clients over sockets.
 
 use std::alloc::Global;
 use std::fs;
@@ -9,8 +9,8 @@ use sv_serve::Driver;
 use sv_server::{Config, Server};
 use sv_words::{ProgramFault, Serve};
 
-/// The program's fault for an error of the system: `Memory` if the error is that memory was
-/// refused, else `other`.
+/// Returns the program's fault for an error of the system: `Memory` if the error says that memory
+/// was refused, else `other`.
 fn fault_or(error: &Error, other: ProgramFault) -> ProgramFault {
     match error.kind() {
         ErrorKind::OutOfMemory => ProgramFault::Run(RunFault::Memory),

@@ -14,8 +14,8 @@ use sv_value::{boolean, keyword, microvolts, whole};
 /// All bits of a mask but bit 6.
 const ALL_BUT_SIX: u8 = 191;
 
-/// Returns the order of a command with this parameter: what the instrument has to do. Or returns
-/// the error, if the parameter is wrong.
+/// Returns the order of a command with this parameter, or without a parameter (`None`); or returns
+/// the error, if the parameter is wrong or missing.
 pub(crate) fn order(command: CommandId, given: Option<Token<'_>>) -> Result<Order, Code>
     ensures { result ≡ order_of command (given_by given.entry) }
 {

@@ -2,8 +2,8 @@
 
 ghost use Rattle.sv_command.specs.Laws.{OneReading};
 
-/// A unit, with the path before it, has only one meaning, and it leads to only one path for the
-/// next unit.
+/// A unit can be read relative to a path in only one way: as one order or one error, and with one
+/// path for the next unit.
 pub fn one_reading()
     ensures { OneReading }
 {}

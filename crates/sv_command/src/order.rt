@@ -25,8 +25,8 @@ pub enum Order {
     /// Change a setting of the scanner. A range can be any voltage up to 1,000 V in magnitude here:
     /// the scanner checks whether it has this range.
     Set(Setting),
-    /// `CONFigure:VOLTage`: abort, and configure a measurement, with this channel list if there is
-    /// one.
+    /// `CONFigure:VOLTage`: abort, then configure a measurement, with this channel list if one is
+    /// given.
     Configure(Option<ScanList>),
     /// `MEASure:VOLTage?`: configure as [`Order::Configure`] does, begin a measurement, and return
     /// its readings.

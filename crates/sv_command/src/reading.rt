@@ -11,9 +11,9 @@ use sv_errors::Code;
 use sv_header::{CommandId, Path, Table};
 use sv_lexer::Unit;
 
-/// Reads the order of a unit, with the path before it. `lexed` is the unit as `sv_lexer` read it,
-/// or the error that `sv_lexer` found. If the header names a command, the path is updated, even if
-/// the parameters are wrong.
+/// Reads a unit relative to `path`, and returns its order. `lexed` is the unit as `sv_lexer` read
+/// it, or the error that `sv_lexer` found. If the header names a command, `path` is updated, even
+/// if the parameters are wrong.
 ///
 /// # Errors
 /// The first of these that applies: the error in `lexed`; [`Code::UndefinedHeader`] if the header
@@ -35,8 +35,8 @@ pub fn read_unit<A: Allocator>(
     }
 }
 
-/// Returns what a well-formed unit tells the instrument to do (its order), or the error. Updates
-/// the path if the header names a command.
+/// Reads a well-formed unit relative to `path`, and returns its order or the error. Updates `path`
+/// if the header names a command.
 fn named<A: Allocator>(table: &Table<A>, path: &mut Path, unit: &Unit<'_>) -> Result<Order, Code>
     ensures { IsNamed path.old unit.now result path.new }
 {
@@ -50,8 +50,8 @@ fn named<A: Allocator>(table: &Table<A>, path: &mut Path, unit: &Unit<'_>) -> Re
     }
 }
 
-/// Returns what a command with the parameters of its unit tells the instrument to do (its order),
-/// or the first error of the parameters.
+/// Returns the order of a command, given the unit with its parameters; or the first error of the
+/// parameters.
 fn asked(command: CommandId, unit: &Unit<'_>) -> Result<Order, Code>
     ensures { result ≡ asked_by command unit.now }
 {

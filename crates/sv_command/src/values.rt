@@ -40,7 +40,7 @@ pub(crate) fn list(token: &Token<'_>) -> Result<ScanList, Code>
     }
 }
 
-/// Reads the channel list that is the parameter; returns `None` if there is no parameter.
+/// Reads the parameter, which is a channel list; returns `None` if there is no parameter.
 pub(crate) fn list_if_given(given: Option<Token<'_>>) -> Result<Option<ScanList>, Code>
     ensures { result ≡ channels_in (given_by given.entry) }
 {

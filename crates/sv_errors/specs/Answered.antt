@@ -7,7 +7,7 @@ use Rattle.sv_errors.specs.declared.error_queue.QueueAnswer.TheVariants.{Reporte
 use Rattle.sv_errors.specs.ErrorQueue.{is_full, oldest}
 
 -- the answer to `act` after `acts`: for a report, whether the queue was full before the report; for a take, the entry that was the oldest,
--- `None` if the queue was empty
+-- or `None` if the queue was empty
 abbrev pub answer_to : List QueueAct → QueueAct → QueueAnswer
 answer_to acts (Report code) = Reported (is_full acts)
 answer_to acts Take = Taken (oldest acts)

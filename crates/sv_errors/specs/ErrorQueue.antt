@@ -1,5 +1,5 @@
--- The error queue (SCPI-1999, volume 2, section 21.8), as a search of its acts, the newest first. The place of an act is its number,
--- counted from the oldest act, which has number 1.
+-- The error queue (SCPI-1999, volume 2, section 21.8), defined by a search of its acts, the newest first. An act's number (`place`)
+-- is counted from the oldest act, which has number 1.
 use Rattle.std.specs.Prelude.{◌≡◌, ℕ, ◌+◌, ◌-◌, ◌==◌, ◌&&◌, Bool, List, [], ◌∷◌, ◌++◌, length, map, drop, Option, Some, None, is_some, unwrap_or, nat_lt, slice_get, if◌then◌else◌}
 use Rattle.sv_errors.specs.declared.code.Code.{Code}
 use Rattle.sv_errors.specs.declared.code.Code.TheVariants.{NoError, QueueOverflow}
@@ -10,25 +10,27 @@ use Rattle.sv_errors.specs.declared.error_queue.QueueAct.TheVariants.{Report, Ta
 abbrev pub most : ℕ
 most = 64
 
--- `admitted`: the reports since the last clearing for which the queue had room, in order, each given as the number of its act, counted from
--- the oldest act; `taken`: how many of their entries were taken from the queue
+-- `admitted`: the reports since the last clearing for which the queue had room, the oldest first. Each report is given as the number of its
+-- act, counted from the oldest act. `taken`: how many of these reports' entries were taken from the queue.
 pub record Counted : Type 0 where
   pub admitted : List ℕ
   pub taken : ℕ
 
--- the admitted reports whose entries weren't taken from the queue yet, as numbers of acts
+-- the admitted reports whose entries weren't taken from the queue yet, each given as the number of
+-- its act
 abbrev pub left : Counted → List ℕ
 left count_acts = drop count_acts.taken count_acts.admitted
 
--- what is counted after act number `place` reports an error: the report is admitted if fewer than 64 entries are in the queue
+-- the counts after act number `place`, which reports an error: the report is admitted if the queue has fewer than 64 entries
 abbrev pub admit : Counted → ℕ → Counted
 admit before place = if nat_lt (length (left before)) most then record before { admitted = before.admitted ++ place ∷ [] } else before
 
--- what is counted after a take: one more entry is taken, unless the queue is empty
+-- the counts after a take: one more entry is taken, unless the queue is empty
 abbrev pub take_one : Counted → Counted
 take_one before = if is_some (slice_get (left before) 0) then record before { taken = before.taken + 1 } else before
 
--- after these acts: the reports since the last clearing that found room in the queue, and how many of their entries were taken
+-- the counts after these acts: the reports since the last clearing for which the queue had room, and how many of their entries
+-- were taken
 abbrev pub count_acts : List QueueAct → Counted
 count_acts [] = record { admitted = []; taken = 0 }
 count_acts (Report code ∷ acts) = admit (count_acts acts) (length acts + 1)
@@ -61,7 +63,7 @@ abbrev pub entry_code : List QueueAct → ℕ → Code
 entry_code acts place =
     if is_full (up_to place acts) && is_overtaken place acts then QueueOverflow else unwrap_or (report_of (up_to place acts)) NoError
 
--- the errors in the queue, oldest first
+-- the errors in the queue, the oldest first
 abbrev pub queue_codes : List QueueAct → List Code
 queue_codes acts = map (entry_code acts) (entries acts)
 

@@ -37,7 +37,7 @@ pub enum Code {
     ExponentTooLarge,
     /// A mantissa of more than 255 digits, not counting zeros in front.
     TooManyDigits,
-    /// A suffix that isn't a unit of the parameter.
+    /// A suffix that names no unit of the parameter.
     InvalidSuffix,
     /// A suffix on a parameter that has no unit.
     SuffixNotAllowed,

@@ -1,4 +1,4 @@
--- What is known about the first unit of a text of which only a beginning was read.
+-- What is known about the first unit of a text after only a beginning of the text was read.
 use Rattle.std.specs.Prelude.{◌≡◌, ℕ, ◌+◌, ◌≤◌, ◌==◌, Bool, true, false, List, [], ◌∷◌, ◌++◌, length, take, nat_lt, if◌then◌else◌}
 use Rattle.std.specs.List.{list_all, list_any}
 use Rattle.sv_text.specs.White.{is_white, trim_start, trim_end}
@@ -10,8 +10,8 @@ use Rattle.sv_exchange.specs.declared.ahead.Ahead.{Ahead}
 abbrev pub is_separator : ℕ → Bool
 is_separator b = b == 59
 
--- The first unit of the text may still go on, because no semicolon after it was read. `unit` are its bytes so far, and `space` is the white
--- space that was read after these bytes.
+-- The first unit of the text may still go on, because no semicolon after it was read. `unit` has the bytes of the unit so far, and `space`
+-- is the white space that was read after them.
 pub record IsOpen (seen unit space : List ℕ) : Type 0 where
   pub left : (more : List ℕ) → units (seen ++ more) ≡ units ((unit ++ space) ++ more)
   pub single : list_any is_separator (unit ++ space) ≡ false
@@ -21,7 +21,7 @@ pub record IsOpen (seen unit space : List ℕ) : Type 0 where
   pub ends : trim_end unit ≡ unit
 
 -- If the flag is true, `unit` is the first unit of the text, whatever bytes follow those that were read (`seen`). If the flag is false, the
--- first unit may still go on, and `unit` are its bytes so far.
+-- first unit may still go on, and `unit` has its bytes so far.
 abbrev pub IsFound : Bool → (seen unit space : List ℕ) → Type 0
 IsFound true seen unit space = (is_something unit ≡ true) × ((more : List ℕ) → units (seen ++ more) ≡ unit ∷ units more)
 IsFound false seen unit space = IsOpen seen unit space

@@ -5,9 +5,10 @@ use Rattle.sv_exchange.specs.declared.exchange.Next.TheVariants as next
 use Rattle.sv_exchange.specs.Exchange.{ExchangeAct, Symbol, Byte, end_mark, text, messages, messages_finished, current, units_done, has_overrun, has_dropped, answers, units, is_something, joined_answers, response, Due, NothingDue, OverrunDue, InterruptDue, UnitDue, FinishDue, due_unit}
 use Rattle.sv_exchange.specs.Limits.{max_message}
 
--- the state: the part of the current message that wasn't executed yet; whether this message has ended; the text after this message; whether
--- END follows that text; whether the current message is too long; whether it was reported as too long; whether its answers were dropped;
--- whether the output is the answers of the current message (else it is the response); and the output
+-- the state. First: the part of the current message that wasn't executed yet, and whether the message has ended; the text after the
+-- message, and whether END follows this text. Then: whether the current message is too long, whether it was reported as too long, and
+-- whether its answers were dropped. Last: the output, which is the answers of the current message if `answering` is true, else the
+-- response.
 pub record Contents : Type 0 where
   pub rest : List ℕ
   pub ended : Bool
@@ -49,7 +50,8 @@ abbrev pub IsShown : Bool → List ℕ → List (List ℕ) → List ℕ → Type
 IsShown true output given readable = (given ≢ []) × (output ≡ joined_answers given) × (readable ≡ [])
 IsShown false output given readable = (given ≡ []) × (readable ≡ output)
 
--- The state stands for the acts. `message` is the current message, and `executed` are those of its units that were executed.
+-- The state stands for the acts. `message` is the current message, and `executed` lists the units of this message that were
+-- executed.
 pub record StandsFor (contents : Contents) (acts : List ExchangeAct) : Type 0 where
   pub message : List ℕ
   pub executed : List (List ℕ)
@@ -103,8 +105,8 @@ abbrev pub bit : Bool → ℕ
 bit true = 1
 bit false = 0
 
--- how much text is stored: the bytes of the current message. If this message has ended, also 1 for its end, the bytes of the text after it,
--- and 1 if END follows that text.
+-- how much text is stored: the number of bytes of the current message. If this message has ended (`true`), add 1 for its end, the number of
+-- bytes after it, and 1 if END follows these bytes.
 abbrev pub text_size : Bool → ℕ → ℕ → Bool → ℕ
 text_size true rest later end_pending = rest + (1 + (later + bit end_pending))
 text_size false rest later end_pending = rest

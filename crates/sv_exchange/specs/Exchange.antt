@@ -26,7 +26,7 @@ pub data Symbol : Type 0 where
   Byte : ℕ → Symbol
   End : Symbol
 
--- the mark after a write: present if the write had END
+-- the mark after a write that had END; empty if the write had no END
 abbrev pub end_mark : Bool → List Symbol
 end_mark ended = if ended then End ∷ [] else []
 
@@ -34,7 +34,7 @@ end_mark ended = if ended then End ∷ [] else []
 abbrev pub drops_text : List ExchangeAct → Bool
 drops_text = elim [ TextDropped ∷ acts ↦ true | _ ↦ false ]
 
--- the text of all writes that were accepted in these acts, in order
+-- the text of all writes that were accepted in these acts, the oldest write first
 abbrev pub symbols_of : List ExchangeAct → List Symbol
 symbols_of [] = []
 symbols_of (Accepted bytes ended ∷ acts) = symbols_of acts ++ (map Byte bytes ++ end_mark ended)
@@ -81,7 +81,7 @@ all_answers (_ ∷ acts) = all_answers acts
 abbrev pub answers : List ExchangeAct → List (List ℕ)
 answers acts = if has_dropped (current acts) then [] else all_answers (current acts)
 
--- the current message: the first message of the text that wasn't finished yet
+-- the current message: the first message in the text that isn't finished yet
 abbrev pub message : List ExchangeAct → List ℕ
 message acts = slice_index_or (messages (text acts)) (messages_finished acts) []
 
@@ -98,7 +98,8 @@ abbrev pub is_something : {A : Type 0} → List A → Bool
 is_something [] = false
 is_something (x ∷ xs) = true
 
--- the units of a message: the parts between semicolons, trimmed of white space, without the empty ones
+-- the units of a message: the parts between semicolons, without white space around them; empty parts
+-- are left out
 abbrev pub units : List ℕ → List (List ℕ)
 units bytes = filter is_something (map trim (cut_at 59 bytes))
 
@@ -136,8 +137,8 @@ bytes_read (_ ∷ acts) = bytes_read acts
 abbrev pub response : List ExchangeAct → List ℕ
 response acts = drop (bytes_read (since renews acts)) (new_response (newest renews acts))
 
--- The step that is due: nothing; a message that is too long is reported, one time; a response that wasn't read to its end is interrupted,
--- because a unit of a new message is to start; a unit starts; or a message that has ended is finished.
+-- What is due: nothing; to report, once, a message that is too long; to interrupt a response that wasn't read to its end, because a unit
+-- of a new message is to start; to start a unit; or to finish a message that has ended.
 pub data Due : Type 0 where
   NothingDue : Due
   OverrunDue : Due
@@ -145,8 +146,8 @@ pub data Due : Type 0 where
   UnitDue : (text : List ℕ) → Due
   FinishDue : Due
 
--- The step that is due. If there is a next unit: if `interrupts` is true, the response is interrupted; else the unit starts. If there is no
--- next unit: if the message has ended, it is finished; else nothing is due.
+-- The step that is due. With a next unit (`Some`): the response is interrupted if `interrupts` is true; else the unit starts. Without a
+-- next unit (`None`): the message is finished if it has ended; else nothing is due.
 abbrev pub due_unit : Option (List ℕ) → Bool → Bool → Due
 due_unit (Some unit) interrupts ended = if interrupts then InterruptDue else UnitDue unit
 due_unit None interrupts ended = if ended then FinishDue else NothingDue

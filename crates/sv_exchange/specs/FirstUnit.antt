@@ -2,7 +2,8 @@
 use Rattle.std.specs.Prelude.{◌≡◌, ◌≢◌, ℕ, ◌<◌, ◌≤◌, List, [], ◌∷◌, length, drop}
 use Rattle.sv_exchange.specs.Exchange.{units}
 
--- `unit` is the first unit of the message. The message without its first `count` bytes has exactly the units after this one.
+-- `unit` is the first unit of the message. After its first `count` bytes, the message has exactly the units that follow the
+-- first unit.
 pub record IsFirst (message unit : List ℕ) (count : ℕ) : Type 0 where
   pub units : units message ≡ unit ∷ units (drop count message)
   pub some : unit ≢ []

@@ -190,7 +190,7 @@ impl<A: Allocator> Exchange<A> {
         self.ahead.lexed(&self.text[self.cursor..self.end])
     }
 
-    /// Removes the unit that is due from the current message, because the unit was executed.
+    /// Removes the unit that is due, which was executed, from the current message.
     pub fn done(&mut self)
         requires { IsUnitDue (next_of self.old) }
         ensures value { self.new ≡ record self.old { rest = self.new.rest } }
@@ -319,8 +319,8 @@ impl<A: Allocator> Exchange<A> {
         self.read += count;
     }
 
-    /// Drops the text of the current message, which must be a message that hasn't ended yet (IEEE
-    /// 488.2, 6.3.2.2).
+    /// Drops the text of the current message. The message must not have ended yet (IEEE 488.2,
+    /// 6.3.2.2).
     pub fn drop_unfinished(&mut self)
         requires { IsTrue (is_open self.old) }
         ensures value { self.new ≡ record empty {

@@ -38,7 +38,7 @@ Same sent form = map to_ascii_lowercase sent ≡ map to_ascii_lowercase form
 abbrev pub IsForm : List ℕ → Part → Type 0
 IsForm sent part = Same sent part.short ⊎ Same sent part.long
 
--- The first mnemonic is a form of the node, and `Others` holds of the mnemonics after it.
+-- The first mnemonic is a form of the node, and `Others` holds for the mnemonics after it.
 abbrev IsThere : List (List ℕ) → Part → (List (List ℕ) → Type 0) → Type 0
 IsThere [] part Others = ⊥
 IsThere (sent ∷ others) part Others = IsForm sent part × Others others

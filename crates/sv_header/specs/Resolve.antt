@@ -13,7 +13,8 @@ abbrev pub path_before : Lead → List (List ℕ) → List (List ℕ)
 path_before Onward path = path
 path_before _ path = []
 
--- the mnemonics of a header, with the path before them
+-- the mnemonics that are looked up when a header is read relative to a path: those that
+-- `path_before` gives, then the header's own
 abbrev pub full : List (List ℕ) → List ℕ → List (List ℕ)
 full path header = path_before (lead header) path ++ mnemonics header
 
@@ -22,12 +23,13 @@ abbrev pub leads_common : Lead → Bool
 leads_common Common = true
 leads_common _ = false
 
--- A header, with the path before it, fits a row of the table: header and row agree on whether they belong to a common command, and on
--- whether they belong to a query; and the mnemonics of path and header fit the row's nodes.
+-- The header, read relative to the path, fits the row. Both belong to a common command, or neither does. Both belong to a query, or
+-- neither does. The mnemonics that are looked up (`full`) fit the nodes of the row.
 abbrev pub FitsRow : List (List ℕ) → List ℕ → Row → Type 0
 FitsRow path header row = (leads_common (lead header) ≡ row.common) × (is_query header ≡ row.query) × Fits (full path header) row.parts
 
--- A header, with the path before it, names a command: it fits a row of that command.
+-- The header, read relative to the path, names this command: it fits a row of the command in the
+-- table.
 abbrev pub Resolves : List (List ℕ) → List ℕ → CommandId → Type 0
 Resolves path header command = (row : Row) × Contains table row × (row.command ≡ command) × FitsRow path header row
 
@@ -37,13 +39,13 @@ but_last [] = []
 but_last (part ∷ []) = []
 but_last (part ∷ other ∷ others) = part ∷ but_last (other ∷ others)
 
--- the path for the next header. The arguments are what this header begins with; the path before this header; and `all`, the mnemonics of
--- that path followed by the header's own.
+-- the path for the next header. The first argument is what this header begins with; `path` is the path relative to which this header was
+-- read; `all` are the mnemonics that were looked up (`full`).
 abbrev pub kept_by : Lead → List (List ℕ) → List (List ℕ) → List (List ℕ)
 kept_by Common path all = path
 kept_by _ path all = but_last all
 
--- The path for the next header: the path before this header and the mnemonics of this header, as they were sent, without the last mnemonic.
--- A common command doesn't change the path.
+-- The path for the next header, after this header was read relative to `path`: the mnemonics that were looked up (`full`), as they were
+-- sent, without the last one. A common command doesn't change the path.
 abbrev pub next_path : List (List ℕ) → List ℕ → List (List ℕ)
 next_path path header = kept_by (lead header) path (full path header)

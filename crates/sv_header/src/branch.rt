@@ -24,8 +24,8 @@ pub(crate) struct Branch {
 }
 
 impl Branch {
-    /// Returns the command of a header that ends at this node: with a question mark if `query`,
-    /// else without one.
+    /// Returns the command of the header that ends at this node: with a question mark if `query` is
+    /// true, else without a question mark.
     fn command(&self, query: bool) -> Option<CommandId>
         ensures { result ≡ command_of query self.now }
     {

@@ -12,7 +12,7 @@ pub enum CommandId {
     Ask(Question),
     /// A command that sets this setting to the value of its parameter.
     Set(SettingName),
-    /// `CONFigure:VOLTage[:DC]`: configure a measurement, with the given channels, if any.
+    /// `CONFigure:VOLTage[:DC]`: configure a measurement, with a channel list if one is given.
     Configure,
     /// `MEASure:VOLTage[:DC]?`: configure as [`CommandId::Configure`] does, measure, and return the
     /// readings.

@@ -56,8 +56,8 @@ impl Mnemonic {
     }
 }
 
-/// The path: mnemonics of the message's earlier headers, as they were sent. They are looked up in
-/// front of the next header's own mnemonics, unless that header starts at the root or is a common
+/// The path: mnemonics of the message's earlier headers, as they were sent. They are looked up
+/// before the next header's own mnemonics, unless that header starts at the root or is a common
 /// command. The path has at most four mnemonics: no pattern has more than five nodes, and the last
 /// mnemonic of a header isn't part of the path.
 #[derive(Debug, Drop)]

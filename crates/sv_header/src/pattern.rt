@@ -1,4 +1,4 @@
-//! Nodes of headers, as the standard writes them.
+//! The nodes of header patterns, in the standard's notation.
 
 ghost use Rattle.std.specs.Prelude.{◌↔◌, IsTrue};
 ghost use Rattle.sv_header.specs.Pattern.{IsForm};

@@ -19,8 +19,8 @@ use sv_errors::Code;
 /// How many nodes of the tree belong to common commands. These nodes come first.
 const COMMON_NODES: usize = 11;
 
-/// The table of commands in memory: a tree whose nodes are mnemonics. The nodes passed on the way
-/// from the root down to a node are the pattern of a header.
+/// The table of commands in memory: a tree whose nodes are mnemonics. The nodes on the way from the
+/// root down to a node are the pattern of a header.
 #[derive(Drop)]
 pub struct Table<A: Allocator = Global> {
     branches: Vec<Branch, A>,
@@ -51,8 +51,8 @@ impl<A: Allocator> Table<A> {
         Ok(Table { branches })
     }
 
-    /// Returns the command that a header names, with the path before it (SCPI-1999, volume 1,
-    /// chapter 6).
+    /// Returns the command that a header names if it is read relative to the path (SCPI-1999,
+    /// volume 1, chapter 6).
     ///
     /// # Errors
     /// [`Code::UndefinedHeader`] if the header names no command.
@@ -65,8 +65,8 @@ impl<A: Allocator> Table<A> {
         walk(&sent.mnemonics, sent.query, self.roots(sent.common)).ok_or(Code::UndefinedHeader)
     }
 
-    /// Returns the nodes at the root and all nodes below them: those of common commands if
-    /// `common`, else those of all other commands.
+    /// Returns the nodes at the root and all nodes below them: those of common commands if `common`
+    /// is true, else those of all other commands.
     fn roots(&self, common: bool) -> &[Branch]
         ensures { tree_rows common result.now ≡ rows_with common }
     {

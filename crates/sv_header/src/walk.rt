@@ -8,9 +8,9 @@ use crate::branch::{Branch, parted};
 use crate::command::CommandId;
 use crate::left::Mnemonics;
 
-/// Returns the command to which mnemonics lead among sibling nodes and the nodes below them. It
-/// tries in this order: the first mnemonic is a form of the first sibling; the first sibling is
-/// optional and left out; the command belongs to a later sibling.
+/// Returns the command to which the mnemonics lead, through sibling nodes and the nodes below them.
+/// Three ways are tried, in this order: the first mnemonic is a form of the first sibling; the
+/// first sibling is optional, and the header omits it; a later sibling leads to the command.
 #[cycle(walk)]
 pub(crate) fn walk(left: &Mnemonics<'_>, query: bool, branches: &[Branch]) -> Option<CommandId>
     ensures { (fuel : ℕ) → length branches.now ≤ fuel

@@ -11,12 +11,12 @@ abbrev pub owner_of : Option ℕ → List DeviceAct → Option ℕ
 owner_of (Some lid) acts = owner lid (link_acts acts)
 owner_of None acts = None
 
--- the connection of the suspended call that device_abort ends: connection `c`, if it has a suspended call on link `lid`; else `None`
+-- the connection whose suspended call device_abort ends: connection `c`, if its suspended call names link `lid`; else `None`
 abbrev pub if_waiting : Option ℕ → Option ℕ → List DeviceAct → Option ℕ
 if_waiting (Some c) (Some lid) acts =
     if is_some (waits c (wait_acts acts)) && is_this lid (link c (wait_acts acts)) then Some c else None
 if_waiting _ _ acts = None
 
--- the result of device_abort: error 4 if there is no such link, else no error
+-- the result of device_abort: error 4 if the link that it names doesn't exist, else no error
 abbrev pub abort_result : Option ℕ → List DeviceAct → Outcome
 abort_result lid acts = Plain (if is_some (owner_of lid acts) then NoError else InvalidLink)

@@ -19,7 +19,8 @@ pub data ConnAct : Type 0 where
   BytesTaken : (count : ℕ) → ConnAct
   PortClosed : ConnAct
 
--- an act of the device: of a link, of a suspended call, of an interrupt channel, of the instrument; or a millisecond passed
+-- an act of the device: an act of a link, of a suspended call, of an interrupt channel, or of the instrument; or a
+-- millisecond passed
 pub data DeviceAct : Type 0 where
   Linked : (act : LinkAct) → DeviceAct
   Waited : (act : WaitAct) → DeviceAct

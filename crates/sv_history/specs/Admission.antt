@@ -1,5 +1,5 @@
--- What stops a call of the core channel (VXI-11 revision 1.0, sections B.4.4 and B.6), in the order of the checks: its link; its size; the
--- lock; what the call has to wait for.
+-- What stops a call of the core channel (VXI-11 revision 1.0, sections B.4.4 and B.6). The checks are, in this order: the call's link; the
+-- call's size; the lock; what the call has to wait for.
 use Rattle.std.specs.Prelude.{ℕ, ◌+◌, ◌==◌, not, Bool, List, length, Option, Some, None, option_map, is_some, codes, nat_lt, ◌&&◌, if◌then◌else◌}
 use Rattle.std.specs.Str.{bytes_eq}
 use Rattle.sv_vxi.specs.declared.error_code.ErrorCode.{ErrorCode}
@@ -21,25 +21,27 @@ use Rattle.sv_history.specs.CoreCall.{lid_of, is_too_long, failure}
 use Rattle.sv_history.specs.Interrupts.{has_channel, is_peer}
 use Rattle.sv_history.specs.CoreChannel.{owns, own_call}
 
--- what stops a call: it fails with an error; or it is suspended, for at most `timeout` milliseconds if it has a timeout
+-- what happens to a call that is stopped: the call fails with an error; or the call is suspended, for at most `timeout`
+-- milliseconds if there is a timeout
 pub data Stop : Type 0 where
   Fails : (error : ErrorCode) → Stop
   Awaits : (wait : Wait) (timeout : Option ℕ) → Stop
 
--- what stops a call while another link holds the lock: it waits for the lock if its waitlock flag is set, else it fails with error 11
+-- what stops a call while another link holds the lock: the call waits for the lock if its waitlock flag is set, else the call fails
+-- with error 11
 abbrev pub lock_stop : LockWait → Stop
 lock_stop wait = if wait.waits then Awaits Lock (Some wait.timeout) else Fails DeviceLocked
 
--- What a call waits for besides the lock, and its timeout in milliseconds. A write waits while a message that has ended isn't finished. A
--- read waits until it can be answered.
+-- What a call waits for besides the lock, and the call's timeout in milliseconds. A device_write waits while the instrument hasn't
+-- finished a message that came completely. A device_read waits until the instrument can answer it.
 abbrev pub device_wait : LinkCall → List DeviceAct → Option (Wait × ℕ)
 device_wait (DeviceWrite timeout lock_timeout flags bytes) acts = if has_ended (exchange_acts acts) then Some (Input, timeout) else None
 device_wait (DeviceRead request_size timeout lock_timeout flags term_char) acts =
     if is_answerable (instrument_acts acts) then None else Some (Response, timeout)
 device_wait _ acts = None
 
--- What stops a call on a link, by the first of these that applies: the connection doesn't own the link; a write is too long; another link
--- holds the lock; the call has to wait for the device.
+-- What stops a call on a link, by the first of these that applies: the connection doesn't own the link; the call is a write that is too
+-- long; another link holds the lock; the call has to wait for the device.
 abbrev pub call_stop : ℕ → Option ℕ → LinkCall → List DeviceAct → Option Stop
 call_stop c lid call acts =
     if not (owns c lid acts) then Some (Fails InvalidLink)
@@ -76,7 +78,8 @@ stop_of c (CreateIntrChan host_addr host_port prog_num prog_vers prog_family) ac
     Some (channel_stop (has_channel c acts) host_addr host_port prog_family)
 stop_of c DestroyIntrChan acts = None
 
--- the time of the clock at which a wait that begins now times out; `None` without a timeout
+-- the value of the clock at which a wait that begins now times out; `None` if the wait has no
+-- timeout
 abbrev pub deadline : Config → Option ℕ → List DeviceAct → Option ℕ
 deadline config timeout acts = option_map (λ milliseconds. config.clock + ticks acts + milliseconds) timeout
 

@@ -1,4 +1,4 @@
--- The outcome of a call of the core channel: it is answered, or suspended.
+-- The outcome of a call of the core channel: the call is answered, or suspended.
 use Rattle.std.specs.Prelude.{List, [], ◌∷◌, Option, Some, None}
 use Rattle.sv_vxi.specs.Results.{Outcome}
 use Rattle.sv_links.specs.Waiting.{WaitAct}
@@ -9,11 +9,11 @@ pub record CallOutcome : Type 0 where
   pub adds : List DeviceAct
   pub result : Option Outcome
 
--- the outcome of a call that is answered with this result, and adds these acts
+-- the outcome of a call that adds these acts, and is answered with this result
 abbrev pub answer_with : List DeviceAct → Outcome → CallOutcome
 answer_with adds result = record { adds = adds; result = Some result }
 
--- the outcome of a call that is answered with this result, and adds no act
+-- the outcome of a call that adds no act, and is answered with this result
 abbrev pub only : Outcome → CallOutcome
 only result = answer_with [] result
 

@@ -26,7 +26,8 @@ abbrev pub owns : ℕ → Option ℕ → List DeviceAct → Bool
 owns c (Some lid) acts = is_of c (owner lid (link_acts acts))
 owns c None acts = false
 
--- create_link: a link is created, and gets the lock if the call asks for it; error 9 if no link number is unused
+-- create_link: a link is created, and gets the lock if the call asks for the lock; error 9 if all link numbers
+-- are used up
 abbrev pub make_link : Config → ℕ → Bool → List DeviceAct → CallOutcome
 make_link config c lock_device acts =
     if not (lids_left (link_acts acts)) then only (Link OutOfResources (pos 0) 0 0)
@@ -39,12 +40,13 @@ abbrev pub device_lock : ℕ → List DeviceAct → CallOutcome
 device_lock lid acts = if is_locked_out (holder (link_acts acts)) (Some lid) then only (Plain DeviceLocked)
     else answer_with (Linked (Locked lid) ∷ []) (Plain NoError)
 
--- device_unlock: the lock is freed; error 12 if this link doesn't hold it
+-- device_unlock: the lock is freed; error 12 if this link doesn't hold the lock
 abbrev pub device_unlock : ℕ → List DeviceAct → CallOutcome
 device_unlock lid acts =
     if is_this lid (holder (link_acts acts)) then answer_with (Linked (Unlocked lid) ∷ []) (Plain NoError) else only (Plain NoLock)
 
--- device_write: the bytes are accepted; error 5 above 4,096 bytes, error 15 if a message that has ended isn't finished
+-- device_write: the bytes are accepted; error 5 for more than 4,096 bytes; error 15 while the instrument hasn't
+-- finished a message that came completely
 abbrev pub device_write : ℕ → List ℕ → List DeviceAct → CallOutcome
 device_write flags bytes acts =
     if nat_lt max_message (length bytes) then only (Size ParameterError 0)
@@ -55,20 +57,21 @@ device_write flags bytes acts =
 abbrev pub term_of : ℕ → ℕ → Option ℕ
 term_of flags term_char = if bit_at flags 7 == 1 then Some (term_char % 256) else None
 
--- the result of a device_read of this response: the first bytes of the response, up to the requested number or to the termination
--- character, whichever comes first; and all reasons for ending there that apply
+-- the result of a device_read of this response. It has the first bytes of the response, up to the requested number of bytes or to
+-- the termination character, whichever comes first. It also has each reason for which the read ends after these bytes.
 abbrev pub read_of : List ℕ → ℕ → Option ℕ → Outcome
 read_of bytes most term =
     let count = read_count bytes most term in
     Read NoError (record { request_count = count == most; character = ends_at_term bytes count term; end = count == length bytes })
     (take count bytes)
 
--- the outcome of a device_read while there is a response: the bytes that are returned are removed from the response
+-- the outcome of a device_read while there is a response: the bytes that the read returns are removed from the
+-- response
 abbrev pub reads : List ℕ → ℕ → Option ℕ → CallOutcome
 reads bytes most term = answer_with (Applied (Exchanged (ResponseRead (read_count bytes most term))) ∷ []) (read_of bytes most term)
 
--- device_read: returns bytes of the response, if there is a response; else error 15. If there is no response, and no response can come
--- without a further write, the text of the unfinished message is also dropped, and -420 is reported.
+-- device_read: returns bytes of the response; error 15 if there is no response. If moreover no response can come without a further
+-- write, the text of the unfinished message is dropped, and the instrument's error -420 is reported.
 abbrev pub device_read : ℕ → Option ℕ → List DeviceAct → CallOutcome
 device_read most term acts =
     if is_something (response (exchange_acts acts)) then reads (response (exchange_acts acts)) most term
@@ -93,8 +96,9 @@ link_call polled c lid (DeviceEnableSrq enable handle) acts =
 link_call polled c lid DestroyLink acts = answer_with (Linked (Destroyed lid) ∷ []) (Plain NoError)
 link_call polled c lid call acts = only (failure (OnLink (pos lid) call) NotSupported)
 
--- What any call of the core channel does. No link has a negative number. The error 8 that a create_intr_chan gets here is never sent:
--- `Admission` always stops such a call first, and its outcome is `connect_outcome` (in `Interrupts`).
+-- What any call of the core channel does. A call that names a negative link number fails, because no link has such a number. The
+-- error 8 for create_intr_chan is never sent: `Admission` stops each create_intr_chan first; if the call is suspended,
+-- `connect_outcome` (in `Interrupts`) is its later outcome.
 abbrev pub own_call : Config → ℕ → ℕ → Arguments → List DeviceAct → CallOutcome
 own_call config polled c (CreateLink client_id lock_device lock_timeout device) acts = make_link config c lock_device acts
 own_call config polled c (OnLink (pos lid) call) acts = link_call polled c lid call acts

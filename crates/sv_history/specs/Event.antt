@@ -7,7 +7,7 @@ use Rattle.sv_history.specs.declared.event.Config.{Config}
 use Rattle.sv_history.specs.declared.event.Event.{Event}
 use Rattle.sv_history.specs.declared.event.Event.TheVariants as events
 
--- an event as plain data: its bytes are a list, wherever the code stores them
+-- an event as plain data: the bytes that come are a list, no matter where the code stores them
 pub data PlainEvent : Type 0 where
   Open : (conn : ℕ) (role : Role) → PlainEvent
   Bytes : (conn : ℕ) (piece : List ℕ) → PlainEvent
@@ -38,7 +38,8 @@ abbrev pub port_number : Port → ℕ
 port_number (Conn c) = c
 port_number (Intr c) = c
 
--- An event that can happen: each number lies in the range of its type, and each byte is below 256.
+-- The event can happen: each of its numbers lies in the range of its type, and each of its bytes is
+-- below 256.
 abbrev pub IsEvent : PlainEvent → Type 0
 IsEvent (Open conn role) = conn < 256
 IsEvent (Bytes conn piece) = (conn < 256) × All (λ b. b < 256) piece
@@ -50,6 +51,6 @@ IsEvent (Dialed conn ok) = conn < 256
 IsEvent (Input channel microvolts) = (channel < 256) × (neg_ℤ (pos (2 ^ 63)) ≤ℤ microvolts) × (microvolts <ℤ pos (2 ^ 63))
 IsEvent _ = ⊤
 
--- A configuration that the code's type `Config` allows: each number lies in the range of its field's type.
+-- The code's type `Config` allows this configuration: each number lies in the range of its field's type.
 abbrev pub IsConfig : Config → Type 0
 IsConfig config = (config.core < 2 ^ 16) × (config.abort < 2 ^ 16) × (config.clock < 2 ^ 64)

@@ -13,7 +13,7 @@ use Rattle.sv_history.specs.CoreCall.{lid_of}
 use Rattle.sv_history.specs.Admission.{stop_of, admission}
 use Rattle.sv_history.specs.AbortChannel.{owner_of, if_waiting, abort_result}
 
--- the reply of the port mapper (RFC 1833, section 3)
+-- the port mapper's reply to a GETPORT (RFC 1833, section 3)
 abbrev pub port_reply : ℕ → Result ℕ Garbage → List ℕ
 port_reply xid (Ok port) = reply_record xid Success (Unsigned port ∷ [])
 port_reply xid (Err garbage) = reply_record xid GarbageArgs []
@@ -28,7 +28,7 @@ request_effect config polled c (AbortRequest xid lid) acts = only_reply (result_
 request_effect config polled c (PortRequest xid args) acts =
     only_reply (port_reply xid (port_at (record { core = config.core; abort = config.abort }) args))
 
--- the connection of the suspended call that this request, a device_abort, ends; `None` if the request ends no suspended call
+-- if this request is a device_abort that ends a suspended call: the connection of that call; else `None`
 abbrev pub aborts : Request → List DeviceAct → Option ℕ
 aborts (AbortRequest xid lid) acts = if_waiting (owner_of (lid_of (Some lid)) acts) (lid_of (Some lid)) acts
 aborts _ acts = None

@@ -1,4 +1,5 @@
--- The log of a history, and which events are refused. A history is a list of events that weren't refused, the newest first.
+-- The log of a history, and which events the server refuses. A history is a list of events that weren't refused, the newest
+-- first.
 use Rattle.std.specs.Prelude.{◌≡◌, ℕ, ◌+◌, ◌||◌, ◌==◌, not, ℤ, pos, negsuc, Bool, true, List, [], ◌∷◌, ◌++◌, length, map, Option, Some, None, is_none, Result, Ok, Err, nat_lt, if◌then◌else◌}
 use Rattle.sv_errors.specs.Limits.{is_channel, most_microvolts}
 use Rattle.sv_vxi.specs.declared.error_code.ErrorCode.TheVariants.{Abort}
@@ -30,24 +31,27 @@ use Rattle.sv_history.specs.PolledStatus.{IsPolled}
 use Rattle.sv_history.specs.Settling.{Settles}
 use Rattle.sv_history.specs.Limits.{longest_reply}
 
--- the acts by which a device_abort makes the suspended call of a connection fail with error 23; none if there is no such call
+-- the acts by which a device_abort makes the suspended call of a connection fail with error 23; none if the connection is
+-- `None`
 abbrev pub abort_acts : Option ℕ → List Act → List Act
 abort_acts (Some c) log = acts_of c (failure_effect Abort c (core_call_in (pending_call (of c log))))
 abort_acts None log = []
 
--- the acts of a record that was taken: the act of taking the record; the record's own effect; and the end of the suspended call that the
--- record aborts, if any
+-- the acts of a record that was taken: the act of taking the record; the record's own effect; and, if the record aborts a suspended
+-- call, the end of that call
 abbrev pub taken_acts : ℕ → List ℕ → Effect → Option ℕ → List Act → List Act
 taken_acts c bytes effect aborts log =
     let acts = acts_of c effect ++ On c (CallTaken bytes) ∷ [] in abort_acts aborts (acts ++ log) ++ acts
 
--- the acts of a Turn event: those of the connection's next call; none if there is no call to take
+-- the acts of a Turn event: the acts of taking the connection's next call; none if there is no call
+-- to take
 abbrev pub turn_acts : Config → ℕ → ℕ → Option (List ℕ) → Option Request → List Act → List Act
 turn_acts config polled c (Some bytes) (Some request) log =
     taken_acts c bytes (request_effect config polled c request (device_acts log)) (aborts request (device_acts log)) log
 turn_acts config polled c _ _ log = []
 
--- the acts of a Refuse event: the next call is taken, and answered at once with error 9
+-- the acts of a Refuse event: the connection's next call is taken, and answered at once with error
+-- 9
 abbrev pub refuse_acts : ℕ → Option (List ℕ) → Option CoreCall → List Act
 refuse_acts c (Some bytes) (Some call) = On c (Replied (refused_reply call)) ∷ On c (CallTaken bytes) ∷ []
 refuse_acts c _ _ = []
@@ -115,8 +119,8 @@ took_refusal count bytes = if nat_lt (length bytes) count then Some NotSent else
 abbrev pub unless_shut : ℕ → List Act → Option Refused → Option Refused
 unless_shut c log other = if is_shut c log then Some NoConn else other
 
--- The first check that an event fails; `None` if it fails none. `channel_log` is the log of the interrupt channels. Running out of memory
--- isn't one of these checks.
+-- The first check that an event fails; `None` if the event fails no check. `channel_log` is the log of the interrupt channels. Running
+-- out of memory isn't one of these checks.
 abbrev pub refusal : Config → List ChannelAct → PlainEvent → List Act → Option Refused
 refusal config channel_log (Open c role) log = if nat_lt 15 c then Some NoConn else (if is_open (of c log) then Some ConnInUse else None)
 refusal config channel_log (Bytes c piece) log = unless_shut c log (if nat_lt (room (of c log)) (length piece) then Some NoRoom else None)
@@ -132,8 +136,8 @@ refusal config channel_log (Input channel microvolts) log = input_refusal channe
 refusal config channel_log External log = None
 refusal config channel_log Tick log = if config.clock + ticks (device_acts log) == last_clock then Some TimeOver else None
 
--- The log of a history: for each event its own acts, then the acts of the steps that are due. No event is refused, and each number is in
--- range.
+-- This is the log of this history: for each event the event's own acts, and then the acts of the steps that are due. No event of the
+-- history is refused, and each number is in range.
 abbrev pub IsLogOf : Config → List PlainEvent → List Act → Type 0
 IsLogOf config [] log = IsConfig config × (log ≡ [])
 IsLogOf config (event ∷ history) log = (before : List Act) × (polled : ℕ) × (channel_log : List ChannelAct) × IsEvent event
@@ -150,8 +154,8 @@ did _ log = Done
 abbrev pub wants_memory : List DeviceAct → Bool
 wants_memory acts = nat_lt 0 (links_made (link_acts acts)) || (nat_lt 0 (creating (wait_acts acts)) || nat_lt 0 (dialing (wait_acts acts)))
 
--- The result of an event: what it did, or the first check that it failed. The server can run out of memory only at an event that fails no
--- check, and creates a link or suspends a create_link or a create_intr_chan.
+-- This is the result of an event: what the event did, or the first check that it failed. The server can run out of memory only if the
+-- event fails no check, and creates a link or suspends a create_link or a create_intr_chan.
 abbrev pub AnswersBy : Config → List ChannelAct → PlainEvent → List Act → Result Did Refused → Type 0
 AnswersBy config channel_log event log (Ok what) = (refusal config channel_log event log ≡ None) × (what ≡ did event log)
 AnswersBy config channel_log event log (Err NoMemory) = (refusal config channel_log event log ≡ None) × (polled : ℕ)
@@ -159,12 +163,12 @@ AnswersBy config channel_log event log (Err NoMemory) = (refusal config channel_
     × (wants_memory (device_acts (own_acts config polled event log)) ≡ true)
 AnswersBy config channel_log event log (Err refused) = refusal config channel_log event log ≡ Some refused
 
--- The result of an event that comes after this log.
+-- This is the result of an event that comes after this log.
 abbrev pub Answers : Config → PlainEvent → List Act → Result Did Refused → Type 0
 Answers config event log result = (channel_log : List ChannelAct) × HearsOf (device_acts log) channel_log
     × AnswersBy config channel_log event log result
 
--- the history after an event: the event is added to it, unless the event was refused
+-- the history after an event: the event is added to the history, unless the event was refused
 abbrev pub history_after : PlainEvent → Result Did Refused → List PlainEvent → List PlainEvent
 history_after event (Ok what) history = event ∷ history
 history_after event (Err refused) history = history

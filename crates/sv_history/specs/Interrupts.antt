@@ -18,7 +18,8 @@ use Rattle.sv_history.specs.Request.{core_call_in}
 abbrev pub has_channel : ℕ → List DeviceAct → Bool
 has_channel c acts = is_channel_open c (channel_acts acts)
 
--- device_enable_srq: a link enables service requests with a handle of at most 40 bytes (error 5 for a longer one), or disables them
+-- device_enable_srq: a link enables service requests, with a handle of at most 40 bytes (error 5 for a longer handle), or disables
+-- them
 abbrev pub enable_srq : ℕ → Bool → ℕ → List ℕ → CallOutcome
 enable_srq c true lid handle = if nat_lt max_handle (length handle) then only (Plain ParameterError)
     else answer_with (Channel (SrqEnabled lid c handle) ∷ []) (Plain NoError)
@@ -47,7 +48,8 @@ dial_by (CreateIntrChan host_addr host_port prog_num prog_vers prog_family) =
     if nat_lt host_port 65536 then Some (record { addr = host_addr; port = host_port }) else None
 dial_by _ = None
 
--- the address and the port that a call names; `None` if there is no call, or if it names none
+-- the address and the port that a call names; `None` if there is no call, or if the call names no
+-- address and port
 abbrev pub dial_in : Option CoreCall → Option Dial
 dial_in (Some call) = dial_by call.arguments
 dial_in None = None

@@ -34,7 +34,8 @@ abbrev pub port_name : Port → List ℕ
 port_name (Conn c) = 99 ∷ decimal c
 port_name (Intr c) = 105 ∷ decimal c
 
--- the line of a port: all bytes that wait to be sent on it, as lower-case hex digits; no line if none wait
+-- the line of a port: all bytes that wait to be sent on the port, as lower-case hex digits; no line if no
+-- bytes wait
 abbrev pub port_line : Port → List ℕ → List ℕ
 port_line port [] = []
 port_line port (byte ∷ bytes) = port_name port ++ 32 ∷ (encode_lower (byte ∷ bytes) ++ 10 ∷ [])
@@ -44,7 +45,8 @@ abbrev pub below : ℕ → List ℕ
 below zero = []
 below (suc n) = below n ++ n ∷ []
 
--- the port whose line is printed at index n: first those of connections 0 to 15, then those of their interrupt channels
+-- the port at index n in the order of the lines: connections 0 to 15 come first, then the interrupt channels of
+-- connections 0 to 15
 abbrev pub port_of : ℕ → Port
 port_of n = if nat_lt n 16 then Conn n else Intr (n - 16)
 
@@ -57,7 +59,7 @@ abbrev pub lines_of : List ChannelAct → List Port → List Act → List ℕ
 lines_of channel_log [] log = []
 lines_of channel_log (port ∷ others) log = port_line port (waiting_on channel_log port log) ++ lines_of channel_log others log
 
--- the history after the peer took these bytes from a port; unchanged if there are none
+-- the history after the peer took these bytes from a port; it is unchanged if there are no bytes
 abbrev pub with_took : Port → List ℕ → List PlainEvent → List PlainEvent
 with_took port [] history = history
 with_took port (byte ∷ bytes) history = Took port (length (byte ∷ bytes)) ∷ history

@@ -1,6 +1,6 @@
--- The log of the interrupt channels (VXI-11 revision 1.0, section B.6, device_intr_srq; IEEE 488.2, 11.3). It has the acts of the channels,
--- and each request for service that is raised. For each link that is destroyed, the log has an act that disables the link's service
--- requests.
+-- The log of the interrupt channels (VXI-11 revision 1.0, section B.6, device_intr_srq; IEEE 488.2, 11.3). This log has the acts of the
+-- channels, and each request for service that is raised. For each link that is destroyed, the log has an act that disables the link's
+-- service requests.
 use Rattle.std.specs.Prelude.{◌≡◌, ◌↔◌, Bool, true, false, List, [], ◌∷◌}
 use Rattle.sv_links.specs.Links.{LinkAct, Destroyed}
 use Rattle.sv_links.specs.Channels.{ChannelAct, SrqDisabled, Requested}

@@ -15,7 +15,8 @@ use Rattle.sv_history.specs.Request.{core_call_in}
 use Rattle.sv_history.specs.Effect.{acts_of}
 use Rattle.sv_history.specs.Resuming.{resume_effect, failure_effect, late}
 
--- The instrument takes a step: `IsSuch` holds of its log before and after the step. The step adds acts to the instrument's log.
+-- The instrument takes a step: `IsSuch` holds of the log that the instrument has before the step and the log that it has after
+-- the step. The step adds acts to the instrument's log.
 abbrev pub InstrumentDoes : (List InstrumentAct → List InstrumentAct → Type 0) → List Act → List Act → Type 0
 InstrumentDoes IsSuch log new = (adds : List InstrumentAct)
     × IsSuch (instrument_acts (device_acts log)) (adds ++ instrument_acts (device_acts log))
@@ -40,7 +41,7 @@ TimesOut config log new = (c : ℕ) × (wait : Wait)
     × (waits c (wait_acts (device_acts log)) ≡ Some wait)
     × (new ≡ acts_of c (failure_effect (late wait) c (core_call_in (pending_call (of c log)))) ++ log)
 
--- The first of two steps is taken if it is possible, else the second one.
+-- If the first of two steps is possible, this step is taken; else the second step is taken.
 abbrev pub First : (List Act → Type 0) → (List Act → Type 0) → List Act → Type 0
 First IsOne IsOther new = IsOne new ⊎ (((one : List Act) → IsOne one → ⊥) × IsOther new)
 

@@ -1,4 +1,4 @@
--- When nothing becomes due by the passing of time alone.
+-- When nothing becomes due while only time passes.
 use Rattle.std.specs.Prelude.{◌≡◌, ℕ, ◌+◌, false, List}
 use Rattle.sv_links.specs.Waiting.{IsExpired}
 use Rattle.sv_scan.specs.Counted.{is_scanning}
@@ -11,7 +11,7 @@ use Rattle.sv_history.specs.Act.{DeviceAct, wait_acts, instrument_acts, ticks}
 abbrev pub IsUnhurried : ℕ → Config → List DeviceAct → Type 0
 IsUnhurried most config acts = (c : ℕ) → IsExpired (config.clock + ticks acts + most) (wait_acts acts) c → ⊥
 
--- No suspended call has a deadline within `most` milliseconds, and no scan is under way. (During a scan a channel is read each
--- millisecond.)
+-- No suspended call has a deadline within `most` milliseconds, and no scan is under way. (During a scan the instrument reads a
+-- channel each millisecond.)
 abbrev pub IsStill : ℕ → Config → List DeviceAct → Type 0
 IsStill most config acts = (is_scanning (state (effective_acts (instrument_acts acts))) ≡ false) × IsUnhurried most config acts

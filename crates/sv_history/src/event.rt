@@ -61,7 +61,7 @@ pub enum Event<'a> {
         /// The port that closes.
         port: Port,
     },
-    /// An attempt to connect an interrupt channel to its peer has ended.
+    /// The driver's attempt to connect an interrupt channel to its peer has ended.
     Dialed {
         /// The number of the channel's connection.
         conn: u8,
@@ -115,7 +115,7 @@ pub struct Dial {
 /// prints the number of the refusal, which is `refused as u8`.
 #[derive(Clone, Copy, Debug, PartialEq, Eq, Error)]
 pub enum Refused {
-    /// Memory for a link or an interrupt channel was refused.
+    /// The server got no memory for a link or an interrupt channel.
     #[error("no memory was left")]
     NoMemory = 1,
     /// The connection's number is in use.
@@ -136,7 +136,7 @@ pub enum Refused {
     #[error("nothing is being dialed")]
     NoDial = 6,
     /// The connection has no next call that can be refused: only a create_link or a
-    /// create_intr_chan can.
+    /// create_intr_chan can be refused.
     #[error("the next call can't be refused")]
     NotRefusable = 7,
     /// The instrument has no channel of this number.

@@ -24,14 +24,15 @@ use Rattle.sv_instrument.specs.QueryResponse.{Says}
 abbrev pub done : List Act → List Act
 done log = Exchanged UnitDone ∷ log
 
--- the log after an answer is added to the answers of the message; or, if the answer doesn't fit, after all answers of the message are
+-- if the answer fits, the log after it is added to the answers of the message; else the log after all answers of the message are
 -- dropped and -430 is reported
 abbrev pub after_answering : List ℕ → List Act → List Act
 after_answering text log =
     if fits_response (answers (exchange_acts log)) text then Exchanged (Answered text) ∷ log
     else Reported QueryDeadlocked ∷ Exchanged AnswersDropped ∷ log
 
--- if there is an error, the log after this error is reported and the unit is done; else `acts`, the log after the order is performed
+-- with an error: the log after this error is reported and the unit is done; without an error: `acts`, the log after the order is
+-- performed
 abbrev pub unless : Option Code → List Act → List Act → List Act
 unless (Some code) acts log = done (Reported code ∷ log)
 unless None acts log = acts
@@ -56,7 +57,8 @@ after_query question.Error log = EntryTaken ∷ log
 after_query (question.Events name) log = EventRead name ∷ log
 after_query asked log = log
 
--- the error of a query that can't be answered: -230 for the readings of a measurement that isn't complete or was aborted; else `None`
+-- the error of a query that can't be answered: -230 if the query fetches the readings, and the measurement isn't complete, was
+-- aborted or doesn't exist. `None` if the query can be answered.
 abbrev pub question_fault : Question → List Act → Option Code
 question_fault question.Readings log = if is_complete (effective_acts log) then None else Some DataCorruptOrStale
 question_fault asked log = None

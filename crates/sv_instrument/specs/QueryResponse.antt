@@ -1,5 +1,5 @@
--- The answer to each query (IEEE 488.2, chapter 10; SCPI-1999, volume 2). It is a text that depends on the log before the query removes an
--- entry or clears a register.
+-- The answer to each query (IEEE 488.2, chapter 10; SCPI-1999, volume 2). It is a text. It depends on the log as it is before the query
+-- removes an entry or clears a register.
 use Rattle.std.specs.Prelude.{◌≡◌, ◌↔◌, ℕ, ◌<◌, true, false, List, [], ◌∷◌, Option, length, codes, decimal, unwrap_or}
 use Rattle.std.specs.List.{join_by}
 use Rattle.std.specs.Int.{bit_at}
@@ -23,7 +23,7 @@ use Rattle.sv_layers.specs.Filter.{rise, fall, enable}
 use Rattle.sv_layers.specs.Standard.{Stands, enable as standard_enable}
 use Rattle.sv_layers.specs.StatusByte.{MasterBit, service}
 
--- The text is a 16-bit number in decimal. Bit k of the number is set exactly if `Bit` holds of k.
+-- The text is a 16-bit number in decimal. Bit k of the number is set exactly if `Bit` holds for k.
 pub record IsWord (Bit : ℕ → Type 0) (text : List ℕ) : Type 0 where
   pub word : ℕ
   pub fits : word < 65536

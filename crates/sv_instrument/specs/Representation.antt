@@ -10,8 +10,8 @@ use Rattle.sv_instrument.specs.HeldUnit.{held_unit}
 use Rattle.sv_instrument.specs.Path.{IsPath}
 use Rattle.sv_instrument.specs.RequestCount.{Raises}
 
--- the state of the instrument: its layers; what the unit that waits for the end of the measurement will answer, if there is such a unit;
--- and the path before the next header
+-- the state of the instrument: its layers; what the held unit will answer, or `None` if no unit is held; and the path for the next
+-- header
 pub record Kept : Type 0 where
   pub layers : LayerState
   pub held : Option Awaited
@@ -34,7 +34,7 @@ abbrev pub Takes : (List Act → List Act → Type 0) → Kept → Option ℕ �
 Takes IsNext kept None log = (new : List Act) → IsNext log new → ⊥
 Takes IsNext kept (Some count) log = (new : List Act) × IsNext log new × Ran kept count log new
 
--- 1 if no unit waits for the end of the measurement; else 0. With 1, the next unit can start.
+-- 1 if no unit is held, so that the next unit can start; else 0
 abbrev pub one_if_unheld : Option Awaited → ℕ
 one_if_unheld None = 1
 one_if_unheld (Some awaited) = 0
@@ -51,7 +51,7 @@ abbrev pub instrument_measure : Kept → ℕ
 instrument_measure kept = 2 * (2 * exchange_measure kept.layers.exchange + one_if_unheld kept.held)
     + waits (state_by kept.layers)
 
--- If a unit waits for the end of the measurement, this unit is the one that is due in message exchange.
+-- If a unit is held, this unit is the one that is due in message exchange.
 abbrev pub IsHeldRight : Option Awaited → LayerState → Type 0
 IsHeldRight None layers = ⊤
 IsHeldRight (Some awaited) layers = IsUnitDue (next_of layers.exchange)

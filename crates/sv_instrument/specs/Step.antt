@@ -1,5 +1,5 @@
--- The step of message exchange that is due (IEEE 488.2, 6.1.4 and 6.3): a unit that waited for the end of the measurement ends; the next
--- unit starts; an error is reported for a message that is too long; or a message that has ended is finished.
+-- The step of message exchange that is due (IEEE 488.2, 6.1.4 and 6.3): a held unit ends; the next unit starts; an error is reported for
+-- a message that is too long; or a message that has ended is finished.
 use Rattle.std.specs.Prelude.{◌≡◌, ℕ, Bool, true, false, not, ◌&&◌, ◌||◌, List, ◌∷◌, Option, Some, None, Result, Ok, Err, codes}
 use Rattle.sv_errors.specs.declared.code.Code.{Code}
 use Rattle.sv_errors.specs.declared.code.Code.TheVariants.{InputBufferOverrun, QueryInterrupted}
@@ -16,7 +16,7 @@ use Rattle.sv_instrument.specs.Path.{IsPath}
 use Rattle.sv_instrument.specs.QueryResponse.{readings_text}
 use Rattle.sv_instrument.specs.CommandEffect.{Performs, done, after_answering}
 
--- the log after a unit that waited for the end of the measurement ends: the unit is done, and its answer is added to the response
+-- the log after the held unit ends: the unit is done, and its answer, if it has one, is added to the answers of the message
 abbrev pub after_release : Awaited → List Act → List Act
 after_release Nothing log = done log
 after_release One log = after_answering (codes "1") (done log)
@@ -27,7 +27,7 @@ abbrev pub Does : Result Order Code → List Act → List Act → Type 0
 Does (Err code) log new = new ≡ done (Reported code ∷ log)
 Does (Ok order) log new = Performs order log new
 
--- A unit starts: it is read with the path that results from the units before it.
+-- A unit starts: it is read relative to the path that the units before it leave.
 abbrev pub Starts : List ℕ → List Act → List Act → Type 0
 Starts unit log new = (path behind : List (List ℕ)) × (outcome : Result Order Code) × IsPath log path × IsReadAs path unit outcome behind
     × Does outcome log new
@@ -50,7 +50,7 @@ StepOf None FinishDue log new = new ≡ Exchanged Finished ∷ log
 abbrev pub IsStep : List Act → List Act → Type 0
 IsStep log new = StepOf (held_unit log) (due (exchange_acts log)) log new
 
--- whether a unit waits for the end of the measurement (it is held)
+-- whether a unit is held: it waits for the end of the measurement
 abbrev pub is_held : Option Awaited → Bool
 is_held None = false
 is_held (Some awaited) = true

@@ -17,7 +17,8 @@ abbrev pub or_reported : Option Code → Act
 or_reported None = Scanned (Trigger Bus)
 or_reported (Some code) = Reported code
 
--- the acts of a trigger from the controller (VXI-11, device_trigger): if the scanner doesn't wait for it, -211 is reported
+-- the acts of a trigger from the controller (VXI-11, device_trigger); if the scanner doesn't wait for this trigger, -211
+-- is reported
 abbrev pub trigger_acts : List Act → List Act
 trigger_acts log = or_reported (trigger_fault (effective_acts log) Bus) ∷ []
 
@@ -26,7 +27,8 @@ abbrev pub or_nothing : Option Code → List Act
 or_nothing None = Scanned (Trigger External) ∷ []
 or_nothing (Some code) = []
 
--- the acts of a trigger at the trigger input: if the scanner doesn't wait for it, nothing happens
+-- the acts of a trigger at the trigger input; if the scanner doesn't wait for this trigger, there
+-- is no act
 abbrev pub external_acts : List Act → List Act
 external_acts log = or_nothing (trigger_fault (effective_acts log) External)
 
@@ -35,7 +37,7 @@ abbrev pub where_scanning : State → List Act
 where_scanning Scanning = Scanned Sample ∷ []
 where_scanning _ = []
 
--- the acts when a millisecond passes: during a scan the next channel is read; else there are none
+-- the acts when a millisecond passes: during a scan the next channel is read; else there is no act
 abbrev pub tick_acts : List Act → List Act
 tick_acts log = where_scanning (state (effective_acts log))
 

@@ -14,7 +14,7 @@ use sv_layers::{Awaited, Layers};
 pub struct Instrument<A: Allocator = Global> {
     /// The table in which the command of a header is looked up.
     pub(crate) table: Table<A>,
-    /// The header path from which the next unit's header is looked up (SCPI's compound headers).
+    /// The path relative to which the next unit is read (SCPI's compound headers).
     pub(crate) path: Path,
     /// Message exchange, error queue, scanner and status registers.
     pub(crate) layers: Layers<A>,

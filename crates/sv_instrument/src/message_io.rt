@@ -82,8 +82,8 @@ impl<A: Allocator> Instrument<A> {
     }
 
     /// Handles a read to which no response will come: drops the text of the unfinished message, and
-    /// reports -420 (IEEE 488.2, 6.3.2.2). This function must not be called while a message that
-    /// has ended isn't finished. Returns how many requests for service were raised.
+    /// reports -420 (IEEE 488.2, 6.3.2.2). After the end of a message, this function must not be
+    /// called until the message is finished. Returns how many requests for service were raised.
     pub fn unterminated(&mut self) -> u8
         requires { IsTrue (is_open self.old.layers.exchange) }
         ensures { (log : List Act) → StandsFor self.old log → Ran self.new result log
@@ -96,9 +96,9 @@ impl<A: Allocator> Instrument<A> {
         self.take_requests()
     }
 
-    /// Performs a device clear: drops program text, the unit that waits for the end of the
-    /// measurement, and the response; cancels a pending `*OPC` (VXI-11, device_clear; IEEE 488.2,
-    /// 5.8). Returns how many requests for service were raised.
+    /// Performs a device clear: drops program text, the held unit and the response, and cancels a
+    /// pending `*OPC` (VXI-11, device_clear; IEEE 488.2, 5.8). Returns how many requests for
+    /// service were raised.
     pub fn clear(&mut self) -> u8
         ensures { (log : List Act) → StandsFor self.old log
             → Ran self.new result log (Purged ∷ log) }

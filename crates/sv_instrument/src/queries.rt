@@ -18,8 +18,8 @@ use sv_header::{Question, SettingName};
 use sv_layers::{Awaited, Change, Layers};
 use sv_value::printing::{put_channels, put_error, put_source, put_switch, put_voltage, put_whole};
 
-/// Performs the query of the unit that is due: adds the answer to the response, or reports an error
-/// if the query can't be answered.
+/// Performs the query of the unit that is due: adds the answer to the answers of the message, or
+/// reports an error if the query can't be answered.
 pub(crate) fn ask<A: Allocator>(
     layers: &mut Layers<A>,
     answer: &mut Vec<u8, A>,
@@ -43,8 +43,9 @@ pub(crate) fn ask<A: Allocator>(
     }
 }
 
-/// Returns the error of a query that can't be answered: -230 if the query fetches the readings and
-/// no measurement is complete. Returns `None` if the query can be answered.
+/// Returns the error of a query that can't be answered: -230 if the query fetches the readings, and
+/// the measurement isn't complete, was aborted or doesn't exist. Returns `None` if the query can be
+/// answered.
 fn refused<A: Allocator>(layers: &Layers<A>, question: Question) -> Option<Code>
     ensures { (log : List Act) → Stands layers.now log → result ≡ question_fault question log }
 {

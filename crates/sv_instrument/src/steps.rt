@@ -36,10 +36,10 @@ impl<A: Allocator> Instrument<A> {
         }
     }
 
-    /// Takes the step of message exchange that is due: a unit that waited for the end of the
-    /// measurement ends; the next unit starts; an error is reported for a message that is too long;
-    /// or a message that has ended is finished (IEEE 488.2, 6.1.4 and 6.3). Returns how many
-    /// requests for service were raised. Returns `None` if no step was due: then nothing changed.
+    /// Takes the step of message exchange that is due: a held unit ends; the next unit starts; an
+    /// error is reported for a message that is too long; or a message that has ended is finished
+    /// (IEEE 488.2, 6.1.4 and 6.3). Returns how many requests for service were raised. Returns
+    /// `None` if no step was due: then nothing changed.
     pub fn step(&mut self) -> Option<u8>
         ensures steps { (log : List Act) → StandsFor self.old log
             → Takes IsStep self.new result log }
@@ -64,8 +64,7 @@ impl<A: Allocator> Instrument<A> {
         }
     }
 
-    /// Ends the unit that waits for the end of the measurement, if no measurement is under way any
-    /// more. Returns whether the unit ended.
+    /// Ends the held unit, if no measurement is under way any more. Returns whether the unit ended.
     fn release(&mut self, awaited: Awaited) -> bool
         requires { self.old.held ≡ Some awaited }
         ensures { Steps result self.old self.new }
@@ -81,8 +80,8 @@ impl<A: Allocator> Instrument<A> {
         }
     }
 
-    /// Takes the step of message exchange that is due. The caller must know that no unit waits for
-    /// the end of the measurement. Returns whether a step was due.
+    /// Takes the step of message exchange that is due. The caller must know that no unit is held.
+    /// Returns whether a step was due.
     fn next_step(&mut self) -> bool
         requires { self.old.held ≡ None }
         ensures { Steps result self.old self.new }

@@ -1,4 +1,5 @@
-//! How a unit ends, answers, or is held (waits for the end of the measurement).
+//! How a unit ends, how its answer is added, and how it is held: it waits for the end of the
+//! measurement.
 
 ghost use Rattle.std.specs.Prelude.{◌≡◌, ◌≤◌, List, ◌∷◌, None, IsTrue};
 ghost use Rattle.sv_exchange.specs.Contents.{IsUnitDue, next_of, may_respond, exchange_measure};
@@ -21,8 +22,7 @@ pub(crate) fn end<A: Allocator>(layers: &mut Layers<A>)
     layers.done();
 }
 
-/// Applies a change, and ends the unit that is due. Returns `None`: the unit doesn't have to wait
-/// for the end of the measurement.
+/// Applies a change, and ends the unit that is due. Returns `None`, because the unit isn't held.
 pub(crate) fn carry_out<A: Allocator>(layers: &mut Layers<A>, change: Change) -> Option<Awaited>
     requires { IsUnitDue (next_of layers.old.exchange) }
     ensures behaves { (start log : List Act) → Counts start layers.old log
@@ -34,7 +34,7 @@ pub(crate) fn carry_out<A: Allocator>(layers: &mut Layers<A>, change: Change) ->
     None
 }
 
-/// Makes the unit that is due wait for the end of the measurement, instead of ending the unit now.
+/// Holds the unit that is due: it doesn't end now, but waits for the end of the measurement.
 /// Returns `awaited`, which is what the unit will answer then.
 pub(crate) fn hold<A: Allocator>(layers: &mut Layers<A>, awaited: Awaited) -> Option<Awaited>
     requires { IsUnitDue (next_of layers.old.exchange) }
@@ -59,7 +59,7 @@ fn respond<A: Allocator>(layers: &mut Layers<A>, text: &[u8])
     }
 }
 
-/// Ends the unit that is due, and adds its answer to the response.
+/// Ends the unit that is due, and adds its answer to the answers of the message.
 pub(crate) fn reply<A: Allocator>(layers: &mut Layers<A>, text: &[u8])
     requires { IsUnitDue (next_of layers.old.exchange) }
     ensures behaves { (start log : List Act) → Counts start layers.old log

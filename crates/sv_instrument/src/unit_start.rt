@@ -1,4 +1,4 @@
-//! The start of a unit, and the end of a unit that waited for the end of the measurement.
+//! The start of a unit, and the end of a held unit.
 
 ghost use Rattle.std.specs.Prelude.{◌≡◌, ◌≤◌, ℕ, List, Some, None, vec_capacity};
 ghost use Rattle.sv_exchange.specs.Exchange.{next_unit};
@@ -18,7 +18,7 @@ use sv_header::{Path, Table};
 use sv_layers::{Awaited, Change, Layers};
 
 /// Starts the unit that is due: executes it, or reports the first fault in it. If the unit's header
-/// names a command, updates the header path from which the next unit's header is looked up.
+/// names a command, updates the path for the next unit.
 pub(crate) fn start<A: Allocator>(
     table: &Table<A>,
     path: &mut Path,
@@ -39,7 +39,7 @@ pub(crate) fn start<A: Allocator>(
     }
 }
 
-/// Ends the unit that waited for the end of the measurement, and adds its answer to the response.
+/// Ends the held unit, and adds its answer, if it has one, to the answers of the message.
 pub(crate) fn release<A: Allocator>(
     layers: &mut Layers<A>,
     answer: &mut Vec<u8, A>,

@@ -1,5 +1,5 @@
--- Isolation: while a link holds the lock, other connections change nothing that is sent on the link's connection and on its interrupt
--- channel (VXI-11 revision 1.0, section B.4.4: device locking).
+-- Isolation: while a link holds the lock, other connections change nothing that is sent on the link's connection and on this
+-- connection's interrupt channel (VXI-11 revision 1.0, section B.4.4: device locking).
 use Rattle.std.specs.Prelude.{◌≡◌, ◌≢◌, ◌↔◌, ◌==◌, not, ℕ, Bool, false, ⊤, List, [], ◌∷◌, ◌++◌, filter, Option, Some, None}
 use Rattle.sv_vxi.specs.Arguments.{is_create_link}
 use Rattle.sv_links.specs.declared.waiting.Wait.TheVariants.{Input as ForInput, Response as ForResponse}
@@ -15,7 +15,8 @@ use Rattle.sv_history.specs.AbortChannel.{owner_of}
 use Rattle.sv_history.specs.History.{IsLogOf}
 use Rattle.sv_laws.specs.Adding.{Adds}
 
--- whether an event is of another connection than `c`, or of the interrupt channel of such a connection
+-- whether an event is of a connection other than `c`, or of the interrupt channel of a connection
+-- other than `c`
 abbrev pub is_foreign : ℕ → PlainEvent → Bool
 is_foreign c (Open d role) = not (d == c)
 is_foreign c (Bytes d piece) = not (d == c)
@@ -28,7 +29,8 @@ is_foreign c (Input channel microvolts) = false
 is_foreign c External = false
 is_foreign c Tick = false
 
--- the events that remain when the events of other connections than `c`, and of the interrupt channels of other connections, are left out
+-- the events that remain if the events of connections other than `c`, and of their interrupt channels, are left out
+-- (`is_foreign`)
 abbrev pub own_events : ℕ → List PlainEvent → List PlainEvent
 own_events c = filter (λ event. not (is_foreign c event))
 
@@ -42,8 +44,8 @@ abbrev pub makes_link : Option Request → Bool
 makes_link (Some (CoreRequest call)) = is_create_link call.arguments
 makes_link _ = false
 
--- If the event takes a device_abort, this call names no link of connection `c`; and the event neither takes nor refuses a create_link on
--- this connection.
+-- If the event takes a device_abort, this device_abort names no link of connection `c`. The event neither takes nor refuses a
+-- create_link on connection `c`.
 abbrev pub LeavesLinksAlone : ℕ → PlainEvent → List Act → Type 0
 LeavesLinksAlone c (Turn d) log = (owner_of (aborted_link (next_request (of d log))) (device_acts log) ≢ Some c)
     × (d ≡ c → makes_link (next_request (of d log)) ≡ false)
@@ -61,13 +63,14 @@ abbrev pub HoldsFrom : ℕ → List Act → List Act → Type 0
 HoldsFrom lid before log = (later since : List Act) → log ≡ later ++ (since ++ before)
     → holder (link_acts (device_acts (since ++ before))) ≡ Some lid
 
--- On no other connection than `c` is a device_write suspended until it can be accepted, or a device_read until it can be answered.
+-- No connection other than `c` has a suspended device_write that waits until the device accepts it, or a suspended device_read
+-- that waits until the device answers it.
 abbrev pub NoOtherWaits : ℕ → List WaitAct → Type 0
 NoOtherWaits c acts = (d : ℕ) → d ≢ c → (waits d acts ≢ Some ForInput) × (waits d acts ≢ Some ForResponse)
 
--- These events follow the history `past`. During them a link of this connection holds the lock. No event is a device_abort of a link of
--- this connection, or a create_link on this connection (`LeavesLinksAlone`). When the events begin, no read or write of another connection
--- is suspended (`NoOtherWaits`).
+-- These events follow the history `past`. During these events link `lid` of connection `c` holds the lock. No event takes a device_abort
+-- of a link of this connection, and no event takes or refuses a create_link on this connection (`LeavesLinksAlone`). When the events
+-- begin, no read or write of another connection is suspended (`NoOtherWaits`).
 pub record IsLocked (c lid : ℕ) (config : Config) (past events : List PlainEvent) : Type 0 where
   pub before : List Act
   pub log : List Act
@@ -78,9 +81,9 @@ pub record IsLocked (c lid : ℕ) (config : Config) (past events : List PlainEve
   pub rest : NoOtherWaits c (wait_acts (device_acts before))
   pub left_alone : EachIs (LeavesLinksAlone c) config past events
 
--- While a link of a connection holds the lock (`IsLocked`), the events of all other connections can be left out. The history goes on with
--- the remaining events alone, none of which is refused. These add the same bytes to the connection and to its interrupt channel as all
--- events do.
+-- While a link of a connection holds the lock (`IsLocked`), the events of all other connections can be left out. The history can go on
+-- with the remaining events alone: none of them is refused. The remaining events add the same bytes to the connection and to its
+-- interrupt channel as all events together.
 abbrev pub Isolation : Type 0
 Isolation = (c lid : ℕ) (config : Config) (past events : List PlainEvent) → IsLocked c lid config past events
     → ((log : List Act) × IsLogOf config (own_events c events ++ past) log)

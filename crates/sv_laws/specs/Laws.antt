@@ -1,4 +1,5 @@
--- Laws of the whole specification: one log, calls and replies, what is never refused, and time.
+-- Laws of the whole specification: a history has one log; which events are never refused; how calls
+-- are answered; and what time changes.
 use Rattle.std.specs.Prelude.{◌≡◌, ◌⊎◌, ℕ, ◌+◌, ◌<◌, ◌≤◌, Bool, true, false, List, ◌∷◌, ◌++◌, length, take, drop, filter, replicate, Some, None, is_some, Result, Ok, Err, ⊤}
 use Rattle.sv_rpc.specs.declared.call.CallFault.TheVariants.{BadHeader}
 use Rattle.sv_rpc.specs.Call.{call_at}
@@ -23,21 +24,23 @@ use Rattle.sv_history.specs.History.{is_port_shut, input_refusal, last_clock, Is
 abbrev pub OneLog : Type 0
 OneLog = (config : Config) (history : List PlainEvent) (a b : List Act) → IsLogOf config history a → IsLogOf config history b → a ≡ b
 
--- If nothing becomes due within `most` milliseconds, that many ticks change only the clock: the log gains only the acts of the ticks. After
--- these ticks the clock must not be past its last value.
+-- If nothing becomes due within `most` milliseconds, that many ticks change only the clock: the log gains only the acts of the ticks. A
+-- premise is that after these ticks the clock isn't past its last value.
 abbrev pub TimeOnlyCounts : Type 0
 TimeOnlyCounts = (config : Config) (history : List PlainEvent) (log : List Act) (most : ℕ) → IsLogOf config history log
     → IsStill most config (device_acts log) → config.clock + ticks (device_acts log) + most ≤ last_clock
     → IsLogOf config (replicate most Tick ++ history) (replicate most (OnDevice Ticked) ++ log)
 
--- Between two events no suspended call is past its deadline, and none could resume (VXI-11 revision 1.0, section B.4.4).
+-- Between two events no suspended call is past its deadline, and no suspended call can resume (VXI-11 revision 1.0,
+-- section B.4.4).
 abbrev pub NoneLate : Type 0
 NoneLate = (config : Config) (history : List PlainEvent) (log : List Act) (c : ℕ) → IsLogOf config history log
     → (IsExpired (config.clock + ticks (device_acts log)) (wait_acts (device_acts log)) c → ⊥) × (CanResume (device_acts log) c → ⊥)
 
 -- The server's queries (its methods `is_open`, `room`, `waiting` and `dial`) allow this event by their answers: an Open of a free number;
--- Bytes that fit the room of a connection, if the room isn't 0; a Took of at most the bytes that wait, if any wait; a Close of an open
--- port; or a Dialed while a create_intr_chan waits for it. Or the event is an Input that isn't refused, or the external trigger.
+-- Bytes that fit the room of a connection, if the room isn't 0; a Took of at most as many bytes as wait, if any bytes wait; a Close of an
+-- open port; or a Dialed while a create_intr_chan waits for its peer. Or the event is an Input that isn't refused, or the external
+-- trigger.
 abbrev pub Suits : PlainEvent → List ChannelAct → List Act → Type 0
 Suits (Open c role) channel_log log = (c < 16) × (is_open (of c log) ≡ false)
 Suits (Bytes c piece) channel_log log = (c < 16) × (0 < room (of c log)) × (length piece ≤ room (of c log))
@@ -64,8 +67,8 @@ abbrev pub one_if : Bool → ℕ
 one_if true = 1
 one_if false = 0
 
--- The number of records that were taken on a connection is the number of those that were answered or aren't calls, plus one if a call of
--- the connection is suspended.
+-- Two numbers are equal. One counts the records that were taken on a connection. The other counts the records that were answered or
+-- turned out not to be calls, plus one if a call of the connection is suspended.
 abbrev pub IsPaid : ℕ → List Act → Type 0
 IsPaid c log = calls_taken (of c log) ≡ records_ended (of c log) + one_if (is_some (waits c (wait_acts (device_acts log))))
 
@@ -73,7 +76,8 @@ IsPaid c log = calls_taken (of c log) ≡ records_ended (of c log) + one_if (is_
 abbrev pub EachAnswered : Type 0
 EachAnswered = (config : Config) (history : List PlainEvent) (log : List Act) (c : ℕ) → IsLogOf config history log → IsPaid c log
 
--- The reply has the call's xid: the four bytes after its record mark are the first four of the call (RFC 5531, sections 9 and 11).
+-- The reply has the call's xid: the four bytes after the reply's record mark are the first four bytes of the call (RFC 5531,
+-- sections 9 and 11).
 abbrev pub HasXidOf : List ℕ → List ℕ → Type 0
 HasXidOf call reply = (4 ≤ length call) × (take 4 (drop 4 reply) ≡ take 4 call)
 

@@ -10,19 +10,20 @@ pub fn one_log()
 {}
 
 /// While a link holds the lock, other connections change nothing that is sent on the connection
-/// that created the link, and on its interrupt channel (VXI-11 revision 1.0, section B.4.4). There
-/// are three premises: no device_abort names a link of that connection; no create_link comes on
-/// that connection; and when the events begin, no read or write of another connection is suspended
-/// for input or output.
+/// that created the link, and on that connection's interrupt channel (VXI-11 revision 1.0, section
+/// B.4.4). There are three premises: no device_abort names a link of that connection; no
+/// create_link comes on that connection; and when the events begin, no read or write of another
+/// connection is suspended until the device can answer or accept it.
 pub fn isolation()
     ensures { Isolation }
 {}
 
-/// The server sends the same bytes, however its input is split into pieces, records into fragments
-/// and text into writes; only the replies to the writes differ. There are four premises: each piece
-/// finds room; each write is answered without error for all its bytes; only the last write has END
-/// or a new line; and no read or write was suspended before (RFC 5531, section 11: record marking;
-/// VXI-11 revision 1.0, section B.6, device_write; IEEE 488.2, 6.1).
+/// The server sends the same bytes, no matter how its input is split into pieces, the records into
+/// fragments, and the text into writes; only the replies to the writes differ. There are four
+/// premises: there is room for each piece; each write is answered without error, and the answer
+/// counts all bytes of the write; only the last write has END or a new line; and no read or write
+/// was suspended before (RFC 5531, section 11: record marking; VXI-11 revision 1.0, section B.6,
+/// device_write; IEEE 488.2, 6.1).
 pub fn cuts()
     ensures pieces { RecordsCut }
     ensures writes { WritesCut }
@@ -34,13 +35,13 @@ pub fn stillness()
     ensures { TimeOnlyCounts }
 {}
 
-/// Between two events no suspended call is past its deadline, and none could resume.
+/// Between two events no suspended call is past its deadline, and no suspended call can resume.
 pub fn none_late()
     ensures { NoneLate }
 {}
 
 /// An event that the answers of the server's queries allow is never refused. So the server stores
-/// all bytes that come while there is room for them, and removes from its output all bytes that the
+/// all bytes that come while it has room for them, and removes from its output all bytes that the
 /// peer took.
 pub fn nothing_lost()
     ensures { NothingLost }

@@ -1,5 +1,5 @@
--- The acts of the instrument, and which of these acts are acts of message exchange, of the error queue and of the scanner. In lists of acts
--- the newest act comes first.
+-- The acts of the instrument; and which of them are acts of message exchange, of the error queue, or of the scanner. In lists of acts the
+-- newest act comes first.
 use Rattle.std.specs.Prelude.{ℕ, List, [], ◌∷◌, Some, None}
 use Rattle.std.specs.List.{filter_map}
 use Rattle.sv_errors.specs.declared.code.Code.{Code}

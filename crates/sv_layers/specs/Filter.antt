@@ -18,20 +18,22 @@ is_same _ _ = false
 abbrev pub start : RegisterName → ℕ
 start = elim [ Limit ↦ 32767 | _ ↦ 0 ]
 
--- what an act that sets this mask for register `other` means for register `name`: if both are the same register, its new mask is this
--- mask without bit 15; else `None`
+-- the new mask of register `name` after an act that sets this mask for register `other`: this mask without bit 15, if both are the
+-- same register; else `None`
 abbrev pub mask_for : RegisterName → RegisterName → ℕ → Option ℕ
 mask_for name other mask = if is_same name other then Some (without_top_bit mask) else None
 
--- the positive transition filter of a register: as last set, or 32767 after power on or a preset
+-- the positive transition filter of a register: the mask that was set last; 32767 at power on and
+-- after a preset
 abbrev pub rise : RegisterName → List Act → ℕ
 rise name = last_given (elim [ RiseSet other mask ↦ mask_for name other mask | Preset ↦ Some 32767 | _ ↦ None ]) 32767
 
--- the negative transition filter of a register: as last set, or 0 after power on or a preset
+-- the negative transition filter of a register: the mask that was set last; 0 at power on and after
+-- a preset
 abbrev pub fall : RegisterName → List Act → ℕ
 fall name = last_given (elim [ FallSet other mask ↦ mask_for name other mask | Preset ↦ Some 0 | _ ↦ None ]) 0
 
--- the enable mask of a register: as last set, or `start` after power on or a preset
+-- the enable mask of a register: the mask that was set last; `start` at power on and after a preset
 abbrev pub enable : RegisterName → List Act → ℕ
 enable name = last_given (elim [ Enabled other mask ↦ mask_for name other mask | Preset ↦ Some (start name) | _ ↦ None ]) (start name)
 
@@ -39,14 +41,14 @@ enable name = last_given (elim [ Enabled other mask ↦ mask_for name other mask
 abbrev pub has_bit : ℕ → ℕ → Bool
 has_bit word k = bit_at word k == 1
 
--- whether the newest act changes bit k of the condition, and the filter for this change had bit k set before the act: the positive filter
--- for a change to 1, the negative filter for a change to 0
+-- whether the newest act changes bit k of the condition, and the change passes its filter. A change to 1 passes if bit k of the positive
+-- filter was set before the act; a change to 0 passes if bit k of the negative filter was set.
 abbrev pub passes : (List Act → ℕ) → RegisterName → ℕ → List Act → Bool
 passes condition name k [] = false
 passes condition name k (act ∷ before) =
     (not (has_bit (condition before) k) && (has_bit (condition (act ∷ before)) k && has_bit (rise name before) k))
     || (has_bit (condition before) k && (not (has_bit (condition (act ∷ before)) k) && has_bit (fall name before) k))
 
--- whether the newest act leaves the event register uncleared: the act is neither `*CLS` nor a read of this event register
+-- whether the newest act doesn't clear the event register: it is neither `*CLS` nor a read of this event register
 abbrev pub leaves : RegisterName → List Act → Bool
 leaves name = elim [ EventRead other ∷ log ↦ not (is_same name other) | Cleared ∷ log ↦ false | _ ↦ true ]

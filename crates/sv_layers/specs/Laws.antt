@@ -44,8 +44,8 @@ SameEvents = (name : RegisterName) (k : ℕ) (log : List Act)
 abbrev pub SameWaiting : Type 0
 SameWaiting = (log : List Act) → ((layer_logs log).waits ≡ true) ↔ Waits log
 
--- The layers' logs and the instrument's log agree on whether an `*OPC` completes at an act. In the layers' logs it completes if the act
--- makes the event operation complete (bit 0) occur.
+-- The layers' logs and the instrument's log agree on whether an `*OPC` completes at an act. In the layers' logs it completes if the
+-- event of bit 0 (operation complete) occurs at the act.
 abbrev pub SameCompletion : Type 0
 SameCompletion = (act : Act) (before : List Act) → (completes : Bool)
     × ((after_complete (after_begin act (layer_logs before))).standard ≡ Occur (bit 0 completes)

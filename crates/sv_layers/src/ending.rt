@@ -28,8 +28,8 @@ const SUMMARY: u16 = 1 << 9;
 impl<A: Allocator> Layers<A> {
     /// Ends a change, which was already applied to the layer that it belongs to: updates one status
     /// register after the other. If the condition of a register might have changed, the transitions
-    /// of its bits first pass the register's filters as they were before the change. Then follows
-    /// what the change itself does to the register, such as setting a filter or clearing its
+    /// of the condition bits first pass the register's filters as they were before the change. Then
+    /// the change takes its direct effect on the register, such as setting a filter or clearing
     /// events. A nested register is updated before the register whose condition has the nested
     /// register's summary.
     pub(crate) fn end(&mut self, change: &Change)
@@ -57,8 +57,8 @@ impl<A: Allocator> Layers<A> {
         change_standard(&mut self.standard, change);
     }
 
-    /// Sets the standard event operation complete if an `*OPC` is pending and no measurement is
-    /// under way.
+    /// Sets the operation complete bit of the standard events if an `*OPC` is pending and no
+    /// measurement is under way.
     fn complete(&mut self)
         ensures stands { (at : LayerLogs) (status_log : List StatusAct)
             → Represents self.old at status_log

@@ -1,11 +1,11 @@
-//! Laws of the layers: each layer has the state that the standards require after the acts in the
-//! log.
+//! Laws of the layers: after the acts of a log, each layer has the state that the standards
+//! require.
 
 ghost use Rattle.sv_layers.specs.Laws.{OwnActs, SameWords, SameEvents, SameWaiting, SameCompletion, SameStandardEvents, SameEnable, SameSummaries, OneAccount, SameRequests, SameRaising, SameStatus};
 
-/// The layers' logs of message exchange, error queue and scanner each consist of exactly those acts
-/// of the instrument's log that belong to this layer. The layers' service request enable is the one
-/// that was set last.
+/// The log of the layer of message exchange has exactly those acts of the instrument's log that are
+/// acts of message exchange. The same holds for the error queue and for the scanner. The layers'
+/// service request enable is the one that was set last.
 pub fn own_acts()
     ensures { OwnActs }
 {}
@@ -28,8 +28,8 @@ pub fn same_waiting()
     ensures { SameWaiting }
 {}
 
-/// At an act, the layers set the standard event operation complete exactly if IEEE 488.2, 12.5.2,
-/// says that an `*OPC` completes at this act, given the instrument's log up to the act.
+/// At an act, the layers set the operation complete bit exactly if IEEE 488.2, 12.5.2, says that an
+/// `*OPC` completes at this act, given the instrument's log up to the act.
 pub fn same_completion()
     ensures { SameCompletion }
 {}
@@ -40,8 +40,8 @@ pub fn same_standard_events()
     ensures { SameStandardEvents }
 {}
 
-/// The layers' enable of the standard events is the one that the instrument's log set last (IEEE
-/// 488.2, 11.5.1).
+/// The layers' enable of the standard events is the one that was set last in the instrument's log
+/// (IEEE 488.2, 11.5.1).
 pub fn same_enable()
     ensures { SameEnable }
 {}

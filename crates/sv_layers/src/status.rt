@@ -73,7 +73,7 @@ impl<A: Allocator> Layers<A> {
     }
 }
 
-/// Returns the mask if `holds`, else 0.
+/// Returns the mask if `holds` is true, else 0.
 pub(crate) fn mask_if(mask: u8, holds: bool) -> u8
     ensures { result ≡ (if holds then mask else 0) }
 {

@@ -31,7 +31,7 @@ part_place index parts = sum_by (λ part. length part + 1) (take index parts)
 abbrev pub count : List ℕ → ℕ
 count unit = length (parts (rest unit))
 
--- the part with this index, counted from 0, of a unit's program data, which are cut into parts at each comma outside parentheses
+-- the part with this index, counted from 0. The parts are those between the commas outside parentheses in a unit's program data.
 abbrev part : List ℕ → ℕ → List ℕ
 part unit index = slice_index_or (parts (rest unit)) index []
 

@@ -32,7 +32,7 @@ header_end unit = header_place unit + length (header unit)
 abbrev pub rest_end : List ℕ → ℕ
 rest_end unit = rest_place unit + length (rest unit)
 
--- the last of these words; empty if there is none
+-- the last of these words; empty if there are no words
 abbrev pub last : List (List ℕ) → List ℕ
 last [] = []
 last (word ∷ []) = word

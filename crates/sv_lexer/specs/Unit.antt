@@ -47,6 +47,7 @@ unit_fault unit =
     else if not (list_all (λ word. nat_le (length word) 12) (words (header unit))) then Some ProgramMnemonicTooLong
     else None
 
--- The outcome of reading a unit: the bytes of the unit if the unit has no fault, else its first fault.
+-- Reading these bytes as a unit has this outcome: the bytes themselves if the unit has no fault, else
+-- its first fault.
 abbrev pub IsLexed : Result (List ℕ) Code → List ℕ → Type 0
 IsLexed outcome bytes = MatchResult outcome (λ unit. (unit ≡ bytes) × (unit_fault bytes ≡ None)) (λ code. unit_fault bytes ≡ Some code)

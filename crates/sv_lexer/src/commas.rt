@@ -72,8 +72,8 @@ fn is_blank(part: &[u8]) -> bool
     trim(part).is_empty()
 }
 
-/// The part before the first comma outside of parentheses, and the text after this comma. If there
-/// is no such comma: the whole text, and `None`.
+/// The part before the first comma outside parentheses, and the text after this comma. If there is
+/// no such comma: the whole text, and `None`.
 fn first_outside(text: &[u8]) -> (&[u8], Option<&[u8]>)
     ensures parts { MatchOption result.1 (cut_outside [] text.now ≡ result.0.now ∷ [])
         (λ behind. cut_outside [] text.now ≡ result.0.now ∷ cut_outside [] behind.now) }
@@ -90,8 +90,8 @@ fn first_outside(text: &[u8]) -> (&[u8], Option<&[u8]>)
     }
 }
 
-/// The position of the first comma outside of parentheses; the length of the text if there is no
-/// such comma.
+/// The position of the first comma outside parentheses; the length of the text if there is no such
+/// comma.
 fn comma_in(text: &[u8]) -> usize
     ensures value { result ≡ first_size false text.now }
     ensures within { result ≤ length text.now }

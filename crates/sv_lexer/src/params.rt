@@ -12,8 +12,8 @@ use std::marker::Model;
 use sv_errors::Code;
 use sv_text::trim;
 
-/// The parameters of a unit: the parts between commas outside parentheses. Contracts see this value
-/// as the bytes of the unit.
+/// The parameters of a unit: the parts between the commas that are outside parentheses. Contracts
+/// see this value as the bytes of the unit.
 #[derive(Debug, Drop)]
 pub struct Params<'a> {
     /// The bytes of the unit.

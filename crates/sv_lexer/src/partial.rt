@@ -137,8 +137,8 @@ impl Partial {
         }
     }
 
-    /// The error of the unit if the unit ends after the bytes read so far; `None` if it then has no
-    /// error.
+    /// The error that the unit has if it ends after the bytes read so far; `None` if it has no
+    /// error then.
     fn fault(&self) -> Option<Code>
         ensures { result ≡ fault_of self.now.stage self.now }
     {

@@ -1,4 +1,4 @@
--- The state of interrupt channels, and when it stands for a list of acts.
+-- The state of interrupt channels, and when a state stands for a list of acts.
 use Rattle.std.specs.Prelude.{◌≡◌, ℕ, ◌-◌, ◌==◌, ◌<◌, ◌≤◌, nat_lt, not, Bool, true, false, List, [], ◌∷◌, length, map, filter, Option, Some, None, is_some, slice_get, slice_index_or, if◌then◌else◌, ⊤}
 use Rattle.std.specs.List.{concat, AllByRecursion}
 use Rattle.sv_links.specs.declared.enabled.Enabled.{Enabled}
@@ -8,8 +8,8 @@ use Rattle.sv_links.specs.declared.channel.Stage.TheVariants.{Closed, Prepared, 
 use Rattle.sv_links.specs.Limits.{max_connections, max_enabled}
 use Rattle.sv_links.specs.Channels.{ChannelAct, enabled_links, peer, bytes_taken, calls, calls_left}
 
--- the state of one interrupt channel: its stage; how many device_intr_srq calls were appended since the channel was opened; for each of
--- these calls that the peer didn't take completely, how many of its bytes are still to be sent; and all these bytes, joined
+-- the state of one interrupt channel: its stage; how many device_intr_srq calls were appended since the channel was opened; how many
+-- bytes are still to be sent of each call that the peer didn't take completely; and all these bytes, joined
 pub record Channel : Type 0 where
   pub stage : Stage
   pub made : ℕ
@@ -33,18 +33,20 @@ is_prepared Prepared = true
 is_prepared Closed = false
 is_prepared (Open what) = false
 
--- For calls of these sizes, of which the peer took `count` bytes in total: how many bytes remain of each call. A call of which no byte
+-- how many bytes remain of each call, if the calls have these sizes and the peer took `count` bytes in total. A call of which no byte
 -- remains is omitted.
 abbrev pub left_in : ℕ → List ℕ → List ℕ
 left_in count [] = []
 left_in count (size ∷ sizes) = if nat_lt count size then (size - count) ∷ sizes else left_in (count - size) sizes
 
--- The channel stores what remains of `calls` after the peer took `count` of their bytes. All calls together have at least `count` bytes.
+-- The channel stores what remains of `calls` after the peer took `count` bytes of these calls. All calls together have at least `count`
+-- bytes.
 abbrev pub IsQueued : Channel → ℕ → List (List ℕ) → Type 0
 IsQueued kept count calls = (kept.made ≡ length calls) × (kept.sizes ≡ map length (calls_left count calls))
     × (kept.bytes ≡ concat (calls_left count calls)) × (count ≤ length (concat calls))
 
--- If the channel is open, it stores what remains of `calls` after the peer took `count` of their bytes.
+-- If the channel is open, it stores what remains of `calls` after the peer took `count` bytes of these
+-- calls.
 abbrev pub IsChannelFor : Option Peer → Channel → ℕ → List (List ℕ) → Type 0
 IsChannelFor (Some what) kept count calls = IsQueued kept count calls
 IsChannelFor None kept count calls = ⊤
@@ -71,7 +73,8 @@ without_links (lid ∷ lids) links = filter (λ other. not (other.lid == lid)) (
 abbrev pub of_others : ℕ → List Enabled → List Enabled
 of_others c links = filter (λ other. not (other.conn == c)) links
 
--- the bytes that wait to be sent on a channel; none if there is no channel or it isn't open
+-- the bytes that wait to be sent on a channel; none if there is no channel or the channel isn't
+-- open
 abbrev pub bytes_in : Option Channel → List ℕ
 bytes_in (Some channel) = if is_some (opened_for channel.stage) then channel.bytes else []
 bytes_in None = []

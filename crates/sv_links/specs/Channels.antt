@@ -59,25 +59,25 @@ bytes_taken c (ChannelClosed conn ∷ acts) = if conn == c then 0 else bytes_tak
 bytes_taken c (ChannelTaken conn count ∷ acts) = if conn == c then bytes_taken c acts + count else bytes_taken c acts
 bytes_taken c (_ ∷ acts) = bytes_taken c acts
 
--- what remains of these calls after the peer took `count` of their bytes: the calls that the peer didn't take completely. The first of the
--- remaining calls lacks those of its bytes that the peer took.
+-- what remains of these calls after the peer took `count` bytes of them: the calls that the peer didn't take completely. From the first
+-- remaining call, the bytes that the peer took are removed.
 abbrev pub calls_left : ℕ → List (List ℕ) → List (List ℕ)
 calls_left count [] = []
 calls_left count (call ∷ calls) = if nat_lt count (length call) then drop count call ∷ calls else calls_left (count - length call) calls
 
--- whether one more call may be appended to `calls`, of which the peer took `count` bytes: fewer than 32 calls still have bytes that the
--- peer didn't take, and a number remains for the new call
+-- whether one more call may be appended to `calls`, of which the peer took `count` bytes: fewer than 32 calls have bytes that the peer
+-- didn't take, and a number remains for the new call
 abbrev pub may_call : ℕ → List (List ℕ) → Bool
 may_call count calls = nat_lt (length (calls_left count calls)) max_calls && nat_lt (length calls) 4294967295
 
--- `calls` and, if the channel is open and `may_call` allows it, one more call with this handle after them; the calls of a channel are
--- numbered from 1
+-- `calls` with one more call, which has this handle and comes last; just `calls` if the channel isn't open, or if `may_call` is
+-- false. The calls of a channel are numbered from 1.
 abbrev pub add_call : Option Peer → ℕ → List (List ℕ) → List ℕ → List (List ℕ)
 add_call (Some what) count calls handle = if may_call count calls then calls ++ request (length calls + 1) what handle ∷ [] else calls
 add_call None count calls handle = calls
 
 -- the calls that were appended on the channel of a connection since the channel was opened: each service request appends one call for each
--- link of the connection that has service requests enabled, if `may_call` allows it
+-- link of the connection that has service requests enabled, unless `may_call` is false
 abbrev pub calls : ℕ → List ChannelAct → List (List ℕ)
 calls c [] = []
 calls c (ChannelOpened conn what ∷ acts) = if conn == c then [] else calls c acts

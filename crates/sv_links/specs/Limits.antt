@@ -25,12 +25,13 @@ max_calls = 32
 abbrev pub max_handle : ℕ
 max_handle = 40
 
--- the length of the longest device_intr_srq in bytes: its header (40), the length of the handle (4), and the longest handle, which needs no
--- padding
+-- the length of the longest device_intr_srq in bytes: its header (40 bytes), the length field of the handle (4 bytes), and the longest
+-- handle, which needs no padding
 abbrev pub longest_text : ℕ
 longest_text = 44 + max_handle
 
--- the length in bytes of the record of the longest device_intr_srq: the header of its one fragment (4; RFC 5531, section 11), and the call
+-- the length in bytes of the longest device_intr_srq as a record: the header of its one fragment (4 bytes; RFC 5531, section 11), and the
+-- call
 abbrev pub longest_call : ℕ
 longest_call = 4 + longest_text
 

@@ -30,7 +30,7 @@ live (_ ∷ acts) = live acts
 abbrev pub owner : ℕ → List LinkAct → Option ℕ
 owner lid acts = option_map (λ link. link.conn) (find (λ link. link.lid == lid) (live acts))
 
--- whether `owner`, the connection that made some link, is connection `conn`; false if `owner` is `None`, as for a link that isn't live
+-- whether this owner of a link is connection `conn`; false if the owner is `None`, because the link isn't live
 abbrev pub is_of : ℕ → Option ℕ → Bool
 is_of conn owner = option_map_or (λ other. other == conn) owner false
 
@@ -42,7 +42,7 @@ links_of conn acts = map (λ link. link.lid) (filter (λ link. link.conn == conn
 abbrev pub lowest : ℕ → List LinkAct → Option ℕ
 lowest conn acts = find (λ lid. true) (links_of conn acts)
 
--- whether a number remains for a further link: the last number is 2,147,483,647
+-- whether a number remains for a further link: the highest number of a link is 2,147,483,647
 abbrev pub lids_left : List LinkAct → Bool
 lids_left acts = nat_lt (links_made acts) 2147483647
 
@@ -50,11 +50,13 @@ lids_left acts = nat_lt (links_made acts) 2147483647
 abbrev pub may_make : List LinkAct → Bool
 may_make acts = nat_lt (length (live acts)) max_links && lids_left acts
 
--- the acts of closing a connection, the newest first: its links are destroyed in the order in which they were made
+-- the acts on links when a connection is closed, the newest first: the connection's links are destroyed in the
+-- order in which they were made
 abbrev pub closing : ℕ → List LinkAct → List LinkAct
 closing conn acts = reverse (map Destroyed (links_of conn acts))
 
--- the links that ever got the lock, in reverse order of getting it. A link that got the lock several times is listed several times.
+-- the links that ever got the lock; the link that got it last comes first. A link that got the lock several times is listed several
+-- times.
 abbrev pub lock_order : List LinkAct → List ℕ
 lock_order = filter_map (elim [ Locked lid ↦ Some lid | _ ↦ None ])
 
@@ -66,8 +68,8 @@ is_locked lid (Unlocked other ∷ acts) = not (other == lid) && is_locked lid ac
 is_locked lid (Destroyed other ∷ acts) = not (other == lid) && is_locked lid acts
 is_locked lid (_ ∷ acts) = is_locked lid acts
 
--- the link that holds the lock: of all links that got the lock, and since then neither freed it nor were destroyed, the one that got it
--- last; `None` if the lock is free
+-- the link that holds the lock; `None` if the lock is free. Of all links that got the lock, and since then neither freed it nor were
+-- destroyed, the one that got it last holds it.
 abbrev pub holder : List LinkAct → Option ℕ
 holder acts = find (λ lid. is_locked lid acts) (lock_order acts)
 

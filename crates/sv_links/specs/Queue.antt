@@ -1,4 +1,4 @@
--- The state of the queue of suspended calls, and when it stands for a list of acts.
+-- The state of the queue of suspended calls, and when a state stands for a list of acts.
 use Rattle.std.specs.Prelude.{◌≡◌, ◌≢◌, ℕ, ◌==◌, ◌<◌, nat_le, Bool, false, List, [], ◌∷◌, Option, Some, None, is_none, option_map, find, filter, length, not, ◌&&◌, ◌+◌, if◌then◌else◌, ⊤}
 use Rattle.std.specs.List.{AllByRecursion}
 use Rattle.sv_links.specs.declared.waiting.Entry.{Entry}
@@ -19,7 +19,7 @@ IsOnce (entry ∷ entries) = IsFree entry.conn entries × IsOnce entries
 abbrev pub IsBelow : ℕ → List Entry → Type 0
 IsBelow most entries = AllByRecursion (λ entry. entry.conn < most) entries
 
--- the entry of a connection in the queue; `None` if it has none
+-- the entry of a connection in the queue; `None` if the connection has no entry
 abbrev pub entry_of : ℕ → List Entry → Option Entry
 entry_of conn entries = find (λ entry. entry.conn == conn) entries
 
@@ -28,13 +28,13 @@ abbrev pub IsEntry : List WaitAct → Entry → Type 0
 IsEntry acts entry = (waits entry.conn acts ≡ Some entry.wait) × (deadline entry.conn acts ≡ entry.deadline)
     × (link entry.conn acts ≡ entry.lid)
 
--- The entries are in order of arrival.
+-- The entries are in the order in which their calls were suspended, the oldest first.
 abbrev pub IsOrdered : List WaitAct → List Entry → Type 0
 IsOrdered acts [] = ⊤
 IsOrdered acts (entry ∷ entries) =
     AllByRecursion (λ other. arrival entry.conn acts < arrival other.conn acts) entries × IsOrdered acts entries
 
--- The entries are exactly the suspended calls, in order of arrival.
+-- The entries are exactly the suspended calls, the oldest first.
 pub record IsQueue (entries : List Entry) (acts : List WaitAct) : Type 0 where
   pub each : AllByRecursion (IsEntry acts) entries
   pub ordered : IsOrdered acts entries
@@ -62,8 +62,8 @@ creations entries = length (filter creates entries)
 abbrev pub without : ℕ → List Entry → List Entry
 without conn entries = filter (λ entry. not (entry.conn == conn)) entries
 
--- the most steps that a suspended call can still take. Each call takes one step when it leaves the queue. A call that waits for the lock
--- can take one more step before that: it can be suspended anew, to wait for something else.
+-- the most steps that a suspended call with this wait can still take. Each call takes one step when it leaves the queue. A call that
+-- waits for the lock can take one step more: it can first be suspended anew, to wait for something else.
 abbrev pub wait_measure : Wait → ℕ
 wait_measure Lock = 2
 wait_measure Input = 1

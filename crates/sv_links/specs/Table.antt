@@ -1,11 +1,11 @@
--- The state of the table of links, and when it stands for a list of acts.
+-- The state of the table of links, and when a state stands for a list of acts.
 use Rattle.std.specs.Prelude.{◌≡◌, ℕ, ◌<◌, ◌≤◌, List, [], ◌∷◌, ◌++◌, is_some, count_by, Option, Some, None, ⊤}
 use Rattle.std.specs.List.{AllByRecursion}
 use Rattle.sv_links.specs.declared.links.Link.{Link}
 use Rattle.sv_links.specs.Links.{LinkAct, links_made, live, is_locked, is_this}
 
--- the state of the table of links: how many links were ever made; the slots, each with a live link or empty; the link that holds the lock;
--- and the number of further links for which memory is reserved
+-- the state of the table of links: how many links were ever made; the slots, each of which has a live link or is empty; the link that
+-- holds the lock; and the number of further links for which memory is reserved
 pub record Table : Type 0 where
   pub made : ℕ
   pub slots : List (Option Link)

@@ -32,8 +32,7 @@ pub(crate) struct Channel<A: Allocator> {
     /// How many device_intr_srq calls were appended since the channel was opened, including those
     /// that still wait to be sent.
     made: u32,
-    /// For each call that the peer didn't take completely: how many of its bytes are still to be
-    /// sent.
+    /// How many bytes are still to be sent of each call that the peer didn't take completely.
     sizes: ArrayVec<u8, MAX_CALLS>,
     /// The bytes that wait to be sent.
     bytes: Vec<u8, A>,
@@ -63,7 +62,7 @@ impl<A: Allocator> Model for Channel<A> {
 }
 
 impl<A: Allocator> Channel<A> {
-    /// A closed channel.
+    /// Makes a closed channel.
     pub(crate) fn new(alloc: A) -> Channel<A>
         ensures { result.stage ≡ Stage.Closed }
     {

@@ -22,7 +22,7 @@ impl Model for Handle {
 }
 
 impl Handle {
-    /// The handle with these bytes; an empty handle if there are more than [`MAX_HANDLE`] bytes.
+    /// Makes a handle of these bytes; an empty handle if there are more than [`MAX_HANDLE`] bytes.
     fn new(given: &[u8]) -> Handle
         ensures { length given.now ≤ max_handle → result ≡ given.now }
     {
@@ -54,7 +54,8 @@ pub(crate) struct Enabled {
 }
 
 impl Enabled {
-    /// A link that has service requests enabled, with this handle of at most [`MAX_HANDLE`] bytes.
+    /// Makes a link that has service requests enabled, with this handle of at most [`MAX_HANDLE`]
+    /// bytes.
     pub(crate) fn new(lid: u32, conn: u8, handle: &[u8]) -> Enabled
         ensures link { (result.lid ≡ lid) × (result.conn ≡ conn) }
         ensures handle { length handle.now ≤ max_handle → result.handle ≡ handle.now }

@@ -38,8 +38,8 @@ impl<A: Allocator> Model for Intr<A> {
 }
 
 impl<A: Allocator + Copy> Intr<A> {
-    /// The state in which no link has service requests enabled, and no channel is open. The memory
-    /// for all handles is allocated here.
+    /// Makes the state in which no link has service requests enabled, and no channel is open.
+    /// Allocates the memory for all handles.
     ///
     /// # Errors
     /// If memory is refused.
@@ -170,7 +170,7 @@ impl<A: Allocator> Intr<A> {
 
     /// Raises a service request: goes through the links that have service requests enabled, in the
     /// order of their numbers, and appends a call on the channel of each link's connection. No call
-    /// is appended if that channel is closed, if 32 calls wait on the channel, or if the numbers
+    /// is appended if that channel is closed, if 32 calls wait on that channel, or if the numbers
     /// for its calls are used up.
     pub fn raise(&mut self)
         ensures stands { (acts : List ChannelAct) → AreChannels self.old acts

@@ -2,11 +2,11 @@
 //! calls are suspended, and what is sent on interrupt channels.
 //!
 //! [`Links`] gives each new link its number, finds the connection that made a link, and records
-//! which link holds the lock. [`Waiting`] stores the suspended calls in order of arrival. It finds
-//! the oldest call that can resume, and the oldest whose deadline has come. [`Intr`] stores the
-//! links that have service requests enabled, and the calls that wait on interrupt channels. Only
-//! [`Links::create`], [`Links::reserve`], [`Waiting::new`], [`Intr::new`] and [`Intr::prepare`]
-//! allocate; no contract states this.
+//! which link holds the lock. [`Waiting`] stores the suspended calls, the oldest first. It finds
+//! the oldest call that can resume, and the oldest call whose deadline has come. [`Intr`] stores
+//! the links that have service requests enabled, and the calls that wait on interrupt channels.
+//! Only [`Links::create`], [`Links::reserve`], [`Waiting::new`], [`Intr::new`] and
+//! [`Intr::prepare`] allocate; no contract states this.
 #![tactic(auto)]
 
 mod channel;

@@ -14,11 +14,11 @@ pub(crate) const MAX_CALLS: usize = 32;
 /// How long the handle of a service request may be, in bytes (VXI-11 revision 1.0, section B.6,
 /// device_enable_srq).
 pub const MAX_HANDLE: usize = 40;
-/// The length of the longest device_intr_srq, in bytes: its header (40), the length of the handle
-/// (4), and the longest handle, which needs no padding.
+/// The length of the longest device_intr_srq, in bytes: its header (40 bytes), the length field of
+/// the handle (4 bytes), and the longest handle, which needs no padding.
 pub(crate) const LONGEST_TEXT: usize = 44 + MAX_HANDLE;
-/// The length of the longest record of a device_intr_srq, in bytes: the header of its one fragment
-/// (4; RFC 5531, section 11), and the call.
+/// The length of the longest device_intr_srq as a record, in bytes: the header of its one fragment
+/// (4 bytes; RFC 5531, section 11), and the call.
 const LONGEST_CALL: usize = 4 + LONGEST_TEXT;
 /// How many bytes may wait on an interrupt channel: [`MAX_CALLS`] calls of the greatest length.
 pub(crate) const MAX_QUEUED: usize = MAX_CALLS * LONGEST_CALL;

@@ -66,7 +66,7 @@ impl<A: Allocator> Model for Links<A> {
 }
 
 impl<A: Allocator> Links<A> {
-    /// A table in which no link was made.
+    /// Makes a table without links: no link was ever made.
     pub fn new(alloc: A) -> Links<A>
         ensures { IsTable result [] }
     {
@@ -88,15 +88,15 @@ impl<A: Allocator> Links<A> {
         self.links.len() as u8
     }
 
-    /// Whether a number remains for a further link: 2,147,483,647 is the last.
+    /// Whether a number remains for a further link: the highest number of a link is 2,147,483,647.
     pub fn lids_left(&self) -> bool
         ensures { (acts : List LinkAct) → IsTable self.now acts → result ≡ lids_left acts }
     {
         self.made < LAST
     }
 
-    /// Reserves memory for `count` further links. Memory that is reserved already counts toward
-    /// this number. A later `create` uses the reserved memory.
+    /// Makes sure that memory is reserved for at least `count` further links. A later `create` uses
+    /// the reserved memory.
     ///
     /// # Errors
     /// If memory is refused; nothing changes then.
@@ -199,8 +199,8 @@ impl<A: Allocator> Links<A> {
         self.holder
     }
 
-    /// Gives a link the lock, unless another link holds the lock. Returns whether the link holds
-    /// the lock now. If not, nothing changes.
+    /// Gives a link the lock, unless another link holds the lock; then nothing changes. Returns
+    /// whether the link holds the lock now.
     pub fn lock(&mut self, lid: u32) -> bool
         ensures answer { (acts : List LinkAct) → IsTable self.old acts
             → result ≡ not (is_locked_out (holder acts) (Some lid)) }
@@ -216,8 +216,8 @@ impl<A: Allocator> Links<A> {
         true
     }
 
-    /// Frees the lock if this link holds it, and returns whether the link held it. If not, nothing
-    /// changes.
+    /// Frees the lock if this link holds it, and returns whether the link held it. If this link
+    /// doesn't hold the lock, nothing changes.
     pub fn unlock(&mut self, lid: u32) -> bool
         ensures answer { (acts : List LinkAct) → IsTable self.old acts
             → result ≡ is_this lid (holder acts) }

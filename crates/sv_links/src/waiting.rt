@@ -29,11 +29,12 @@ pub enum Wait {
 pub struct Entry {
     /// The connection of the call, below [`MAX_CONNECTIONS`](crate::MAX_CONNECTIONS).
     pub conn: u8,
-    /// The link that the call names; a create_link names none.
+    /// The link that the call names; `None` if the call names no link, such as a create_link.
     pub lid: Option<u32>,
     /// What the call waits for.
     pub wait: Wait,
-    /// The time of the clock at which the call times out, in milliseconds; `None` if it never does.
+    /// The time of the clock at which the call times out, in milliseconds; `None` if the call never
+    /// times out.
     pub deadline: Option<u64>,
 }
 
@@ -66,7 +67,8 @@ impl Entry {
         }
     }
 
-    /// Whether the deadline of the call has come by the time `clock`; false if it has no deadline.
+    /// Whether the deadline of the call has come by the time `clock`; false if the call has no
+    /// deadline.
     fn has_expired(&self, clock: u64) -> bool
         ensures { result ≡ is_past clock self.now.deadline }
     {
@@ -76,7 +78,7 @@ impl Entry {
         }
     }
 
-    /// Whether the call is a create_link: it waits for the lock and names no link.
+    /// Whether the call is a create_link: only a create_link waits for the lock and names no link.
     fn creates(&self) -> bool
         ensures { result ≡ creates self.now }
     {
@@ -98,7 +100,7 @@ impl Entry {
     }
 }
 
-/// The suspended calls, at most one of each connection, in order of arrival.
+/// The suspended calls, at most one of each connection, in the order in which they were suspended.
 #[derive(Drop)]
 pub struct Waiting<A: Allocator = Global> {
     entries: Vec<Entry, A>,
@@ -121,7 +123,7 @@ impl<A: Allocator> Model for Waiting<A> {
 }
 
 impl<A: Allocator> Waiting<A> {
-    /// An empty queue. The memory for as many calls as can be suspended is allocated here.
+    /// Makes an empty queue, and allocates the memory for as many calls as can be suspended.
     ///
     /// # Errors
     /// If memory is refused.
@@ -133,7 +135,7 @@ impl<A: Allocator> Waiting<A> {
         })
     }
 
-    /// Suspends a call, as the newest in the order of arrival. The call's connection must be below
+    /// Suspends a call, and puts it at the end of the queue. The call's connection must be below
     /// [`MAX_CONNECTIONS`](crate::MAX_CONNECTIONS).
     pub fn enter(&mut self, entry: Entry)
         requires { entry.conn < max_connections }
@@ -145,7 +147,7 @@ impl<A: Allocator> Waiting<A> {
         self.entries.push_reserved(entry);
     }
 
-    /// The suspended call of a connection; `None` if the connection has none.
+    /// The suspended call of a connection; `None` if the connection has no suspended call.
     pub fn of(&self, conn: u8) -> Option<Entry>
         ensures { (acts : List WaitAct) → IsQueue self.now acts
             → MatchOption result (waits_for conn acts ≡ None)
@@ -157,7 +159,8 @@ impl<A: Allocator> Waiting<A> {
             .copied()
     }
 
-    /// What the suspended call of a connection waits for; `None` if the connection has none.
+    /// What the suspended call of a connection waits for; `None` if the connection has no suspended
+    /// call.
     pub fn waits(&self, conn: u8) -> Option<Wait>
         ensures { (acts : List WaitAct) → IsQueue self.now acts → result ≡ waits_for conn acts }
     {
@@ -175,8 +178,8 @@ impl<A: Allocator> Waiting<A> {
     }
 
     /// Lets the suspended call of a connection wait for something else: for `wait`, until
-    /// `deadline`. The call keeps its place in the order of arrival. If the connection has no
-    /// suspended call, nothing changes.
+    /// `deadline`. The call keeps its place in the queue. If the connection has no suspended call,
+    /// nothing changes.
     pub fn again(&mut self, conn: u8, wait: Wait, deadline: Option<u64>)
         ensures value { self.new ≡ map (anew conn wait deadline) self.old }
         ensures stands { (acts : List WaitAct) → IsQueue self.old acts
@@ -201,8 +204,8 @@ impl<A: Allocator> Waiting<A> {
     }
 
     /// The oldest call that can resume; `None` if no call can. `holder` is the link that holds the
-    /// lock. `can_write` says whether the device accepts a write now, and `can_read` whether it
-    /// answers a read now.
+    /// lock. `can_write` says whether the device accepts a write now. `can_read` says whether the
+    /// device answers a read now.
     pub fn oldest_able(&self, holder: Option<u32>, can_write: bool, can_read: bool) -> Option<Entry>
         ensures answer { (acts : List WaitAct) → IsQueue self.now acts
             → IsOldest acts (IsAble holder can_write can_read acts)

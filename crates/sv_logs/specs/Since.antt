@@ -2,12 +2,14 @@
 -- ago.
 use Rattle.std.specs.Prelude.{ℕ, ◌≤◌, Bool, ◌&&◌, ◌||◌, List, [], ◌∷◌, length, drop, Option, unwrap_or, if◌then◌else◌}
 
--- the longest suffix of the list for which `is_such` holds; the empty list if it holds for none
+-- the longest suffix of the list for which `is_such` holds; the empty list if `is_such` holds for
+-- no suffix
 abbrev pub newest : {A : Type 0} → (List A → Bool) → List A → List A
 newest is_such [] = []
 newest is_such (act ∷ acts) = if is_such (act ∷ acts) then act ∷ acts else newest is_such acts
 
--- the acts that are newer than the longest suffix for which `is_such` holds; all acts if it holds for no suffix
+-- the acts that are newer than the longest suffix for which `is_such` holds; all acts if `is_such` holds for no
+-- suffix
 abbrev pub since : {A : Type 0} → (List A → Bool) → List A → List A
 since is_such [] = []
 since is_such (act ∷ acts) = if is_such (act ∷ acts) then [] else act ∷ since is_such acts
@@ -17,7 +19,7 @@ abbrev pub last_given : {A B : Type 0} → (A → Option B) → B → List A →
 last_given gives default [] = default
 last_given gives default (act ∷ acts) = unwrap_or (gives act) (last_given gives default acts)
 
--- `IsFind` holds for the log as it was `ago` acts ago. `Keeps` holds for the log as it was then, and for the log after each later act.
+-- `IsFind` holds for the log as it was `ago` acts ago. `Keeps` holds for that log, and for the log after each later act.
 pub record Since {A : Type 0} (IsFind Keeps : List A → Type 0) (log : List A) : Type 0 where
   pub ago : ℕ
   pub within : ago ≤ length log

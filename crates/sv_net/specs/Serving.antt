@@ -8,8 +8,9 @@ use Rattle.sv_serve.specs.DriverView.{DriverState, Steps}
 use Rattle.sv_serve.specs.Sweep.{Sweeps}
 use Rattle.sv_net.specs.Sleep.{MaySleep}
 
--- An action of a loop: a sweep; a wait for reports about sockets; or passing these reports to the wire. A wait has its limit, whether
--- reports came, and when it ended, in nanoseconds since the beginning. `Told` has the state of the wire when it gets the reports.
+-- An action of a loop: a sweep; a wait for reports about sockets; or the passing of these reports to the wire (`Told`). A wait has
+-- its limit, whether reports came, and when the wait ended, in nanoseconds since the beginning. A `Told` has the state in which the
+-- wire gets the reports.
 pub data Doing (W : Type 0) : Type 0 where
   MadeSweep : Doing W
   Waited : (limit : Option Duration) (reported : Bool) (ended : ℕ) → Doing W
@@ -30,14 +31,14 @@ swept_at (_ ∷ doings) = swept_at doings
 abbrev pub ticks_between : ℕ → ℕ → ℕ
 ticks_between before now = min (now / 1000000 - before / 1000000) 1000
 
--- for each sweep, how many milliseconds it lets pass for the server: those since the previous sweep
+-- for each sweep, how many milliseconds the sweep lets pass for the server: those since the
+-- previous sweep, at most 1,000
 abbrev pub handed_in : {W : Type 0} → List (Doing W) → List ℕ
 handed_in [] = []
 handed_in (MadeSweep ∷ doings) = ticks_between (swept_at doings) (time_of doings) ∷ handed_in doings
 handed_in (_ ∷ doings) = handed_in doings
 
--- whether the loop's last action was a wait, so that the reports of this wait weren't passed to the sockets yet; also true if there was no
--- action yet
+-- whether the loop's last action was a wait, whose reports haven't been passed to the sockets yet; also true if there was no action yet
 abbrev pub is_fresh : {W : Type 0} → List (Doing W) → Bool
 is_fresh = elim [ MadeSweep ∷ doings ↦ false | Told wire ∷ doings ↦ false | _ ↦ true ]
 
@@ -46,7 +47,7 @@ abbrev pub is_told : {W : Type 0} → List (Doing W) → Bool
 is_told = last_given (elim [ Waited limit true ended ↦ Some false | Told wire ↦ Some true | _ ↦ None ]) true
 
 -- These actions of a loop lead from the driver's state `start` to its state `now`. Each sweep lets the milliseconds since the previous
--- sweep pass. If this is at least one millisecond, the reports of the last wait are passed to the sockets only after the sweep. No wait is
+-- sweep pass. If at least one millisecond passes, the reports of the last wait are passed to the sockets only after the sweep. No wait is
 -- longer than allowed, and each wait begins after all earlier reports were passed to the sockets.
 abbrev pub Serves : {W : Type 0} → (W → Heard → W → Type 0) → List (Doing W) → DriverState W → DriverState W → Type 0
 Serves hears [] start now = now ≡ start
@@ -57,15 +58,15 @@ Serves hears (Waited limit reported ended ∷ doings) start now =
     Serves hears doings start now × MaySleep (swept_at doings) (time_of doings) limit now × (is_told doings ≡ true)
 Serves hears (Told wire ∷ doings) start now = Serves hears doings start now × (wire ≡ now.wire)
 
--- The machine made the waits among these actions, in their order and with the results that they record. It also passed the reports to the
--- wire wherever these actions say so.
+-- The machine made the waits among these actions, in the order and with the results that the actions record. The machine also passed the
+-- reports to the wire wherever the actions say so.
 abbrev pub Waits : {W M : Type 0} → (M → Doing W → M → Type 0) → List (Doing W) → M → M → Type 0
 Waits answers [] start now = now ≡ start
 Waits answers (MadeSweep ∷ doings) start now = Waits answers doings start now
 Waits answers (doing ∷ doings) start now = (between : _) × Waits answers doings start between × answers between doing now
 
 -- A loop leads from the driver's state `old` to its state `new`, and `IsCount` holds of the number of the loop's sweeps. The loop's sweeps
--- alone, each with its milliseconds, also lead from `old` to `new`.
+-- alone, without the waits but with the same milliseconds, also lead from `old` to `new`.
 abbrev pub Served : {W : Type 0} → (W → Heard → W → Type 0) → (ℕ → Type 0) → DriverState W → DriverState W → Type 0
 Served hears IsCount old new = (doings : List (Doing _)) × IsCount (length (handed_in doings)) × Serves hears doings old new
     × Swept hears (handed_in doings) old new

@@ -19,7 +19,8 @@ abbrev pub IsIdle : {W : Type 0} → ℕ → DriverState W → Type 0
 IsIdle most driving = NoneReady driving × ((config : Config) (history : List PlainEvent) → StandsFor driving.server config history
     → StaysStill most config (driver_view driving history) true)
 
--- the nanoseconds from now until `ticks` milliseconds after the start of the millisecond in which the last sweep began
+-- how many nanoseconds remain until a certain time: `ticks` milliseconds after the start of the millisecond in which
+-- the last sweep began
 abbrev pub left_until : ℕ → ℕ → ℕ → ℕ
 left_until ticks swept now = ticks * 1000000 - (now - swept / 1000000 * 1000000)
 

@@ -1,4 +1,4 @@
--- The sockets of a wire, as a list in which each port has a fixed index; and what each call of a method of the wire does to these sockets.
+-- The sockets of a wire, as a list in which each port has a fixed index. Also: what each method of the wire does to these sockets.
 use Rattle.std.specs.Prelude.{◌≡◌, ℕ, ◌+◌, Bool, true, false, List, take, Option, Some, None, slice_set, slice_index_or}
 use Rattle.std.specs.Io.KnownBytes.{Keeps, Appends, Consumes}
 use Rattle.sv_history.specs.declared.event.Port.{Port}
@@ -28,19 +28,20 @@ abbrev pub Takes : {S : Type 0} → (S → Option (List ℕ)) → List ℕ → A
 Takes sent bytes (Got n) old new = Appends (sent old) (sent new) (take n bytes)
 Takes sent bytes answer old new = Keeps (sent old) (sent new)
 
--- If the socket has a stream, the method's step changes this stream. If the socket has no stream, the method returns that it failed.
+-- If the socket has a stream, the method changes this stream as `step` says. If the socket has no stream, the method returns
+-- `Failed`.
 abbrev pub Does : {S A : Type 0} → (S → S → Type 0) → Answer A → Option S → Option S → Type 0
 Does step answer None after = (answer ≡ Failed) × (after ≡ None)
 Does step answer (Some old) after = (new : _) × step old new × (after ≡ Some new)
 
--- The method's step changes at most the socket with number n. No other socket changes.
+-- The method changes the socket with number n as `Does` says. No other socket changes.
 abbrev pub At : {S A : Type 0} → ℕ → (S → S → Type 0) → Answer A → List (Option S) → List (Option S) → Type 0
 At n step answer before after =
     (place : Option _) × Does step answer (slice_index_or before n None) place × (after ≡ slice_set before n place)
 
--- What one call of a method of the wire, with the answer that it returned, does to the sockets. Only the socket for which the method was
--- called can change. Two things are known of a stream: the bytes that can still be read from it (`left`), and the bytes that were written
--- to it (`sent`).
+-- What one call of a method of the wire does to the sockets, depending on the answer that the call returned. Only the socket for which
+-- the method was called can change. Two things are known of a stream: the bytes that can still be read from it (`left`), and the bytes
+-- that were written to it (`sent`).
 abbrev pub Hears : {S : Type 0} → (S → Option (List ℕ)) → (S → Option (List ℕ)) → List (Option S) → Heard → List (Option S) → Type 0
 Hears left sent before (WasAccepted role (Some c) (Got all)) after = (stream : _) × (after ≡ slice_set before c (Some stream))
 Hears left sent before (WasAccepted role number answer) after = after ≡ before

@@ -55,9 +55,8 @@ impl Door {
     }
 
     /// Returns how many milliseconds to sleep at most before the next accept. This is 100 if it is
-    /// known that no connection waits. Else it is 1 at first, and again after each accept that
-    /// succeeds. The first failed accept after that leaves it at 1, and each further failed accept
-    /// doubles it, up to 100.
+    /// known that no connection waits. Else it is 1 if at most one accept has failed since the last
+    /// accept that succeeded. Each further failed accept doubles it, up to 100.
     pub(crate) fn patience(&self) -> u32
         ensures { result ≤ 100 }
     {

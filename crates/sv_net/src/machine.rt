@@ -10,18 +10,18 @@ use std::io;
 use std::net::Net as Network;
 use std::time::{Clock, Duration, Instant};
 
-/// A clock, and a wait for the system's reports that sockets are ready.
+/// A clock, and a way to wait for the system's reports that sockets are ready.
 pub(crate) trait Machine<S: Stream> {
     ghost use Rattle.sv_net.specs.Serving.{Doing, Waited, Told};
     ghost use Rattle.std.specs.Prelude.{List, Option, ⊤};
 
-    /// How a call of a method, with its outcome, changes the machine. By default this relation says
-    /// nothing: this default is used for a real machine.
+    /// How a call of a method changes the machine, depending on the call's outcome. By default this
+    /// relation says nothing; a real machine uses this default.
     ghost answers: { Self → Doing (List (Option S)) → Self → Type 0 } = { λ before doing after. ⊤ };
 
-    /// Waits until something is reported about a socket, or until the time `limit` has passed;
-    /// without a limit for `None`. Returns whether something was reported, and when the wait ended,
-    /// in nanoseconds since the machine was made.
+    /// Waits until something is reported about a socket, or until the time `limit` has passed. If
+    /// `limit` is `None`, only a report ends the wait. Returns whether something was reported, and
+    /// when the wait ended, in nanoseconds since the machine was made.
     ///
     /// # Errors
     /// If the system's clock can't be read, or the wait fails.

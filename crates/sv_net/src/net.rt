@@ -1,4 +1,4 @@
-//! The sockets by their numbers.
+//! The sockets of a server, each under a fixed number, and the methods that read and write them.
 
 ghost use Rattle.std.specs.Prelude.{◌≡◌, ◌<◌, ◌≤◌, Some, None, OnErr, IfOk, length, replicate, slice_set};
 ghost use Rattle.sv_serve.specs.Heard.{IsWithin, bytes_of};
@@ -75,8 +75,8 @@ fn read_at<S: Stream>(place: &mut Option<Socket<S>>, buffer: &mut [u8]) -> Answe
     }
 }
 
-/// Checks whether the peer of a socket is gone: then the answer is `Failed`. If `place` is `None`,
-/// the answer is `Failed` too.
+/// Checks whether the peer of a socket is gone. If the peer is gone, or if `place` is `None`, the
+/// answer is `Failed`.
 fn probe_at<S: Stream>(place: &mut Option<Socket<S>>, drops: bool) -> Answer<()>
     ensures { Does (Skips S.remaining drops) result place.old place.new }
 {
@@ -146,8 +146,8 @@ impl<N: Network + Drop, A: Allocator, S: Stream> Net<N, A, S> {
         }
     }
 
-    /// Whether an accept is due at once on at least one port: a connection might be waiting there
-    /// to be accepted, and the last accept on the port didn't fail.
+    /// Whether an accept is due at once on at least one port: a connection might be waiting to be
+    /// accepted on this port, and the last accept on it didn't fail.
     pub(crate) fn is_called(&self) -> bool {
         self.doors[0].is_waiting() | self.doors[1].is_waiting() | self.doors[2].is_waiting()
     }
@@ -169,7 +169,8 @@ impl<N: Network + Drop, A: Allocator, S: Stream> Net<N, A, S> {
             .min(portmap.patience())
     }
 
-    /// Returns the socket of a connection or an interrupt channel, if there is one.
+    /// Returns the socket of a connection or an interrupt channel; `None` if this port has no
+    /// socket.
     pub(crate) fn socket(&self, port: Port) -> Option<&Socket<S>> {
         match self.sockets.get(socket_number(port)) {
             Some(Some(socket)) => Some(socket),

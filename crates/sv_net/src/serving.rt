@@ -18,12 +18,12 @@ use std::time::{Clock, Duration};
 use sv_pace::Pace;
 use sv_serve::Driver;
 
-/// How many polls without sleeping are allowed between two sweeps.
+/// The most polls without sleeping that are allowed between two sweeps.
 const LOOKS: u32 = 1_000;
 
 /// Makes this number of sweeps. Between two sweeps, waits until the system reports something about
-/// a socket, or something is due. In each sweep, as many milliseconds pass as whole milliseconds
-/// have passed since the previous sweep, but at most 1,000.
+/// a socket, or something is due. Each sweep lets as many milliseconds pass for the server as
+/// milliseconds of the clock have begun since the previous sweep, but at most 1,000.
 ///
 /// If no report comes, the wait ends at the next whole millisecond. But if nothing becomes due
 /// within 100 milliseconds, it ends after 100 milliseconds at the latest. If nothing will ever be
@@ -48,7 +48,7 @@ pub fn serve<N: Network + Drop, A: Allocator, S: Stream>(
     run(&mut machine, driver, sweeps)
 }
 
-/// Makes this number of sweeps. `machine` tells the time and waits between sweeps.
+/// Makes `sweeps` sweeps. `machine` tells the time, and waits between the sweeps.
 fn run<M: Machine<S>, N: Network + Drop, A: Allocator, S: Stream>(
     machine: &mut M,
     driver: &mut Driver<Net<N, A, S>, A>,
@@ -68,8 +68,8 @@ fn run<M: Machine<S>, N: Network + Drop, A: Allocator, S: Stream>(
     Ok(())
 }
 
-/// Makes a sweep in which `ticks` milliseconds pass. If `ticks` is 0, the sockets get the reports
-/// of the last wait before the sweep. Else the sockets get these reports after the sweep.
+/// Makes a sweep in which `ticks` milliseconds pass. The sockets get the last wait's reports: if
+/// `ticks` is 0, before the sweep begins; else after the sweep has ended.
 fn sweep<M: Machine<S>, N: Network + Drop, A: Allocator, S: Stream>(
     machine: &mut M,
     driver: &mut Driver<Net<N, A, S>, A>,
@@ -87,8 +87,9 @@ fn sweep<M: Machine<S>, N: Network + Drop, A: Allocator, S: Stream>(
     }
 }
 
-/// Waits until something is reported about a socket, or until the time `limit` has passed; without
-/// a limit for `None`. Returns whether something was reported, and when the wait ended.
+/// Waits until something is reported about a socket, or until the time `limit` has passed. If
+/// `limit` is `None`, only a report ends the wait. Returns whether something was reported, and when
+/// the wait ended.
 fn wait<M: Machine<S>, S: Stream>(
     machine: &mut M,
     pace: &mut Pace,
@@ -105,10 +106,10 @@ fn wait<M: Machine<S>, S: Stream>(
     Ok((reported, now))
 }
 
-/// Waits until the next sweep is to begin, and returns the time then. `left` sweeps remain. If the
-/// next sweep has work (`has_work`), it begins after a single poll. If it has no work, the loop
-/// sleeps. But if `pace` says to poll without sleeping, the loop polls first. If this poll finds a
-/// report, or if the sweep has work, the sweep begins. Else the loop goes on polling (`spin`).
+/// Waits until the next sweep is to begin, and returns the time then. `left` sweeps remain. The
+/// loop sleeps if the next sweep has no work (`has_work`) and `pace` doesn't say to poll without
+/// sleeping. Else the loop polls once. Then the sweep begins if it has work or if the poll found a
+/// report. If neither is so, the loop goes on polling (`spin`).
 fn pause<M: Machine<S>, N: Network + Drop, A: Allocator, S: Stream>(
     machine: &mut M,
     driver: &Driver<Net<N, A, S>, A>,

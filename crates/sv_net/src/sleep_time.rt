@@ -35,8 +35,8 @@ fn is_idle<N: Network + Drop, A: Allocator, S: Stream>(
     driver.is_still(ticks) & !is_ready(driver)
 }
 
-/// Returns how many milliseconds after the last sweep the server may sleep at most: until something
-/// might become due, or until the next accept is due.
+/// Returns for how many milliseconds after the last sweep the server may sleep at most: until
+/// something might become due, or until the next accept is due.
 fn longest<N: Network + Drop, A: Allocator, S: Stream>(driver: &Driver<Net<N, A, S>, A>) -> u32
     ensures { (result ≡ 1) ⊎ ((result ≤ 100) × IsIdle 100 driver.now) }
 {
@@ -47,7 +47,7 @@ fn longest<N: Network + Drop, A: Allocator, S: Stream>(driver: &Driver<Net<N, A,
     }
 }
 
-/// Returns how long the server may sleep at most, with `left` sweeps remaining. Returns `None` (no
+/// Returns how long the server may sleep at most, if `left` sweeps remain. Returns `None` (no
 /// limit) only if nothing will ever be due: no entry of the scenario remains, and nothing becomes
 /// due within 4,294,967,295 ms, the longest timeout of a call (VXI-11 revision 1.0, section B.4.4).
 pub(crate) fn sleep_time<N: Network + Drop, A: Allocator, S: Stream>(

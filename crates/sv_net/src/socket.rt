@@ -111,9 +111,9 @@ impl<S: Stream> Socket<S> {
         self.writable.get()
     }
 
-    /// Reads bytes that are waiting. A read that returns less than the buffer holds has emptied the
-    /// socket. Then the socket isn't read again until the system reports more bytes, unless the
-    /// peer had ended its stream or sent urgent bytes.
+    /// Reads bytes that are waiting. A read that doesn't fill the buffer has emptied the socket.
+    /// Then the socket isn't read again until the system reports more bytes, unless the peer had
+    /// ended its stream or sent urgent bytes.
     pub(crate) fn read(&mut self, buffer: &mut [u8]) -> Answer<usize>
         ensures within { IsWithin result (length buffer.old) }
         ensures gives { Gives S.remaining (bytes_of result buffer.new) self.old self.new }
@@ -135,9 +135,10 @@ impl<S: Stream> Socket<S> {
         }
     }
 
-    /// Checks whether the peer of a socket that isn't read is gone: then the answer is `Failed`.
-    /// Without `drops`, the peer is gone if the socket is broken. With `drops`, the bytes that came
-    /// are read and discarded, and the peer is gone at the end of the stream too.
+    /// Checks whether the socket's peer is gone, while the socket isn't read. If the peer is gone,
+    /// the answer is `Failed`. Without `drops`, the peer counts as gone if the socket is broken.
+    /// With `drops`, the bytes that came are read and discarded, and the peer also counts as gone
+    /// at the end of the stream.
     pub(crate) fn probe(&mut self, drops: bool) -> Answer<()>
         ensures { Skips S.remaining drops self.old self.new }
     {

@@ -13,7 +13,7 @@ use std::time::Duration;
 /// How many reports one wait returns at most.
 const REPORTS: usize = 64;
 
-/// What waits for the system's reports about sockets.
+/// Waits for the system's reports about sockets, and stores them.
 #[derive(Drop)]
 pub struct Watch<A: Allocator = Global> {
     poll: Poll,
@@ -42,8 +42,8 @@ impl<A: Allocator + Copy> Watch<A> {
 }
 
 impl<A: Allocator> Watch<A> {
-    /// Waits until something is reported about a socket, or until the time `limit` has passed;
-    /// without a limit for `None`. Returns whether something was reported.
+    /// Waits until something is reported about a socket, or until the time `limit` has passed. If
+    /// `limit` is `None`, only a report ends the wait. Returns whether something was reported.
     ///
     /// # Errors
     /// If the wait fails.

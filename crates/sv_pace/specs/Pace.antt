@@ -23,9 +23,9 @@ sleeps (Found ∷ waits) = 0
 sleeps (Missed ∷ waits) = 0
 sleeps (Slept ∷ waits) = suc (sleeps waits)
 
--- In how many waits the server has to sleep without polling, after a wait in which it polled and found nothing. The flag says whether
--- the server also found nothing in the wait before, among those in which it polled. If so, `pause` is the number for that wait, and the
--- new number is twice `pause`, but at least 1 and at most 1,024. If not, the new number is 0.
+-- How many waits without polling have to follow a miss: a wait in which the server polled and found nothing. The flag says whether the
+-- previous wait with polls was a miss too. If it was, `pause` is the number of waits that had to follow that miss; the new number is
+-- twice `pause`, but at least 1 and at most 1,024. If it wasn't, the new number is 0.
 abbrev pub longer : Bool → ℕ → ℕ
 longer false pause = 0
 longer true pause = min (max (pause * 2) 1) 1024
@@ -35,14 +35,15 @@ abbrev pub is_any : ℕ → Bool
 is_any zero = false
 is_any (suc n) = true
 
--- in how many waits the server has to sleep without polling before it may poll again, if this many waits ended as `Missed` since the newest
+-- how many waits without polling have to come before the server may poll again, if this many waits ended as `Missed` since the newest
 -- `Found`: 0, 0, 1, 2, 4 .. for 0, 1, 2, 3, 4 .. missed waits
 abbrev pub pause_after : ℕ → ℕ
 pause_after zero = 0
 pause_after (suc n) = longer (is_any n) (pause_after n)
 
--- The list of waits after one more wait. The number says how many times the server polled in this wait; the flag says whether it found
--- something. If it found something without a poll, the wait isn't added to the list, because the wait doesn't show whether polling pays.
+-- The list of waits after one more wait. The number says how many times the server polled in this wait; the flag says whether the server
+-- found something. If it found something without a poll, the wait isn't added to the list, because this wait doesn't show whether
+-- polling pays.
 abbrev pub after_wait : ℕ → Bool → List Wait → List Wait
 after_wait zero true waits = waits
 after_wait zero false waits = Slept ∷ waits
@@ -50,8 +51,7 @@ after_wait (suc n) true waits = Found ∷ waits
 after_wait (suc n) false waits = Missed ∷ waits
 
 -- The state of the policy: when the last sweep began, and when something was last reported about a socket, both in nanoseconds; whether the
--- server found nothing in the last wait in which it polled; in how many waits after that wait it has to sleep without polling; and how many
--- of these waits remain.
+-- last wait with polls found nothing; how many waits without polling have to follow that wait; and how many of these waits remain.
 pub record Kept : Type 0 where
   pub swept : ℕ
   pub worked : ℕ
@@ -59,7 +59,7 @@ pub record Kept : Type 0 where
   pub pause : ℕ
   pub left : ℕ
 
--- The state of the policy, apart from its two times, is the one that these waits determine.
+-- The state of the policy, apart from its two times, follows from these waits.
 pub record StandsFor (kept : Kept) (waits : List Wait) : Type 0 where
   pub missed : kept.missed ≡ is_any (misses waits)
   pub pause : kept.pause ≡ pause_after (misses waits)

@@ -1,4 +1,4 @@
-//! Times and counts of a loop of sweeps.
+//! The busy-polling policy of a loop of sweeps: what it remembers, and what it decides.
 
 ghost use Rattle.std.specs.Prelude.{◌≡◌, ◌↔◌, ◌-◌, ◌*◌, ◌/◌, ◌<◌, ◌≤◌, min, true, List, [], ◌∷◌};
 ghost use Rattle.sv_pace.specs.Pace.{Wait, StandsFor, IsDue, after_wait, longer};
@@ -8,18 +8,18 @@ use std::marker::Model;
 /// How many milliseconds a server sleeps at most, if nothing is due earlier.
 pub const STILL: u32 = 100;
 /// A server runs for a given number of sweeps. If nothing will ever be due and more sweeps than
-/// this remain, it sleeps until something is reported about a socket. If not more than this remain,
-/// it makes a sweep at least every [`STILL`] milliseconds, so that the run ends.
+/// this remain, it sleeps until something is reported about a socket. If this many sweeps or fewer
+/// remain, it makes a sweep at least every [`STILL`] milliseconds, so that the run ends.
 pub const FEW: u32 = 1_000_000;
-/// By how many milliseconds one sweep advances the server's clock at most, even if the sweep before
-/// is longer ago.
+/// The most milliseconds by which one sweep advances the server's clock, even if the previous sweep
+/// began longer ago.
 const MOST_TICKS: u64 = 1_000;
 /// For how many nanoseconds the server may poll without sleeping, after something was reported
 /// about a socket.
 const WINDOW: u64 = 50_000;
 /// How many nanoseconds a millisecond has.
 const MILLISECOND: u64 = 1_000_000;
-/// In how many waits the server has to sleep without polling, at most, before it may poll again.
+/// The most waits without polling that have to come before the server may poll again.
 const MOST_SLEEPS: u32 = 1_024;
 
 /// What a server's loop of sweeps remembers: two times, in nanoseconds since the loop began, and
@@ -36,10 +36,9 @@ pub struct Pace {
     worked: u64,
     /// Whether the server found nothing in the last wait in which it polled.
     missed: bool,
-    /// In how many waits the server has to sleep without polling, after the last one in which it
-    /// polled.
+    /// How many waits without polling have to follow the last wait in which the server polled.
     pause: u32,
-    /// In how many more waits the server has to sleep without polling, before it may poll again.
+    /// How many more waits without polling have to come before the server may poll again.
     left: u32,
 }
 
@@ -60,10 +59,9 @@ impl Model for Pace {
     ghost invariant = { λ a. a.pause ≤ 1024 };
 }
 
-/// Returns in how many waits the server has to sleep without polling, after a wait in which it
-/// polled and found nothing. `missed` says whether the server also found nothing in the wait
-/// before, among those in which it polled. If so, `pause` is the number that this function returned
-/// for that wait.
+/// Returns how many waits without polling have to follow a miss: a wait in which the server polled
+/// and found nothing. `missed` says whether the previous wait with polls was a miss too. If it was,
+/// `pause` is the number that this function returned for that miss.
 fn longer(missed: bool, pause: u32) -> u32
     requires { pause ≤ 1024 }
     ensures value { result ≡ longer missed pause }
@@ -91,8 +89,8 @@ impl Pace {
         }
     }
 
-    /// Begins a sweep, and returns how many milliseconds of the clock have begun since the sweep
-    /// before, at most 1,000.
+    /// Begins a sweep, and returns how many milliseconds of the clock have begun since the previous
+    /// sweep, at most 1,000.
     pub fn ticks(&mut self, now: u64) -> u32
         ensures count { result ≡ min (now / 1000000 - self.old.swept / 1000000) 1000 }
         ensures kept { self.new ≡ record self.old { swept = now } }
@@ -110,8 +108,7 @@ impl Pace {
     }
 
     /// Whether to poll instead of sleeping: something was reported about a socket less than 50
-    /// microseconds before `now`, and no wait remains in which the server has to sleep without
-    /// polling.
+    /// microseconds before `now`, and no wait without polling has to come first.
     pub fn is_spinning(&self, now: u64) -> bool
         ensures { (waits : List Wait) → StandsFor self.now waits
             → (result ≡ true) ↔ ((now - self.now.worked < 50000) × IsDue waits) }
@@ -120,7 +117,7 @@ impl Pace {
     }
 
     /// Records how a wait ended. `looks` is how many times the server polled in this wait. `found`
-    /// says whether it found something; if it didn't, it gave up polling and slept.
+    /// says whether the server found something. If it found nothing, it gave up polling and slept.
     pub fn end(&mut self, looks: u32, found: bool)
         ensures times { (self.new.swept ≡ self.old.swept) × (self.new.worked ≡ self.old.worked) }
         ensures stands { (waits : List Wait) → StandsFor self.old waits

@@ -19,19 +19,19 @@ heard_of (Dial conn dial answer) = WasDialed conn dial answer
 heard_of (Dialed conn answer) = PeerAnswered conn answer
 heard_of (Close port) = WasClosed port
 
--- the state of a recorder: the wire whose functions it calls for the driver; these calls and their answers, the newest first; and whether
--- all calls were recorded
+-- the state of a recorder: the wire whose methods it calls for the driver; the recorded calls and their answers, the newest first; and
+-- whether all calls were recorded
 pub record Recording (W : Type 0) : Type 0 where
   pub wire : W
   pub trace : List Heard
   pub is_whole : Bool
 
--- If no call is missing from the recorder's trace after this call, then none was missing before it, and this call was added to the trace.
+-- If the recorder's trace is complete after this call, the trace was complete before the call, and the call was added to its front.
 abbrev pub Keeps : {W : Type 0} → Recording W → Heard → Recording W → Type 0
 Keeps before heard after = after.is_whole ≡ true → (before.is_whole ≡ true) × (after.trace ≡ heard ∷ before.trace)
 
--- The method of the recorded wire was called, and returned this answer. The call is recorded, unless memory for it or for an earlier call
--- was refused.
+-- The method of the recorded wire was called, and returned this answer. The call is recorded, unless memory for this call or for an
+-- earlier call was refused.
 abbrev pub Passes : {W : Type 0} → (W → Heard → W → Type 0) → Recording W → Heard → Recording W → Type 0
 Passes hears before heard after = hears before.wire heard after.wire × Keeps before heard after
 

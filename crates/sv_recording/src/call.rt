@@ -7,7 +7,7 @@ use sv_server::{Dial, Port, Role};
 #[derive(Drop)]
 pub enum Call {
     /// An accept: whether a connection of this role was accepted, under the number `conn`. If
-    /// `conn` is `None`, the connection was dropped.
+    /// `conn` is `None`, an accepted connection was dropped.
     Accept {
         role: Role,
         conn: Option<u8>,
@@ -20,14 +20,14 @@ pub enum Call {
         most: usize,
         answer: Answer<Vec<u8>>,
     },
-    /// A probe: whether the peer of a connection that isn't read is gone. With `drops`, bytes that
-    /// came were discarded.
+    /// A probe: whether a connection's peer is gone, while the connection isn't read. With `drops`,
+    /// bytes that came were discarded.
     Probe {
         conn: u8,
         drops: bool,
         answer: Answer<()>,
     },
-    /// A write: how many of these bytes the wire took for a port.
+    /// A write: the bytes for a port, and how many of them the wire took.
     Write {
         port: Port,
         bytes: Vec<u8>,

@@ -5,8 +5,8 @@ ghost use Rattle.sv_recording.specs.Recorded.{TraceIsKept};
 use crate::recorder::Recorder;
 use sv_serve::Wire;
 
-/// Unless memory for a call was refused, the calls that a recorder recorded are exactly the trace
-/// in the laws of a driver: the calls of the wire's methods, with their answers.
+/// If there was memory for every call, the recorded calls are exactly the trace that the laws of a
+/// driver (`sv_serve`) are about: the calls of the wire's methods, with their answers.
 pub fn trace_is_kept<W: Wire + Drop>()
     ensures { TraceIsKept W.hears ⟦<Recorder<W> as Wire>⟧.hears }
 {}

@@ -36,7 +36,8 @@ impl<W: Wire + Drop> Model for Recorder<W> {
     ghost invariant = { λ a. ⊤ };
 }
 
-/// Returns the record of a read: its answer, with the bytes that were read into the buffer.
+/// Returns the `Call` that records a read: the read's answer, with the bytes that were read into
+/// the buffer.
 fn read_call(
     alloc: Global,
     conn: u8,
@@ -56,7 +57,7 @@ fn read_call(
     Ok(Call::Read { conn, most, answer })
 }
 
-/// Returns the record of a write of these bytes.
+/// Returns the `Call` that records a write of these bytes.
 fn write_call(
     alloc: Global,
     port: Port,
@@ -108,8 +109,8 @@ impl<W: Wire + Drop> Recorder<W> {
         self.is_whole
     }
 
-    /// Records a call of a method, if there was memory for the call; else the recorder isn't whole
-    /// any more.
+    /// Records a call of a method, if there was memory for the call. Else the recorder isn't whole
+    /// any more: it lacks a call.
     fn keep_if(&mut self, call: Result<Call, AllocError>)
         ensures { (heard : Heard) → IfOk call (λ kept. heard_of kept ≡ heard)
             → Keeps self.old heard self.new × (self.new.wire ≡ self.old.wire) }

@@ -16,7 +16,7 @@ pub data Line : Type 0 where
 abbrev pub value_of : List ℕ → ℕ
 value_of digits = fold (λ n digit. 10 * n + (digit - 48)) 0 digits
 
--- The text is one or more decimal digits, and this is their value.
+-- The text is one or more decimal digits, and their value is `n`.
 abbrev pub IsNumber : List ℕ → ℕ → Type 0
 IsNumber digits n = (digits ≢ []) × AllByRecursion (λ digit. (48 ≤ digit) × (digit ≤ 57)) digits × (n ≡ value_of digits)
 

@@ -81,7 +81,7 @@ unfoldable pub cut_at : List ℕ → Option (List ℕ × List ℕ)
 cut_at [] = None
 cut_at (byte ∷ bytes) = if byte == 32 then Some ([], bytes) else option_map (λ cut. (byte ∷ cut.0, cut.1)) (cut_at bytes)
 
--- a number of at most 255 that a space follows, and the text after the space
+-- a number of at most 255, followed by a space; and the text after the space
 unfoldable pub numbered_at : List ℕ → Option (ℕ × List ℕ)
 numbered_at text = do
   cut ← cut_at text

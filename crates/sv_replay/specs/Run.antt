@@ -9,8 +9,8 @@ use Rattle.sv_replay.specs.declared.fault.RunFault.{RunFault}
 use Rattle.sv_replay.specs.declared.fault.RunFault.TheVariants.{BadLine, Input, Output, Memory}
 use Rattle.sv_replay.specs.Script.{parts, IsScript, IsBad, Prints, Stops}
 
--- the fault with which a run stops, given the fault with which the replay of one of its events
--- stopped
+-- the fault of a run, if the run stops because the replay of one event ended with this
+-- `ReplayFault`
 abbrev pub run_fault : ReplayFault → RunFault
 run_fault NoMemory = Memory
 run_fault Write = Output

@@ -22,7 +22,7 @@ abbrev pub IsScenario : ℕ → List Entry → Type 0
 IsScenario least [] = ⊤
 IsScenario least (entry ∷ entries) = (least ≤ entry.tick) × IsAccepted entry.stimulus × IsScenario entry.tick entries
 
--- the tick of the last entry; `least` if there is none
+-- the tick of the last entry; `least` if there is no entry
 abbrev pub last_tick : ℕ → List Entry → ℕ
 last_tick least entries = fold (λ tick entry. entry.tick) least entries
 

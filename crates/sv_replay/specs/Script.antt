@@ -35,15 +35,15 @@ Prints config history (event ∷ events) text after =
     × Prints config middle events rest after
     × (text ≡ first ++ rest)
 
--- These events happen in order after a history, up to an event at which the replay stops. The text is what the replay wrote for the events
--- before that event, and then the part of the output for that event that was still written.
+-- These events happen in order after a history, up to an event at which the replay stops. The text is what the replay wrote for the
+-- earlier events, and then the part of that event's output that was still written.
 abbrev pub Stops : Config → List PlainEvent → List PlainEvent → ReplayFault → List ℕ → List PlainEvent → Type 0
 Stops config history events fault text after = (done others : List PlainEvent) × (event : PlainEvent) × (events ≡ done ++ event ∷ others)
     × (first last : List ℕ) × (middle : List PlainEvent) × Prints config history done first middle
     × Replays config middle event (Err fault) last after × (text ≡ first ++ last)
 
--- After a history, these events happen: all of them, or those up to an event at which the replay stops. The text is what the replay printed
--- for them.
+-- After a history, these events happen: all of them, or only those up to an event at which the replay stops. The text is what the replay
+-- printed for the events that happened.
 abbrev pub Performs : Config → List PlainEvent → List PlainEvent → Result ⊤ ReplayFault → List ℕ → List PlainEvent → Type 0
 Performs config history events (Ok all) text after = Prints config history events text after
 Performs config history events (Err fault) text after = Stops config history events fault text after

@@ -27,9 +27,10 @@ pub enum Stimulus {
 /// An entry of a scenario: what happens, and when.
 #[derive(Clone, Copy, Debug, PartialEq, Eq)]
 pub struct Entry {
-    /// When it happens, in ticks of one millisecond each, from 0 to 999,999,999,999,999,999.
+    /// When the stimulus comes, in ticks of one millisecond each, from 0 to
+    /// 999,999,999,999,999,999.
     pub tick: u64,
-    /// What happens.
+    /// What happens at this tick.
     pub stimulus: Stimulus,
 }
 

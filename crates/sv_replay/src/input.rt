@@ -9,8 +9,8 @@ use std::io::{ErrorKind, Read};
 #[derive(Clone, Copy, Debug, PartialEq, Eq)]
 pub struct InputFault;
 
-/// A reader of which contracts can state what each read returned. Every type that implements `Read`
-/// is a `Source`, with a `gives` that holds for any result of a read.
+/// A reader for which contracts can state what each read returned. Every type that implements
+/// `Read` is a `Source`, with a `gives` that holds for any result of a read.
 pub trait Source: Read {
     ghost use Rattle.std.specs.Prelude.{⊤};
     ghost use Rattle.sv_replay.specs.Reads.{Gave};
@@ -19,8 +19,9 @@ pub trait Source: Read {
     /// bytes; `None` at the reader's end; or a fault.
     ghost gives: { Self → Gave → Self → Type 0 } = { λ before gave after. ⊤ };
 
-    /// Makes one read, into a buffer with room. Returns the number of bytes that came; `None` at
-    /// the reader's end. If a signal interrupts the read, returns 0; a later read can give bytes.
+    /// Makes one read, into a buffer that has room. Returns the number of bytes that came; `None`
+    /// at the reader's end. If a signal interrupts the read, returns 0; a later read can give
+    /// bytes.
     ///
     /// # Errors
     /// If the reader fails.

@@ -47,8 +47,8 @@ pub fn read_scenario<A: Allocator + Copy>(
     Ok(entries)
 }
 
-/// Appends the entry of a line, unless the line is empty. Returns the tick of the last entry, which
-/// was `least` before this line.
+/// Appends the entry of a line, unless the line is empty. `least` is the tick of the last entry
+/// before this line. Returns the tick of the last entry after this line.
 fn add<A: Allocator>(
     entries: &mut Vec<Entry, A>,
     line: &[u8],

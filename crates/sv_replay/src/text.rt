@@ -141,8 +141,8 @@ impl<A: Allocator> Text<A> {
     }
 }
 
-/// Moves the used part of a buffer, from `start` to `end`, to the front, if fewer than 65,536 bytes
-/// are free after it. Returns by how many bytes the used part was moved.
+/// If fewer than 65,536 bytes of a buffer are free after its used part (`start` to `end`), moves
+/// this part to the front. Returns by how many bytes the part was moved.
 fn make_room(buffer: &mut [u8], start: usize, end: usize) -> usize
     requires order { (start ≤ end) × (end ≤ 131072) }
     requires size { length buffer.old ≡ 131072 }

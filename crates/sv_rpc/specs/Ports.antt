@@ -24,8 +24,8 @@ port_of ports m =
     if (m.prog == 395183) && ((m.vers == 1) && (m.prot == 6)) then ports.core
     else (if (m.prog == 395184) && ((m.vers == 1) && (m.prot == 6)) then ports.abort else 0)
 
--- The answer to a GETPORT call with these bytes as arguments. Bytes after the arguments are ignored. If the arguments can't be read from
--- the bytes, the answer is `Garbage`.
+-- This is the answer to a GETPORT call with these bytes as arguments. Bytes after the arguments are ignored. If the arguments
+-- can't be read from the bytes, the answer is `Garbage`.
 abbrev pub PortIs : Ports → List ℕ → Result ℕ Garbage → Type 0
 PortIs ports args (Ok port) = (m : Mapping) × (after : List ℕ) × BeginsAll args (mapping_fields m) after × (port ≡ port_of ports m)
 PortIs ports args (Err garbage) = (m : Mapping) (after : List ℕ) → BeginsAll args (mapping_fields m) after → ⊥

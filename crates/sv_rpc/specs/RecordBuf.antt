@@ -6,7 +6,8 @@ use Rattle.sv_rpc.specs.declared.record_buf.RpcFault.TheVariants.{RecordTooLong}
 use Rattle.sv_rpc.specs.Limits.{capacity}
 use Rattle.sv_rpc.specs.Record.{Tail, Header, Data, TooLong, Splits}
 
--- what a buffer holds: the complete records that weren't dropped, and the tail of the stream, which is what follows its complete records
+-- what a buffer holds: the complete records that weren't dropped, and the tail of the stream (what follows the stream's complete
+-- records)
 pub record Records : Type 0 where
   pub records : List (List ℕ)
   pub tail : Tail

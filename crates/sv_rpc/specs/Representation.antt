@@ -23,13 +23,14 @@ tail_of place.TooLong payload header = TooLong
 abbrev pub held_of : List ℕ → List ℕ → List ℕ → Place → Records
 held_of bytes lengths header place = record { records = cut lengths bytes; tail = tail_of place (drop (sum lengths) bytes) header }
 
--- how many bytes fit in addition to those that `used_by` leaves free: 4 while the unfinished record has no data, because `used_by` already
--- counts 4 bytes for this record that aren't used yet; 0 afterwards
+-- how many bytes fit in addition to those that `used_by` leaves free. While the unfinished record has no data, this is 4, because
+-- `used_by` already counts 4 bytes for this record, which aren't used yet. Afterwards it is 0.
 abbrev pub spare_of : List ℕ → ℕ
 spare_of [] = 4
 spare_of (b ∷ payload) = 0
 
--- `n` more bytes fit into a record buffer that holds these records and this tail.
+-- `n` more bytes fit into a record buffer that holds these records and this tail. After a record
+-- that is too long, any number of bytes fits, because they are ignored.
 abbrev pub Fits : List (List ℕ) → Tail → ℕ → Type 0
 Fits records (Header payload header) n = used_by records (Header payload header) + n ≤ capacity + spare_of payload
 Fits records (Data payload missing last) n = used_by records (Data payload missing last) + n ≤ capacity
@@ -45,8 +46,8 @@ begun_of place.Header header_len = header_len
 begun_of (place.Data missing last) header_len = 0
 begun_of place.TooLong header_len = capacity
 
--- The `Place` says what the next byte of the stream belongs to. This `Place` is possible after `payload` bytes of the unfinished record's
--- data and `header_len` bytes of an unfinished header have come.
+-- This `Place` is possible after `payload` bytes of the unfinished record's data and `header_len` bytes of an unfinished header have
+-- come. A `Place` says what the next byte of the stream belongs to.
 abbrev pub IsPlace : Place → ℕ → ℕ → Type 0
 IsPlace place.Header payload header_len = (payload ≤ max_record) × (header_len < 4)
 IsPlace (place.Data missing last) payload header_len = (0 < missing) × (payload + missing ≤ max_record) × (header_len ≡ 0)

@@ -7,7 +7,7 @@ use Rattle.sv_scan.specs.Setting.{limits, upper, lower, monitor, input}
 use Rattle.sv_scan.specs.Scan.{state, last_reading}
 use Rattle.sv_scan.specs.Counted.{is_idle, is_waiting, is_scanning}
 
--- if `holds` is true, the word in which only bit number `place` is set; else 0
+-- the word in which only bit number `place` is set, if `holds` is true; else 0
 abbrev pub bit : ℕ → Bool → ℕ
 bit place holds = if holds then 2 ^ place else 0
 

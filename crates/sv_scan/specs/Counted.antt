@@ -63,7 +63,7 @@ counts log (Trigger source) = is_none (trigger_fault log source)
 counts log Sample = is_scanning (state log)
 counts log _ = true
 
--- those of the acts that took effect
+-- the acts among these that took effect
 abbrev pub effective : List ScanAct → List ScanAct
 effective [] = []
 effective (act ∷ acts) = if counts (effective acts) act then act ∷ effective acts else effective acts

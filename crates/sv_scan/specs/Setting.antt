@@ -51,7 +51,7 @@ source = last_set (elim [ SetSource from ↦ Some from | _ ↦ None ]) Immediate
 abbrev pub count : List ScanAct → ℕ
 count = last_set (elim [ Count scans ↦ Some scans | _ ↦ None ]) 1
 
--- the voltage of a channel's input, as last set; 0 at first
+-- the voltage to which a channel's input was last set; 0 at first
 abbrev pub input : ℕ → List ScanAct → ℤ
 input channel =
     last_given (elim [ Input given microvolts ↦ if given == channel then Some microvolts else None | _ ↦ None ]) (pos 0)

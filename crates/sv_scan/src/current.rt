@@ -12,7 +12,7 @@ use std::alloc::Allocator;
 use sv_errors::Source;
 
 impl<A: Allocator> Scanner<A> {
-    /// The channels of a scan, in order; at least one.
+    /// The channels of a scan, in the order in which they are read; at least one.
     pub fn list(&self) -> &[u8]
         ensures answer { (acts : List ScanAct) → StandsFor self.now acts
             → result.now ≡ scan_list_of (effective acts) }

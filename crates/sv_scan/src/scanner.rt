@@ -40,7 +40,8 @@ pub struct Scanner<A: Allocator = Global> {
     run: Option<Run>,
     /// The readings of the measurement, oldest first; none without a measurement.
     readings: Vec<Reading, A>,
-    /// Which condition words of the status registers the newest act might have changed.
+    /// Which condition words of the status registers might have changed at the newest act that took
+    /// effect.
     pub(crate) touched: Touched,
 }
 

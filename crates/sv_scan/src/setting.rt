@@ -7,7 +7,8 @@ use sv_errors::Source;
 /// any time, the other settings only while no measurement is under way.
 #[derive(Clone, Copy, Debug)]
 pub enum Setting {
-    /// The channels of a scan, in order; at least one. The default is channel 1.
+    /// The channels of a scan, in the order in which they are read; at least one. The default is
+    /// channel 1.
     List(ScanList),
     /// The monitored channel, whose input is compared with the limits. The default is 1.
     Monitor(u8),

@@ -9,9 +9,9 @@ ghost use Rattle.sv_scan.specs.Touched.{IsTouched};
 use crate::scanner::Scanner;
 use std::alloc::Allocator;
 
-/// Which condition words of the status registers the newest act that took effect might have changed
-/// (SCPI-1999, chapter 20). If a field is false, the act didn't change the word of the field's
-/// name.
+/// Which condition words of the status registers might have changed at the newest act that took
+/// effect (SCPI-1999, chapter 20). If a field is false, the act didn't change the condition word
+/// that has the name of this field.
 #[derive(Clone, Copy)]
 pub struct Touched {
     /// Whether the condition word of the operation register might have changed.
@@ -24,8 +24,8 @@ pub struct Touched {
 }
 
 impl<A: Allocator> Scanner<A> {
-    /// Which condition words of the status registers the newest act that took effect might have
-    /// changed. A refused act has no effect and changes no word.
+    /// Which condition words of the status registers might have changed at the newest act that took
+    /// effect. A refused act has no effect and changes no word.
     pub fn touched(&self) -> Touched
         ensures value { result ≡ self.now.touched }
         ensures stands { (acts : List ScanAct) → StandsFor self.now acts

@@ -1,4 +1,5 @@
--- The server's answers to the driver's queries at a moment, given the server's history.
+-- The server's answers to the driver's queries at a moment. The server's history determines these
+-- answers.
 use Rattle.std.specs.Prelude.{ℕ, ◌<◌, not, Bool, true, false, List, Option, Some, None}
 use Rattle.sv_history.specs.declared.event.Config.{Config}
 use Rattle.sv_history.specs.declared.event.Dial.{Dial}
@@ -27,7 +28,7 @@ IsReady c config at answer = Answered (λ log. not (is_idle (of c log))) config 
 abbrev pub IsOverlong : {W : Type 0} → ℕ → Config → DriverView W → Bool → Type 0
 IsOverlong c config at answer = Answered (λ log. is_overlong (of c log)) config at.history answer
 
--- The answer is whether connection `c` is at fault, so that it can only be closed.
+-- The answer says whether a connection is at fault, so that it can only be closed.
 abbrev pub IsFaulted : {W : Type 0} → ℕ → Config → DriverView W → Bool → Type 0
 IsFaulted c config at answer = Answered (λ log. is_faulted (of c log)) config at.history answer
 

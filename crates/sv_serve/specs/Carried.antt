@@ -1,5 +1,5 @@
--- What a driver carries between its wire and its server over any number of sweeps: the answers of the wire and the events of the server
--- agree, in the same order. Traces (lists of the wire's answers) and histories have the newest item first.
+-- What a driver carries between its wire and its server over any number of sweeps: the wire's answers and the server's events match
+-- each other, in the same order. Traces (lists of the wire's answers) and histories have the newest item first.
 use Rattle.std.specs.Prelude.{◌≡◌, ◌⊎◌, ℕ, ◌-◌, ◌≤◌, min, ◌==◌, Bool, true, false, List, [], ◌∷◌, ◌++◌, take, filter, flat_map, Option, Some, None, if◌then◌else◌, ⊤}
 use Rattle.sv_links.specs.Channels.{ChannelAct}
 use Rattle.sv_history.specs.declared.event.Config.{Config}
@@ -21,7 +21,8 @@ use Rattle.sv_serve.specs.Sweep.{Sweeps}
 use Rattle.sv_serve.specs.Timed.{is_timed, time_events, handed_ticks}
 use Rattle.sv_serve.specs.Served.{Through, event_of, is_outer, IsServed}
 
--- A run of sweeps leads from one state of the driver to another. The list has the number of milliseconds that pass in each sweep.
+-- A run of sweeps leads from one state of the driver to another. The list has, for each sweep, the number of milliseconds that
+-- pass in the sweep.
 abbrev pub Swept : {W : Type 0} → (W → Heard → W → Type 0) → List ℕ → DriverState W → DriverState W → Type 0
 Swept hears [] start now = now ≡ start
 Swept hears (ticks ∷ passed) start now = (between : DriverState _) × Swept hears passed start between × Steps
@@ -42,23 +43,26 @@ begins port (PeerAnswered d (Got all)) = is_same port (Intr d)
 begins port (WasClosed (Conn d)) = is_same port (Conn d)
 begins _ _ = false
 
--- the bytes that were read on a port, if this is the wire's answer to a read of the port; else none
+-- the bytes that were read on a port, if this is the wire's answer to a read of the port; else no
+-- bytes
 abbrev pub read : Port → Heard → List ℕ
 read port (WasRead d most (Got bytes)) = if is_same port (Conn d) then bytes else []
 read _ _ = []
 
--- the bytes that the wire took for a port, if this is the wire's answer to a write to the port; else none
+-- the bytes that the wire took for a port, if this is the wire's answer to a write to the port; else no
+-- bytes
 abbrev pub taken_bytes : Port → Heard → List ℕ
 taken_bytes port (WasWritten other bytes (Got n)) = if is_same port other then take n bytes else []
 taken_bytes _ _ = []
 
--- the bytes that `bytes` finds in the answers of the wire, from the oldest on, since the streams of a port last started anew (`begins`)
+-- the bytes that the function `bytes` finds in the wire's answers since the streams of a port last started anew (`begins`). The bytes
+-- of the oldest answer come first.
 abbrev pub since : Port → (Heard → List ℕ) → List Heard → List ℕ
 since port bytes [] = []
 since port bytes (heard ∷ trace) = if begins port heard then [] else since port bytes trace ++ bytes heard
 
--- whether an answer of the wire ends a port: a read or write of the port failed, or its peer is gone; an interrupt channel also ends if its
--- peer can't be reached, or if its connection was closed
+-- whether an answer of the wire ends a port: a read or write of the port failed, or the port's peer is gone. An interrupt channel also ends
+-- if its peer can't be reached, or if its connection was closed.
 abbrev pub ends_port : Port → Heard → Bool
 ends_port (Conn c) (WasRead d most Failed) = d == c
 ends_port (Conn c) (WasProbed d drops Failed) = d == c
@@ -73,7 +77,7 @@ ClosesAtOnce next [] = ⊤
 ClosesAtOnce next (heard ∷ trace) = ((c : ℕ) → ends_port (Conn c) heard ≡ true
     → next ≡ Some (WasClosed (Conn c))) × ClosesAtOnce (Some heard) trace
 
--- `IsSuch` holds of each answer of a trace and the answers before this answer.
+-- `IsSuch` holds of each answer of a trace, together with all answers before that answer.
 abbrev pub EachHeard : (Heard → List Heard → Type 0) → List Heard → Type 0
 EachHeard IsSuch [] = ⊤
 EachHeard IsSuch (heard ∷ trace) = IsSuch heard trace × EachHeard IsSuch trace
@@ -82,16 +86,17 @@ EachHeard IsSuch (heard ∷ trace) = IsSuch heard trace × EachHeard IsSuch trac
 abbrev pub Follows : (Heard → Bool) → List Heard → Type 0
 Follows is_such trace = (last : Heard) × (older : List Heard) × (trace ≡ last ∷ older) × (is_such last ≡ true)
 
--- There was a moment at which the wire had given exactly the answers of `trace`, and `IsSo` held of the history up to then.
+-- There was a moment at which the wire had given exactly the answers of `trace`, and `IsSo` held of the history up to that
+-- moment.
 abbrev pub Once : (List PlainEvent → Type 0) → List PlainEvent → List Heard → Type 0
 Once IsSo history trace = (later earlier : List PlainEvent) × (history ≡ later ++ earlier)
     × (filter is_outer earlier ≡ flat_map event_of trace) × IsSo earlier
 
--- The history's events from the wire are exactly those that the wire's answers cause, in order. Every byte that is read enters its
--- connection's stream, and every byte that the wire takes is one that the history sends: in order, none lost, invented or doubled. Each
--- write passes all bytes that wait. A connection is closed right after it failed; otherwise it is only closed if it was at fault and no
--- bytes waited on it. The socket of an interrupt channel is only closed right after an answer that ends the channel (`ends_port`), or if
--- the channel isn't open.
+-- The history's events from the wire are exactly those that the wire's answers cause, in the same order. Every byte that is read enters
+-- its connection's stream, and every byte that the wire takes is one that the history sends: in the same order, and no byte is lost,
+-- invented or doubled. Each write passes all bytes that wait on its port. A connection is closed right after it failed; otherwise it is
+-- only closed if it was at fault and no bytes waited on it. The socket of an interrupt channel is only closed in two cases: right after
+-- an answer that ends the channel (`ends_port`), or while the channel isn't open.
 pub record IsCarried (config : Config) (history : List PlainEvent) (trace : List Heard) : Type 0 where
   pub events : filter is_outer history ≡ flat_map event_of trace
   pub streams : (c : ℕ) → Answered (λ log. stream (of c log)) config history (since (Conn c) (read (Conn c)) trace)
@@ -107,10 +112,10 @@ pub record IsCarried (config : Config) (history : List PlainEvent) (trace : List
   pub lets_go : EachHeard (λ heard older. (c : ℕ) → heard ≡ WasClosed (Intr c) → Follows (ends_port (Intr c)) older ⊎ Once (λ earlier.
       (log : List Act) × IsLogOf config earlier log × (is_port_shut (Intr c) log ≡ true)) history older) trace
 
--- Each sweep serves each connection. It adds its own events to the history, and what the wire answered in the sweep to the trace. The
--- history's timed events are exactly these: a Tick for each millisecond that the sweeps were given, up to the end of the clock; and the
--- event of each entry of the scenario that was due. For these events there are three premises: the clock is in range; the driver had
--- counted no millisecond at the start; and the scenario is a valid one.
+-- Each sweep serves each connection. A sweep adds its own events to the history. To the trace it adds the answers that the wire gave
+-- during the sweep. The history's timed events are exactly these: a Tick for each millisecond that the sweeps were given, up to the end
+-- of the clock; and the event of each entry of the scenario that was due. What is said of the timed events has three premises: the
+-- clock is in range; the driver had counted no millisecond at the start; and the scenario is valid.
 abbrev pub InSweeps : {W : Type 0} (hears : W → Heard → W → Type 0) → Config → (start : DriverState W) (passed : List ℕ)
     (now : DriverState W)
     → Swept hears passed start now → List PlainEvent → List Heard → Type 0
@@ -121,8 +126,8 @@ InSweeps hears config start (ticks ∷ passed) now (between, swept, goes) histor
     × (config.clock ≤ last_clock → start.ticks ≡ 0 → IsScenario 0 start.ahead
     → filter is_timed history ≡ time_events (min (handed_ticks (ticks ∷ passed)) (last_clock - config.clock)) start.ahead)
 
--- For any number of sweeps of a driver whose server is new, over any wire, there are a trace and a history for which `IsCarried` and
--- `InSweeps` hold.
+-- A driver whose server is new makes any number of sweeps, over any wire. Then there are a trace and a history for which `IsCarried`
+-- and `InSweeps` hold.
 abbrev pub Carried : {W : Type 0} → (W → Heard → W → Type 0) → Type 0
 Carried hears = (config : Config) (passed : List ℕ) (start now : DriverState _) → StandsFor start.server config []
     → (swept : Swept hears passed start now) → (trace : List Heard) × (history : List PlainEvent) × Through hears trace start.wire now.wire

@@ -6,8 +6,8 @@ use Rattle.sv_history.specs.Event.{PlainEvent}
 use Rattle.sv_server.specs.Server.State.{State, StandsFor}
 use Rattle.sv_replay.specs.declared.entry.Entry.{Entry}
 
--- The state of a driver: its server; its wire; which peer the driver dialed for the interrupt channel of each connection; the entries of
--- the scenario that weren't applied yet; and how many milliseconds have passed.
+-- The state of a driver: its server; its wire; for each connection, which peer the driver dialed for the interrupt channel; the entries
+-- of the scenario that weren't applied yet; and how many milliseconds have passed.
 pub record DriverState (W : Type 0) : Type 0 where
   pub server : State
   pub wire : W
@@ -15,7 +15,7 @@ pub record DriverState (W : Type 0) : Type 0 where
   pub ahead : List Entry
   pub ticks : ℕ
 
--- The state of a driver, where the server is replaced by its history.
+-- The state of a driver, with the server's history in place of the server.
 pub record DriverView (W : Type 0) : Type 0 where
   pub wire : W
   pub history : List PlainEvent
@@ -23,7 +23,7 @@ pub record DriverView (W : Type 0) : Type 0 where
   pub ahead : List Entry
   pub ticks : ℕ
 
--- the state of a driver, with this history instead of its server
+-- the state of a driver, with this history in place of the server
 abbrev pub driver_view : {W : Type 0} → DriverState W → List PlainEvent → DriverView W
 driver_view driving history =
     record { wire = driving.wire; history = history; called = driving.called; ahead = driving.ahead; ticks = driving.ticks }

@@ -6,8 +6,8 @@ use Rattle.sv_history.specs.declared.event.Dial.{Dial}
 use Rattle.sv_serve.specs.declared.wire.Answer.{Answer}
 use Rattle.sv_serve.specs.declared.wire.Answer.TheVariants.{Got, Pending, Failed}
 
--- One call of a wire's method, with its answer. `most` is how many bytes a read can return at most. A probe asks whether a connection that
--- isn't read is gone. With `drops` it also discards the bytes that come on the connection.
+-- One call of a wire's method, with its answer. `most` is how many bytes a read can return at most. A probe asks whether a connection's
+-- peer is gone, while the connection isn't read. With `drops` the probe also discards the bytes that come on the connection.
 pub data Heard : Type 0 where
   WasAccepted : (role : Role) (conn : Option ℕ) (answer : Answer ⊤) → Heard
   WasRead : (conn : ℕ) (most : ℕ) (answer : Answer (List ℕ)) → Heard
@@ -17,7 +17,8 @@ pub data Heard : Type 0 where
   PeerAnswered : (conn : ℕ) (answer : Answer ⊤) → Heard
   WasClosed : (port : Port) → Heard
 
--- the answer of a read, with the bytes that the read stored in the buffer
+-- the answer to a read, where the number of bytes is replaced by the bytes that the read stored in
+-- the buffer
 abbrev pub bytes_of : Answer ℕ → List ℕ → Answer (List ℕ)
 bytes_of (Got n) buffer = Got (take n buffer)
 bytes_of Pending buffer = Pending

@@ -1,4 +1,4 @@
--- What the inner steps of a driver require of the driver's state when they begin.
+-- What a step of a driver requires of the driver's state when the step begins.
 use Rattle.std.specs.Prelude.{◌≡◌, ℕ, ◌<◌, Bool, true, List, length, Some, Result, Err}
 use Rattle.sv_links.specs.Channels.{ChannelAct}
 use Rattle.sv_history.specs.declared.event.Config.{Config}
@@ -35,18 +35,20 @@ IsSuited event config at = (log : List Act) × (channel_log : List ChannelAct) �
 abbrev pub IsAwaited : {W : Type 0} → ℕ → Config → DriverView W → Type 0
 IsAwaited c config at = (dial : Dial) × Wants c config at (Some dial)
 
--- At least one byte waited to be sent on a port, and the wire took no more bytes than waited.
+-- At least one byte waited to be sent on a port, and the wire took no more bytes than the number
+-- that waited.
 abbrev pub Handed : {W : Type 0} → Port → Answer ℕ → Config → DriverView W → Type 0
 Handed port answer config at = (bytes : List ℕ) × Waits port config at bytes × (0 < length bytes) × IsWithin answer (length bytes)
 
--- There was a call to take on a connection, and memory for it was refused.
+-- There was a call to take on a connection, and memory for this call was refused.
 abbrev pub FoundNone : {W : Type 0} → ℕ → Config → DriverView W → Type 0
 FoundNone c config at = (log : List Act) × IsLogOf config at.history log × Answers config (Turn c) log (Err NoMemory)
 
--- If the server's answer to a Turn is that memory was refused, there was a call to take, and memory for it was refused.
+-- If the server's answer to a Turn is that memory was refused, there was a call to take, and memory for this call was
+-- refused.
 abbrev pub MayFindNone : {W : Type 0} → ℕ → Result Did Refused → Config → DriverView W → Type 0
 MayFindNone c answer config at = answer ≡ Err NoMemory → FoundNone c config at
 
--- If `so` is true, there was a call to take, and memory for it was refused.
+-- If `so` is true, there was a call to take, and memory for this call was refused.
 abbrev pub FindsNoneIf : {W : Type 0} → ℕ → Bool → Config → DriverView W → Type 0
 FindsNoneIf c so config at = so ≡ true → FoundNone c config at

@@ -36,19 +36,21 @@ event_of (PeerAnswered c Failed) = Dialed c false ∷ []
 event_of (WasClosed (Conn c)) = Close (Conn c) ∷ []
 event_of _ = []
 
--- whether an event comes from the wire; Turns, Refuses and timed events don't: the driver makes them itself
+-- whether an event comes from the wire. Turns, Refuses and timed events don't come from the wire: the
+-- driver makes them itself.
 abbrev pub is_outer : PlainEvent → Bool
 is_outer (Turn c) = false
 is_outer (Refuse c) = false
 is_outer event = not (is_timed event)
 
--- A sweep has a Turn of the connection. If memory for the call is refused, the sweep has a Refuse instead. The sweep has neither a Turn nor
--- a Refuse only if there is no call to take on the connection, or no room for the longest reply.
+-- A sweep has a Turn of the connection. If memory for the call is refused, the sweep has a Refuse instead. If the sweep has neither a Turn
+-- nor a Refuse of the connection, there is no call to take on it, or no room for the longest reply.
 abbrev pub Takes : Config → ℕ → List Act → List PlainEvent → Type 0
 Takes config c before turn = (turn ≡ Turn c ∷ []) ⊎ (((turn ≡ Refuse c ∷ []) × Answers config (Turn c) before (Err NoMemory))
     ⊎ ((turn ≡ []) × ((is_idle (of c before) ≡ true) ⊎ (free (of c before) < longest_reply))))
 
--- All bytes that wait on a connection, if any, are passed to the wire in one write. The write can have further bytes after these.
+-- If bytes wait on a connection, all of them are passed to the wire in one write. The write can have further bytes after these
+-- bytes.
 abbrev pub Offers : ℕ → List Act → List Heard → Type 0
 Offers c log piece = (waiting (of c log) ≡ []) ⊎ ((more : List ℕ) × (answer : Answer ℕ) × (newer older : List Heard)
     × (piece ≡ newer ++ (WasWritten (Conn c) (waiting (of c log) ++ more) answer ∷ older)))
@@ -61,8 +63,8 @@ Serves config c history events piece = (first turn behind : List PlainEvent) × 
     × IsLogOf config (first ++ history) before × IsLogOf config (turn ++ (first ++ history)) after
     × Takes config c before turn × Offers c after piece
 
--- A sweep has these events and these answers of the wire. The events and the answers agree with each other, and the sweep serves each
--- connection.
+-- A sweep has these events and these answers of the wire. Its events from the wire are exactly those that the answers cause, and the
+-- sweep serves each connection.
 abbrev pub IsServed : {W : Type 0} → (W → Heard → W → Type 0) → Config → DriverState W → DriverState W → List PlainEvent → List PlainEvent
     → List Heard → Type 0
 IsServed hears config old new history events piece = StandsFor old.server config history × StandsFor new.server config (events ++ history)

@@ -1,5 +1,5 @@
--- The steps of a driver. In each of the smallest steps at most one method of the wire is called, or one event is given to the server. Of
--- these events, the server can refuse only a Turn, a Tick or an entry of the scenario.
+-- The steps of a driver. In each of the smallest steps at most one method of the wire is called, or one event is given to the server.
+-- The server can refuse only three kinds of these events: a Turn, a Tick, and the event of a scenario's entry.
 use Rattle.std.specs.Prelude.{◌≡◌, ◌⊎◌, ℕ, ◌<◌, min, ◌==◌, ◌&&◌, ◌||◌, Bool, true, false, List, [], length, Option, Some, None, Result, Ok, Err, ⊤, slice_set, slice_index_or}
 use Rattle.sv_history.specs.declared.event.Config.{Config}
 use Rattle.sv_history.specs.declared.event.Dial.{Dial}
@@ -32,11 +32,13 @@ Given event result config before after = (log : List Act) × IsLogOf config befo
 abbrev pub IsApplied : {W : Type 0} → PlainEvent → Config → DriverView W → DriverView W → Type 0
 IsApplied event = Given event (Ok Done)
 
--- the peer that the driver dialed for the interrupt channel of a connection; `None` if it dialed none
+-- the peer that the driver dialed for the interrupt channel of a connection; `None` if no peer is
+-- dialed
 abbrev pub called_of : {W : Type 0} → ℕ → DriverView W → Option Dial
 called_of c at = slice_index_or at.called c None
 
--- The driver records which peer it dialed for the interrupt channel of a connection; or that it has dialed none.
+-- The driver records which peer it dialed for the interrupt channel of a connection, or (`None`) that no peer is
+-- dialed.
 abbrev pub Remembers : {W : Type 0} → ℕ → Option Dial → Config → DriverView W → DriverView W → Type 0
 Remembers c dial config before after = after ≡ record before { called = slice_set before.called c dial }
 
@@ -50,7 +52,8 @@ abbrev pub Accepts : {W : Type 0} → (W → Heard → W → Type 0) → Role �
 Accepts hears role config before after = (number : Option ℕ) × (answer : Answer ⊤) × IsLowest number config before
     × (Hears hears (WasAccepted role number answer) then Opens role number answer) config before after
 
--- The socket of an interrupt channel is closed, if `Some` says that a peer was dialed for the channel.
+-- If the argument is `Some` peer that was dialed for an interrupt channel, the channel's socket is
+-- closed. If it is `None`, nothing changes.
 abbrev pub ClosesChannelOn : {W : Type 0} → (W → Heard → W → Type 0) → ℕ → Option Dial → Config → DriverView W → DriverView W → Type 0
 ClosesChannelOn hears c None = Unchanged
 ClosesChannelOn hears c (Some dial) = Hears hears (WasClosed (Intr c)) then Remembers c None
@@ -90,13 +93,13 @@ ProbesIf hears c false config before after = after ≡ before
 ProbesIf hears c true config before after = (drops : Bool) × (answer : Answer ⊤) × IsOverlong c config before drops
     × (Hears hears (WasProbed c drops answer) then Drops hears c answer) config before after
 
--- An open connection without room isn't read. Instead the driver asks the wire whether the peer is gone, and closes the connection if so.
--- Bytes that come after a record that is too long are discarded.
+-- An open connection without room isn't read. Instead the driver asks the wire whether the peer is gone, and closes the connection if the
+-- peer is gone. Bytes that come after a record that is too long are discarded.
 abbrev pub Probes : {W : Type 0} → (W → Heard → W → Type 0) → ℕ → Config → DriverView W → DriverView W → Type 0
 Probes hears c config before after = (opened : Bool) × IsOpen (Conn c) config before opened × ProbesIf hears c opened config before after
 
--- If a connection has room for at least one byte, it is read: at most `room` bytes, and at most 16,384. Without room the driver only asks
--- the wire whether the peer is gone.
+-- If a connection has room for at least one byte, it is read: at most `room` bytes, and at most 16,384 bytes. If `room` is 0, the driver
+-- only asks the wire whether the peer is gone.
 abbrev pub ReadsUpTo : {W : Type 0} → (W → Heard → W → Type 0) → ℕ → ℕ → Config → DriverView W → DriverView W → Type 0
 ReadsUpTo hears room c config before after = ((room ≡ 0) × Probes hears c config before after)
     ⊎ ((0 < room) × (answer : Answer (List ℕ)) × IsPiece answer (min room longest_piece)
@@ -121,7 +124,7 @@ abbrev pub TurnsIf : {W : Type 0} → ℕ → Bool → Config → DriverView W �
 TurnsIf c false config before after = after ≡ before
 TurnsIf c true config before after = (result : Result Did Refused) × (Given (Turn c) result then EndsTurn c result) config before after
 
--- A Turn takes the next call of a connection, if there is one.
+-- If there is a call to take on a connection, a Turn takes it.
 abbrev pub Turns : {W : Type 0} → ℕ → Config → DriverView W → DriverView W → Type 0
 Turns c config before after = (ready : Bool) × IsReady c config before ready × TurnsIf c ready config before after
 
@@ -135,28 +138,28 @@ abbrev pub KeepsCall : {W : Type 0} → (W → Heard → W → Type 0) → ℕ �
 KeepsCall hears c true = Unchanged
 KeepsCall hears c false = ClosesChannel hears c
 
--- The socket of a dialed peer is closed, unless the interrupt channel is open, or still has to be connected to this peer.
+-- The socket of a dialed peer is closed, unless the interrupt channel is open or still has to be connected to this peer.
 abbrev pub CancelsUnwanted : {W : Type 0} → (W → Heard → W → Type 0) → ℕ → Option Dial → Config → DriverView W → DriverView W → Type 0
 CancelsUnwanted hears c None config before after = after ≡ before
 CancelsUnwanted hears c (Some called) config before after = (channel : Bool) × (wanted : Option Dial) × IsOpen
     (Intr c) config before channel
     × Wants c config before wanted × KeepsCall hears c (channel || is_wanted called wanted) config before after
 
--- The socket of the peer that was dialed for a connection is closed, unless its interrupt channel is open, or still has to be connected to
--- this peer.
+-- The socket of the peer that was dialed for a connection's interrupt channel is closed, unless the channel is open or still has to be
+-- connected to this peer.
 abbrev pub LetsGo : {W : Type 0} → (W → Heard → W → Type 0) → ℕ → Config → DriverView W → DriverView W → Type 0
 LetsGo hears c config before after = CancelsUnwanted hears c (called_of c before) config before after
 
--- What follows the wire's answer to dialing a peer. Unless the peer can't be reached, the driver records that it was dialed. Unless the
--- peer hasn't answered yet, the server is told whether it is connected.
+-- What follows the wire's answer to dialing a peer. If the peer is connected, the driver records that it dialed this peer, and tells
+-- the server that the peer is connected. If the peer hasn't answered yet, the driver only records that it dialed this peer. If the peer
+-- can't be reached, the driver tells the server that connecting failed.
 abbrev pub ConnectResult : {W : Type 0} → ℕ → Dial → Answer ⊤ → Config → DriverView W → DriverView W → Type 0
 ConnectResult c dial (Got all) = Remembers c (Some dial) then IsApplied (Dialed c true)
 ConnectResult c dial Pending = Remembers c (Some dial)
 ConnectResult c dial Failed = IsApplied (Dialed c false)
 
--- What follows the wire's answer about a peer that was dialed before. If the peer is connected, the server is told that it is. If the peer
--- still hasn't answered, nothing changes. If the peer can't be reached, its socket is closed, and the server is told that connecting
--- failed.
+-- What follows the wire's answer about a peer that was dialed before. If the peer is connected, the server is told so. If the peer still
+-- hasn't answered, nothing changes. If the peer can't be reached, its socket is closed, and the server is told that connecting failed.
 abbrev pub PollResult : {W : Type 0} → (W → Heard → W → Type 0) → ℕ → Answer ⊤ → Config → DriverView W → DriverView W → Type 0
 PollResult hears c (Got all) = IsApplied (Dialed c true)
 PollResult hears c Pending = Unchanged
@@ -178,8 +181,9 @@ abbrev pub Calls : {W : Type 0} → (W → Heard → W → Type 0) → ℕ → C
 Calls hears c config before after =
     (wanted : Option Dial) × Wants c config before wanted × CallsFor hears c wanted (called_of c before) config before after
 
--- The socket of a dialed peer to which the interrupt channel needn't be connected any more is closed. Then the peer to which the channel
--- has to be connected is dialed.
+-- If a peer was dialed to which the interrupt channel needn't be connected any more, this peer's socket is closed. Then the peer to
+-- which the channel has to be connected is dialed; if it was dialed already, the driver asks the wire whether this peer has
+-- answered.
 abbrev pub Dials : {W : Type 0} → (W → Heard → W → Type 0) → ℕ → Config → DriverView W → DriverView W → Type 0
 Dials hears c = LetsGo hears c then Calls hears c
 
@@ -188,13 +192,14 @@ abbrev pub BreaksOff : {W : Type 0} → (W → Heard → W → Type 0) → Port 
 BreaksOff hears (Conn c) = Closes hears c
 BreaksOff hears (Intr c) = ClosesChannel hears c then IsApplied (Close (Intr c))
 
--- The server is told how many bytes the wire took, and removes these bytes. If the write failed, the port is closed.
+-- The server is told how many bytes the wire took, and removes these bytes from its output. If the write failed, the
+-- port is closed.
 abbrev pub EndsWrite : {W : Type 0} → (W → Heard → W → Type 0) → Port → Answer ℕ → Config → DriverView W → DriverView W → Type 0
 EndsWrite hears port (Got n) = IsApplied (Took port n)
 EndsWrite hears port Pending = Unchanged
 EndsWrite hears port Failed = BreaksOff hears port
 
--- These bytes are passed to the wire in one write, if there are any.
+-- If there are any bytes, they are passed to the wire in one write.
 abbrev pub WritesAll : {W : Type 0} → (W → Heard → W → Type 0) → Port → List ℕ → Config → DriverView W → DriverView W → Type 0
 WritesAll hears port bytes config before after = ((bytes ≡ []) × (after ≡ before))
     ⊎ ((0 < length bytes) × (answer : Answer ℕ) × IsWithin answer (length bytes)
@@ -205,13 +210,15 @@ abbrev pub WritesTo : {W : Type 0} → (W → Heard → W → Type 0) → Port �
 WritesTo hears port config before after =
     (bytes : List ℕ) × Waits port config before bytes × WritesAll hears port bytes config before after
 
--- The connection is closed if both hold: the flag says that it is at fault; and no bytes wait to be sent on it.
+-- The connection is closed if both hold: the flag says that the connection is at fault; and no bytes wait to be
+-- sent on it.
 abbrev pub EndsIf : {W : Type 0} → (W → Heard → W → Type 0) → ℕ → Bool → Config → DriverView W → DriverView W → Type 0
 EndsIf hears c false config before after = after ≡ before
 EndsIf hears c true config before after =
     (bytes : List ℕ) × Waits (Conn c) config before bytes × ClosesIf hears c (length bytes == 0) config before after
 
--- A connection is closed if both hold: the server says that it is at fault; and no bytes wait to be sent on it.
+-- A connection is closed if both hold: the server says that the connection is at fault; and no bytes wait to be
+-- sent on it.
 abbrev pub Ends : {W : Type 0} → (W → Heard → W → Type 0) → ℕ → Config → DriverView W → DriverView W → Type 0
 Ends hears c config before after =
     (faulted : Bool) × IsFaulted c config before faulted × EndsIf hears c faulted config before after

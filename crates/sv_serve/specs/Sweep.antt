@@ -1,4 +1,4 @@
--- A sweep of a driver: its steps, in order.
+-- A sweep of a driver: the steps of the sweep, and their order.
 use Rattle.std.specs.Prelude.{◌≡◌, ℕ, ◌+◌, ◌<◌, ◌≤◌, ◌==◌, Bool, true, false, List, [], ◌∷◌, Result, Ok, Err, ⊤, if◌then◌else◌}
 use Rattle.sv_history.specs.declared.event.Config.{Config}
 use Rattle.sv_history.specs.declared.event.Did.{Did}
@@ -27,7 +27,8 @@ abbrev pub IsNoneDue : ℕ → List Entry → Type 0
 IsNoneDue ticks [] = ⊤
 IsNoneDue ticks (entry ∷ entries) = ticks < entry.tick
 
--- If the flag is true, the scenario's next entry is due and is applied; if it is false, no entry is due.
+-- If the flag is true, the scenario's next entry is due and is applied. If the flag is false, no entry
+-- is due.
 abbrev pub PlaysIf : {W : Type 0} → Bool → Config → DriverView W → DriverView W → Type 0
 PlaysIf true config before after = PlaysOne config before after
 PlaysIf false config before after = (after ≡ before) × IsNoneDue after.ticks after.ahead

@@ -1,4 +1,4 @@
-//! Accepting connections.
+//! Accepting the connections of clients.
 
 ghost use Rattle.std.specs.Prelude.{◌≡◌, ◌<◌, List, IfSome};
 ghost use Rattle.sv_history.specs.declared.event.Config.{Config};

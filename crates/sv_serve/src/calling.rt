@@ -24,8 +24,9 @@ fn is_wanted(called: Dial, wanted: Option<Dial>) -> bool
 }
 
 impl<W: Wire + Drop, A: Allocator> Driver<W, A> {
-    /// For each connection: closes the socket of a dialed peer to which its interrupt channel
-    /// needn't be connected any more, and dials the peer to which the channel has to be connected.
+    /// For each connection: if a peer was dialed to which the interrupt channel needn't be
+    /// connected any more, closes this peer's socket. Then dials the peer to which the channel has
+    /// to be connected; if it was dialed already, asks the wire whether this peer has answered.
     pub(crate) fn dial_each(&mut self)
         ensures { Steps (ForEach 16 (Dials W.hears)) self.old self.new }
     {
@@ -37,8 +38,9 @@ impl<W: Wire + Drop, A: Allocator> Driver<W, A> {
         }
     }
 
-    /// Closes the socket of a dialed peer to which a connection's interrupt channel needn't be
-    /// connected any more. Dials the peer to which the channel has to be connected.
+    /// If a peer was dialed to which a connection's interrupt channel needn't be connected any
+    /// more, closes this peer's socket. Then dials the peer to which the channel has to be
+    /// connected; if it was dialed already, asks the wire whether this peer has answered.
     fn dial(&mut self, conn: u8)
         requires { conn < 16 }
         ensures { Steps (Dials W.hears conn) self.old self.new }
@@ -57,8 +59,8 @@ impl<W: Wire + Drop, A: Allocator> Driver<W, A> {
         self.cancel_if_unwanted(conn, called);
     }
 
-    /// `called` is the peer that was dialed for a connection's interrupt channel, if there is one.
-    /// Closes its socket, unless the channel is open or still has to be connected to this peer.
+    /// If `called` is a peer that was dialed for a connection's interrupt channel: closes this
+    /// peer's socket, unless the channel is open or still has to be connected to this peer.
     fn cancel_if_unwanted(&mut self, conn: u8, called: Option<Dial>)
         requires { conn < 16 }
         ensures { Steps (CancelsUnwanted W.hears conn called) self.old self.new }
@@ -74,7 +76,7 @@ impl<W: Wire + Drop, A: Allocator> Driver<W, A> {
     }
 
     /// Closes the socket of the peer that was dialed for a connection's interrupt channel, unless
-    /// `keeps`.
+    /// `keeps` is true.
     fn keep_call(&mut self, conn: u8, keeps: bool)
         requires { conn < 16 }
         ensures { Steps (KeepsCall W.hears conn keeps) self.old self.new }
@@ -85,8 +87,8 @@ impl<W: Wire + Drop, A: Allocator> Driver<W, A> {
         self.close_channel(conn);
     }
 
-    /// If a connection's interrupt channel has to be connected: dials its peer, or asks the wire
-    /// whether the peer that was dialed has answered.
+    /// If a connection's interrupt channel has to be connected: dials its peer; or, if a peer was
+    /// dialed already, asks the wire whether that peer has answered.
     fn call(&mut self, conn: u8)
         requires { conn < 16 }
         ensures { Steps (Calls W.hears conn) self.old self.new }
@@ -96,8 +98,8 @@ impl<W: Wire + Drop, A: Allocator> Driver<W, A> {
         self.call_for(conn, wanted, called);
     }
 
-    /// If there is a peer `wanted`: dials it if no peer was dialed yet, else asks the wire whether
-    /// the peer has answered.
+    /// If `wanted` is a peer: dials this peer; or, if a peer was dialed already (`called`), asks
+    /// the wire whether that peer has answered.
     fn call_for(&mut self, conn: u8, wanted: Option<Dial>, called: Option<Dial>)
         requires { conn < 16 }
         ensures { From (λ (config : Config) (at : DriverView W). Wants conn config at wanted)
@@ -130,7 +132,7 @@ impl<W: Wire + Drop, A: Allocator> Driver<W, A> {
         self.wire.dialed(conn)
     }
 
-    /// Applies what the wire answered when it was told to dial the peer `dial` for a connection's
+    /// Applies the wire's answer after the wire was told to dial the peer `dial` for a connection's
     /// interrupt channel.
     fn connect_result(&mut self, conn: u8, dial: Dial, answer: Answer<()>)
         requires { conn < 16 }
@@ -158,7 +160,7 @@ impl<W: Wire + Drop, A: Allocator> Driver<W, A> {
         self.dial_limit = self.dial_limit.max(conn + 1);
     }
 
-    /// Applies what the wire answered when it was asked whether the peer that was dialed before has
+    /// Applies the wire's answer to the question whether a peer that was dialed before has
     /// answered.
     fn poll_result(&mut self, conn: u8, answer: Answer<()>)
         requires { conn < 16 }

@@ -44,7 +44,7 @@ impl<W: Wire + Drop, A: Allocator> Driver<W, A> {
         self.called[usize::from(conn)] = None;
     }
 
-    /// Closes a connection, and its interrupt channel.
+    /// Closes a connection, and with it its interrupt channel.
     pub(crate) fn close(&mut self, conn: u8)
         requires { conn < 16 }
         ensures { From (λ (config : Config) (at : DriverView W). IsOpen (Conn conn) config at true)
@@ -77,8 +77,8 @@ impl<W: Wire + Drop, A: Allocator> Driver<W, A> {
         self.end_if(conn, faulted);
     }
 
-    /// Closes a connection if both hold: `so` says that it is at fault; and no more bytes wait to
-    /// be sent on it.
+    /// Closes a connection if both hold: `so` says that the connection is at fault; and no more
+    /// bytes wait to be sent on it.
     fn end_if(&mut self, conn: u8, so: bool)
         requires { conn < 16 }
         ensures { From (λ (config : Config) (at : DriverView W). IsFaulted conn config at so)

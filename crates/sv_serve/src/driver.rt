@@ -1,4 +1,4 @@
-//! A driver: a server, a wire, and a scenario.
+//! A driver: it joins a server, a wire, and a scenario.
 
 ghost use Rattle.std.specs.Prelude.{◌≡◌, ◌≤◌, ℕ, replicate, None, IfOk, true, List};
 ghost use Rattle.sv_history.specs.declared.event.Config.{Config};

@@ -7,9 +7,10 @@ ghost use Rattle.sv_serve.specs.Served.{Served};
 use crate::wire::Wire;
 
 /// In any number of sweeps, every byte that is read from the wire enters the stream of its
-/// connection, and every byte that the wire takes is one that the server sends: in order, none lost
-/// or doubled. The events that the wire causes at the server are exactly those that its answers
-/// stand for. As time passes, exactly the entries of the scenario that are due are applied.
+/// connection, and every byte that the wire takes is one that the server sends: in the same order,
+/// and no byte is lost or doubled. The events that the server gets from the wire are exactly those
+/// that the wire's answers cause. As time passes, exactly the entries of the scenario that are due
+/// are applied.
 pub fn carried<W: Wire>()
     ensures { Carried W.hears }
 {}

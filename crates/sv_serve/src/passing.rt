@@ -29,7 +29,8 @@ impl<W: Wire + Drop, A: Allocator> Driver<W, A> {
         while self.play_one() {}
     }
 
-    /// Applies the next entry of the scenario, if it is due. Returns whether it was due.
+    /// Applies the next entry of the scenario, if this entry is due. Returns whether the entry was
+    /// due.
     fn play_one(&mut self) -> bool
         ensures goes { Steps (PlaysIf result) self.old self.new }
         ensures measure { result ≡ true → length self.new.ahead < length self.old.ahead }

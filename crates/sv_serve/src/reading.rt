@@ -36,8 +36,8 @@ impl<W: Wire + Drop, A: Allocator> Driver<W, A> {
         }
     }
 
-    /// Reads a connection once, if it has room for more bytes; else checks whether its peer is
-    /// gone.
+    /// Reads a connection once, if the connection has room for more bytes; else checks whether the
+    /// connection's peer is gone.
     fn read(&mut self, conn: u8)
         requires { conn < 16 }
         ensures { Steps (ReadsFrom W.hears conn) self.old self.new }
@@ -46,8 +46,8 @@ impl<W: Wire + Drop, A: Allocator> Driver<W, A> {
         self.read_up_to(room, conn);
     }
 
-    /// Reads at most `room` bytes of a connection; `room` is how many bytes it has room for. If
-    /// `room` is 0, checks whether the connection's peer is gone instead.
+    /// Reads at most `room` bytes of a connection; `room` is how many bytes the connection has room
+    /// for. If `room` is 0, checks whether the connection's peer is gone instead.
     fn read_up_to(&mut self, room: u32, conn: u8)
         requires { conn < 16 }
         ensures { From (λ (config : Config) (at : DriverView W). HasRoom conn config at room)
@@ -68,8 +68,8 @@ impl<W: Wire + Drop, A: Allocator> Driver<W, A> {
         }
     }
 
-    /// Asks the wire whether the peer of a connection without room is gone, if the connection is
-    /// open. Closes the connection if the peer is gone.
+    /// For a connection without room: if the connection is open, asks the wire whether the
+    /// connection's peer is gone, and closes the connection if the peer is gone.
     fn probe(&mut self, conn: u8)
         requires { conn < 16 }
         ensures { Steps (Probes W.hears conn) self.old self.new }

@@ -1,4 +1,5 @@
-//! Taking calls: the driver gives the server a Turn event for each connection with a call to take.
+//! Taking calls: the driver gives the server a Turn event for each connection that has a call to
+//! take.
 
 ghost use Rattle.std.specs.Prelude.{◌≡◌, ◌<◌};
 ghost use Rattle.sv_history.specs.Print.{is_no_memory};

@@ -1,4 +1,4 @@
-//! A wire carries bytes: over sockets, or in a test by lists of answers.
+//! A wire carries bytes over sockets; in a test, lists of answers take the place of the sockets.
 
 ghost use Rattle.std.specs.Prelude.{length, option_map};
 
@@ -20,8 +20,8 @@ pub trait Wire {
     ghost use Rattle.sv_serve.specs.Heard.{Heard, WasAccepted, WasRead, WasProbed, WasWritten, WasDialed, PeerAnswered, WasClosed, bytes_of, IsWithin};
     ghost use Rattle.std.specs.Prelude.{⊤};
 
-    /// How a call of a method, with its answer, changes the wire. By default this relation says
-    /// nothing: a wire need not define it.
+    /// How a call of a method, with the method's answer, changes the wire. By default this relation
+    /// says nothing: a wire needn't define the relation.
     ghost hears: { Self → Heard → Self → Type 0 } = { λ before heard after. ⊤ };
 
     /// Accepts a connection of this role under the number `conn`; or, if `conn` is `None`, accepts
@@ -35,9 +35,10 @@ pub trait Wire {
         ensures heard { let answer = bytes_of result buffer.new in
             hears self.old (WasRead conn (length buffer.old) answer) self.new };
 
-    /// Asks whether the peer of a connection that isn't read for lack of room is gone. The answer
-    /// is `Failed` if the connection was reset, or closed in both directions. With `drops`, bytes
-    /// that come are read and discarded, and the answer is `Failed` at the end of the stream too.
+    /// Asks whether a connection's peer is gone, while the connection isn't read because it has no
+    /// room. The answer is `Failed` if the connection was reset, or closed in both directions. With
+    /// `drops`, bytes that come are read and discarded, and the answer is also `Failed` at the end
+    /// of the stream.
     fn probe(&mut self, conn: u8, drops: bool) -> Answer<()>
         ensures { hears self.old (WasProbed conn drops result) self.new };
 

@@ -1,4 +1,4 @@
--- The replay: what it writes for an event.
+-- What the replay of an event writes.
 pub mod TakenByWriter
 pub mod Replays
 pub mod Inside

@@ -27,9 +27,9 @@ use sv_rpc::{RecordBuf, RpcFault};
 /// The most outgoing bytes that may wait for the peer to take them.
 const MAX_OUTPUT: usize = 16384;
 
-/// A connection, open or not: its role, the bytes that came, and the bytes that wait to be sent. A
-/// call that was taken stays among the bytes that came until it is answered. Until then the output
-/// has room for the longest reply.
+/// A connection, open or not: its role, the bytes that came, and the bytes that wait to be sent.
+/// Until a call that was taken is answered, the connection keeps the bytes of the call, and the
+/// output has room for the longest reply.
 #[derive(Drop)]
 pub struct Connection<A: Allocator> {
     role: Option<Role>,
@@ -125,7 +125,7 @@ impl<A: Allocator> Connection<A> {
         self.role = None;
     }
 
-    /// Drops the bytes that came, and those that wait to be sent.
+    /// Drops the bytes that came, and the bytes that wait to be sent.
     fn empty(&mut self)
         ensures value { self.new ≡ record self.old {
           input = no_records;
@@ -141,7 +141,7 @@ impl<A: Allocator> Connection<A> {
         self.busy = false;
     }
 
-    /// How many more incoming bytes the connection has room for; 0 if it isn't open.
+    /// How many more incoming bytes the connection has room for; 0 if the connection isn't open.
     pub fn room(&self) -> usize
         ensures bounded { result ≤ room_of self.now.input }
         ensures answer { (acts : List ConnAct) → IsConnection self.now acts → result ≡ room acts }
@@ -161,7 +161,7 @@ impl<A: Allocator> Connection<A> {
         self.input.push(piece);
     }
 
-    /// Drops the first `count` of the bytes that wait to be sent, since the peer took them.
+    /// Drops the first `count` of the bytes that wait to be sent, because the peer took them.
     pub fn took(&mut self, count: usize)
         requires { count ≤ length self.old.output }
         ensures { (acts : List ConnAct) → IsConnection self.old acts
@@ -171,7 +171,7 @@ impl<A: Allocator> Connection<A> {
     }
 
     /// Whether the connection is at fault: a record was taken that isn't a call; or a record came
-    /// that is too long, and all records before it are finished.
+    /// that is too long, and all records before that record are finished.
     pub fn is_faulted(&self) -> bool
         ensures { (acts : List ConnAct) → IsConnection self.now acts → result ≡ is_faulted acts }
     {
@@ -205,8 +205,8 @@ impl<A: Allocator> Connection<A> {
         self.next_call().is_none()
     }
 
-    /// The first complete record of the input; `None` if there is none, if this record was taken
-    /// already, or if the connection took a record that isn't a call.
+    /// The first complete record of the input. `None` if there is no complete record, if the first
+    /// one was taken already, or if the connection took a record that isn't a call.
     fn first_call(&self) -> Option<&[u8]>
         ensures { option_map (λ call. call.now) result ≡ kept_next self.now }
     {
@@ -219,7 +219,8 @@ impl<A: Allocator> Connection<A> {
         }
     }
 
-    /// The record of the call that was taken and isn't answered yet; `None` if there is none.
+    /// The record of the call that was taken and isn't answered yet; `None` if there is no such
+    /// call.
     fn taken(&self) -> Option<&[u8]>
         ensures { (acts : List ConnAct) → IsConnection self.now acts
             → option_map (λ call. call.now) result ≡ pending_call acts }

@@ -179,7 +179,7 @@ impl<A: Allocator> Device<A> {
         self.close_channel(conn);
     }
 
-    /// The oldest suspended call that can resume; `None` if none can.
+    /// The oldest suspended call that can resume; `None` if no call can resume.
     pub fn oldest_able(&self) -> Option<Entry>
         ensures answer { (config : Config) (acts : List DeviceAct) → IsDevice self.now config acts
             → IsOldest (wait_acts acts) (CanResume acts) (option_map (λ entry. entry.conn) result) }
@@ -196,7 +196,7 @@ impl<A: Allocator> Device<A> {
         )
     }
 
-    /// The oldest suspended call whose deadline has come; `None` if there is none.
+    /// The oldest suspended call whose deadline has come; `None` if no deadline has come.
     pub fn expired(&self) -> Option<Entry>
         ensures answer { (config : Config) (acts : List DeviceAct) → IsDevice self.now config acts
             → IsOldest (wait_acts acts) (IsExpired (config.clock + ticks acts) (wait_acts acts))
@@ -218,7 +218,7 @@ impl<A: Allocator> Device<A> {
     }
 
     /// Sends service requests on the interrupt channels, for the requests for service that the
-    /// instrument raised. `raised` says how many it raised.
+    /// instrument raised. `raised` is the number of these requests.
     fn raise(&mut self, raised: u8)
         ensures stands { (config : Config) (acts : List DeviceAct) (adds : List InstrumentAct)
             → HasDone adds self.old config acts → Raise adds (instrument_acts acts) raised
@@ -253,7 +253,7 @@ impl<A: Allocator> Device<A> {
         }
     }
 
-    /// Applies an immediate trigger, if one is due. Returns whether it applied one.
+    /// Applies an immediate trigger, if a trigger is due. Returns whether a trigger was applied.
     pub fn fire(&mut self) -> bool
         ensures steps { (config : Config) (acts : List DeviceAct) → IsDevice self.old config acts
             → InstrumentSteps IsFired result config acts self.old self.new }
@@ -266,7 +266,7 @@ impl<A: Allocator> Device<A> {
         self.raise_if(fired)
     }
 
-    /// Takes a step of message exchange, if one is due. Returns whether it took one.
+    /// Takes a step of message exchange, if such a step is due. Returns whether a step was taken.
     pub fn exchange(&mut self) -> bool
         ensures steps { (config : Config) (acts : List DeviceAct) → IsDevice self.old config acts
             → InstrumentSteps IsStep result config acts self.old self.new }

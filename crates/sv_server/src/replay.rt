@@ -1,5 +1,6 @@
 //! The replay of an event: applies the event, prints the bytes that then wait to be sent, and
-//! counts them as taken by the peers. The replay uses only the public functions of the server.
+//! treats these bytes as taken by the peers. The replay uses only the public functions of the
+//! server.
 
 ghost use Rattle.std.specs.Prelude.{◌≡◌, ℕ, List};
 ghost use Rattle.std.specs.Io.KnownBytes.{Appends};
@@ -45,13 +46,13 @@ impl From<WriteFault> for ReplayFault {
 }
 
 impl<A: Allocator> Server<A> {
-    /// Applies an event and writes its results: `refused` and the number of the refusal, if the
+    /// Applies an event and writes the results: `refused` and the number of the refusal, if the
     /// event was refused; then, for each port on which bytes wait, a line with these bytes. Bytes
     /// that were written count as taken by the peer.
     ///
     /// # Errors
     /// `NoMemory` if there was no memory for the event; then only `refused 1` is written. `Write`
-    /// if the writer failed; then the peer counts as having taken only bytes that were written.
+    /// if the writer failed; then only bytes that were written count as taken by the peer.
     pub fn replay<W: Write>(&mut self, event: Event<'_>, writer: &mut W) -> Result<(), ReplayFault>
         ensures { (config : Config) (history : List PlainEvent) → StandsFor self.old config history
             → (text : List ℕ) × (after : List PlainEvent)
@@ -76,7 +77,7 @@ impl<A: Allocator> Server<A> {
     }
 
     /// Writes the lines of all ports on which bytes wait to be sent, and drops the bytes that the
-    /// lines show. A connection that was never opened has no bytes, and isn't looked at.
+    /// lines show. Connections that were never opened are left out, because they have no bytes.
     fn show_all<W: Write>(&mut self, writer: &mut W) -> Result<(), WriteFault>
         ensures { (config : Config) (history : List PlainEvent) (channel_log : List ChannelAct)
             (log : List Act) → StandsBy self.old config history channel_log log

@@ -95,7 +95,8 @@ impl<A: Allocator> Server<A> {
         })
     }
 
-    /// The bytes that wait to be sent on a port, oldest first; none if the port isn't open.
+    /// The bytes that wait to be sent on a port, with the oldest byte first; none if the port isn't
+    /// open.
     pub fn waiting(&self, port: Port) -> &[u8]
         ensures waiting { (config : Config) (history : List PlainEvent)
             → StandsFor self.now config history → WaitOn port config history result.now }
@@ -104,7 +105,7 @@ impl<A: Allocator> Server<A> {
         self.outgoing(port)
     }
 
-    /// The bytes that wait to be sent on a port; none if it isn't open.
+    /// The bytes that wait to be sent on a port, the oldest first; none if the port isn't open.
     pub(crate) fn outgoing(&self, port: Port) -> &[u8]
         ensures exact { (config : Config) (log : List Act) (channel_log : List ChannelAct)
             → Represents self.now config log → HearsOf (device_acts log) channel_log
@@ -120,7 +121,7 @@ impl<A: Allocator> Server<A> {
         }
     }
 
-    /// How many more incoming bytes a connection has room for; 0 if it isn't open.
+    /// How many more incoming bytes a connection has room for; 0 if the connection isn't open.
     pub fn room(&self, conn: u8) -> u32
         ensures { (config : Config) (history : List PlainEvent) → StandsFor self.now config history
             → Answered (λ log. room (of conn log)) config history result }
@@ -166,7 +167,8 @@ impl<A: Allocator> Server<A> {
     }
 
     /// Whether the connection is at fault, so that it can only be closed: a record was taken that
-    /// isn't a call; or a record came that is too long, and all records before it are finished.
+    /// isn't a call; or a record came that is too long, and all records before that record are
+    /// finished.
     pub fn faulted(&self, conn: u8) -> bool
         ensures { (config : Config) (history : List PlainEvent) → StandsFor self.now config history
             → Answered (λ log. is_faulted (of conn log)) config history result }
@@ -272,7 +274,7 @@ impl<A: Allocator> Server<A> {
         Ok(Did::Done)
     }
 
-    /// Drops the first `count` bytes that wait to be sent on a connection, since the peer took
+    /// Drops the first `count` bytes that wait to be sent on a connection, because the peer took
     /// them.
     fn took(&mut self, conn: u8, count: u32) -> Result<Did, Refused>
         ensures acts { (config : Config) (log : List Act) → Represents self.old config log
@@ -288,8 +290,8 @@ impl<A: Allocator> Server<A> {
         Ok(Did::Done)
     }
 
-    /// Closes a connection: destroys its links, closes its interrupt channel, and drops its
-    /// suspended call and its outgoing bytes.
+    /// Closes a connection: destroys its links, closes its interrupt channel, and drops the
+    /// connection's suspended call and outgoing bytes.
     fn close(&mut self, conn: u8) -> Result<Did, Refused>
         ensures acts { (config : Config) (log : List Act) → Represents self.old config log
             → Acts config (Close (Port.Conn conn)) log result self.new }
@@ -389,7 +391,7 @@ impl<A: Allocator> Server<A> {
         }
     }
 
-    /// Drops the first `count` bytes that wait to be sent on a port, since the peer took them.
+    /// Drops the first `count` bytes that wait to be sent on a port, because the peer took them.
     pub(crate) fn port_took(&mut self, port: Port, count: u32) -> Result<Did, Refused>
         ensures acts { (config : Config) (log : List Act) → Represents self.old config log
             → Acts config (Took port count) log result self.new }
@@ -440,13 +442,13 @@ impl<A: Allocator> Server<A> {
     /// Applies an event, or refuses it; a refused event changes nothing.
     ///
     /// # Errors
-    /// The first check that fails decides. The check for `NoConn` comes first: an Open has a number
-    /// above 15; or an event other than Open names a connection or an interrupt channel that isn't
-    /// open. After that check, an Open can fail with `ConnInUse`, Bytes with `NoRoom`, a Took with
-    /// `NotSent`, and a Dialed with `NoDial`. A Turn that finds a call fails with `NoRoom` if there
-    /// is room for fewer than 8,232 bytes of replies. A Refuse fails with `NotRefusable`, or else
-    /// with `NoRoom` like a Turn. An Input fails with `BadChannel`, or else with `BadInput`. A Tick
-    /// fails with `TimeOver`.
+    /// The first check that fails decides. The check for `NoConn` comes first: it fails if an Open
+    /// has a number above 15, or if another event names a connection or an interrupt channel that
+    /// isn't open. After that check, an Open can fail with `ConnInUse`, Bytes with `NoRoom`, a Took
+    /// with `NotSent`, and a Dialed with `NoDial`. A Turn that finds a call fails with `NoRoom` if
+    /// there is room for fewer than 8,232 bytes of replies. A Refuse can fail with `NotRefusable`,
+    /// or else with `NoRoom` like a Turn. An Input can fail with `BadChannel`, or else with
+    /// `BadInput`. A Tick can fail with `TimeOver`.
     ///
     /// If no check fails, a Turn may still be refused with `NoMemory`, but only if its call makes a
     /// link, waits for the lock to make a link, or asks for an interrupt channel. The same Turn may

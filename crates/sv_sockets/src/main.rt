@@ -20,7 +20,7 @@
 //! | `a silent` | prints whether for a while nothing comes to the peer, not even an end |
 //! | `a closes` | the peer closes its stream |
 //! | `i listens PORT` | the peer listens on a port of 127.0.0.1 |
-//! | `i accepts` | the peer accepts a connection on that port, which is its stream from then on |
+//! | `i accepts` | the peer accepts a connection on that port; the connection is then its stream |
 //! | `a pours N 8000..` | the peer sends these calls N times, or until the sockets are full |
 //! | `a drains N SIZE` | sends unsent calls; prints whether N replies of SIZE bytes come in order |
 //! | `start` | a time measurement starts |

@@ -1,10 +1,10 @@
-//! Calls that are sent without reading a reply, until the sockets are full.
+//! Sends calls without reading any reply, until the sockets are full.
 
 use crate::stage::{Stage, bad};
 use std::alloc::Global;
 use std::io;
 
-/// The sockets count as full when this many successive tries to send have sent no byte.
+/// The sockets count as full after this many successive tries that sent no byte.
 const STILL: u32 = 20;
 /// The most tries to send that one `pours` line makes.
 const TRIES: u32 = 100_000;

@@ -1,5 +1,4 @@
-//! Plays a row, which is a test case: makes a server with the row's scenario, and executes the
-//! row's other lines.
+//! Plays a row: makes a server with the row's scenario, and executes the row's other lines.
 
 use crate::peer::Peer;
 use crate::pouring::{is_in_order, pour};
@@ -53,7 +52,7 @@ fn show<W: Write + Drop>(bytes: &[u8], writer: &mut BufWriter<W>) -> io::Result<
     writeln!(writer)
 }
 
-/// Plays a row (a test case). Prints its title, and the results of its lines.
+/// Plays a row. Prints the row's title, and the results of its lines.
 pub(crate) fn play<W: Write + Drop>(
     rt: HostRuntime,
     row: &str,
@@ -69,7 +68,7 @@ pub(crate) fn play<W: Write + Drop>(
     Ok(())
 }
 
-/// Executes a line of the row (the test case), and prints the line's result, if it has one.
+/// Executes a line of the row, and prints the line's result, if it has one.
 fn step<W: Write + Drop>(
     stage: &mut Stage,
     line: &str,
@@ -150,7 +149,7 @@ fn show_of<W: Write + Drop>(
     writeln!(writer, "{name} {verb}: {}", word(so))
 }
 
-/// Prints whether the peer `first` gets bytes no later than the peer `second`.
+/// Prints whether the peer `first` gets its first bytes no later than the peer `second`.
 fn compare<W: Write + Drop>(
     stage: &mut Stage,
     (first, second): (char, char),

@@ -23,7 +23,7 @@ const SWEEPS: u32 = 2;
 /// makes between two checks.
 const MORE_SWEEPS: u32 = 4;
 
-/// The error for a row (a test case) that can't be played.
+/// The error for a row that can't be played.
 pub(crate) fn bad() -> Error {
     Error::from(ErrorKind::InvalidData)
 }
@@ -111,7 +111,7 @@ impl Stage {
     }
 
     /// Lets a peer send and read what it can. Returns true if at least this many bytes have come to
-    /// the peer, or if its stream has ended.
+    /// the peer, or if the peer's stream has ended.
     fn has(&mut self, name: char, count: usize) -> io::Result<bool> {
         let peer = self.peer(name)?;
         peer.send()?;
@@ -128,7 +128,8 @@ impl Stage {
         self.serve(sweeps)
     }
 
-    /// Makes sweeps until this many bytes have come to a peer, or until its stream has ended.
+    /// Makes sweeps until this many bytes have come to a peer, or until the peer's stream has
+    /// ended.
     ///
     /// # Errors
     /// If nothing comes to the peer for ten seconds.

@@ -14,15 +14,18 @@ condition = last_given (elim [ Condition word ↦ Some word | _ ↦ None ]) 0
 abbrev pub without_top_bit : ℕ → ℕ
 without_top_bit word = word % 2 ^ 15
 
--- the positive transition filter: as last set, or 32767 at first and after a preset
+-- the positive transition filter: the word that was set last, without bit 15; 32767 at first and
+-- after a preset
 abbrev pub rise : List RegisterAct → ℕ
 rise = last_given (elim [ SetFilter up down ↦ Some (without_top_bit up) | Preset ↦ Some 32767 | _ ↦ None ]) 32767
 
--- the negative transition filter: as last set, or 0 at first and after a preset
+-- the negative transition filter: the word that was set last, without bit 15; 0 at first and after
+-- a preset
 abbrev pub fall : List RegisterAct → ℕ
 fall = last_given (elim [ SetFilter up down ↦ Some (without_top_bit down) | Preset ↦ Some 0 | _ ↦ None ]) 0
 
--- the enable of the register, as it was set last; `start` at first and after a preset
+-- the enable of the register: the word that was set last, without bit 15; `start` at first and
+-- after a preset
 abbrev pub enable : ℕ → List RegisterAct → ℕ
 enable start = last_given (elim [ SetEnable word ↦ Some (without_top_bit word) | Preset ↦ Some start | _ ↦ None ]) start
 

@@ -103,7 +103,7 @@ impl StatusByte {
         with_bit_6(self.bits, self.mss())
     }
 
-    /// The service request enable, as last set. It includes bit 6.
+    /// The service request enable that was set last, including its bit 6.
     pub fn enable(&self) -> u8
         ensures { (acts : List StatusAct) → StandsFor self.now acts → result ≡ enable_of acts }
     {

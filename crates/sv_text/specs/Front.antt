@@ -1,4 +1,4 @@
--- The front of a text.
+-- Whether a text is empty, and whether it begins with a minus sign.
 use Rattle.std.specs.Prelude.{ℕ, ◌==◌, Bool, true, false, List, [], ◌∷◌, slice_get}
 use Rattle.std.specs.Option.{option_map_or}
 

@@ -10,7 +10,7 @@ pub enum Lead {
     Common,
     /// A colon: the header starts at the root of the command tree.
     Root,
-    /// Neither an asterisk nor a colon: the header continues the path of the header before it.
+    /// Neither an asterisk nor a colon: the header continues the path that earlier headers left.
     Onward,
 }
 

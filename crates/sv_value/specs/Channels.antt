@@ -35,8 +35,8 @@ pub record Span : Type 0 where
   pub first : ℕ
   pub last : ℕ
 
--- the first and the last number of a channel list's item, given the item's parts between colons; `None` unless the parts are one number, or
--- two numbers
+-- the first and the last number of a channel list's item, given the item's parts between colons; `None` if the parts are neither one number
+-- nor two numbers
 abbrev pub span_of : List (List ℕ) → Option Span
 span_of (a ∷ []) = if is_number a then Some (record { first = number a; last = number a }) else None
 span_of (a ∷ b ∷ []) = if is_number a && is_number b then Some (record { first = number a; last = number b }) else None
@@ -51,9 +51,9 @@ abbrev pub channel_range : ℕ → ℕ → List ℕ
 channel_range first last = if nat_le first last then range_with_len first (last - first + 1) else reverse
     (range_with_len last (first - last + 1))
 
--- One step of reading a channel list: appends the channels of the next item to `before`, and lets `others` read the remaining items. Or the
--- first error that applies: -171 for an item of the wrong form (`None`); -222 if the item's first or last number isn't a channel; -223 if
--- the list becomes longer than the limit; the error of `others`.
+-- One step of reading a channel list: the channels of the next item are appended to `before`, and `others` reads the remaining items. The
+-- result is the list, or the first error that applies: -171 for an item of the wrong form (`None`); -222 if the item's first or last number
+-- isn't a channel; -223 if the list becomes longer than the limit; the error of `others`.
 abbrev pub next : Option Span → List ℕ → (List ℕ → Result (List ℕ) Code) → Result (List ℕ) Code
 next None before others = Err InvalidExpression
 next (Some ends) before others =
@@ -61,7 +61,7 @@ next (Some ends) before others =
     else if nat_lt longest_list (length (before ++ channel_range ends.first ends.last)) then Err TooMuchData
     else others (before ++ channel_range ends.first ends.last)
 
--- the channels in `before`, followed by those of all items; or the first error
+-- the channels in `before`, followed by the channels of all items; or the first error
 abbrev pub list_channels : List ℕ → List (List ℕ) → Result (List ℕ) Code
 list_channels before [] = Ok before
 list_channels before (item ∷ items) = next (span item) before (λ so_far. list_channels so_far items)

@@ -49,7 +49,7 @@ Spells text number = (sign fraction tail : List ℕ) × (text ≡ sign ++ (numbe
     × IsFraction fraction number.fraction × ((number.whole ≢ []) ⊎ (number.fraction ≢ [])) × IsTail tail number
 
 -- The syntax (`Spells`) and the reading of numbers agree: a text is a number with the parts `number` exactly if `number_parts` returns
--- `number` for this text, and `is_spelled` holds of `number`.
+-- `number` for this text, and `is_spelled` holds for `number`.
 abbrev pub ReadAsSpelled : Type 0
 ReadAsSpelled = (text : List ℕ) (number : Parts) → Spells text number ↔ ((is_spelled (number_parts text) ≡ true)
     × (number_parts text ≡ number))

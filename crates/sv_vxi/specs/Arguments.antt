@@ -92,8 +92,8 @@ InBounds _ = Unit {0}
 abbrev pub BeginsWith : List ℕ → Arguments → List ℕ → Type 0
 BeginsWith bytes arguments after = InBounds arguments × BeginsAll bytes (argument_fields arguments) after
 
--- If the bytes are read as arguments of the call with this number, the result is these arguments, or garbage. Bytes after the last
--- field are ignored.
+-- If the bytes are read as arguments of the call with this number, this is the result: the arguments, or `Garbage`. Bytes after
+-- the last field are ignored.
 abbrev pub ArgumentsAre : ℕ → List ℕ → Result Arguments Garbage → Type 0
 ArgumentsAre proc bytes (Ok arguments) = (procedure_of arguments ≡ proc) × (after : List ℕ) × BeginsWith bytes arguments after
 ArgumentsAre proc bytes (Err garbage) = (arguments : Arguments) (after : List ℕ) → procedure_of arguments ≡ proc
@@ -104,8 +104,8 @@ abbrev pub link : Arguments → Option ℤ
 link (OnLink lid call) = Some lid
 link _ = None
 
--- what the flags of a call and its lock timeout (in milliseconds) say about the lock: the call waits for the lock if bit 0 (waitlock) of
--- the flags is set
+-- what the flags of a call and the lock timeout (in milliseconds) say: the call waits for the lock if bit 0 (waitlock) of the flags is
+-- set
 abbrev pub lock_wait_of : ℕ → ℕ → Option LockWait
 lock_wait_of flags timeout = Some (record { waits = bit_at flags 0 == 1; timeout = timeout })
 

@@ -10,8 +10,9 @@ abbrev pub ArgumentsAsSpelled : Type 0
 ArgumentsAsSpelled = (proc : ℕ) (bytes : List ℕ) → All (λ byte. byte < 256) bytes → is_one_of (core_calls ++ abort_calls) proc ≡ true
     → ArgumentsAre proc bytes (arguments_at proc bytes)
 
--- If the same bytes can be split in two ways into encoded arguments of one procedure and a rest, the arguments are the same both times, and
--- so are the rests. So for each procedure, no encoding of its arguments is a proper prefix of another encoding of its arguments.
+-- Suppose that the same bytes can be split in two ways into encoded arguments of one procedure and a rest. Then both lists of arguments
+-- are equal, and so are both rests. So for each procedure, no encoding of its arguments is a proper prefix of another encoding of its
+-- arguments.
 abbrev pub ArgumentsPrefixFree : Type 0
 ArgumentsPrefixFree = (x y : Arguments) (bytes after behind : List ℕ) → procedure_of x ≡ procedure_of y → BeginsWith bytes x after
     → BeginsWith bytes y behind

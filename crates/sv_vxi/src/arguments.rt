@@ -135,13 +135,13 @@ pub enum Args<'a> {
     CreateIntrChan {
         /// The address that the server connects to, as a 32-bit number.
         host_addr: u32,
-        /// The port that the server connects to. Reading accepts numbers above 65,535 too.
+        /// The port that the server connects to. Numbers above 65,535 can be read too.
         host_port: u32,
         /// The RPC program to which the server sends service requests.
         prog_num: u32,
         /// The version of the program.
         prog_vers: u32,
-        /// 0 for TCP, 1 for UDP. Reading accepts all numbers.
+        /// 0 for TCP, 1 for UDP. All other numbers can be read too.
         prog_family: u32,
     },
     /// The arguments of destroy_intr_chan: none.

@@ -15,8 +15,8 @@ impl Flags {
         self.0 % 2 == 1
     }
 
-    /// Whether a write has END (bit 3). The last byte of a write with END ends the message. If this
-    /// write has no bytes, the write itself ends the message.
+    /// Whether a write has END (bit 3). The last byte of a write with END ends the message. If a
+    /// write with END has no bytes, the write itself ends the message.
     pub fn has_end(self) -> bool
         ensures { result ≡ (bit_at self.0 3 == 1) }
     {

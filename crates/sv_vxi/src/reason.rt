@@ -15,8 +15,8 @@ pub struct Reason {
 }
 
 impl Reason {
-    /// The reasons as a number: the sum of REQCNT (1), CHR (2) and END (4), each added if this
-    /// reason applies.
+    /// The reasons as a number: the sum of REQCNT (1), CHR (2) and END (4), each added if it
+    /// applies.
     pub fn number(self) -> i32
         ensures { result ≡ pos (reason_number self) }
     {

@@ -32,7 +32,8 @@ abbrev pub IfGiven : Option Text → (Text → Type 0) → Type 0
 IfGiven (Some text) P = P text
 IfGiven None P = ⊥
 
--- `value` finds the value of an option by its name. The values of the five options say what to serve.
+-- The values of the five options say what to serve. `value` finds the value of the option that has a
+-- given name.
 abbrev pub ServesBy : (Text → Option Text) → Serve → Type 0
 ServesBy value serve = IfGiven (value (codes "core")) (λ text. IsCount 65535 text serve.core)
     × IfGiven (value (codes "abort")) (λ text. IsCount 65535 text serve.abort)
@@ -64,6 +65,7 @@ abbrev pub Finds : {A : Type 0} → (A → Type 0) → Option A → Type 0
 Finds P (Some found) = P found
 Finds {A} P None = (other : A) → P other → ⊥
 
--- The program's fault for an error of clap: memory was refused, if clap's error is of the kind `OutOfMemory`; else the words are bad.
+-- This is the program's fault for an error of clap. If clap's error is of the kind `OutOfMemory`, the fault is that memory was
+-- refused; else it is `BadWords`.
 abbrev pub IsUsageFault : ErrorKind → ProgramFault → Type 0
 IsUsageFault kind fault = ((kind ≡ OutOfMemory) × (fault ≡ Run Memory)) ⊎ ((kind ≡ OutOfMemory → ⊥) × (fault ≡ BadWords))

@@ -40,8 +40,8 @@ fn has_plus(word: &str) -> bool
     matches!(word.as_bytes(), [b'+', ..])
 }
 
-/// Returns the value of a word of 1 to 10 digits, if it is from 1 to `most`; `None` for any other
-/// word.
+/// Returns the number that a word of 1 to 10 digits stands for, if the number is from 1 to `most`;
+/// `None` for any other word.
 fn count(word: &str, most: u32) -> Option<u32>
     ensures { Finds (IsCount most word.now) result }
 {
@@ -68,8 +68,7 @@ fn within(number: u32, most: u32) -> Option<u32>
     }
 }
 
-/// Returns the number that the value of the option `name` gives, if it is from 1 to `most`; else
-/// `None`.
+/// Returns the value of the option `name`, if it is a number from 1 to `most`; else `None`.
 fn count_of(matches: &ArgMatches<'_>, name: &str, most: u32) -> Option<u32>
     ensures { Finds (λ n. IfGiven (first_value (found_of matches.now) name.now)
         (λ text. IsCount most text n)) result }

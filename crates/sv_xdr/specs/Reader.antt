@@ -12,9 +12,9 @@ abbrev pub ◌>>=◌ : {A B : Type 0} → Result A XdrFault → (A → Result B 
 (Ok x) >>= f = f x
 (Err fault) >>= f = Err fault
 
--- A function of the code read a field from the bytes `old`. It returned this `Result`, and the bytes `new` remain to be read. Both agree
--- with `read`, which is what a function of this file returns for `old`. After a fault, all bytes remain. `view` turns a value of the code
--- into a value of the specification.
+-- A function of the code read a field from the bytes `old`. It returned this `Result`, and the bytes `new` remain to be read. The
+-- `Result` and `new` agree with `read`, which a function of this file returns for `old`. After a fault, all bytes of `old` remain. `view`
+-- turns a value of the code into a value of the specification.
 abbrev pub IsRead : {X Y : Type 0} → (X → Y) → Result X XdrFault → List ℕ → List ℕ → Result (Y × List ℕ) XdrFault → Type 0
 IsRead view (Ok x) old new read = read ≡ Ok (view x, new)
 IsRead view (Err fault) old new read = (read ≡ Err fault) × (new ≡ old)

@@ -20,7 +20,8 @@ pub record Appends (bytes : List ℕ) (old new : Writer) : Type 0 where
   pub rest : rest_of old ≡ take (length bytes) (rest_of old) ++ rest_of new
   pub fits : length bytes ≤ length (rest_of old)
 
--- The write appended the encoding of this field to what was written before. The buffer behind it is unchanged.
+-- The write appended the encoding of this field to what was written before. The buffer behind the encoding is
+-- unchanged.
 abbrev pub AppendsField : Field → Writer → Writer → Type 0
 AppendsField field old new = (bytes : List ℕ) × Spells bytes field × Appends bytes old new
 

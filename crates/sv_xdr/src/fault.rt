@@ -2,7 +2,7 @@
 
 use thiserror::Error;
 
-/// Why a field can't be read or written. After a fault, the reader or writer is as it was before.
+/// Why a field can't be read or written. A fault leaves the reader or writer unchanged.
 #[derive(Clone, Copy, Debug, PartialEq, Eq, Error)]
 pub enum XdrFault {
     /// The bytes end before the field does.

@@ -1,5 +1,5 @@
-//! Rows (test cases) with peers. Prints what each peer gets, and whether the peer still gets every
-//! byte if one operation of the wire, such as a read or a write, fails.
+//! Plays rows that have `peers N` below their title. Prints what each peer gets, and whether the
+//! peer still gets every byte if one call to the wire, such as a read or a write, fails.
 
 use crate::peers::{Call, Peer, Peers};
 use crate::row::{bad, number};
@@ -18,7 +18,7 @@ struct Row<'a> {
     lines: &'a str,
 }
 
-/// The driver with which a test case (a row of lines) is played.
+/// The driver with which a row is played.
 type Played = Driver<Peers, Global>;
 
 /// The functions of the wire that are made to fail, each with the word that is printed for it.
@@ -77,7 +77,7 @@ fn show<W: Write + Drop>(
 
 /// The word for a peer's result in a run in which one call to the wire fails: `struck` if the call
 /// was for this peer; else `whole` if the peer got the same bytes as in the run without a failure;
-/// else `lacks bytes`. The argument `whole` is the same peer in that run.
+/// else `lacks bytes`. The argument `whole` is the peer in the run without a failure.
 fn outcome(peer: &Peer, whole: &Peer) -> &'static str {
     if peer.struck {
         "struck"
@@ -88,9 +88,9 @@ fn outcome(peer: &Peer, whole: &Peer) -> &'static str {
     }
 }
 
-/// Prints the result for each peer: whether a call to the wire for this peer failed; if not,
-/// whether the peer got every byte. If the call that is to fail wasn't made, prints nothing and
-/// returns false; else returns true.
+/// Prints the result for each peer: whether a call to the wire for this peer failed; if none
+/// failed, whether the peer got every byte. If the call that is to fail wasn't made, prints nothing
+/// and returns false; else returns true.
 fn compare<W: Write + Drop>(
     peers: &Peers,
     whole: &Peers,
@@ -163,8 +163,9 @@ fn show_each<W: Write + Drop>(peers: &Peers, writer: &mut BufWriter<W>) -> io::R
     Ok(())
 }
 
-/// Plays a row, whose first line is the number of sweeps. Prints what each peer gets. Then prints,
-/// for each call that the driver makes to the wire, the result of a run in which that call fails.
+/// Plays a row that has `peers N` below its title. The first line of `text` is N, the number of
+/// sweeps. Prints what each peer gets. Then prints, for each call that the driver makes to the
+/// wire, the result of a run in which that call fails.
 pub(crate) fn play<W: Write + Drop>(
     alloc: Global,
     text: &str,

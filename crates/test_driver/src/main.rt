@@ -1,7 +1,7 @@
 //! Plays the test cases, called rows, of the standard input. Each row gets a new driver over a wire
-//! whose answers are given by the lines of the row. Prints the title of each row, and then which
-//! functions of the wire the driver called. The crate `sv_recording` records these function calls
-//! as the trace that the laws of `sv_serve` are about.
+//! whose answers are given by the lines of the row. Prints the title of each row, and then the
+//! calls that the driver made to the wire's functions. The crate `sv_recording` records these
+//! function calls as the trace that the laws of `sv_serve` are about.
 //!
 //! A row has these lines:
 //!
@@ -17,33 +17,33 @@
 //! | `still N` | below a sweep: prints whether nothing becomes due within N milliseconds |
 //! | `played` | below a sweep: prints whether the scenario is at its end |
 //!
-//! A row whose first line is `peers N` makes N sweeps. It has a line of hexadecimal for each peer,
-//! which sends these bytes on the core channel. The row prints what each peer gets on its
+//! A row that has `peers N` below its title makes N sweeps. It has a line of hexadecimal for each
+//! peer, which sends these bytes on the core channel. The row prints what each peer gets on its
 //! connection and on its interrupt channel, as `c0 80..` and `i0 80..`. Then the row is played
-//! again for each call that the driver made to the wire, and that call fails: the first accept, the
-//! second accept, and so on; and likewise for `read`, `write`, `dial` and `dialed`. Each time, the
-//! row prints for each peer: `struck` if a call for the peer failed; else `whole` if the peer got
-//! every byte; else `lacks bytes`.
+//! again and again, and each time one call that the driver makes to the wire fails: the first
+//! accept, the second accept, and so on; and likewise for `read`, `write`, `dial` and `dialed`.
+//! Each time, the row prints for each peer: `struck` if a call for the peer failed; else `whole` if
+//! the peer got every byte; else `lacks bytes`.
 //!
-//! A row whose first line is `pace` queries the decisions of a loop of sweeps. Times are in
+//! A row that has `pace` below its title asks what the loop of sweeps decides. Times are in
 //! nanoseconds since the loop began. `ticks NOW` prints how many milliseconds pass in a sweep that
 //! begins at NOW. `sleep_time NOW TICKS` prints for how many nanoseconds the loop may sleep at NOW,
 //! if it has nothing to do for TICKS milliseconds. `eager NOW` prints whether the loop polls again
-//! without sleeping. Three lines print nothing: `work NOW` tells the loop that a poll at NOW
-//! reported a ready socket; `found N` tells it that a wait of N polls ended with such a report;
-//! `nothing N` tells it that a wait of N polls ended without one. `vain N` makes N runs of polls
-//! that find nothing. Each run begins as soon as the loop may poll without sleeping, and the row
-//! prints how many times the loop sleeps before the run.
+//! without sleeping. Three lines print nothing, but tell the loop what happened: `work NOW`, that a
+//! poll at NOW reported a ready socket; `found N`, that a wait of N polls ended with a report;
+//! `nothing N`, that a wait of N polls ended without a report. `vain N` makes N runs of polls that
+//! find nothing. Each run begins as soon as the loop may poll without sleeping, and the row prints
+//! how many times the loop sleeps before the run.
 //!
 //! Each call that the driver makes to the wire is printed as a line: `core 0` accepts a connection
 //! as number 0, and `core -` accepts one that is dropped; `read 0`; `probe 0`, with ` drops` if
 //! bytes that come are dropped; `write c0 80..` with the bytes in hexadecimal, or `write i0 80..`
-//! for an interrupt channel; `dial 0 7f000001:4242`; `dialed 0`; `close c0`. A line `CALL: ANSWER`
-//! names the call in the same way, but without what follows its number or port; `core` has no
-//! number. The answer `yes` means that a connection comes, or that a peer answers; `fails` is a
-//! fault; `later` means that there is nothing yet; a number is how many bytes are taken;
-//! hexadecimal digits are bytes that come. Without such a line, the wire answers that there is
-//! nothing yet, except that a write takes all bytes.
+//! for an interrupt channel; `dial 0 7f000001:4242`; `dialed 0`; `close c0`. The call in a line
+//! `CALL: ANSWER` ends after its number or port, as in `write c0: later`; `core`, `abort` and
+//! `portmap` have no number there. The answer `yes` means that a connection comes, or that a peer
+//! answers; `fails` is a fault; `later` means that there is nothing yet; a number is how many bytes
+//! are taken; hexadecimal digits are bytes that come. If a call has no line `CALL: ANSWER`, the
+//! wire answers that there is nothing yet; but a write takes all bytes.
 #![tactic(auto)]
 
 mod failing;

@@ -1,4 +1,4 @@
-//! Rows that query the decisions of a loop of sweeps: when it polls, and how long it sleeps.
+//! Plays rows that ask what the loop of sweeps decides: when it polls, and how long it sleeps.
 
 use crate::row::{bad, number};
 use std::io::{self, BufWriter, Write};
@@ -35,7 +35,7 @@ fn miss<W: Write + Drop>(pace: &mut Pace, count: u64, writer: &mut BufWriter<W>)
     writeln!(writer)
 }
 
-/// Executes a line of a `pace` row.
+/// Executes a line of a row that has `pace` below its title.
 fn step<W: Write + Drop>(pace: &mut Pace, line: &str, writer: &mut BufWriter<W>) -> io::Result<()> {
     let (word, text) = line.split_once(' ').unwrap_or((line, ""));
     let (first, second) = text.split_once(' ').unwrap_or((text, "0"));
@@ -67,7 +67,7 @@ fn keep(pace: &mut Pace, word: &str, number: u64) -> io::Result<()> {
     Ok(())
 }
 
-/// Plays the lines of a `pace` row.
+/// Plays a row that has `pace` below its title; `lines` are the lines after `pace`.
 pub(crate) fn play<W: Write + Drop>(lines: &str, writer: &mut BufWriter<W>) -> io::Result<()> {
     let mut pace = Pace::new();
     for line in lines.lines() {

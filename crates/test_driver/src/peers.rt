@@ -1,5 +1,5 @@
-//! Peers that send all their bytes at once, and their wire. One call that the driver makes to the
-//! wire fails.
+//! Peers that send all their bytes at once, and a wire to them. One call that the driver makes to
+//! the wire can fail.
 
 ghost use Rattle.std.specs.Prelude.{◌≤◌, length};
 ghost use Rattle.sv_serve.specs.Heard.{IsWithin};
@@ -80,13 +80,13 @@ impl Peer {
     }
 }
 
-/// A wire to peers. One call that the driver makes to the wire fails.
+/// A wire to peers. One call that the driver makes to the wire can fail.
 #[derive(Drop)]
 pub(crate) struct Peers {
     pub(crate) peers: Vec<Peer>,
     fails: Call,
-    /// How many calls to the function `fails` remain up to and including the one that fails; 0
-    /// after that call was made.
+    /// The next calls to the function `fails` are counted from 1; the call with this number fails.
+    /// If this is 0, no further call fails.
     left: u64,
 }
 
@@ -99,8 +99,8 @@ fn number(port: Port) -> u8 {
 }
 
 impl Peers {
-    /// Makes a wire to these peers. Of the driver's calls to the function `fails`, the one with the
-    /// number `left` fails, counted from 1.
+    /// Makes a wire to these peers. The driver's calls to the function `fails` are counted from 1;
+    /// the call with number `left` fails.
     pub(crate) fn new(peers: Vec<Peer>, fails: Call, left: u64) -> Peers {
         Peers { peers, fails, left }
     }
@@ -136,8 +136,8 @@ impl Peers {
         fails
     }
 
-    /// Connects the next peer, as the connection with this number. Returns whether there was such a
-    /// peer.
+    /// Connects the next peer, as the connection with this number. Returns false if all peers have
+    /// already connected.
     fn come(&mut self, conn: u8) -> bool {
         match self.peers.iter_mut().find(|peer| !peer.came) {
             Some(peer) => {

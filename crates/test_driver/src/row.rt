@@ -1,5 +1,4 @@
-//! Plays a row, which is a test case: makes a driver as the row's first lines say, and makes the
-//! row's sweeps.
+//! Plays a row: makes a driver as the row's first lines say, and makes the row's sweeps.
 
 use crate::scripted::Scripted;
 use crate::shown::show;
@@ -16,10 +15,10 @@ use sv_server::{Config, Server};
 /// that fails.
 const MEMORY: &str = " memory ";
 
-/// The driver with which a row (a test case) is played.
+/// The driver with which a row is played.
 type Played<'a> = Driver<Recorder<Scripted>, &'a FailingAllocator<Global>>;
 
-/// The error for a row (a test case) that can't be played.
+/// The error for a row that can't be played.
 pub(crate) fn bad() -> Error {
     Error::from(ErrorKind::InvalidData)
 }
@@ -32,8 +31,8 @@ pub(crate) fn number(text: &str) -> io::Result<u64> {
     }
 }
 
-/// If the first line begins with `word`: the number in this line, and the lines after it. Else 0,
-/// and all lines.
+/// If the first line begins with `word`, returns the number in this line, and the lines after it.
+/// Else returns 0, and all lines.
 fn setting<'a>(word: &str, text: &'a str) -> io::Result<(u64, &'a str)> {
     match text.strip_prefix(word) {
         Some(rest) => {
@@ -86,7 +85,7 @@ fn made<'a>(
     Ok(Driver::new(heap, server, wire, scenario)?)
 }
 
-/// Makes a sweep, and prints which functions of the wire the driver called in this sweep.
+/// Makes a sweep, and prints the calls that the driver made to the wire's functions in this sweep.
 fn sweep<W: Write + Drop>(
     heap: &FailingAllocator<Global>,
     driver: &mut Played<'_>,
@@ -159,7 +158,7 @@ fn sweep_each<W: Write + Drop>(
     Ok(())
 }
 
-/// Plays the sweeps of a row, or prints `memory` if there was no memory for its driver.
+/// Plays the sweeps of a row, or prints `memory` if there was no memory for the row's driver.
 fn play_sweeps<W: Write + Drop>(
     alloc: Global,
     row: &str,

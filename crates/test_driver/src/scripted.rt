@@ -1,4 +1,4 @@
-//! A wire whose answers are given by the lines of a row.
+//! A wire that gives the answers in the lines of a row.
 
 ghost use Rattle.std.specs.Prelude.{length};
 ghost use Rattle.sv_serve.specs.Heard.{IsWithin};
@@ -18,7 +18,7 @@ pub(crate) struct Scripted {
     row: String,
     /// The number of the sweep that is under way, counted from 1.
     pub(crate) sweep: Cell<usize>,
-    /// The call that the driver is making, in the form that a row's line `CALL: ANSWER` has for it.
+    /// The call that the driver is making, written as in a line `CALL: ANSWER`.
     asked: String,
 }
 
@@ -65,7 +65,8 @@ impl Scripted {
         }
     }
 
-    /// The row's answer to this call in the sweep that is under way; `None` if the row has none.
+    /// The row's answer to this call in the sweep that is under way; `None` if the row has no
+    /// answer to it.
     fn says(&self, asked: &str) -> Option<&str> {
         let lines = self.row.split("\nsweep ").nth(self.sweep.get())?;
         for line in lines.lines() {

@@ -1,4 +1,4 @@
-//! The calls that a driver makes to its wire, printed as lines.
+//! Prints the calls that a driver makes to its wire, one on each line.
 
 use std::io::{self, BufWriter, Write};
 use sv_recording::Call;

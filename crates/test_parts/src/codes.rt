@@ -1,4 +1,4 @@
-//! Finding an error by its number.
+//! Finds an error by its number, and prints its name and text.
 
 use crate::line::{Fault, put, value_of};
 use sv_errors::Code;

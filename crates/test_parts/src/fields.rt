@@ -1,12 +1,12 @@
-//! XDR fields, and the headers of RPC calls.
+//! Reads and writes XDR fields, reads the headers of RPC calls, and prints the results.
 
 use crate::line::{Fault, bytes_of, cut, put, put_bytes, put_text, value_of};
 use std::alloc::Global;
 use sv_rpc::read_call;
 use sv_xdr::{Reader, Writer};
 
-/// Reads an XDR field. Prints the field, and how many bytes remain after it. If the word for the
-/// kind of field is a number, the field is opaque data of at most that many bytes.
+/// Reads an XDR field. Prints the field, and how many bytes remain after it. If the kind of the
+/// field is given as a number, the field is opaque data of at most that many bytes.
 pub(crate) fn put_read(alloc: Global, out: &mut String, text: &str) -> Result<(), Fault> {
     let (kind, digits) = cut(text);
     let bytes = bytes_of(alloc, digits)?;
@@ -41,7 +41,7 @@ pub(crate) fn put_written(alloc: Global, out: &mut String, text: &str) -> Result
     }
 }
 
-/// Prints the header of an RPC call.
+/// Reads the header of an RPC call, and prints the header or the fault.
 pub(crate) fn put_call(alloc: Global, out: &mut String, text: &str) -> Result<(), Fault> {
     let bytes = bytes_of(alloc, text)?;
     put(out, read_call(bytes.as_slice()))

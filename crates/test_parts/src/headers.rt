@@ -1,10 +1,11 @@
-//! The headers of a message, and how many parameters their commands take at most.
+//! Prints which commands the headers of a message name, and how many parameters a command takes at
+//! most.
 
 use crate::line::{Fault, put};
 use sv_header::{Path, Table};
 
-/// For each header of a message: prints the command that the header names, given the headers before
-/// it.
+/// For each header of a message, prints the command that the header names; this can depend on the
+/// headers before it.
 pub(crate) fn put_commands(out: &mut String, table: &Table, text: &str) -> Result<(), Fault> {
     let mut path = Path::root();
     for header in text.split(';') {

@@ -1,4 +1,4 @@
-//! Reading the words of a line, and writing its answer.
+//! Reads the words of a line, and writes the line's answer.
 
 use std::alloc::{AllocError, Global};
 use std::fmt::Debug;

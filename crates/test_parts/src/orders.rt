@@ -1,4 +1,4 @@
-//! What the units of a message ask for.
+//! Prints what the units of a message ask for.
 
 use crate::line::{Fault, put};
 use bstr::ByteVec;
@@ -45,7 +45,7 @@ fn put_setting(out: &mut String, setting: &Setting) -> Result<(), Fault> {
     Ok(())
 }
 
-/// Prints an order that may have a list of channels; `word` names the order.
+/// Prints an order that may have a list of channels. `word` is the order's name.
 fn put_list(out: &mut String, word: &str, list: &Option<ScanList>) -> Result<(), Fault> {
     match list {
         Some(list) => write!(out, " Ok({word}(Some({:?})))", list.channels())?,

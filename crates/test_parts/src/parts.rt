@@ -68,7 +68,7 @@ impl Parts {
         Ok(())
     }
 
-    /// Executes a line one time, and appends its answer.
+    /// Executes a line once, and appends its answer.
     fn put_one(&mut self, alloc: Global, out: &mut String, line: &str) -> Result<(), Fault> {
         let (word, text) = cut(line);
         match word {
@@ -91,7 +91,7 @@ impl Parts {
     }
 }
 
-/// Appends the answer of a line whose answer doesn't depend on earlier lines.
+/// Appends the answer of a line of a kind for which earlier lines don't matter.
 fn put_of_text(alloc: Global, out: &mut String, word: &str, text: &str) -> Result<(), Fault> {
     match word {
         "white" => put_white(alloc, out, text),

@@ -1,4 +1,4 @@
-//! Acts of a buffer of records.
+//! Performs the acts of a test's lines on a buffer of records, and prints the answers.
 
 use crate::line::{Fault, bytes_of, cut, put, put_bytes, value_of};
 use std::alloc::Global;
@@ -35,7 +35,7 @@ fn push(records: &mut RecordBuf, bytes: &[u8]) -> Result<(), Fault> {
     Ok(())
 }
 
-/// Drops the first record; there must be one.
+/// Drops the first record. The buffer must have a record.
 fn drop_first(records: &mut RecordBuf) -> Result<(), Fault> {
     match records.next() {
         Ok(Some(_)) => {}
@@ -45,7 +45,7 @@ fn drop_first(records: &mut RecordBuf) -> Result<(), Fault> {
     Ok(())
 }
 
-/// Prints the bytes of the next record, or that there is none, or the fault.
+/// Prints the bytes of the next record; or `none`, if there is no record; or the fault.
 fn put_next(alloc: Global, out: &mut String, records: &RecordBuf) -> Result<(), Fault> {
     match records.next() {
         Ok(Some(record)) => put_bytes(alloc, out, record),

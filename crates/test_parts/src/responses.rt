@@ -1,4 +1,4 @@
-//! Printing values as response data.
+//! Prints values as response data.
 
 use crate::codes::code_of;
 use crate::line::{Fault, cut, put_text, value_of};

@@ -1,4 +1,4 @@
-//! Acts of the scanner.
+//! Performs the acts of a test's lines on the scanner, and prints the answers.
 
 use crate::line::{Fault, cut, put, value_of};
 use arrayvec::ArrayVec;
@@ -65,7 +65,7 @@ fn source_of(name: &str) -> Result<Source, Fault> {
     }
 }
 
-/// The channels of a list, with commas between them.
+/// The list of channels that a text names, with commas between the channels.
 fn list_of(text: &str) -> Result<ScanList, Fault> {
     let mut channels = ArrayVec::new();
     for channel in text.split(',') {

@@ -1,4 +1,5 @@
-//! Acts of the whole instrument. After each act, the instrument takes all steps that are due.
+//! Performs the acts of a test's lines on the whole instrument, and prints the answers. After each
+//! act, the instrument takes all steps that are due.
 //!
 //! | Act | Answer |
 //! |---|---|
@@ -95,7 +96,7 @@ fn tell(
     }
 }
 
-/// Reads at most `most` bytes. Prints these bytes and the reasons why they end there. For `None`,
+/// Reads at most `most` bytes. Prints these bytes, and the reasons why the read ended. For `None`,
 /// reads at most 256 bytes and prints no reasons. If the read has to wait, prints `waits`.
 fn read(out: &mut String, instrument: &mut Instrument, most: Option<u32>) -> Result<u64, Fault> {
     if !instrument.can_read() {
@@ -118,7 +119,7 @@ fn read(out: &mut String, instrument: &mut Instrument, most: Option<u32>) -> Res
     }
 }
 
-/// Prints why the bytes of a read end where they do.
+/// Prints the reasons why a read ended.
 fn put_reasons(out: &mut String, read: &Read<'_>) -> Result<(), Fault> {
     let reasons = [
         (read.request_count, " count"),

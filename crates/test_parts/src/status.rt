@@ -1,4 +1,5 @@
-//! Acts of the error queue and of the status registers.
+//! Performs the acts of a test's lines on the error queue and the status registers, and prints the
+//! answers.
 
 use crate::codes::code_of;
 use crate::line::{Fault, cut, put, value_of};

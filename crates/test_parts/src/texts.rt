@@ -1,11 +1,11 @@
-//! Cutting text: white space, separators, the parts of a header.
+//! Cuts texts at white space and separators, and headers into their parts, and prints the pieces.
 
 use crate::line::{Fault, cut, put, put_text};
 use bstr::ByteVec;
 use std::alloc::Global;
 use sv_text::{first_part, header_parts, is_space, place_of, trim, without_end, without_start};
 
-/// For each byte of a text: prints whether the byte is white space.
+/// Prints, for each byte of a text, whether the byte is white space.
 pub(crate) fn put_white(alloc: Global, out: &mut String, text: &str) -> Result<(), Fault> {
     for byte in Vec::unescape_bytes(alloc, text)?.as_slice() {
         put(out, is_space(*byte))?;

@@ -1,4 +1,4 @@
-//! Printing the parts of a unit.
+//! Prints the parts of a unit: its header and its parameters.
 
 use crate::line::{Fault, put, put_text};
 use bstr::ByteVec;

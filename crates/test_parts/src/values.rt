@@ -1,4 +1,4 @@
-//! The values of parameters, and printed voltages.
+//! Prints the values of parameters, and prints voltages as response data.
 
 use crate::line::{Fault, cut, put, put_text, value_of};
 use sv_lexer::{Token, unit};
@@ -20,7 +20,7 @@ pub(crate) fn put_value(out: &mut String, word: &str, text: &str) -> Result<(), 
     }
 }
 
-/// The first parameter of a unit, which must have one.
+/// The first parameter of a unit. The unit must have a parameter.
 pub(crate) fn parameter(text: &str) -> Result<Token<'_>, Fault> {
     let Ok(unit) = unit(text.as_bytes()) else {
         return Err(Fault::Unknown);
@@ -31,8 +31,8 @@ pub(crate) fn parameter(text: &str) -> Result<Token<'_>, Fault> {
     parameters.get(0).ok_or(Fault::Unknown)
 }
 
-/// Prints a parameter as a whole number. The text begins with the lowest and the highest number
-/// that are allowed.
+/// Prints the first parameter of a unit as a whole number. The text begins with the lowest and the
+/// highest number that are allowed.
 fn put_whole(out: &mut String, text: &str) -> Result<(), Fault> {
     let (low, text) = cut(text);
     let (high, text) = cut(text);

@@ -1,4 +1,5 @@
-//! Events at a server, and queries whose answers a replay doesn't print. A text has these lines:
+//! Plays rows whose text begins with `! events`: applies events to a server, and prints answers of
+//! the server that a replay doesn't print. The text after `! events` has these lines:
 //!
 //! | Line | What it says |
 //! |---|---|
@@ -25,7 +26,7 @@ use sv_server::{Config, Did, Event, Port, Server};
 /// The most bytes that a line may have.
 const LONGEST: usize = 32_800;
 
-/// The server on which a row (a test case) is played. The row can refuse memory to this server.
+/// The server on which a row is played. The row can refuse memory to this server.
 type Played<'a> = Server<&'a FailingAllocator<Global>>;
 
 /// Reads the number of a connection.
@@ -113,8 +114,7 @@ fn show<W: Write + Drop>(
     writeln!(writer)
 }
 
-/// Chooses the allocation that is refused. For `?`, prints whether the program has come to the
-/// chosen allocation.
+/// Chooses the allocation that is refused. For `?`, prints whether the chosen allocation was made.
 fn ration<W: Write + Drop>(
     heap: &FailingAllocator<Global>,
     text: &str,
@@ -166,7 +166,8 @@ fn steps<W: Write + Drop>(
     Ok(())
 }
 
-/// Executes the lines of a section repeatedly. The first line of the section says how many times.
+/// Executes the lines of a section again and again. The first line of the section says how many
+/// times.
 fn repeat<W: Write + Drop>(
     heap: &FailingAllocator<Global>,
     server: &mut Played<'_>,
@@ -180,7 +181,7 @@ fn repeat<W: Write + Drop>(
     Ok(())
 }
 
-/// Plays the lines of a text on a new server.
+/// Plays the lines of a row after `! events`, on a new server.
 pub(crate) fn play<W: Write + Drop>(
     alloc: Global,
     text: &str,

@@ -1,6 +1,7 @@
-//! Scripts that are played again and again on a new server: first the server's first allocation is
-//! refused, then its second, and so on. In a `! growth` row, an event that finds no memory is tried
-//! again. In a `! growth, refused` row, its call is refused, and then sent again.
+//! Plays a script again and again, each time on a new server: first the server's first allocation
+//! is refused, then its second, and so on. In a `! growth` row, an event that finds no memory is
+//! tried again. In a `! growth, refused` row, the call of this event is refused, and then sent
+//! again.
 
 use crate::turns::each;
 use crate::words::bad;
@@ -126,8 +127,8 @@ impl Growing<'_> {
         Ok(())
     }
 
-    /// Executes a line. If the line's event finds no memory, tries it again. If the event found no
-    /// memory but changed the server's answers, appends `changed` to the output.
+    /// Executes a line. If the line's event finds no memory, tries the event again. If the event
+    /// found no memory but changed the server's answers, appends `changed` to the output.
     fn step(&mut self, brought: &str, line: &str) -> io::Result<()> {
         let before = self.asked()?;
         if !self.apply(line)? {

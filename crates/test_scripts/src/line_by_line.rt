@@ -1,5 +1,5 @@
-//! A replay whose input gives one line at each read. The replies to a line have to be printed
-//! before the next line is read.
+//! Replays a script whose input gives one line at each read. The replies to a line have to be
+//! printed before the next line is read.
 
 use crate::words::bad;
 use failing_alloc::FailingAllocator;

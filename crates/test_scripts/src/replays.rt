@@ -1,5 +1,5 @@
-//! Replays whose reader gives few bytes or fails, whose writer takes few bytes or fails, or whose
-//! memory is refused.
+//! Replays scripts with a reader that gives few bytes or fails, with a writer that takes few bytes
+//! or fails, or with memory that is refused.
 
 use crate::streams::{Manner, Sink, Source};
 use crate::turns::each;
@@ -12,8 +12,7 @@ use sv_replay::{RunFault, run_replay};
 /// In a `! reads` row, one run of the replay reads from its input fewer times than this.
 const MOST_READS: u64 = 1_000;
 
-/// How the reader and the writer of a replay behave, according to these words after the `! ` in the
-/// first line of its text.
+/// How the reader and the writer of a replay behave, as these words of the row's first line say.
 fn manner_of(words: &str) -> io::Result<Manner> {
     let ample = Manner::ample();
     if let Some(count) = words.strip_prefix("output takes ") {
@@ -43,8 +42,9 @@ fn manner_of(words: &str) -> io::Result<Manner> {
     }
 }
 
-/// Returns the text that the test prints for a replay. If `narrow` is true, it begins with how many
-/// bytes the writer took. Then come these bytes and, on a line of its own, the fault, if any.
+/// Returns the text that the test prints for a replay. If `narrow` is true, this text begins with
+/// how many bytes the writer took. Then come these bytes. If the replay failed, the fault follows
+/// on a line of its own.
 fn told(
     alloc: Global,
     taken: &[u8],
@@ -70,7 +70,7 @@ fn told(
     Ok(outcome)
 }
 
-/// Runs a replay of a script. Returns what the replay prints, and its fault, if any.
+/// Runs a replay of a script. Returns what the replay prints, and the fault if the replay fails.
 fn outcome(
     alloc: Global,
     heap: &FailingAllocator<Global>,
@@ -80,8 +80,8 @@ fn outcome(
     Ok(read_out(alloc, heap, manner, script)?.0)
 }
 
-/// Runs a replay of a script. Returns two values: what the replay prints, with its fault, if any;
-/// and how many times the replay read from its input.
+/// Runs a replay of a script. Returns two values: what the replay prints, with the fault if the
+/// replay fails; and how many times the replay read from its input.
 fn read_out(
     alloc: Global,
     heap: &FailingAllocator<Global>,
@@ -107,8 +107,8 @@ fn read_out(
 }
 
 /// Replays a script with a reader and a writer that behave as these words say. Prints the output of
-/// the replay, and its fault, if any. For `memory`, does so for each allocation that can be
-/// refused.
+/// the replay, and the fault if the replay fails. For `memory`, does so for each allocation that
+/// can be refused.
 pub(crate) fn play<W: Write + Drop>(
     alloc: Global,
     words: &str,

@@ -1,4 +1,4 @@
-//! Scenarios, and the entries that are read from them.
+//! Reads scenarios, and prints their entries.
 
 use crate::turns::each;
 use failing_alloc::FailingAllocator;
@@ -6,7 +6,7 @@ use std::alloc::Global;
 use std::io::{self, BufWriter, Write};
 use sv_replay::{Entry, Stimulus, read_scenario};
 
-/// An entry, written as in a scenario.
+/// Returns the text of an entry, written as in a scenario.
 fn told(alloc: Global, entry: Entry) -> io::Result<String> {
     let tick = entry.tick;
     let line = match entry.stimulus {

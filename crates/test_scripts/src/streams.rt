@@ -10,7 +10,7 @@ pub(crate) struct Manner {
     pub(crate) singly: bool,
     /// Whether the reader fails at its end.
     pub(crate) input_fails: bool,
-    /// The number of the read that fails; 0 if none fails.
+    /// The number of the read that fails; 0 if no read fails.
     pub(crate) fails_at: u64,
     /// How many bytes the writer takes before it is full.
     pub(crate) room: usize,

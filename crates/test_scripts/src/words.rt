@@ -1,8 +1,8 @@
-//! Reading the numbers in the lines of a row.
+//! Reads the numbers in the lines of a row.
 
 use std::io::{self, Error, ErrorKind};
 
-/// The error for a row (a test case) that can't be played.
+/// The error for a row that can't be played.
 pub(crate) fn bad() -> Error {
     Error::from(ErrorKind::InvalidData)
 }

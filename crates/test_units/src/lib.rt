@@ -1,7 +1,7 @@
-//! Tests of what the rows and lines of other tests can't show: parts to which memory is refused
-//! while they are made; functions that no other crate calls; and the command line, the texts and
-//! the exit statuses of the program. All else is tested in `test_scripts`, `test_driver`,
-//! `sv_sockets` and `test_parts`. The library itself is empty.
+//! Tests what the rows and lines of other tests can't show: parts that get no memory while they are
+//! made; functions that no other crate calls; and the command line, the texts and the exit statuses
+//! of the program. All else is tested in `test_scripts`, `test_driver`, `sv_sockets` and
+//! `test_parts`. The library itself is empty.
 #![tactic(auto)]
 
 #[cfg(test)]

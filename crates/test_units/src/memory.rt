@@ -1,5 +1,5 @@
-//! Each part is made again and again: first its first allocation is refused, then its second, and
-//! so on.
+//! Makes each part again and again: first the part's first allocation is refused, then its second,
+//! and so on.
 
 use crate::same::same;
 use failing_alloc::FailingAllocator;
@@ -22,9 +22,9 @@ const CONFIG: Config = Config {
 };
 
 /// Calls `make` again and again: first its first allocation is refused, then its second, and so on.
-/// Each of these calls must fail. After each, `make` is called without a refusal, and must succeed.
-/// At last no allocation is refused, and the call must succeed. Returns how many allocations `make`
-/// makes.
+/// Each of these calls must fail. After each of them, `make` is called without a refusal, and this
+/// call must succeed. At last no allocation is refused, and the call must succeed. Returns how many
+/// allocations `make` makes.
 fn refusals<'a, T: Drop, F: Fn(&'a FailingAllocator<Global>) -> Result<T, AllocError>>(
     heap: &'a FailingAllocator<Global>,
     make: F,

@@ -1,4 +1,4 @@
-//! Parts of the library that no program calls yet.
+//! Tests parts of the library that no program calls yet.
 
 use std::test::Fail;
 use sv_errors::{Code, ErrorQueue, Layer, QueueAct, QueueAnswer, act_each};

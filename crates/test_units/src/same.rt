@@ -1,4 +1,4 @@
-//! Comparisons for the helpers of tests. A difference is returned as a failure.
+//! Compares values for the helpers of tests. A difference is returned as a failure.
 
 use std::fmt::{Debug, Display};
 use std::test::Fail;

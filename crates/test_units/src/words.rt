@@ -1,4 +1,4 @@
-//! Tests of the program's command line, texts and exit statuses.
+//! Tests the program's command line, texts and exit statuses.
 
 use std::alloc::Global;
 use std::test::Fail;

@@ -6,7 +6,7 @@ use Rattle.sv_header.specs.Pattern.{Part, Row, row}
 use Rattle.sv_header.specs.Plain.{part}
 use Rattle.sv_header.specs.Table.{common_commands, other_commands}
 
--- the command that a header names if it ends at this node: for `true`, the header with a question mark; for `false`, the one without
+-- the command of the header that ends at this node: for `true` with a question mark, for `false` without a question mark
 abbrev pub command_of : Bool → Branch → Option CommandId
 command_of false branch = branch.plain
 command_of true branch = branch.query
@@ -41,7 +41,7 @@ rows_of (suc fuel) common (branch ∷ behind) =
 abbrev pub tree_rows : Bool → List Branch → List Row
 tree_rows common branches = rows_of (length branches) common branches
 
--- for `true` the table's rows of the common commands; for `false` its rows of all other commands
+-- the table's rows of the common commands (for `true`), or of all other commands (for `false`)
 abbrev pub rows_with : Bool → List Row
 rows_with true = common_commands
 rows_with false = other_commands

@@ -16,13 +16,13 @@ Takes (first ∷ behind) part others = IsForm first part × (others ≡ behind)
 abbrev pub Ends : List (List ℕ) → Option CommandId → CommandId → Type 0
 Ends left ending command = (left ≡ []) × (ending ≡ Some command)
 
--- The mnemonics that remain after a node lead to a command: no mnemonic remains and the node names this command; or `Below` holds, which
--- says that they lead to this command through the nodes below.
+-- The mnemonics `left`, which remain after a node, lead to this command. Either no mnemonic remains, and a header that ends at the node
+-- names the command. Or `Below` holds for them: they lead to the command through the nodes below.
 abbrev pub LeadsBelow : Bool → Branch → (List (List ℕ) → Type 0) → List (List ℕ) → CommandId → Type 0
 LeadsBelow query branch Below left command = Ends left (command_of query branch) command ⊎ Below left
 
 -- The header passes the node `part`: its first mnemonic is a form of the node; or the node is optional and the header omits it. `Behind`
--- holds of the mnemonics that remain after the node.
+-- holds for the mnemonics that remain after the node.
 abbrev pub Passes : Part → (List (List ℕ) → Type 0) → List (List ℕ) → Type 0
 Passes part Behind left = ((others : List (List ℕ)) × Takes left part others × Behind others) ⊎ ((part.optional ≡ true) × Behind left)
 
@@ -35,12 +35,13 @@ Leads (suc fuel) query (branch ∷ behind) left command =
     (λ others. LeadsBelow query branch (λ rest. Leads fuel query (take branch.below behind) rest command) others command) left
     ⊎ Leads fuel query (drop branch.below behind) left command
 
--- The result of a search by the code: a command for which `P` holds; or `None`, if `P` holds for no command.
+-- The code's search returned a command for which `P` holds; or it returned `None`, and `P` holds for no
+-- command.
 abbrev pub IsFound : Option CommandId → (CommandId → Type 0) → Type 0
 IsFound None P = (command : CommandId) → P command → ⊥
 IsFound (Some command) P = P command
 
--- The code returned `Some` with the mnemonics that remain, and `P` holds of these mnemonics.
+-- The code returned `Some` with the mnemonics that remain, and `P` holds for these mnemonics.
 abbrev pub OnLeft : Option Mnemonics → (List (List ℕ) → Type 0) → Type 0
 OnLeft None P = ⊥
 OnLeft (Some left) P = P (left_of left)

@@ -1,4 +1,4 @@
--- What the parts of an instrument's step do to its layers and to its log.
+-- What the parts of a step do to the instrument's layers and to its log.
 use Rattle.std.specs.Prelude.{◌≡◌, ℕ, ◌+◌, ◌*◌, ◌<◌, ◌≤◌, min, Bool, true, false, List, length, Option, Some, Result}
 use Rattle.sv_errors.specs.declared.code.Code.{Code}
 use Rattle.sv_exchange.specs.Exchange.{units_done, current, message, next_unit}
@@ -23,7 +23,7 @@ pub record Counts (start : List Act) (layers : LayerState) (log : List Act) : Ty
   pub count : layers.requests ≡ min raised max_count
 
 -- At most 255 acts came since the log `start`. Each raises at most one request for service, so the layers' counter, which stops at 255,
--- counts all of them.
+-- counts all these requests.
 abbrev pub IsCountable : List Act → List Act → Type 0
 IsCountable start log = length log ≤ length start + max_count
 
@@ -37,8 +37,8 @@ pub record Runs (start : List Act) (kept : Kept) (log : List Act) : Type 0 where
 abbrev pub IsApart : List Act → List Act → Type 0
 IsApart log new = exchange_acts new ≡ exchange_acts log
 
--- The current program message is the same in `log` and in `new`. The number of its units that have begun by `new` is one more than the
--- number of its units that were done by `log`.
+-- The current program message is the same in `log` and in `new`. If n units of this message are done in `log`, then n + 1 of its units
+-- have begun in `new`.
 pub record BeginsOne (log new : List Act) : Type 0 where
   pub message : message (exchange_acts new) ≡ message (exchange_acts log)
   pub begun : units_begun new ≡ units_done (current (exchange_acts log)) + 1
@@ -54,13 +54,12 @@ pub record Behaves (Makes : List Act → Type 0) (start : List Act) (layers : La
   pub held : awaited ≡ held_unit new
   pub begins : BeginsOne log new
 
--- The unit's header is read relative to the header path `front`. The unit's acts lead from `log` to `new`, and `behind` is the header path
--- for the next unit.
+-- The unit is read relative to the path `front`. The unit's acts lead from `log` to `new`, and `behind` is the path for the next unit.
 abbrev pub Follows : List ℕ → List (List ℕ) → List (List ℕ) → List Act → List Act → Type 0
 Follows unit front behind log new = (outcome : Result Order Code) × IsReadAs front unit outcome behind × Does outcome log new
 
--- The number that measures how many steps of the instrument remain is smaller than before. If a unit waits for the end of the measurement,
--- this unit is the one that is due in message exchange.
+-- The number that measures how many steps of the instrument remain is smaller than before. If a unit is held, this unit is the one that is
+-- due in message exchange.
 pub record Advances (before after : LayerState) (held_unit : Option Awaited) : Type 0 where
   pub less : 2 * exchange_measure after.exchange + one_if_unheld held_unit < 2 * exchange_measure before.exchange + 1
   pub right : IsHeldRight held_unit after

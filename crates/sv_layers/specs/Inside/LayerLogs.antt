@@ -1,6 +1,7 @@
--- The log of each layer, from the instrument's acts. An act first changes its own layer. Then each status register is updated. The register
--- gets its new condition, and the transitions pass its filters as they were before the act. Then, if the act is an act on this register, it
--- changes the register directly. A nested register is updated before the register above it, whose condition contains the nested summary.
+-- How the instrument's acts determine the log of each layer. An act first changes its own layer. Then each status register is updated: it
+-- gets its new condition, whose transitions pass the filters as they were before the act; then the act itself changes the register, if it
+-- is an act on this register. A nested register is updated before the register above it, whose condition contains the summary of the nested
+-- register.
 use Rattle.std.specs.Prelude.{◌≡◌, ℕ, Bool, true, false, not, ◌&&◌, List, [], ◌∷◌, if◌then◌else◌}
 use Rattle.sv_errors.specs.Code.{standard_event_of}
 use Rattle.sv_errors.specs.ErrorQueue.{is_full}
@@ -60,7 +61,8 @@ after_begin _ at = at
 abbrev pub idles : LayerLogs → Bool
 idles at = is_idle (state (effective at.scanner))
 
--- the logs of the layers after the part of an act that checks for a pending `*OPC`: it completes if no measurement is under way
+-- the logs of the layers after the part of an act that checks whether an `*OPC` is pending: a pending `*OPC` completes if no
+-- measurement is under way
 abbrev pub after_complete : LayerLogs → LayerLogs
 after_complete at = record at {
   standard = standard.Occur (bit 0 (at.waits && idles at)) ∷ at.standard;

@@ -87,8 +87,8 @@ pub record StandsFor (layered : LayerState) (log : List Act) : Type 0 where
   pub are : IsStatus log status_log
   pub joined : Represents layered (layer_logs log) status_log
 
--- The state of the layers after the first part of `act`, the act after `log`. The act has changed its own layer and, if it is a poll, has
--- polled the status byte. It hasn't changed the other layers yet.
+-- The state of the layers is the one after the first part of `act`, the act that follows `log`. The act has changed its own layer and, if
+-- it is a poll, has polled the status byte. It hasn't changed the other layers yet.
 pub record Begun (layered : LayerState) (act : Act) (log : List Act) : Type 0 where
   pub status_log : List StatusAct
   pub are : IsStatus log status_log

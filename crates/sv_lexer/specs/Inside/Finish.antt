@@ -1,4 +1,5 @@
--- The error of a unit that ends after the bytes read so far, and the places at which the unit's header and parameters begin and end.
+-- The error of a unit that ends after the bytes read so far, and the positions at which the unit's header and parameters begin and
+-- end.
 use Rattle.std.specs.Prelude.{◌≡◌, ℕ, ◌+◌, max, List, length, Option, Some, None, nat_le, if◌then◌else◌}
 use Rattle.sv_errors.specs.declared.code.Code.{Code}
 use Rattle.sv_errors.specs.declared.code.Code.TheVariants.{InvalidCharacter, SyntaxError, ProgramMnemonicTooLong}
@@ -23,8 +24,8 @@ fault_of DataSpace p = length_fault_of p
 fault_of Illegal p = Some InvalidCharacter
 fault_of _ p = Some SyntaxError
 
--- where the program data of a unit begin, or where they end; the definition is used for both positions. If the unit has program data,
--- the position is `in_data`; else it is `behind_header`, the position after the header. The unit ends at this stage.
+-- where the program data begin, or where they end, if the unit ends at this stage; the definition is used for both positions. If
+-- the unit has program data, the position is `in_data`; else it is `behind_header`, the position after the header.
 abbrev pub data_of : Stage → (behind_header in_data : ℕ) → ℕ
 data_of ProgramData behind_header in_data = in_data
 data_of DataSpace behind_header in_data = in_data

@@ -10,7 +10,7 @@ is_quiet (Waited limit false ended ∷ doings) = is_told doings
 is_quiet _ = false
 
 -- A loop made `many` sweeps, and the machine made the loop's waits, with the results that the loop's actions record. The last sweep began
--- at `swept`, the time is now `time`, and `is_so` holds of the loop's actions.
+-- at `swept`, the time is now `time`, and the condition `is_so` holds of the loop's actions.
 pub record Running {W M : Type 0} (hears : W → Heard → W → Type 0) (answers : M → Doing W → M → Type 0) (is_so : List (Doing W) → Bool)
     (many swept time : ℕ) (old new : DriverState W) (first now : M) : Type 0 where
   pub doings : List (Doing W)
@@ -28,8 +28,8 @@ pub record Rounds {W M : Type 0} (hears : W → Heard → W → Type 0) (answers
       → Running hears answers is_fresh many swept time start old machine first
       → Running hears answers is_told (many + 1) time time start new machine now
 
--- After a sweep the loop only waits. Before these waits the time was `began`, and `was` held of the loop's actions. After these waits the
--- time is `time`, and `is_so` holds of the loop's actions.
+-- The loop waits, and makes no sweep. Before the waits the time was `began`, and the condition `was` held of the loop's actions. After
+-- the waits the time is `time`, and the condition `is_so` holds of the loop's actions.
 pub record Pauses {W M : Type 0} (hears : W → Heard → W → Type 0) (answers : M → Doing W → M → Type 0) (driver : DriverState W)
     (was is_so : List (Doing W) → Bool) (swept began time : ℕ) (old now : M) : Type 0 where
   pub goes : (many : ℕ) (start : DriverState W) (first : M) → Running hears answers was many swept began start driver first old

@@ -1,4 +1,4 @@
--- The state of the device. It also says when a state stands for the acts of the device.
+-- The state of the device, and when a state stands for the device's acts.
 use Rattle.std.specs.Prelude.{◌≡◌, ℕ, ◌+◌, ◌<◌, ◌≤◌, true, List, [], ◌++◌, length, Some}
 use Rattle.std.specs.List.{AllByRecursion}
 use Rattle.sv_links.specs.declared.waiting.Entry.{Entry}
@@ -35,7 +35,8 @@ IsReserved kept acts = (length (live (link_acts acts)) + creations kept.waiting 
 abbrev pub HasPlace : Device → List DeviceAct → Type 0
 HasPlace kept acts = (length (live (link_acts acts)) + creations kept.waiting < max_links) × (creations kept.waiting < kept.links.spare)
 
--- Each link with service requests enabled exists, and its owner is the connection that the list `links` stores for it.
+-- Each link with service requests enabled exists, and the link's owner is the connection that the list `links` stores
+-- for the link.
 abbrev pub AreOwned : List Enabled → List LinkAct → Type 0
 AreOwned links acts = AllByRecursion (λ link. owner link.lid acts ≡ Some link.conn) links
 
@@ -45,7 +46,8 @@ abbrev pub AreTold : Channels → List DeviceAct → Type 0
 AreTold kept acts = (channel_log : List ChannelAct) × HearsOf acts channel_log × AreChannels kept channel_log
     × AreOwned kept.enabled (link_acts acts)
 
--- For each connection whose create_intr_chan is suspended, a channel is prepared: it can be opened without more memory.
+-- For each connection whose create_intr_chan is suspended, an interrupt channel is prepared: the channel can be opened
+-- without more memory.
 abbrev pub AreReady : Channels → List WaitAct → Type 0
 AreReady kept acts = (c : ℕ) → is_dialing c acts ≡ true → IsReady kept c
 

@@ -1,4 +1,4 @@
--- The state of the server. It also says when a state stands for a log or for a history.
+-- The state of the server, and when a state stands for a log or for a history.
 use Rattle.std.specs.Prelude.{◌≡◌, ℕ, ◌<◌, ◌≤◌, true, List, [], Some, slice_index_or}
 use Rattle.sv_history.specs.declared.event.Config.{Config}
 use Rattle.sv_history.specs.Event.{PlainEvent}

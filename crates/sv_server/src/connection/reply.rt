@@ -27,7 +27,7 @@ const BRIEF_TEXT: usize = LONGEST_TEXT - MAX_READ + BRIEF_DATA;
 /// The answer to a call.
 #[derive(Clone, Copy)]
 pub enum Answer<'a> {
-    /// A reply that has only a header. It follows from the header or the arguments of the call; the
+    /// A reply that has only a header. The reply follows from the call's header or arguments; the
     /// device isn't used.
     Header(Reply),
     /// The TCP port that is the result of a GETPORT.

@@ -1,5 +1,5 @@
-//! What a record asks for. The header of the record is checked first. If the header passes, the
-//! record is a call of the program that the record's connection serves.
+//! What a record asks for. The header of the record is checked first. If the header passes this
+//! check, the record is read as a call of the program that the record's connection serves.
 
 ghost use Rattle.std.specs.Prelude.{◌≡◌, Option, Ok, None, option_map, true};
 ghost use Rattle.sv_rpc.specs.Call.{plain_call, call_at};
@@ -36,7 +36,7 @@ pub struct CoreCall<'a> {
 pub enum Request<'a> {
     /// Nothing: the record isn't a call.
     NoCall,
-    /// A call whose reply follows from its header or its arguments; the device isn't used.
+    /// A call whose reply follows from the call's header or arguments; the device isn't used.
     Decided {
         /// The xid of the call.
         xid: u32,
@@ -49,7 +49,7 @@ pub enum Request<'a> {
     Abort {
         /// The xid of the call.
         xid: u32,
-        /// The link whose call is aborted.
+        /// The link whose suspended call is to be aborted.
         lid: i32,
     },
     /// A call of the port mapper's GETPORT.
@@ -165,8 +165,7 @@ fn abort_request<'a>(call: &Call<'a>) -> Request<'a>
     }
 }
 
-/// What a call asks for. The procedure of the call must be one of the program that this role
-/// serves.
+/// What a call asks for. The program that this role serves must have the procedure of the call.
 fn procedure_request<'a>(role: Role, call: &Call<'a>) -> Request<'a>
     requires { is_one_of (program_for role).2 call.now.proc ≡ true }
     ensures { plain_request result ≡ procedure_request_for role (plain_call call.now) }
@@ -181,7 +180,7 @@ fn procedure_request<'a>(role: Role, call: &Call<'a>) -> Request<'a>
     }
 }
 
-/// Makes the request of a call whose reply follows from its header; the device isn't used.
+/// Makes the request of a call whose reply follows from the call's header; the device isn't used.
 fn decided<'a>(call: &Call<'a>, reply: Reply) -> Request<'a>
     ensures { plain_request result ≡ Decided call.now.xid reply }
 {
@@ -233,7 +232,8 @@ pub fn request_of(role: Role, bytes: &[u8]) -> Request<'_>
     }
 }
 
-/// Reads a record as a call of the core channel; `None` if it isn't one.
+/// Reads a record as a call of the core channel; `None` if the record isn't a call of the core
+/// channel.
 pub fn core_call(bytes: &[u8]) -> Option<CoreCall<'_>>
     ensures { option_map plain_core_call result ≡ core_call_in_record bytes.now }
 {

@@ -90,8 +90,8 @@ impl<A: Allocator> Device<A> {
         }
     }
 
-    /// The connection that made this link, if its suspended call names the link: a device_abort of
-    /// the link ends that call. Else `None`.
+    /// The connection whose suspended call a device_abort of this link ends: the connection that
+    /// made the link, if its suspended call names the link. Else `None`.
     fn aborted(&self, lid: Option<u32>) -> Option<u8>
         ensures { (config : Config) (acts : List DeviceAct) → IsDevice self.now config acts
             → result ≡ where_waiting_with (owner_for lid acts) lid acts }

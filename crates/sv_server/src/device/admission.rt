@@ -1,5 +1,5 @@
 //! What is checked before a call of the core channel is executed (VXI-11 revision 1.0, B.4.4 and
-//! B.6): its link, the lock, and whether it has to wait.
+//! B.6): the call's link, the lock, and whether the call has to wait.
 
 ghost use Rattle.std.specs.Prelude.{◌≡◌, ◌<◌, ◌&&◌, ℕ, List, ◌∷◌, Some, None, option_map, is_none, is_some, IfSome, OnOk, OnErr, Option, true, false, Bool, if◌then◌else◌};
 ghost use Rattle.sv_vxi.specs.Arguments.{is_create_link as makes_link, lock_wait};
@@ -31,7 +31,7 @@ use sv_vxi::{Args, ErrorCode, LinkCall};
 /// make.
 const MOST_LINKS: u8 = MAX_LINKS as u8;
 
-/// Why a call isn't executed now.
+/// What happens to a call that can't be executed now.
 #[derive(Clone, Copy)]
 pub enum Stop {
     /// The call fails with this error.
@@ -46,7 +46,7 @@ pub enum Stop {
 }
 
 /// What stops a call while a link other than the call's link holds the lock: a wait for the lock,
-/// or the error for a locked device. `None` if the call doesn't need the lock.
+/// or the error for a locked device. `None` for a call that doesn't need the lock.
 fn lock_stop(call: &LinkCall<'_>) -> Option<Stop>
     ensures { option_map plain_stop result
         ≡ option_map lock_stop_for (lock_wait (plain_call call.now)) }
@@ -65,8 +65,8 @@ fn lock_stop(call: &LinkCall<'_>) -> Option<Stop>
 }
 
 /// What stops create_intr_chan. The call fails if the connection's interrupt channel is already
-/// open (then `there` is true), if `prog_family` isn't TCP (0), or if the address or the port isn't
-/// allowed. Else the call is suspended until its peer is connected.
+/// open (`there`), if `prog_family` isn't TCP (0), or if the address or the port isn't allowed.
+/// Else the call is suspended until its peer is connected.
 fn channel_stop(there: bool, host_addr: u32, host_port: u32, prog_family: u32) -> Stop
     ensures { plain_stop result ≡ channel_stop_for there host_addr host_port prog_family }
 {
@@ -99,9 +99,10 @@ impl<A: Allocator> Device<A> {
         }
     }
 
-    /// If a call has to wait for something other than the lock: what it waits for, and its timeout
-    /// in milliseconds. Else `None`. A device_write waits while the instrument hasn't finished a
-    /// message that came completely. A device_read waits until the instrument can answer it.
+    /// If a call has to wait for something other than the lock: what the call waits for, and its
+    /// timeout in milliseconds. Else `None`. A device_write waits while the instrument hasn't
+    /// finished a message that came completely. A device_read waits until the instrument can answer
+    /// it.
     pub(super) fn device_wait(&self, call: &LinkCall<'_>) -> Option<(Wait, u32)>
         ensures answer { (config : Configured) (acts : List DeviceAct)
             → IsDevice self.now config acts
@@ -177,7 +178,8 @@ impl<A: Allocator> Device<A> {
         None
     }
 
-    /// If the call has to wait for the device: what it waits for, and its timeout. Else `None`.
+    /// If the call has to wait for the device: what the call waits for, and its timeout. Else
+    /// `None`.
     fn device_stop(&self, call: &LinkCall<'_>) -> Option<Stop>
         ensures { (config : Configured) (acts : List DeviceAct) → IsDevice self.now config acts
             → option_map plain_stop result ≡ option_map (λ (wait : Wait × ℕ). Awaits wait.0
@@ -265,7 +267,7 @@ impl<A: Allocator> Device<A> {
         self.links.reserve(self.waiting.creating() + 1)
     }
 
-    /// Suspends a call that waits for something other than its peer.
+    /// Suspends a call that waits for the lock or the device.
     fn enter(&mut self, conn: Conn, lid: Option<u32>, wait: Wait, timeout: Option<u32>)
         requires { is_dial (Some wait) ≡ false }
         ensures stands { (config : Configured) (acts : List DeviceAct)

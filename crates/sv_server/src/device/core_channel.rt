@@ -160,8 +160,9 @@ impl<A: Allocator> Device<A> {
     }
 
     /// device_read: if the instrument has a response, the outcome is `Reads`, and the caller then
-    /// reads bytes of the response. If it has none, the bytes of the unfinished message are
-    /// dropped, and the result is a timeout.
+    /// reads bytes of the response. If there is no response, the result is a timeout. If moreover
+    /// no response can come without a further write, the bytes of the unfinished message are
+    /// dropped, and the instrument's error -420 is reported.
     fn device_read(&mut self, most: u32, term: Option<u8>) -> CallOutcome
         ensures ends { (config : Configured) (acts : List DeviceAct) → IsDevice self.old config acts
             → OutcomeIs result self.new config acts (device_read most term acts) }

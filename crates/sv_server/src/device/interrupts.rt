@@ -201,7 +201,7 @@ impl<A: Allocator> Device<A> {
     }
 
     /// Drops the first `count` of the bytes that wait on the open interrupt channel of a
-    /// connection, since the peer took them.
+    /// connection, because the peer took them.
     pub fn channel_took(&mut self, conn: Conn, count: usize)
         requires { count ≤ length (bytes_of self.old.intr conn.number) }
         ensures stands { (config : Configured) (acts : List DeviceAct)

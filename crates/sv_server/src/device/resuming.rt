@@ -26,7 +26,7 @@ use sv_vxi::{Args, ErrorCode};
 /// Why a suspended call continues or ends.
 #[derive(Clone, Copy)]
 pub enum Cause {
-    /// The call can resume, since it got what it waits for.
+    /// The call can resume, because it got what it waits for.
     Able(Wait),
     /// The attempt to connect to the call's peer succeeded (`true`) or failed (`false`).
     Dialed(bool),
@@ -61,9 +61,9 @@ impl<A: Allocator> Device<A> {
         }
     }
 
-    /// Resumes a call that waited for `wait`, and executes it. But a call that waited for the lock
-    /// and now has to wait for the device is suspended anew. Such a call keeps its place in the
-    /// queue, and its new timeout begins now.
+    /// Resumes a call that waited for `wait`, and executes it. But if the call waited for the lock
+    /// and now has to wait for the device, it is suspended anew: it keeps its place in the queue,
+    /// and its new timeout begins now.
     fn resume(&mut self, conn: Conn, wait: Wait, args: &Args<'_>) -> CallOutcome
         requires { queue_measure (without conn.number self.old.waiting) + wait_measure wait
             ≤ queue_measure self.old.waiting }

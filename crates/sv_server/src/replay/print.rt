@@ -16,7 +16,8 @@ const PIECE: usize = 256;
 #[derive(Clone, Copy, Debug, PartialEq, Eq)]
 pub struct WriteFault;
 
-/// Writes a prefix of these bytes, and returns its length; 0 if a signal interrupted the write.
+/// Writes a prefix of these bytes, and returns the prefix's length; 0 if a signal interrupted the
+/// write.
 fn put_some<W: Write>(writer: &mut W, bytes: &[u8]) -> Result<usize, WriteFault>
     ensures within { IfOk result (λ n. n ≤ length bytes.now) }
     ensures taken { MatchResult result

@@ -122,7 +122,7 @@ impl<A: Allocator> Server<A> {
         Ok(Did::Done)
     }
 
-    /// Drops the first `count` bytes that wait to be sent on an interrupt channel, since the peer
+    /// Drops the first `count` bytes that wait to be sent on an interrupt channel, because the peer
     /// took them.
     pub(crate) fn channel_took(&mut self, conn: u8, count: u32) -> Result<Did, Refused>
         ensures acts { (config : Config) (log : List Act) → Represents self.old config log

@@ -25,8 +25,8 @@ fn takes_memory(args: &Args<'_>) -> bool
     matches!(*args, Args::CreateLink { .. } | Args::CreateIntrChan { .. })
 }
 
-/// Reads a record as a call that a Refuse may answer: a call of the core channel that may allocate
-/// memory. `None` if the record isn't such a call.
+/// Reads a record as a call that the event Refuse may answer: a create_link or a create_intr_chan.
+/// `None` if the record is neither of these calls.
 fn refusable(role: Role, bytes: &[u8]) -> Option<CoreCall<'_>>
     ensures { option_map plain_core_call result
         ≡ refusable_call (Some (request_for role (call_at bytes.now))) }
@@ -38,8 +38,7 @@ fn refusable(role: Role, bytes: &[u8]) -> Option<CoreCall<'_>>
     }
 }
 
-/// Returns the call if it is create_link or create_intr_chan, which may allocate memory; else
-/// `None`.
+/// Returns this call if it is a create_link or a create_intr_chan; else `None`.
 fn unless_modest(call: CoreCall<'_>) -> Option<CoreCall<'_>>
     ensures { option_map plain_core_call result
         ≡ refusable_call (Some (CoreRequest (plain_core_call call.entry))) }

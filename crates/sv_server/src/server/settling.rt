@@ -1,4 +1,4 @@
-//! Settling: the steps that are taken after an event, until none is due.
+//! Settling: taking the steps that are due after an event, until no step is due.
 
 ghost use Rattle.std.specs.Prelude.{◌≡◌, ◌≢◌, ◌<◌, ◌≤◌, ◌++◌, ℕ, List, Some, None, true, false, IsTrue};
 ghost use Rattle.sv_links.specs.Waiting.{waits};
@@ -94,7 +94,7 @@ impl<A: Allocator> Server<A> {
         take_up(connection, &mut self.device, conn, Cause::Failed(error));
     }
 
-    /// Applies an immediate trigger, if one is due. Returns whether it applied one.
+    /// Applies an immediate trigger, if a trigger is due. Returns whether a trigger was applied.
     fn fire(&mut self) -> bool
         ensures steps { (config : Config) (log : List Act) → Represents self.old config log
             → TakesStep (λ config. InstrumentDoes IsFired) result config log self.old self.new }
@@ -107,7 +107,7 @@ impl<A: Allocator> Server<A> {
         self.device.fire()
     }
 
-    /// Takes a step of message exchange, if one is due. Returns whether it took one.
+    /// Takes a step of message exchange, if such a step is due. Returns whether a step was taken.
     fn exchange(&mut self) -> bool
         ensures steps { (config : Config) (log : List Act) → Represents self.old config log
             → TakesStep (λ config. InstrumentDoes IsStep) result config log self.old self.new }
@@ -155,7 +155,7 @@ impl<A: Allocator> Server<A> {
         }
     }
 
-    /// Takes the step that is due, if there is one.
+    /// Takes the step that is due, if a step is due.
     fn step(&mut self) -> Stepped
         ensures steps { (config : Config) (log : List Act) → Represents self.old config log
             → Steps result config log self.new }

@@ -11,7 +11,7 @@ use Rattle.sv_history.specs.Reply.{reply_record}
 use Rattle.sv_server.specs.declared.connection.reply.Answer.{Answer}
 use Rattle.sv_server.specs.declared.connection.reply.Answer.TheVariants as answers
 
--- the kind of the reply that carries an answer
+-- the kind of reply by which an answer is sent
 abbrev pub reply_of : Answer → Reply
 reply_of (answers.Header reply) = reply
 reply_of (answers.Port port) = Success
@@ -23,11 +23,11 @@ fields_of (answers.Header reply) = []
 fields_of (answers.Port port) = Unsigned port ∷ []
 fields_of (answers.Result outcome) = result_fields (plain_result outcome)
 
--- the bytes of an answer's reply: the header and the fields
+-- the bytes of the reply by which an answer is sent: the header and the fields
 abbrev pub answer_text : ℕ → Answer → List ℕ
 answer_text xid answer = concat (map spelling (reply_fields xid (reply_of answer) ++ fields_of answer))
 
--- the bytes of an answer's reply, as a record
+-- the bytes of the reply by which an answer is sent, as a record
 abbrev pub answer_bytes : ℕ → Answer → List ℕ
 answer_bytes xid answer = reply_record xid (reply_of answer) (fields_of answer)
 

@@ -7,11 +7,11 @@ use Rattle.sv_server.specs.declared.connection.request.CoreCall.{CoreCall as Tak
 use Rattle.sv_server.specs.declared.connection.request.Request.{Request as Asked}
 use Rattle.sv_server.specs.declared.connection.request.Request.TheVariants as requests
 
--- the plain data for a call of the core channel, given the code's value for the call
+-- a call of the core channel as plain data, given the code's value for the call
 abbrev pub plain_core_call : TakenCall → CoreCall
 plain_core_call call = record { xid = call.xid; arguments = plain_arguments call.args }
 
--- the plain data for the request of a record, given the code's value for the request
+-- the request of a record as plain data, given the code's value for the request
 abbrev pub plain_request : Asked → Request
 plain_request requests.NoCall = NoCall
 plain_request (requests.Decided xid reply) = Decided xid reply

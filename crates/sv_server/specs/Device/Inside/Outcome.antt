@@ -27,7 +27,7 @@ use Rattle.sv_server.specs.declared.device.admission.Stop.{Stop as StoppedBy}
 use Rattle.sv_server.specs.declared.device.admission.Stop.TheVariants as stops
 use Rattle.sv_server.specs.Device.Representation.{Device, IsDevice, HasPlace}
 
--- why a call can't be executed now, as plain data: it fails with an error, or it has to wait
+-- why a call can't be executed now, as plain data: the call fails with an error, or it has to wait
 abbrev pub plain_stop : StoppedBy → Stop
 plain_stop (stops.Fails error) = Fails error
 plain_stop (stops.Awaits wait timeout) = Awaits wait timeout
@@ -38,7 +38,8 @@ plain_stop (stops.Awaits wait timeout) = Awaits wait timeout
 abbrev pub IsDeviceAt : Device → Config → ℕ → List DeviceAct → Type 0
 IsDeviceAt kept config polled acts = IsDevice kept config acts × IsPolled polled acts
 
--- If the outcome is a result, this result has no data bytes. Only an outcome that reads the response returns data bytes.
+-- If the outcome is a result, this result has no data bytes. Only an outcome `Reads`, which reads the response, returns
+-- data bytes.
 abbrev pub IsBrief : Outcome → Type 0
 IsBrief (outcomes.Result given) = data_of (plain_result given) ≡ []
 IsBrief _ = ⊤
@@ -57,8 +58,8 @@ OutcomeIs (outcomes.Reads most term) device config acts what = (what ≡ reads (
     × IsDevice device config acts
 OutcomeIs outcomes.Suspended device config acts what = (what.result ≡ None) × IsDevice device config (what.adds ++ acts)
 
--- If the call is create_link, the device has a place and memory for the new link. If the create_link also requests the lock, no link holds
--- the lock.
+-- If the call is create_link, the device has a place and memory for the new link. If this create_link also asks for the lock, no link
+-- holds the lock.
 abbrev pub IsGranted : Arguments → Device → List DeviceAct → Type 0
 IsGranted (CreateLink client_id lock_device lock_timeout device) kept acts =
     HasPlace kept acts × (lock_device ≡ true → is_locked_out (holder (link_acts acts)) None ≡ false)
@@ -67,7 +68,7 @@ IsGranted _ kept acts = ⊤
 -- ---- a call that begins
 
 -- The call of connection `c` was suspended: the entry of this call was appended to the queue of suspended calls. `makes` says whether the
--- call is create_link. If so, the entry says that the call waits for the lock.
+-- call is create_link. If it is, the entry says that the call waits for the lock.
 abbrev pub IsBehind : ℕ → Bool → List Entry → List Entry → Type 0
 IsBehind c makes old new =
     (entry : Entry) × (entry.conn ≡ c) × (new ≡ without c old ++ entry ∷ []) × (makes ≡ true → creates entry ≡ true)
@@ -87,8 +88,9 @@ pub record Does {O : Type 0} (IsSo : Config → ℕ → List DeviceAct → O →
   pub brief : IfOk result (λ outcome. IsShort outcome)
   pub err : OnErr result (new ≡ old)
 
--- What a function that begins a call does to the device, if `IsAt` holds of the acts that the device did before the call. With `Admits`
--- these can be any acts. With `AdmitsAt` they are acts after which the call is stopped by `stop`, or by nothing if `stop` is `None`.
+-- What a function that begins a call does to the device, if `IsAt` holds of the acts that the device did before the call. `Admits`
+-- (below) lets `IsAt` hold of any acts. `AdmitsAt` lets it hold of the acts after which `stop` stops the call (nothing stops it if
+-- `stop` is `None`).
 abbrev pub Begins : (List DeviceAct → Type 0) → {E : Type 0} → Result Outcome E → ℕ → Arguments → Device → Device → Type 0
 Begins IsAt result c arguments old new =
     Does (λ config polled acts outcome. IsAt acts
@@ -111,8 +113,8 @@ MayMake (CreateLink client_id lock_device lock_timeout device) c kept acts =
     (creations (without c kept.waiting) < creations kept.waiting) × (is_locked_out (holder (link_acts acts)) None ≡ false)
 MayMake _ c kept acts = ⊤
 
--- How a resumed call continues. If the first argument is `Some`, the call is suspended again, for this wait. If it is `None`, the call
--- leaves the queue and is executed.
+-- How a resumed call continues. If the first argument is `Some` wait, the call is suspended again, with this wait. If the first
+-- argument is `None`, the call leaves the queue and is executed.
 abbrev pub ResumedAs : Option (Wait × ℕ) → Outcome → Device → Config → ℕ → ℕ → Arguments → List DeviceAct → Type 0
 ResumedAs (Some wait) outcome device config polled c arguments acts =
     OutcomeIs outcome device config acts (resume_outcome config polled c arguments (Some wait) acts)
@@ -124,13 +126,13 @@ abbrev pub MayWaitAnew : Type 0 → ℕ → Bool → List Entry → List Entry �
 MayWaitAnew IsSuspended c makes old new = (new ≡ without c old)
     ⊎ (IsSuspended × (wait : Wait) × (deadline : Option ℕ) × (new ≡ map (anew c wait deadline) old) × (makes ≡ false))
 
--- whether the cause is that the suspended call got what it waits for
+-- whether a suspended call continues because it got what it waits for
 abbrev pub is_able : Cause → Bool
 is_able (causes.Able wait) = true
 is_able _ = false
 
--- If the suspended call got what it waits for: the bound on the steps that this call can still take, plus the bound for all other suspended
--- calls, is at most the bound for the whole queue.
+-- Steps are bounded as follows, if the suspended call got what it waits for: the bound on the steps that this call can still take, plus the
+-- bound for all other suspended calls, is at most the bound for the whole queue.
 abbrev pub IsNearer : Cause → ℕ → List Entry → Type 0
 IsNearer (causes.Able wait) c old = queue_measure (without c old) + wait_measure wait ≤ queue_measure old
 IsNearer _ c old = ⊤

@@ -43,8 +43,8 @@ ShowsPort port config history channel_log log (Err fault) new text =
     IsFront text (port_line port (waiting_on channel_log port log)) × StandsBy new config history channel_log log
 
 -- On success, the lines of all ports were written, and the peers took the bytes that the lines show. If the writer failed: the lines of the
--- ports `shown` (perhaps none) were written, and the peers of these ports took the bytes; then a prefix of the lines of the ports `others`
--- was written, and the peers of those ports took nothing.
+-- ports `shown` (perhaps none) were written, and the peers of these ports took the bytes that the lines show; then a prefix of the lines of
+-- the ports `others` was written, and the peers of the ports `others` took nothing.
 abbrev pub ShowsAll : Config → List PlainEvent → List ChannelAct → List Act → Result ⊤ WriteFault → State → List ℕ → Type 0
 ShowsAll config history channel_log log (Ok all) new text = (text ≡ lines_of channel_log ports log) × (after : List ChannelAct)
     × (now : List Act)

@@ -1,4 +1,5 @@
--- In which state a private function leaves the server after it executed an event.
+-- The state in which a private function leaves the server, after the function applied an event or
+-- took a step.
 use Rattle.std.specs.Prelude.{◌≡◌, ℕ, ℤ, true, Bool, false, List, [], ◌∷◌, ◌++◌, Some, None, Result, Ok, Err, Option, ⊤}
 use Rattle.sv_errors.specs.Limits.{is_channel}
 use Rattle.sv_links.specs.declared.waiting.Entry.{Entry}
@@ -35,8 +36,8 @@ abbrev pub IsRefusal : Config → PlainEvent → List Act → Option Refused →
 IsRefusal config event log what = (channel_log : List ChannelAct) → HearsOf (device_acts log) channel_log
     → refusal config channel_log event log ≡ what
 
--- One of three: the event's own acts were added to the log, and the steps that are due after the event aren't taken yet; the event is
--- refused; or memory that the event needs was refused.
+-- One of three cases holds: the event's own acts were added to the log, and the steps that are due after the event aren't taken yet;
+-- the event is refused; or memory that the event needs was refused.
 abbrev pub Acts : Config → PlainEvent → List Act → Result Did Refused → State → Type 0
 Acts config event log (Ok what) new = IsRefusal config event log None × (what ≡ did event log)
     × ((polled : ℕ) → IsPolled polled (device_acts log) → Represents new config (own_acts config polled event log ++ log))
@@ -75,7 +76,8 @@ Refuses acts (Ok done) connection = (refuse_refusal acts ≡ None) × (bytes : L
     × IsConnection connection (Replied (refused_reply call) ∷ CallTaken bytes ∷ acts)
 Refuses acts (Err refused) connection = refuse_refusal acts ≡ Some refused
 
--- Either the event Input, which sets a channel's voltage, isn't refused. Or it is refused, and the result says why.
+-- Either the event Input, which sets a channel's voltage, isn't refused. Or this event is refused, and the result
+-- says why.
 abbrev pub IsInput : ℕ → ℤ → Result Did Refused → Type 0
 IsInput channel microvolts (Ok what) = (what ≡ DidSo) × (is_channel channel ≡ true) × (is_beyond microvolts ≡ false)
 IsInput channel microvolts (Err refused) = Some refused ≡ input_refusal channel microvolts
@@ -92,7 +94,8 @@ Steps Nothing config log new = IsSettled config log × Represents new config log
 Steps Instrument config log new = (next : List Act) × IsNext config log next × Represents new config next
 Steps Call config log new = (next : List Act) × IsNext config log next × Represents new config next
 
--- If the due steps that begin at the log `mid` can end in a log, the due steps that begin at `log` can end in that log as well.
+-- If the steps that are due after the log `mid` lead to a last log, after which no step is due, the steps that are due after
+-- `log` lead to the same last log.
 abbrev pub Reaches : Config → List Act → List Act → Type 0
 Reaches config log mid = (n : ℕ) (new : List Act) → SettlesIn n config mid new → (m : ℕ) × SettlesIn m config log new
 

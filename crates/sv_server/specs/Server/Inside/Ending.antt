@@ -30,8 +30,8 @@ use Rattle.sv_server.specs.Device.Inside.Outcome.{IsBrief, MayWait, MayWaitAnew,
 
 -- ---- how a call or a record ends
 
--- A call for which the code returns this `Outcome` has this effect. If the call reads the response, this reading is still to be done: the
--- device still has the whole response.
+-- A call for which the code returns this `Outcome` has this effect. If the call reads the response, the bytes aren't read yet: the device
+-- still has the whole response.
 abbrev pub CallEndsAs : Outcome → ℕ → Device → Config → List DeviceAct → Effect → Type 0
 CallEndsAs (outcomes.Result given) xid device config acts effect = (effect.own ≡ Replied (answer_bytes xid (Told given)) ∷ [])
     × IsDevice device config (effect.adds ++ acts)
@@ -48,7 +48,7 @@ EndsAs (executions.Aborts aborted) xid device config acts effect =
     (effect.own ≡ Replied (answer_bytes xid (Told aborted.result)) ∷ []) × IsDevice device config (effect.adds ++ acts)
 EndsAs (executions.Call outcome) xid device config acts effect = CallEndsAs outcome xid device config acts effect
 
--- If the code has an answer to the record, this answer's data fit in one reply.
+-- If the outcome of the record is an answer, the answer's data fit in one reply.
 abbrev pub IsBriefly : Executed → Type 0
 IsBriefly executions.NoCall = ⊤
 IsBriefly (executions.Answered answer) = IsShort answer
@@ -97,8 +97,8 @@ taken_up (causes.Able wait) config polled c call acts = resume_effect config pol
 taken_up (causes.Dialed ok) config polled c call acts = connect_effect c ok call
 taken_up (causes.Failed error) config polled c call acts = failure_effect error c call
 
--- The suspended call of connection `c` was resumed, with this effect. Now the call either has left the queue of suspended calls, or waits
--- again in the queue.
+-- The suspended call of connection `c` was resumed, with this effect. Now this call either has left the queue of suspended calls, or
+-- waits in the queue again.
 abbrev pub ConcludesResumed : Effect → ℕ → Option CoreCall → Config → List ConnAct → List DeviceAct → List Entry → Connection → Device
     → Type 0
 ConcludesResumed effect c call config acts before old connection device =
