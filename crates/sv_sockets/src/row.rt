@@ -129,8 +129,8 @@ fn send(stage: &mut Stage, name: char, text: &str) -> io::Result<()> {
     Ok(())
 }
 
-/// Executes a line that begins with the letter `name` of a peer and has a result. Prints the
-/// result.
+/// Executes a line that has a result, and prints the result. The line begins with `name`, the
+/// letter of a peer.
 fn show_of<W: Write + Drop>(
     stage: &mut Stage,
     name: char,

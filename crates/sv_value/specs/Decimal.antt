@@ -33,7 +33,7 @@ abbrev pub behind_fraction : List ℕ → List ℕ
 behind_fraction [] = []
 behind_fraction (b ∷ text) = if b == 46 then behind_digits text else b ∷ text
 
--- the text after a leading E and the white space that follows the E; empty if the text doesn't begin with an E
+-- the text that follows a leading E and the white space after this E; empty if the text doesn't begin with an E
 abbrev pub behind_letter : List ℕ → List ℕ
 behind_letter [] = []
 behind_letter (b ∷ text) = if b == 69 || b == 101 then trim_start text else []

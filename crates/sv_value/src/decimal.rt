@@ -112,8 +112,8 @@ fn exponent(text: &[u8]) -> (bool, &[u8], &[u8])
     }
 }
 
-/// Returns the text after a leading `E` and the white space around the `E`; empty if there is no
-/// `E`.
+/// Skips white space, an `E` and more white space, and returns the text after these; an empty text
+/// if there is no `E`.
 fn behind_mark(text: &[u8]) -> &[u8]
     ensures { result.now ≡ mark_behind text.now }
 {
