@@ -29,10 +29,7 @@ pub fn read_unit<A: Allocator>(
     ensures { (unit : List ℕ) → IsLexed lexed.entry unit
         → IsReadAs path.old unit result path.new }
 {
-    match lexed {
-        Ok(unit) => named(table, path, &unit),
-        Err(code) => Err(code),
-    }
+    named(table, path, &lexed?)
 }
 
 /// Reads a well-formed unit relative to `path`, and returns its order or the error. Updates `path`
@@ -41,13 +38,9 @@ fn named<A: Allocator>(table: &Table<A>, path: &mut Path, unit: &Unit<'_>) -> Re
     ensures { IsNamed path.old unit.now result path.new }
 {
     let header = unit.header();
-    match table.resolve(path, header.text) {
-        Ok(command) => {
-            path.follow(header.text);
-            asked(command, unit)
-        }
-        Err(code) => Err(code),
-    }
+    let command = table.resolve(path, header.text)?;
+    path.follow(header.text);
+    asked(command, unit)
 }
 
 /// Returns the order of a command, given the unit with its parameters; or the first error of the
@@ -55,13 +48,9 @@ fn named<A: Allocator>(table: &Table<A>, path: &mut Path, unit: &Unit<'_>) -> Re
 fn asked(command: CommandId, unit: &Unit<'_>) -> Result<Order, Code>
     ensures { result ≡ asked_by command unit.now }
 {
-    match unit.parameters() {
-        Ok(parameters) => {
-            if parameters.count() > command.most_parameters() {
-                return Err(Code::ParameterNotAllowed);
-            }
-            order(command, parameters.get(0))
-        }
-        Err(code) => Err(code),
+    let parameters = unit.parameters()?;
+    if parameters.count() > command.most_parameters() {
+        return Err(Code::ParameterNotAllowed);
     }
+    order(command, parameters.get(0))
 }

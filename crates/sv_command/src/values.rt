@@ -14,30 +14,21 @@ use sv_value::{channel_list, whole};
 pub(crate) fn mask(token: &Token<'_>) -> Result<u8, Code>
     ensures { result ≡ read_whole 0 255 token.now.kind token.now.text.now }
 {
-    match whole(token, 0, 255) {
-        Ok(mask) => Ok(mask as u8),
-        Err(code) => Err(code),
-    }
+    Ok(whole(token, 0, 255)? as u8)
 }
 
 /// Reads how many scans a measurement has.
 pub(crate) fn count(token: &Token<'_>) -> Result<u8, Code>
     ensures { result ≡ read_whole 1 most_scans token.now.kind token.now.text.now }
 {
-    match whole(token, 1, u16::from(MOST_SCANS)) {
-        Ok(scans) => Ok(scans as u8),
-        Err(code) => Err(code),
-    }
+    Ok(whole(token, 1, u16::from(MOST_SCANS))? as u8)
 }
 
 /// Reads the channels of a scan.
 pub(crate) fn list(token: &Token<'_>) -> Result<ScanList, Code>
     ensures { result ≡ read_channels token.now.kind token.now.text.now }
 {
-    match channel_list(token) {
-        Ok(channels) => Ok(ScanList::new(channels)),
-        Err(code) => Err(code),
-    }
+    Ok(ScanList::new(channel_list(token)?))
 }
 
 /// Reads the parameter, which is a channel list; returns `None` if there is no parameter.
@@ -45,10 +36,7 @@ pub(crate) fn list_if_given(given: Option<Token<'_>>) -> Result<Option<ScanList>
     ensures { result ≡ channels_in (given_by given.entry) }
 {
     match given {
-        Some(token) => match list(&token) {
-            Ok(channels) => Ok(Some(channels)),
-            Err(code) => Err(code),
-        },
+        Some(token) => Ok(Some(list(&token)?)),
         None => Ok(None),
     }
 }
@@ -57,10 +45,7 @@ pub(crate) fn list_if_given(given: Option<Token<'_>>) -> Result<Option<ScanList>
 pub(crate) fn monitor(token: &Token<'_>) -> Result<u8, Code>
     ensures { result ≡ only_channel (read_channels token.now.kind token.now.text.now) }
 {
-    match channel_list(token) {
-        Ok(channels) => only(channels.as_slice()),
-        Err(code) => Err(code),
-    }
+    only(channel_list(token)?.as_slice())
 }
 
 /// Returns the channel of a list that has to have exactly one channel; -223 if the list has more

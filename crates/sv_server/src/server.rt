@@ -323,13 +323,9 @@ impl<A: Allocator> Server<A> {
             → Acts config (Input channel microvolts) log result self.new }
         ensures err { OnErr result (self.new ≡ self.old) }
     {
-        match may_input(channel, microvolts) {
-            Ok(did) => {
-                self.device.input(channel, microvolts);
-                Ok(did)
-            }
-            Err(refused) => Err(refused),
-        }
+        let did = may_input(channel, microvolts)?;
+        self.device.input(channel, microvolts);
+        Ok(did)
     }
 
     /// Applies a trigger at the trigger input.
@@ -350,13 +346,12 @@ impl<A: Allocator> Server<A> {
     {
         let (conn, role) = self.open_connection(conn)?;
         let connection = &mut self.connections[conn.index()];
-        match turn(connection, &mut self.device, conn, role) {
-            Ok(Turned::Idle) => Ok(Did::Idle),
-            Ok(Turned::Done { aborts }) => {
+        match turn(connection, &mut self.device, conn, role)? {
+            Turned::Idle => Ok(Did::Idle),
+            Turned::Done { aborts } => {
                 self.abort(aborts);
                 Ok(Did::Done)
             }
-            Err(refused) => Err(refused),
         }
     }
 
@@ -369,10 +364,8 @@ impl<A: Allocator> Server<A> {
     {
         let (conn, role) = self.open_connection(conn)?;
         let connection = &mut self.connections[conn.index()];
-        match refuse(connection, role) {
-            Ok(()) => Ok(Did::Done),
-            Err(refused) => Err(refused),
-        }
+        refuse(connection, role)?;
+        Ok(Did::Done)
     }
 
     /// Ends the suspended call of connection `aborts`, because a device_abort aborts that call.

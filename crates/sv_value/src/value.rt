@@ -56,10 +56,7 @@ pub fn whole(token: &Token<'_>, low: u16, high: u16) -> Result<u16, Code>
         Kind::Base => based(token.text),
         Kind::Word | Kind::Expression | Kind::Other => Err(wrong(token.kind)),
     };
-    match amount {
-        Ok(amount) => amount.in_range(low, high),
-        Err(code) => Err(code),
-    }
+    amount?.in_range(low, high)
 }
 
 /// Reads a boolean: `ON` or `OFF` in upper or lower case; or a number of any size, rounded, where 0
@@ -80,10 +77,7 @@ pub fn boolean(token: &Token<'_>) -> Result<bool, Code>
         Kind::Word => return switch_of(token.text),
         Kind::Expression | Kind::Other => Err(wrong(token.kind)),
     };
-    match amount {
-        Ok(amount) => Ok(amount.is_some()),
-        Err(code) => Err(code),
-    }
+    Ok(amount?.is_some())
 }
 
 /// Reads a source of triggers: `IMMediate`, `BUS` or `EXTernal`, in short or long form, in upper or
@@ -129,10 +123,7 @@ fn voltage(text: &[u8]) -> Result<i64, Code>
     ensures range { IfOk result (λ voltage. unsigned_abs voltage ≤ 1000000000) }
 {
     let number = Decimal::of(text);
-    match Amount::of(&number, suffix::volts(number.suffix), Code::InvalidSuffix) {
-        Ok(amount) => amount.in_volts(),
-        Err(code) => Err(code),
-    }
+    Amount::of(&number, suffix::volts(number.suffix), Code::InvalidSuffix)?.in_volts()
 }
 
 /// Reads a decimal number without a unit.

@@ -57,10 +57,7 @@ impl<A: Allocator> Device<A> {
         ensures { (config : Config) (acts : List DeviceAct) → IsDevice self.now config acts
             → result ≡ owner_for lid acts }
     {
-        match lid {
-            Some(lid) => self.links.owner(lid),
-            None => None,
-        }
+        self.links.owner(lid?)
     }
 
     /// Whether the connection has a suspended call that names this link.
@@ -80,13 +77,10 @@ impl<A: Allocator> Device<A> {
         ensures { (config : Config) (acts : List DeviceAct) → IsDevice self.now config acts
             → result ≡ where_waiting_with (Some conn) lid acts }
     {
-        match lid {
-            Some(lid) => if self.waits_with(conn, lid) {
-                Some(conn)
-            } else {
-                None
-            },
-            None => None,
+        if self.waits_with(conn, lid?) {
+            Some(conn)
+        } else {
+            None
         }
     }
 
@@ -96,10 +90,7 @@ impl<A: Allocator> Device<A> {
         ensures { (config : Config) (acts : List DeviceAct) → IsDevice self.now config acts
             → result ≡ where_waiting_with (owner_for lid acts) lid acts }
     {
-        match self.owner_of(lid) {
-            Some(conn) => self.if_waiting(conn, lid),
-            None => None,
-        }
+        self.if_waiting(self.owner_of(lid)?, lid)
     }
 
     /// The result of a device_abort that names this link.

@@ -51,16 +51,14 @@ fn lock_stop(call: &LinkCall<'_>) -> Option<Stop>
     ensures { option_map plain_stop result
         ≡ option_map lock_stop_for (lock_wait (plain_call call.now)) }
 {
-    match call.lock_wait() {
-        Some(wait) => if wait.waits {
-            Some(Stop::Awaits {
-                wait: Wait::Lock,
-                timeout: Some(wait.timeout),
-            })
-        } else {
-            Some(Stop::Fails(ErrorCode::Locked))
-        },
-        None => None,
+    let wait = call.lock_wait()?;
+    if wait.waits {
+        Some(Stop::Awaits {
+            wait: Wait::Lock,
+            timeout: Some(wait.timeout),
+        })
+    } else {
+        Some(Stop::Fails(ErrorCode::Locked))
     }
 }
 
@@ -186,13 +184,11 @@ impl<A: Allocator> Device<A> {
             (Some wait.1))
             (device_wait (plain_call call.now) acts) }
     {
-        match self.device_wait(call) {
-            Some((wait, timeout)) => Some(Stop::Awaits {
-                wait,
-                timeout: Some(timeout),
-            }),
-            None => None,
-        }
+        let (wait, timeout) = self.device_wait(call)?;
+        Some(Stop::Awaits {
+            wait,
+            timeout: Some(timeout),
+        })
     }
 
     /// What stops a call on a link; `None` if nothing does. The first of these that applies stops
@@ -245,10 +241,7 @@ impl<A: Allocator> Device<A> {
         ensures { (config : Configured) (acts : List DeviceAct) → IsDevice self.now config acts
             → result ≡ deadline_for config timeout acts }
     {
-        match timeout {
-            Some(milliseconds) => Some(self.clock() + u64::from(milliseconds)),
-            None => None,
-        }
+        Some(self.clock() + u64::from(timeout?))
     }
 
     /// If the call is create_link and one more link may be made, allocates the memory for the link.

@@ -14,10 +14,7 @@ use sv_vxi::{Flags, LinkCall};
 pub fn lid_of(named: Option<i32>) -> Option<u32>
     ensures { result ≡ lid_for named }
 {
-    match named {
-        Some(lid) => u32::try_from(lid).ok(),
-        None => None,
-    }
+    u32::try_from(named?).ok()
 }
 
 /// Whether the call is a write of more bytes than a write may have.

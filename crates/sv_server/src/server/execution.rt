@@ -65,10 +65,7 @@ pub fn execute<A: Allocator>(
     match *request {
         Request::NoCall => Ok(Executed::NoCall),
         Request::Decided { reply, .. } => Ok(Executed::Answered(Answer::Header(reply))),
-        Request::Core(call) => match device.admit(conn, &call.args) {
-            Ok(outcome) => Ok(Executed::Call(outcome)),
-            Err(error) => Err(error),
-        },
+        Request::Core(call) => Ok(Executed::Call(device.admit(conn, &call.args)?)),
         Request::Abort { lid, .. } => Ok(Executed::Aborts(device.abort(lid))),
         Request::Port { args, .. } => Ok(Executed::Answered(port_answer(device.ports(), args))),
     }

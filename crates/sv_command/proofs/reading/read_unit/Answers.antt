@@ -2,9 +2,9 @@ use Rattle.std.proofs.Common.{List, ℕ, inr, subst}
 use Rattle.sv_command.specs.Unit.{IsNamed}
 use Rattle.sv_command.proofs.reading.read_unit.Goals as goal
 
-pub returns-in-Ok : goal.returns-in-Ok
-returns-in-Ok g c = λ unit told.
-    let read = rw c.in-Ok.is at told in
+pub returns : goal.returns
+returns g c = λ unit told.
+    let read = rw c.in_ok-lexed.was at told in
     inr (
       read.1,
       subst (λ (bytes : List ℕ). IsNamed c.args.path.now bytes c.named.result c.named.new.path) read.0 c.named.ensures,

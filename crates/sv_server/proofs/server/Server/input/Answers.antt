@@ -1,5 +1,6 @@
 use Rattle.std.proofs.Common.{rules, ◌≡◌, ℤ, w64, to_z, of_z, false, refl, subst, [], ◌∷◌}
 use Rattle.std.proofs.lemmas.Int.{to_z-of_z}
+use Rattle.std.proofs.lemmas.Result.{err_from_is_err_and}
 use Rattle.sv_scan.specs.declared.acts.ScanAct.TheVariants.{Input}
 use Rattle.sv_layers.specs.Act.{Scanned}
 use Rattle.sv_history.specs.History.{is_beyond}
@@ -11,10 +12,10 @@ use Rattle.sv_server.specs.Server.Inside.Acting.{IsInput}
 use Rattle.sv_server.proofs.OnServer.Refusals.{input_refused}
 use Rattle.sv_server.proofs.server.Server.input.Goals as goal
 
-pub returns-in-Ok-clause-acts : goal.returns-in-Ok-clause-acts
-returns-in-Ok-clause-acts g c = λ config log rep.
+pub returns-clause-acts : goal.returns-clause-acts
+returns-clause-acts g c = λ config log rep.
     let state = rw (← c.self.view_is) at rep in
-    let known = c.in-Ok.ensures in
+    let known = c.in_ok-did.ensures in
     let same : to_z w64 (of_z w64 c.args.microvolts) ≡ c.args.microvolts = to_z-of_z w64 c.args.microvolts c.ranges.microvolts in
     let all : IsDevice c.input.new.self config (Applied (Scanned (Input c.args.channel c.args.microvolts)) ∷ device_acts log) =
     subst (λ (m : ℤ). IsDevice c.input.new.self config (Applied (Scanned (Input c.args.channel m)) ∷ device_acts log)) same
@@ -25,8 +26,9 @@ returns-in-Ok-clause-acts g c = λ config log rep.
       λ polled said. shared_acts _ config log c.input.new.self (_ ∷ []) state all c.input.ensures.waiting,
     )
 
-pub returns-in-Err-clause-acts : goal.returns-in-Err-clause-acts
-returns-in-Err-clause-acts g c = λ config log rep.
+pub returns-in_err-did-clause-acts : goal.returns-in_err-did-clause-acts
+returns-in_err-did-clause-acts g c = λ config log rep.
     let same : to_z w64 (of_z w64 c.args.microvolts) ≡ c.args.microvolts = to_z-of_z w64 c.args.microvolts c.ranges.microvolts in
-    input_refused config c.args.channel c.args.microvolts log c.in-Err.refused _
-    (subst (λ (m : ℤ). IsInput c.args.channel m (Err c.in-Err.refused)) same c.in-Err.ensures)
+    let told = err_from_is_err_and c.from_residual.result c.from_residual.ensures.1 in
+    rw (told.1, told.2) (input_refused config c.args.channel c.args.microvolts log c.in_err-did.field-0.0 _
+    (subst (λ (m : ℤ). IsInput c.args.channel m (Err c.in_err-did.field-0.0)) same c.in_err-did.ensures))

@@ -1,5 +1,6 @@
 use Rattle.std.proofs.Common.{rules, ◌≡◌, [], ◌∷◌, refl, sym, ap, inl}
 use Rattle.std.specs.Prelude.{List, ℕ, Some}
+use Rattle.std.proofs.lemmas.Result.{err_from_is_err_and}
 use Rattle.sv_vxi.specs.Results.{Outcome, plain_result}
 use Rattle.sv_history.specs.CoreCall.{lid_of}
 use Rattle.sv_history.specs.AbortChannel.{owner_of, if_waiting, abort_result}
@@ -25,23 +26,25 @@ returns-in-Decided g c = record {
   err = tt;
 }
 
-pub returns-in-Ok : goal.returns-in-Ok
-returns-in-Ok g c = let call = plain_core_call c.in-Core.call in record {
+pub returns-in_ok-admit-in-Core : goal.returns-in_ok-admit-in-Core
+returns-in_ok-admit-in-Core g c = let call = plain_core_call c.in-Core.call in record {
   does = λ config polled acts known. rw c.in-Core.is
-      (let so = c.in-Ok.ensures.does config polled acts known tt in
+      (let so = c.in_ok-admit-in-Core.ensures.does config polled acts known tt in
       (outcome_ends _ call.xid _ config acts _ so.0, holds_as _ c.args.conn.number call _ _ so.1, refl));
   lacks = λ config polled acts known. tt;
-  brief = c.in-Ok.ensures.brief;
+  brief = c.in_ok-admit-in-Core.ensures.brief;
   err = tt;
 }
 
-pub returns-in-Err : goal.returns-in-Err
-returns-in-Err g c = record {
+pub returns-in_err-admit-in-Core : goal.returns-in_err-admit-in-Core
+returns-in_err-admit-in-Core g c =
+    let told = err_from_is_err_and c.from_residual.result c.from_residual.ensures.1 in
+    rw told.1 (record {
   does = λ config polled acts known. tt;
-  lacks = λ config polled acts known. rw c.in-Core.is (c.in-Err.ensures.lacks config polled acts known tt);
+  lacks = λ config polled acts known. rw c.in-Core.is (c.in_err-admit-in-Core.ensures.lacks config polled acts known tt);
   brief = tt;
-  err = c.in-Err.ensures.err;
-}
+  err = c.in_err-admit-in-Core.ensures.err;
+})
 
 pub returns-in-Abort : goal.returns-in-Abort
 returns-in-Abort g c = record {
