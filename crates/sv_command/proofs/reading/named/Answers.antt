@@ -1,4 +1,4 @@
-use Rattle.std.proofs.Common.{rules, ap, inl, inr, refl, ◌∙◌}
+use Rattle.std.proofs.Common.{ap, inr, refl, ◌∙◌}
 use Rattle.std.specs.Prelude.{Err}
 use Rattle.std.proofs.lemmas.Result.{err_from_is_err_and}
 use Rattle.sv_command.proofs.reading.named.Goals as goal

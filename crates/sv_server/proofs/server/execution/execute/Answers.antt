@@ -40,11 +40,11 @@ pub returns-in_err-admit-in-Core : goal.returns-in_err-admit-in-Core
 returns-in_err-admit-in-Core g c =
     let told = err_from_is_err_and c.from_residual.result c.from_residual.ensures.1 in
     rw told.1 (record {
-  does = λ config polled acts known. tt;
-  lacks = λ config polled acts known. rw c.in-Core.is (c.in_err-admit-in-Core.ensures.lacks config polled acts known tt);
-  brief = tt;
-  err = c.in_err-admit-in-Core.ensures.err;
-})
+      does = λ config polled acts known. tt;
+      lacks = λ config polled acts known. rw c.in-Core.is (c.in_err-admit-in-Core.ensures.lacks config polled acts known tt);
+      brief = tt;
+      err = c.in_err-admit-in-Core.ensures.err;
+    })
 
 pub returns-in-Abort : goal.returns-in-Abort
 returns-in-Abort g c = record {
