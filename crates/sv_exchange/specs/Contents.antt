@@ -105,8 +105,8 @@ abbrev pub bit : Bool → ℕ
 bit true = 1
 bit false = 0
 
--- how much text is stored: the number of bytes of the current message. If this message has ended (`true`), add 1 for its end, the number of
--- bytes after it, and 1 if END follows these bytes.
+-- how much text is left: the number of bytes of the current message that weren't executed yet. If this message has ended (`true`), add 1
+-- for its end, the number of bytes after it, and 1 if END follows these bytes.
 abbrev pub text_size : Bool → ℕ → ℕ → Bool → ℕ
 text_size true rest later end_pending = rest + (1 + (later + bit end_pending))
 text_size false rest later end_pending = rest

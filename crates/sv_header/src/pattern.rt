@@ -1,4 +1,4 @@
-//! The nodes of header patterns, in the standard's notation.
+//! A node of a header pattern, and which mnemonics fit the node.
 
 ghost use Rattle.std.specs.Prelude.{◌↔◌, IsTrue};
 ghost use Rattle.sv_header.specs.Pattern.{IsForm};

@@ -41,7 +41,7 @@ device_wait (DeviceRead request_size timeout lock_timeout flags term_char) acts 
 device_wait _ acts = None
 
 -- What stops a call on a link, by the first of these that applies: the connection doesn't own the link; the call is a write that is too
--- long; another link holds the lock; the call has to wait for the device.
+-- long; another link holds the lock that the call needs; the call has to wait for the device.
 abbrev pub call_stop : ℕ → Option ℕ → LinkCall → List DeviceAct → Option Stop
 call_stop c lid call acts =
     if not (owns c lid acts) then Some (Fails InvalidLink)

@@ -103,8 +103,8 @@ next_call acts = if took_no_call acts || is_busy acts then None else slice_get (
 abbrev pub is_idle : List ConnAct → Bool
 is_idle acts = is_none (next_call acts)
 
--- whether the record at the end of the stream is too long. If so, the server stores no byte that comes after this
--- record.
+-- whether the record at the end of the stream is too long. If so, the server stores no more bytes of this
+-- connection.
 abbrev pub is_overlong : List ConnAct → Bool
 is_overlong acts = ends_overlong (tail_of (stream acts))
 

@@ -57,8 +57,9 @@ device_write flags bytes acts =
 abbrev pub term_of : ℕ → ℕ → Option ℕ
 term_of flags term_char = if bit_at flags 7 == 1 then Some (term_char % 256) else None
 
--- the result of a device_read of this response. It has the first bytes of the response, up to the requested number of bytes or to
--- the termination character, whichever comes first. It also has each reason for which the read ends after these bytes.
+-- the result of a device_read of this response. It has the first bytes of the response, up to the requested number of bytes,
+-- 8,192 bytes or the termination character, whichever comes first. It also has each of the three reasons that applies; none
+-- applies if only the 8,192 bytes ended the read.
 abbrev pub read_of : List ℕ → ℕ → Option ℕ → Outcome
 read_of bytes most term =
     let count = read_count bytes most term in
@@ -97,8 +98,8 @@ link_call polled c lid DestroyLink acts = answer_with (Linked (Destroyed lid) �
 link_call polled c lid call acts = only (failure (OnLink (pos lid) call) NotSupported)
 
 -- What any call of the core channel does. A call that names a negative link number fails, because no link has such a number. The
--- error 8 for create_intr_chan is never sent: `Admission` stops each create_intr_chan first; if the call is suspended,
--- `connect_outcome` (in `Interrupts`) is its later outcome.
+-- error 8 that create_intr_chan would get here is never sent: `Admission` stops each create_intr_chan first; if the call is
+-- suspended, `connect_outcome` (in `Interrupts`) is its later outcome.
 abbrev pub own_call : Config → ℕ → ℕ → Arguments → List DeviceAct → CallOutcome
 own_call config polled c (CreateLink client_id lock_device lock_timeout device) acts = make_link config c lock_device acts
 own_call config polled c (OnLink (pos lid) call) acts = link_call polled c lid call acts

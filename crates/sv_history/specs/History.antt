@@ -43,8 +43,8 @@ abbrev pub taken_acts : ℕ → List ℕ → Effect → Option ℕ → List Act 
 taken_acts c bytes effect aborts log =
     let acts = acts_of c effect ++ On c (CallTaken bytes) ∷ [] in abort_acts aborts (acts ++ log) ++ acts
 
--- the acts of a Turn event: the acts of taking the connection's next call; none if there is no call
--- to take
+-- the acts of a Turn event: all acts of the connection's next call (`taken_acts`); none if there is
+-- no call to take
 abbrev pub turn_acts : Config → ℕ → ℕ → Option (List ℕ) → Option Request → List Act → List Act
 turn_acts config polled c (Some bytes) (Some request) log =
     taken_acts c bytes (request_effect config polled c request (device_acts log)) (aborts request (device_acts log)) log

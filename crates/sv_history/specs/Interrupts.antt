@@ -48,8 +48,8 @@ dial_by (CreateIntrChan host_addr host_port prog_num prog_vers prog_family) =
     if nat_lt host_port 65536 then Some (record { addr = host_addr; port = host_port }) else None
 dial_by _ = None
 
--- the address and the port that a call names; `None` if there is no call, or if the call names no
--- address and port
+-- the address and the port that a call names; `None` if there is no call, or if `dial_by` finds
+-- none in it
 abbrev pub dial_in : Option CoreCall → Option Dial
 dial_in (Some call) = dial_by call.arguments
 dial_in None = None

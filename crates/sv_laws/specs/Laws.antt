@@ -67,8 +67,8 @@ abbrev pub one_if : Bool → ℕ
 one_if true = 1
 one_if false = 0
 
--- Two numbers are equal. One counts the records that were taken on a connection. The other counts the records that were answered or
--- turned out not to be calls, plus one if a call of the connection is suspended.
+-- Two numbers are equal, both counted since the connection opened. One counts the records that were taken on the connection. The
+-- other counts the records that were answered or turned out not to be calls, plus one if a call of the connection is suspended.
 abbrev pub IsPaid : ℕ → List Act → Type 0
 IsPaid c log = calls_taken (of c log) ≡ records_ended (of c log) + one_if (is_some (waits c (wait_acts (device_acts log))))
 

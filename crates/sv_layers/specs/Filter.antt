@@ -23,17 +23,18 @@ start = elim [ Limit ↦ 32767 | _ ↦ 0 ]
 abbrev pub mask_for : RegisterName → RegisterName → ℕ → Option ℕ
 mask_for name other mask = if is_same name other then Some (without_top_bit mask) else None
 
--- the positive transition filter of a register: the mask that was set last; 32767 at power on and
--- after a preset
+-- the positive transition filter of a register: the mask that was set last, without bit 15; 32767
+-- at power on and after a preset
 abbrev pub rise : RegisterName → List Act → ℕ
 rise name = last_given (elim [ RiseSet other mask ↦ mask_for name other mask | Preset ↦ Some 32767 | _ ↦ None ]) 32767
 
--- the negative transition filter of a register: the mask that was set last; 0 at power on and after
--- a preset
+-- the negative transition filter of a register: the mask that was set last, without bit 15; 0 at
+-- power on and after a preset
 abbrev pub fall : RegisterName → List Act → ℕ
 fall name = last_given (elim [ FallSet other mask ↦ mask_for name other mask | Preset ↦ Some 0 | _ ↦ None ]) 0
 
--- the enable mask of a register: the mask that was set last; `start` at power on and after a preset
+-- the enable mask of a register: the mask that was set last, without bit 15; `start` at power on
+-- and after a preset
 abbrev pub enable : RegisterName → List Act → ℕ
 enable name = last_given (elim [ Enabled other mask ↦ mask_for name other mask | Preset ↦ Some (start name) | _ ↦ None ]) (start name)
 

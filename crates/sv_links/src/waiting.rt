@@ -19,7 +19,7 @@ pub enum Wait {
     Input,
     /// The call waits until the device answers a read.
     Response,
-    /// The call waits until the server's attempt to connect to the interrupt channel's peer has
+    /// The call waits until the driver's attempt to connect to the interrupt channel's peer has
     /// ended.
     Dial,
 }

@@ -1,4 +1,4 @@
-//! The sockets of a server, each under a fixed number, and the methods that read and write them.
+//! The sockets of a server, each port's under a fixed number, and the methods of a wire over them.
 
 ghost use Rattle.std.specs.Prelude.{◌≡◌, ◌<◌, ◌≤◌, Some, None, OnErr, IfOk, length, replicate, slice_set};
 ghost use Rattle.sv_serve.specs.Heard.{IsWithin, bytes_of};

@@ -48,7 +48,7 @@ pub fn serve<N: Network + Drop, A: Allocator, S: Stream>(
     run(&mut machine, driver, sweeps)
 }
 
-/// Makes `sweeps` sweeps. `machine` tells the time, and waits between the sweeps.
+/// Makes `sweeps` sweeps. `machine` tells the time, and waits after each sweep.
 fn run<M: Machine<S>, N: Network + Drop, A: Allocator, S: Stream>(
     machine: &mut M,
     driver: &mut Driver<Net<N, A, S>, A>,
@@ -63,7 +63,7 @@ fn run<M: Machine<S>, N: Network + Drop, A: Allocator, S: Stream>(
     let mut now = 0;
     for made in 0..sweeps {
         sweep(machine, driver, pace.ticks(now));
-        now = pause(machine, driver, &mut pace, now, sweeps - made)?;
+        now = pause(machine, driver, &mut pace, now, sweeps - 1 - made)?;
     }
     Ok(())
 }

@@ -7,7 +7,7 @@ use sv_server::{Dial, Port, Role};
 #[derive(Drop)]
 pub enum Call {
     /// An accept: whether a connection of this role was accepted, under the number `conn`. If
-    /// `conn` is `None`, an accepted connection was dropped.
+    /// `conn` is `None`, an accepted connection is dropped at once.
     Accept {
         role: Role,
         conn: Option<u8>,

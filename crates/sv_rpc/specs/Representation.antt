@@ -29,8 +29,9 @@ abbrev pub spare_of : List ℕ → ℕ
 spare_of [] = 4
 spare_of (b ∷ payload) = 0
 
--- `n` more bytes fit into a record buffer that holds these records and this tail. After a record
--- that is too long, any number of bytes fits, because they are ignored.
+-- `n` more bytes fit into a record buffer that holds these records and this tail. If a record
+-- turned out to be too long, the rest of the pushed bytes fits, whatever its length, because it is
+-- ignored; from then on the room is 0.
 abbrev pub Fits : List (List ℕ) → Tail → ℕ → Type 0
 Fits records (Header payload header) n = used_by records (Header payload header) + n ≤ capacity + spare_of payload
 Fits records (Data payload missing last) n = used_by records (Data payload missing last) + n ≤ capacity

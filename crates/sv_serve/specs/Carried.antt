@@ -62,7 +62,7 @@ since port bytes [] = []
 since port bytes (heard ∷ trace) = if begins port heard then [] else since port bytes trace ++ bytes heard
 
 -- whether an answer of the wire ends a port: a read or write of the port failed, or the port's peer is gone. An interrupt channel also ends
--- if its peer can't be reached, or if its connection was closed.
+-- if a peer that was dialed before can't be reached, or if its connection was closed.
 abbrev pub ends_port : Port → Heard → Bool
 ends_port (Conn c) (WasRead d most Failed) = d == c
 ends_port (Conn c) (WasProbed d drops Failed) = d == c

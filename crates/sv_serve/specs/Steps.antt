@@ -98,8 +98,8 @@ ProbesIf hears c true config before after = (drops : Bool) × (answer : Answer �
 abbrev pub Probes : {W : Type 0} → (W → Heard → W → Type 0) → ℕ → Config → DriverView W → DriverView W → Type 0
 Probes hears c config before after = (opened : Bool) × IsOpen (Conn c) config before opened × ProbesIf hears c opened config before after
 
--- If a connection has room for at least one byte, it is read: at most `room` bytes, and at most 16,384 bytes. If `room` is 0, the driver
--- only asks the wire whether the peer is gone.
+-- If a connection has room for at least one byte, it is read: at most `room` bytes, and at most 16,384 bytes. If `room` is 0, the
+-- connection isn't read; if it is open, the driver asks the wire whether its peer is gone (`Probes`).
 abbrev pub ReadsUpTo : {W : Type 0} → (W → Heard → W → Type 0) → ℕ → ℕ → Config → DriverView W → DriverView W → Type 0
 ReadsUpTo hears room c config before after = ((room ≡ 0) × Probes hears c config before after)
     ⊎ ((0 < room) × (answer : Answer (List ℕ)) × IsPiece answer (min room longest_piece)
@@ -124,7 +124,7 @@ abbrev pub TurnsIf : {W : Type 0} → ℕ → Bool → Config → DriverView W �
 TurnsIf c false config before after = after ≡ before
 TurnsIf c true config before after = (result : Result Did Refused) × (Given (Turn c) result then EndsTurn c result) config before after
 
--- If there is a call to take on a connection, a Turn takes it.
+-- If there is a call to take on a connection, the server is given a Turn of this connection.
 abbrev pub Turns : {W : Type 0} → ℕ → Config → DriverView W → DriverView W → Type 0
 Turns c config before after = (ready : Bool) × IsReady c config before ready × TurnsIf c ready config before after
 
@@ -181,9 +181,9 @@ abbrev pub Calls : {W : Type 0} → (W → Heard → W → Type 0) → ℕ → C
 Calls hears c config before after =
     (wanted : Option Dial) × Wants c config before wanted × CallsFor hears c wanted (called_of c before) config before after
 
--- If a peer was dialed to which the interrupt channel needn't be connected any more, this peer's socket is closed. Then the peer to
--- which the channel has to be connected is dialed; if it was dialed already, the driver asks the wire whether this peer has
--- answered.
+-- If a peer was dialed, its socket is closed, unless the interrupt channel is open or still has to be connected to this peer. Then,
+-- if the channel has to be connected: its peer is dialed; or, if it was dialed already, the driver asks the wire whether this peer
+-- has answered.
 abbrev pub Dials : {W : Type 0} → (W → Heard → W → Type 0) → ℕ → Config → DriverView W → DriverView W → Type 0
 Dials hears c = LetsGo hears c then Calls hears c
 

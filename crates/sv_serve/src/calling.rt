@@ -24,9 +24,9 @@ fn is_wanted(called: Dial, wanted: Option<Dial>) -> bool
 }
 
 impl<W: Wire + Drop, A: Allocator> Driver<W, A> {
-    /// For each connection: if a peer was dialed to which the interrupt channel needn't be
-    /// connected any more, closes this peer's socket. Then dials the peer to which the channel has
-    /// to be connected; if it was dialed already, asks the wire whether this peer has answered.
+    /// For each connection: if a peer was dialed, closes its socket, unless the interrupt channel
+    /// is open or still has to be connected to this peer. Then, if the channel has to be connected,
+    /// dials its peer; if it was dialed already, asks the wire whether this peer has answered.
     pub(crate) fn dial_each(&mut self)
         ensures { Steps (ForEach 16 (Dials W.hears)) self.old self.new }
     {
@@ -38,9 +38,10 @@ impl<W: Wire + Drop, A: Allocator> Driver<W, A> {
         }
     }
 
-    /// If a peer was dialed to which a connection's interrupt channel needn't be connected any
-    /// more, closes this peer's socket. Then dials the peer to which the channel has to be
-    /// connected; if it was dialed already, asks the wire whether this peer has answered.
+    /// If a peer was dialed for a connection's interrupt channel, closes its socket, unless the
+    /// channel is open or still has to be connected to this peer. Then, if the channel has to be
+    /// connected, dials its peer; if it was dialed already, asks the wire whether this peer has
+    /// answered.
     fn dial(&mut self, conn: u8)
         requires { conn < 16 }
         ensures { Steps (Dials W.hears conn) self.old self.new }

@@ -181,8 +181,7 @@ impl<A: Allocator> Connection<A> {
         }
     }
 
-    /// Whether a record that is too long came. The connection stores no bytes that come after that
-    /// record.
+    /// Whether a record that is too long came. If so, the connection stores no more bytes.
     pub fn is_overlong(&self) -> bool
         ensures { (acts : List ConnAct) → IsConnection self.now acts → result ≡ is_overlong acts }
     {

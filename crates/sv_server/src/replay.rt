@@ -1,6 +1,6 @@
 //! The replay of an event: applies the event, prints the bytes that then wait to be sent, and
-//! treats these bytes as taken by the peers. The replay uses only the public functions of the
-//! server.
+//! treats these bytes as taken by the peers. Of the server, the replay uses queries, `apply`, and
+//! the function that takes bytes from a port.
 
 ghost use Rattle.std.specs.Prelude.{◌≡◌, ℕ, List};
 ghost use Rattle.std.specs.Io.KnownBytes.{Appends};

@@ -290,8 +290,8 @@ impl<A: Allocator> Server<A> {
         Ok(Did::Done)
     }
 
-    /// Closes a connection: destroys its links, closes its interrupt channel, and drops the
-    /// connection's suspended call and outgoing bytes.
+    /// Closes a connection: destroys its links, closes its interrupt channel, and drops its
+    /// suspended call and the bytes that came or wait to be sent.
     fn close(&mut self, conn: u8) -> Result<Did, Refused>
         ensures acts { (config : Config) (log : List Act) → Represents self.old config log
             → Acts config (Close (Port.Conn conn)) log result self.new }

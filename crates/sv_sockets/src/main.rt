@@ -15,7 +15,7 @@
 //! | `a core` | the peer connects to the core channel; `abort` and `portmap` are the other ports |
 //! | `a < 8000..` | the peer sends these bytes, which may have blanks between them |
 //! | `a > N` | waits until N bytes have come to the peer, and prints them |
-//! | `a before b` | prints whether peer a gets its first bytes no later than peer b |
+//! | `a before b` | prints whether peer a gets its next bytes no later than peer b |
 //! | `a ends` | prints whether the peer's stream ends |
 //! | `a silent` | prints whether for a while nothing comes to the peer, not even an end |
 //! | `a closes` | the peer closes its stream |

@@ -4,7 +4,8 @@ use crate::stage::{Stage, bad};
 use std::alloc::Global;
 use std::io;
 
-/// The sockets count as full after this many successive tries that sent no byte.
+/// The sockets count as full after this many successive tries that sent no byte while bytes waited
+/// in the server.
 const STILL: u32 = 20;
 /// The most tries to send that one `pours` line makes.
 const TRIES: u32 = 100_000;

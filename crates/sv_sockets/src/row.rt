@@ -149,7 +149,7 @@ fn show_of<W: Write + Drop>(
     writeln!(writer, "{name} {verb}: {}", word(so))
 }
 
-/// Prints whether the peer `first` gets its first bytes no later than the peer `second`.
+/// Prints whether the peer `first` gets its next bytes no later than the peer `second`.
 fn compare<W: Write + Drop>(
     stage: &mut Stage,
     (first, second): (char, char),

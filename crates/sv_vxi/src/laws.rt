@@ -10,8 +10,8 @@ pub fn read_as_spelled()
 
 /// For each procedure, no encoding of its arguments is a proper prefix of another encoding of its
 /// arguments. For each form of result, no encoding of a result is a proper prefix of another. So if
-/// the same bytes can be split in two ways into such an encoding and a rest, both encodings are
-/// equal, and so are both rests.
+/// the same bytes can be split in two ways into an encoding for one procedure (or of one form of
+/// result) and a rest, both encodings are equal, and so are both rests.
 pub fn prefix_free()
     ensures arguments { ArgumentsPrefixFree }
     ensures results { ResultsPrefixFree }

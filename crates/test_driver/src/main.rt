@@ -28,12 +28,13 @@
 //! A row that has `pace` below its title asks what the loop of sweeps decides. Times are in
 //! nanoseconds since the loop began. `ticks NOW` prints how many milliseconds pass in a sweep that
 //! begins at NOW. `sleep_time NOW TICKS` prints for how many nanoseconds the loop may sleep at NOW,
-//! if it has nothing to do for TICKS milliseconds. `eager NOW` prints whether the loop polls again
-//! without sleeping. Three lines print nothing, but tell the loop what happened: `work NOW`, that a
-//! poll at NOW reported a ready socket; `found N`, that a wait of N polls ended with a report;
-//! `nothing N`, that a wait of N polls ended without a report. `vain N` makes N runs of polls that
-//! find nothing. Each run begins as soon as the loop may poll without sleeping, and the row prints
-//! how many times the loop sleeps before the run.
+//! if it has nothing to do until TICKS milliseconds after the start of the last sweep's
+//! millisecond. `eager NOW` prints whether the loop polls again without sleeping. Three lines print
+//! nothing, but tell the loop what happened: `work NOW`, that a poll at NOW reported a ready
+//! socket; `found N`, that a wait of N polls ended with a report; `nothing N`, that a wait of N
+//! polls ended without a report. `vain N` makes N runs of polls that find nothing. Each run begins
+//! as soon as the loop may poll without sleeping, and the row prints how many times the loop sleeps
+//! before the run.
 //!
 //! Each call that the driver makes to the wire is printed as a line: `core 0` accepts a connection
 //! as number 0, and `core -` accepts one that is dropped; `read 0`; `probe 0`, with ` drops` if

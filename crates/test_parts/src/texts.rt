@@ -1,4 +1,5 @@
-//! Cuts texts at white space and separators, and headers into their parts, and prints the pieces.
+//! Trims texts, cuts texts at a separator and headers into their parts, and prints the results.
+//! Also prints which bytes are white space.
 
 use crate::line::{Fault, cut, put, put_text};
 use bstr::ByteVec;

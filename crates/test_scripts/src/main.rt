@@ -28,8 +28,8 @@
 //!   replay prints if that connection is closed after the first n lines;
 //! - `! memory`, `! memory, output takes N`: a script, played again and again: first the first
 //!   allocation of its replay is refused, then the second, and so on; prints each outcome that
-//!   differs from the outcome before it, `again` where an outcome repeats, and after `all` the
-//!   outcome without a refusal;
+//!   differs from the outcome before it, `again` once where an outcome comes several times in
+//!   succession, and after `all` the outcome without a refusal;
 //! - `! growth`: a script on a server, played again and again: first the server's first allocation
 //!   is refused, then its second, and so on; the event that finds no memory is tried again; prints
 //!   each outcome as for `! memory`, with `no server` if a server had to be made again, `changed`
@@ -90,8 +90,8 @@ fn replay<W: Write + Drop>(alloc: Global, text: &str, writer: &mut BufWriter<W>)
     }
 }
 
-/// Plays a row that begins with a line `! KIND`; `text` is the row without this line. Prints the
-/// results.
+/// Plays a row whose text begins with a line `! KIND`; `text` is the rest of the row's text. Prints
+/// the results.
 fn play<W: Write + Drop>(
     alloc: Global,
     kind: &str,

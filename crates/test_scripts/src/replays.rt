@@ -12,7 +12,8 @@ use sv_replay::{RunFault, run_replay};
 /// In a `! reads` row, one run of the replay reads from its input fewer times than this.
 const MOST_READS: u64 = 1_000;
 
-/// How the reader and the writer of a replay behave, as these words of the row's first line say.
+/// How the reader and the writer of a replay behave, as these words say. The words stand after `! `
+/// in the first line of the row's text.
 fn manner_of(words: &str) -> io::Result<Manner> {
     let ample = Manner::ample();
     if let Some(count) = words.strip_prefix("output takes ") {

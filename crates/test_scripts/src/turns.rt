@@ -11,7 +11,8 @@ const MOST: u64 = 1000;
 
 /// Calls `make` again and again: first its first allocation is refused, then its second, and so on;
 /// at last no allocation is refused. Prints each outcome that differs from the outcome before it,
-/// `again` where an outcome repeats, and after `all` the outcome without a refusal.
+/// `again` once where an outcome comes several times in succession, and after `all` the outcome
+/// without a refusal.
 pub(crate) fn each<W: Write + Drop, F: Fn(&FailingAllocator<Global>) -> io::Result<String>>(
     alloc: Global,
     make: F,

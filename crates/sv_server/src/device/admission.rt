@@ -1,5 +1,5 @@
 //! What is checked before a call of the core channel is executed (VXI-11 revision 1.0, B.4.4 and
-//! B.6): the call's link, the lock, and whether the call has to wait.
+//! B.6): the call's link, the size of a write, the lock, and whether the call has to wait.
 
 ghost use Rattle.std.specs.Prelude.{◌≡◌, ◌<◌, ◌&&◌, ℕ, List, ◌∷◌, Some, None, option_map, is_none, is_some, IfSome, OnOk, OnErr, Option, true, false, Bool, if◌then◌else◌};
 ghost use Rattle.sv_vxi.specs.Arguments.{is_create_link as makes_link, lock_wait};

@@ -48,7 +48,8 @@ EndsAs (executions.Aborts aborted) xid device config acts effect =
     (effect.own ≡ Replied (answer_bytes xid (Told aborted.result)) ∷ []) × IsDevice device config (effect.adds ++ acts)
 EndsAs (executions.Call outcome) xid device config acts effect = CallEndsAs outcome xid device config acts effect
 
--- If the outcome of the record is an answer, the answer's data fit in one reply.
+-- If the code already has an answer to the record, this answer's data fit in one reply. The result
+-- of device_abort or of a call has no data.
 abbrev pub IsBriefly : Executed → Type 0
 IsBriefly executions.NoCall = ⊤
 IsBriefly (executions.Answered answer) = IsShort answer
