@@ -40,7 +40,7 @@ CHANGES = (
     ("crates.txt", "sv_vxi: sv_xdr\n", "sv_vxi: sv_xdr\nsv_new:\n", ""),
     ("crates.txt", "sv_layers: sv_logs", "sv_new:\nsv_layers: sv_new sv_logs",
      "docs/ARCHITECTURE.md: the way of a call: sv_new is only in crates.txt\n"),
-    ("docs/ARCHITECTURE.md", "| `sv_value` | `sv_command` | parameters |", "| `sv_value` | `sv_command` | " + 9 * "parameters " + "|",
+    ("docs/ARCHITECTURE.md", "| `sv_value` | `sv_instrument` | parameters |", "| `sv_value` | `sv_instrument` | " + 9 * "parameters " + "|",
      "The way of a call: there is no room for '" + " ".join(9 * ["parameters"]) + "'\n"),
     ("crates/sv_rpc/src/lib.rt", "//! RPC over a stream", "//! RPC over streams", DIFFERS % "way-of-a-call"),
     ("crates/sv_layers/specs/Standard.antt", "Occurs : ", "Happens : ", "crates/sv_layers/specs/Standard.antt: it has no Occurs\n"),

@@ -7,8 +7,8 @@ use std::alloc::Global;
 use std::env;
 use std::io::{self, BufWriter, Error, ErrorKind};
 use std::process::ExitCode;
+use sv_net::{ProgramFault, Words, read_words};
 use sv_replay::{RunFault, run_replay};
-use sv_words::{ProgramFault, Words, read_words};
 
 /// Runs the program. The command `replay` replays a script from the standard input; the command
 /// `serve` serves clients over sockets.

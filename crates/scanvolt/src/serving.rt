@@ -3,11 +3,10 @@
 use std::alloc::Global;
 use std::fs;
 use std::io::{Error, ErrorKind};
-use sv_net::Watch;
+use sv_net::{ProgramFault, Serve, Watch};
 use sv_replay::{Entry, RunFault, read_scenario};
 use sv_serve::Driver;
 use sv_server::{Config, Server};
-use sv_words::{ProgramFault, Serve};
 
 /// Returns the program's fault for an error of the system: `Memory` if the error says that memory
 /// was refused, else `other`.

@@ -2,7 +2,7 @@
 use Rattle.std.proofs.Common.{◌≡◌, ◌≢◌, ℕ, zero, suc, ◌+◌, ◌≤◌, ◌<◌, ◌==◌, Bool, true, false, not, ◌&&◌, ◌||◌, cond, List, [], ◌∷◌, ◌++◌, length, take, drop, refl, sym, ap, ◌∙◌, nat_lt, append_assoc, IsTrue, arith}
 use Rattle.std.proofs.lemmas.Bool.{lt-ltb, le-ltb, ltb-true}
 use Rattle.std.proofs.lemmas.List.{length-append, drop-drop, drop_all, length-take-le}
-use Rattle.sv_exchange.specs.Exchange.{ExchangeAct, Accepted, UnitDone, Answered, AnswersDropped, Finished, ResponseRead, TextDropped, text, messages, message, messages_finished, current, units, has_dropped, answers, response, fits_response, is_something, joined_answers}
+use Rattle.sv_exchange.specs.Exchange.{ExchangeAct, Accepted, UnitDone, Answered, AnswersDropped, Finished, ResponseRead, TextDropped, text, messages, message, messages_finished, current, units, units_done, has_overrun, has_dropped, answers, response, fits_response, is_something, joined_answers}
 use Rattle.sv_exchange.specs.Contents.{Contents, StandsFor, IsShown, empty, IsUnitDue, symbols, following, readable_of, shown_by, next_of, is_open, may_respond}
 use Rattle.sv_exchange.specs.Fields.{first_size, has_line, second_at, after_accept, after_finish, with_answer}
 use Rattle.sv_exchange.specs.FirstUnit.{IsFirst}
@@ -126,6 +126,31 @@ fits_is contents acts answer size e s =
     (joined_with contents.answering contents.output (answers acts) (response acts) answer s.shows)
     ∙ ap (λ (n : ℕ). nat_lt n max_response) e
 
+-- After an act that changes the output alone, what is said of the text stands as before.
+output_stands : (contents new : Contents) (acts later : List ExchangeAct) (dropped answering : Bool) (output : List ℕ)
+    → new ≡ record contents { answers_dropped = dropped; answering = answering; output = output }
+    → text later ≡ text acts → messages_finished later ≡ messages_finished acts
+    → units_done (current later) ≡ units_done (current acts) → has_overrun (current later) ≡ has_overrun (current acts)
+    → ((units_done (current acts) == 0) ≡ false → response later ≡ []) → (contents.ended ≡ false → answering ≡ false)
+    → has_dropped (current later) ≡ dropped → IsShown answering output (answers later) (response later)
+    → StandsFor contents acts → StandsFor new later
+output_stands contents new acts later dropped answering output is texts finished done overrun no_response no_answers lost shows s =
+    rw is (record {
+      message = s.message;
+      executed = s.executed;
+      text_left = rw (texts, finished) s.text_left;
+      size = s.size;
+      units_left = s.units_left;
+      count = s.count ∙ sym done;
+      no_response = rw done no_response;
+      whole = s.whole;
+      unbegun = s.unbegun;
+      no_answers = no_answers;
+      overrun_reported = overrun ∙ s.overrun_reported;
+      answers_dropped = lost;
+      shows = shows;
+    })
+
 -- an answer was put behind those before it
 pub answered_stands : (contents new : Contents) (acts : List ExchangeAct) (answer : List ℕ) → IsTrue (may_respond contents)
     → new ≡ record contents { answering = true; output = with_answer contents.answering contents.output answer }
@@ -134,25 +159,12 @@ answered_stands contents new acts answer may is s =
     let parts = may_parts contents.ended contents.answers_dropped (is_something (shown_by contents)) may in
     let kept : has_dropped (current acts) ≡ false = s.answers_dropped ∙ parts.1 in
     let now : answers (Answered answer ∷ acts) ≡ answers acts ++ answer ∷ [] = rw kept refl in
-    rw is (record {
-      message = s.message;
-      executed = s.executed;
-      text_left = s.text_left;
-      size = s.size;
-      units_left = s.units_left;
-      count = s.count;
-      no_response = s.no_response;
-      whole = s.whole;
-      unbegun = s.unbegun;
-      no_answers = λ unended. (let z : true ≡ false = sym parts.0 ∙ unended in absurd cc);
-      overrun_reported = s.overrun_reported;
-      answers_dropped = s.answers_dropped;
-      shows = (
-        λ none. push_some (answers acts) answer (sym now ∙ none),
-        sym (joined_with contents.answering contents.output (answers acts) (response acts) answer s.shows) ∙ ap joined_answers (sym now),
-        readable_is contents acts s ∙ nothing_there (shown_by contents) parts.2,
-      );
-    })
+    output_stands contents new acts (Answered answer ∷ acts) _ _ _ is refl refl refl refl s.no_response
+    (λ unended. let z : true ≡ false = sym parts.0 ∙ unended in absurd cc) s.answers_dropped (
+      λ none. push_some (answers acts) answer (sym now ∙ none),
+      sym (joined_with contents.answering contents.output (answers acts) (response acts) answer s.shows) ∙ ap joined_answers (sym now),
+      readable_is contents acts s ∙ nothing_there (shown_by contents) parts.2,
+    ) s
 
 -- all answers were dropped
 pub dropped_stands : (contents new : Contents) (acts : List ExchangeAct) → IsTrue (may_respond contents)
@@ -160,21 +172,8 @@ pub dropped_stands : (contents new : Contents) (acts : List ExchangeAct) → IsT
     → StandsFor contents acts → StandsFor new (AnswersDropped ∷ acts)
 dropped_stands contents new acts may is s =
     let parts = may_parts contents.ended contents.answers_dropped (is_something (shown_by contents)) may in
-    rw is (record {
-      message = s.message;
-      executed = s.executed;
-      text_left = s.text_left;
-      size = s.size;
-      units_left = s.units_left;
-      count = s.count;
-      no_response = s.no_response;
-      whole = s.whole;
-      unbegun = s.unbegun;
-      no_answers = λ unended. refl;
-      overrun_reported = s.overrun_reported;
-      answers_dropped = refl;
-      shows = (refl, readable_is contents acts s ∙ nothing_there (shown_by contents) parts.2);
-    })
+    output_stands contents new acts (AnswersDropped ∷ acts) _ _ _ is refl refl refl refl s.no_response (λ unended. refl) refl
+    (refl, readable_is contents acts s ∙ nothing_there (shown_by contents) parts.2) s
 
 -- what isn't true is false
 pub not_true : (b : Bool) → IsTrue (not b) → b ≡ false
@@ -244,21 +243,9 @@ pub read_stands : (contents new : Contents) (acts : List ExchangeAct) (count : �
     → StandsFor contents acts → StandsFor new (ResponseRead count ∷ acts)
 read_stands contents new acts count few is s =
     let left : response (ResponseRead count ∷ acts) ≡ drop count (response acts) = response-read acts count in
-    rw is (record {
-      message = s.message;
-      executed = s.executed;
-      text_left = s.text_left;
-      size = s.size;
-      units_left = s.units_left;
-      count = s.count;
-      no_response = λ later. left ∙ drop_all count (response acts) (omega (arith, ap length (s.no_response later)));
-      whole = s.whole;
-      unbegun = s.unbegun;
-      no_answers = s.no_answers;
-      overrun_reported = s.overrun_reported;
-      answers_dropped = s.answers_dropped;
-      shows = rw left (read_said contents.answering contents.output (answers acts) (response acts) count few s.shows);
-    })
+    output_stands contents new acts (ResponseRead count ∷ acts) _ _ _ is refl refl refl refl
+    (λ later. left ∙ drop_all count (response acts) (omega (arith, ap length (s.no_response later)))) s.no_answers s.answers_dropped
+    (rw left (read_said contents.answering contents.output (answers acts) (response acts) count few s.shows)) s
 
 -- without answers the response is what it was
 said_alone : (answering : Bool) (out : List ℕ) (given : List (List ℕ)) (readable : List ℕ) → answering ≡ false

@@ -7,8 +7,8 @@ use Rattle.sv_errors.specs.declared.source.Source.TheVariants.{Bus}
 use Rattle.sv_scan.specs.declared.acts.ScanAct.TheVariants as scan
 use Rattle.sv_scan.specs.Scan.{readings}
 use Rattle.sv_exchange.specs.Exchange.{Answered, AnswersDropped, Due, NothingDue, OverrunDue, InterruptDue, UnitDue, FinishDue, due, answers, fits_response}
-use Rattle.sv_command.specs.declared.order.Order.{Order}
-use Rattle.sv_command.specs.declared.order.Order.TheVariants as order
+use Rattle.sv_instrument.specs.declared.command.order.Order.{Order}
+use Rattle.sv_instrument.specs.declared.command.order.Order.TheVariants as order
 use Rattle.sv_header.specs.declared.command.Action.{Action}
 use Rattle.sv_header.specs.declared.command.Action.TheVariants as action
 use Rattle.sv_header.specs.declared.command.Question.{Question}

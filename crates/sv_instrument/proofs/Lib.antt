@@ -5,4 +5,6 @@ pub mod Words
 pub mod Dues
 pub mod FewActs
 pub mod NextStep
+pub mod First
+pub mod OneReading
 pub mod OneStep

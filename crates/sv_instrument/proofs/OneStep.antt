@@ -3,11 +3,11 @@ use Rattle.std.proofs.Common.{◌≡◌, ℕ, List, [], ◌∷◌, sym, ap, ◌�
 use Rattle.std.specs.Prelude.{Option, Some, None, Result, Ok, Err, decimal}
 use Rattle.sv_errors.specs.declared.code.Code.{Code}
 use Rattle.sv_exchange.specs.Exchange.{Due, NothingDue, OverrunDue, InterruptDue, UnitDue, FinishDue, due, next_unit}
-use Rattle.sv_command.specs.declared.order.Order.{Order}
-use Rattle.sv_command.specs.declared.order.Order.TheVariants as order
+use Rattle.sv_instrument.specs.declared.command.order.Order.{Order}
+use Rattle.sv_instrument.specs.declared.command.order.Order.TheVariants as order
 use Rattle.sv_header.specs.declared.command.Question.{Question}
 use Rattle.sv_header.specs.declared.command.Question.TheVariants as question
-use Rattle.sv_command.proofs.OneReading.{one_reading}
+use Rattle.sv_instrument.proofs.OneReading.{one_reading}
 use Rattle.sv_layers.specs.declared.change.Awaited.{Awaited}
 use Rattle.sv_layers.specs.Act.{Act, exchange_acts}
 use Rattle.sv_layers.proofs.PolledByte.{one_word}

@@ -8,8 +8,8 @@ use Rattle.sv_exchange.specs.Exchange.{ExchangeAct, Accepted, Finished, units_do
 use Rattle.sv_exchange.specs.Contents.{Contents, StandsFor as Exchanges, is_open}
 use Rattle.sv_exchange.proofs.Dues.{at_unit}
 use Rattle.sv_exchange.proofs.Stands.{not_true}
-use Rattle.sv_command.specs.declared.order.Order.{Order}
-use Rattle.sv_command.specs.Unit.{IsReadAs}
+use Rattle.sv_instrument.specs.declared.command.order.Order.{Order}
+use Rattle.sv_instrument.specs.Command.Unit.{IsReadAs}
 use Rattle.sv_layers.specs.declared.change.Awaited.{Awaited}
 use Rattle.sv_layers.specs.Act.{Act, Exchanged, exchange_acts}
 use Rattle.sv_layers.specs.Inside.Representation.{LayerState}

@@ -4,10 +4,10 @@ use Rattle.std.specs.Prelude.{Option, Some, None, Result, if◌then◌else◌}
 use Rattle.sv_errors.specs.declared.code.Code.{Code}
 use Rattle.sv_errors.specs.declared.code.Code.TheVariants.{QueryDeadlocked}
 use Rattle.sv_exchange.specs.Exchange.{ExchangeAct, Answered, AnswersDropped, units_done, current, message, answers, fits_response}
-use Rattle.sv_command.specs.declared.order.Order.{Order}
+use Rattle.sv_instrument.specs.declared.command.order.Order.{Order}
 use Rattle.sv_header.specs.declared.command.Question.{Question}
 use Rattle.sv_header.specs.declared.command.Question.TheVariants as question
-use Rattle.sv_command.specs.Unit.{IsReadAs}
+use Rattle.sv_instrument.specs.Command.Unit.{IsReadAs}
 use Rattle.sv_layers.specs.declared.change.Awaited.{Awaited}
 use Rattle.sv_layers.specs.declared.change.Change.{Change}
 use Rattle.sv_layers.specs.declared.change.Change.TheVariants as changes

@@ -13,8 +13,8 @@ use Rattle.sv_header.specs.declared.command.Action.{Action}
 use Rattle.sv_header.specs.declared.command.Action.TheVariants as action
 use Rattle.sv_header.specs.declared.command.Question.{Question}
 use Rattle.sv_header.specs.declared.command.Question.TheVariants as question
-use Rattle.sv_command.specs.declared.order.Order.{Order}
-use Rattle.sv_command.specs.declared.order.Order.TheVariants as order
+use Rattle.sv_instrument.specs.declared.command.order.Order.{Order}
+use Rattle.sv_instrument.specs.declared.command.order.Order.TheVariants as order
 use Rattle.sv_layers.specs.declared.change.Awaited.TheVariants as awaited
 use Rattle.sv_layers.specs.Act.{Act, Exchanged, Scanned, Held, Reported, EntryTaken, Cleared, Preset, OpcAsked, StandardRead, StandardEnabled, EventRead, Enabled, RiseSet, FallSet, ServiceEnabled, exchange_acts}
 use Rattle.sv_layers.specs.Condition.{effective_acts}

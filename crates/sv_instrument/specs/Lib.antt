@@ -1,3 +1,4 @@
+pub mod Command
 pub mod HeldUnit
 pub mod CommandEffect
 pub mod QueryResponse

@@ -5,8 +5,8 @@ use Rattle.sv_errors.specs.declared.code.Code.{Code}
 use Rattle.sv_errors.specs.declared.code.Code.TheVariants.{InputBufferOverrun, QueryInterrupted}
 use Rattle.sv_scan.specs.Scan.{readings}
 use Rattle.sv_exchange.specs.Exchange.{Overran, Finished, Interrupted, Due, NothingDue, OverrunDue, InterruptDue, UnitDue, FinishDue, due, next_unit, response, is_something, has_ended}
-use Rattle.sv_command.specs.declared.order.Order.{Order}
-use Rattle.sv_command.specs.Unit.{IsReadAs}
+use Rattle.sv_instrument.specs.declared.command.order.Order.{Order}
+use Rattle.sv_instrument.specs.Command.Unit.{IsReadAs}
 use Rattle.sv_layers.specs.declared.change.Awaited.{Awaited}
 use Rattle.sv_layers.specs.declared.change.Awaited.TheVariants.{Nothing, One, Readings}
 use Rattle.sv_layers.specs.Act.{Act, Exchanged, Reported, exchange_acts}

@@ -1,4 +1,5 @@
-//! The instrument: executes every command by changing its layers (IEEE 488.2; SCPI-1999; VXI-11).
+//! The instrument: reads what each unit tells it to do, and executes every command by changing its
+//! layers (IEEE 488.2; SCPI-1999; VXI-11).
 //!
 //! The caller calls a function for each thing that happens to the instrument. Then the caller calls
 //! [`Instrument::fire`] and [`Instrument::step`], in this order, until neither of them does
@@ -6,6 +7,7 @@
 //! function that changes something returns how many requests for service it raised.
 #![tactic(auto)]
 
+mod command;
 mod instrument;
 pub mod laws;
 mod message_io;
@@ -20,4 +22,6 @@ mod stimuli;
 mod unit_effects;
 mod unit_start;
 
+pub use command::order::Order;
+pub use command::read_unit;
 pub use instrument::Instrument;

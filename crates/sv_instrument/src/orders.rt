@@ -7,11 +7,11 @@ ghost use Rattle.sv_layers.specs.Act.{Act};
 ghost use Rattle.sv_instrument.specs.CommandEffect.{Performs, after_action};
 ghost use Rattle.sv_instrument.specs.Inside.Acted.{Counts, Behaves, Advances};
 
+use crate::command::order::Order;
 use crate::queries::ask;
 use crate::scanning::{configure, initiate, measure, read, set, trigger};
 use crate::unit_effects::{carry_out, end, hold};
 use std::alloc::Allocator;
-use sv_command::Order;
 use sv_header::Action;
 use sv_layers::{Awaited, Change, Layers};
 use sv_scan::ScanAct;

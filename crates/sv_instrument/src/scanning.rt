@@ -3,7 +3,7 @@
 ghost use Rattle.std.specs.Prelude.{◌≡◌, List, ◌∷◌, Option};
 ghost use Rattle.sv_exchange.specs.Contents.{IsUnitDue, next_of};
 ghost use Rattle.sv_header.specs.declared.command.Action.TheVariants.{Trigger, Initiate, Read};
-ghost use Rattle.sv_command.specs.declared.order.Order.TheVariants.{Set, Measure};
+ghost use Rattle.sv_instrument.specs.declared.command.order.Order.TheVariants.{Set, Measure};
 ghost use Rattle.sv_scan.specs.declared.acts.ScanAct.TheVariants.{Configure};
 ghost use Rattle.sv_layers.specs.Act.{Act, Scanned};
 ghost use Rattle.sv_layers.specs.Change.{act_of};

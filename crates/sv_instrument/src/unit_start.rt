@@ -8,11 +8,11 @@ ghost use Rattle.sv_layers.specs.Act.{Act, exchange_acts};
 ghost use Rattle.sv_instrument.specs.Step.{after_release};
 ghost use Rattle.sv_instrument.specs.Inside.Acted.{Counts, Behaves, Advances, Follows};
 
+use crate::command::read_unit;
 use crate::orders::perform;
 use crate::readings::put_readings;
 use crate::unit_effects::{carry_out, end, reply};
 use std::alloc::Allocator;
-use sv_command::read_unit;
 use sv_errors::Code;
 use sv_header::{Path, Table};
 use sv_layers::{Awaited, Change, Layers};

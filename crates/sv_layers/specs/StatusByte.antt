@@ -16,8 +16,7 @@ SummaryBit k log = ((k ≡ 7) × Summary Operation log) ⊎ ((k ≡ 5) × Standa
     ⊎ ((k ≡ 4) × (is_something (response (exchange_acts log)) ≡ true)) ⊎ ((k ≡ 3) × Summary Questionable log)
     ⊎ ((k ≡ 2) × (is_something (entries (queue_acts log)) ≡ true))
 
--- the service request enable that was set last; 0 at first. Bit 6 isn't removed here: sv_command has already removed it from the mask of an
--- `*SRE`.
+-- the service request enable that was set last; 0 at first. Bit 6 isn't removed here: the order of an `*SRE` has a mask without bit 6.
 abbrev pub service : List Act → ℕ
 service = last_given (elim [ ServiceEnabled mask ↦ Some mask | _ ↦ None ]) 0
 

@@ -108,13 +108,9 @@ impl<A: Allocator> Layers<A> {
             × (state_by self.new ≡ Scanning)) }
         ensures refused { OnErr result (self.new ≡ self.old) }
     {
-        match self.scanner.trigger(source) {
-            Ok(()) => {
-                self.update_status();
-                Ok(())
-            }
-            Err(ignored) => Err(ignored),
-        }
+        self.scanner.trigger(source)?;
+        self.update_status();
+        Ok(())
     }
 }
 

@@ -1,3 +1,6 @@
 mod Placed
 mod Pausing
 mod Running
+mod Among
+mod Asked
+mod ServeRead

@@ -1,5 +1,5 @@
 -- Waits, one after the other.
-use Rattle.std.proofs.Common.{◌≡◌, ℕ, Bool, true, false, List, [], ◌∷◌, Some, refl, inl, arith}
+use Rattle.std.proofs.Common.{◌≡◌, ℕ, Bool, true, false, List, [], ◌∷◌, Some, refl, sym, inl, arith}
 use Rattle.std.specs.Prelude.{Option, Result, Ok, Err, IfOk}
 use Rattle.std.specs.Duration.{as_nanos}
 use Rattle.std.specs.declared.time.Duration.{Duration}
@@ -23,13 +23,13 @@ fresh_where_quiet (Waited limit reported ended ∷ doings) quiet = refl
 fresh_where_quiet (Told wire ∷ doings) quiet = quiet
 
 module _ {W M : Type 0} (hears : W → Heard → W → Type 0) (answers : M → Doing W → M → Type 0) (driver : DriverState W) where
-  also : {is_so is_such : List (Doing W) → Bool} {many swept time : ℕ} {start : DriverState W} {first now : M}
+  also : {is_so is_such : List (Doing W) → Bool} {sweeps many swept time : ℕ} {start : DriverState W} {first now : M}
       → ((doings : List (Doing W)) → is_so doings ≡ true → is_such doings ≡ true)
-      → Running hears answers is_so many swept time start driver first now
-      → Running hears answers is_such many swept time start driver first now
+      → Running hears answers is_so sweeps many swept time start driver first now
+      → Running hears answers is_such sweeps many swept time start driver first now
   also step r = record {
     doings = r.doings;
-    sweeps = r.sweeps;
+    made = r.made;
     last = r.last;
     ended = r.ended;
     so = step r.doings r.so;
@@ -38,33 +38,34 @@ module _ {W M : Type 0} (hears : W → Heard → W → Type 0) (answers : M → 
   }
 
   -- a wait that may be so long
-  pub one_wait : (swept began time : ℕ) (limit : Option Duration) (reported : Bool) (old now : M) → MaySleep swept began limit driver
-      → answers old (Waited limit reported time) now → Pauses hears answers driver is_told is_fresh swept began time old now
-  one_wait swept began time limit reported old now may waited = record {
-    goes = λ many start first r. record {
+  pub one_wait : (left swept began time : ℕ) (limit : Option Duration) (reported : Bool) (old now : M)
+      → MaySleep left swept began limit driver → answers old (Waited limit reported time) now
+      → Pauses hears answers driver is_told is_fresh left swept began time old now
+  one_wait left swept began time limit reported old now may waited = record {
+    goes = λ sweeps many start first remain r. record {
       doings = Waited limit reported time ∷ r.doings;
-      sweeps = r.sweeps;
+      made = r.made;
       last = r.last;
       ended = refl;
       so = refl;
-      serves = (r.serves, rw (r.last, r.ended) may, r.so);
+      serves = (r.serves, rw (r.made, sym remain, r.last, r.ended) may, r.so);
       waits = (old, r.waits, waited);
     };
   }
 
   -- one that takes no time
-  pub one_look : (swept began time : ℕ) (limit : Duration) (reported : Bool) (old now : M) → as_nanos limit ≡ 0
-      → answers old (Waited (Some limit) reported time) now → Pauses hears answers driver is_told is_fresh swept began time old now
-  one_look swept began time limit reported old now none waited =
-      one_wait swept began time (Some limit) reported old now (inl (omega (arith, none))) waited
+  pub one_look : (left swept began time : ℕ) (limit : Duration) (reported : Bool) (old now : M) → as_nanos limit ≡ 0
+      → answers old (Waited (Some limit) reported time) now → Pauses hears answers driver is_told is_fresh left swept began time old now
+  one_look left swept began time limit reported old now none waited =
+      one_wait left swept began time (Some limit) reported old now (inl (omega (arith, none))) waited
 
   -- and one in which nothing is reported
-  pub in_vain : (swept began time : ℕ) (limit : Duration) (old now : M) → as_nanos limit ≡ 0
-      → answers old (Waited (Some limit) false time) now → Pauses hears answers driver is_told is_quiet swept began time old now
-  in_vain swept began time limit old now none waited = record {
-    goes = λ many start first r. record {
+  pub in_vain : (left swept began time : ℕ) (limit : Duration) (old now : M) → as_nanos limit ≡ 0
+      → answers old (Waited (Some limit) false time) now → Pauses hears answers driver is_told is_quiet left swept began time old now
+  in_vain left swept began time limit old now none waited = record {
+    goes = λ sweeps many start first remain r. record {
       doings = Waited (Some limit) false time ∷ r.doings;
-      sweeps = r.sweeps;
+      made = r.made;
       last = r.last;
       ended = refl;
       so = r.so;
@@ -73,27 +74,35 @@ module _ {W M : Type 0} (hears : W → Heard → W → Type 0) (answers : M → 
     };
   }
 
-  pub no_wait : (swept time : ℕ) (now : M) → Pauses hears answers driver is_quiet is_quiet swept time time now now
-  no_wait swept time now = record { goes = λ many start first r. r }
+  pub no_wait : (left swept time : ℕ) (now : M) → Pauses hears answers driver is_quiet is_quiet left swept time time now now
+  no_wait left swept time now = record { goes = λ sweeps many start first remain r. r }
 
 pub from_quiet : {W M : Type 0} {hears : W → Heard → W → Type 0} {answers : M → Doing W → M → Type 0} {driver : DriverState W}
-    {is_so : List (Doing W) → Bool} {swept began time : ℕ} {old now : M}
-    → Pauses hears answers driver is_told is_so swept began time old now
-    → Pauses hears answers driver is_quiet is_so swept began time old now
+    {is_so : List (Doing W) → Bool} {left swept began time : ℕ} {old now : M}
+    → Pauses hears answers driver is_told is_so left swept began time old now
+    → Pauses hears answers driver is_quiet is_so left swept began time old now
 from_quiet {hears = hears} {answers = answers} {driver = driver} pauses =
-    record { goes = λ many start first r. pauses.goes many start first (also hears answers driver told_where_quiet r) }
+    record {
+      goes = λ sweeps many start first remain r. pauses.goes sweeps many start first remain (also hears answers driver told_where_quiet r);
+    }
 
 pub to_fresh : {W M : Type 0} {hears : W → Heard → W → Type 0} {answers : M → Doing W → M → Type 0} {driver : DriverState W}
-    {was : List (Doing W) → Bool} {swept began time : ℕ} {old now : M} → Pauses hears answers driver was is_quiet swept began time old now
-    → Pauses hears answers driver was is_fresh swept began time old now
+    {was : List (Doing W) → Bool} {left swept began time : ℕ} {old now : M}
+    → Pauses hears answers driver was is_quiet left swept began time old now
+    → Pauses hears answers driver was is_fresh left swept began time old now
 to_fresh {hears = hears} {answers = answers} {driver = driver} pauses =
-    record { goes = λ many start first r. also hears answers driver fresh_where_quiet (pauses.goes many start first r) }
+    record {
+      goes = λ sweeps many start first remain r. also hears answers driver fresh_where_quiet (pauses.goes sweeps many start first remain r);
+    }
 
 pub and_then : {W M : Type 0} {hears : W → Heard → W → Type 0} {answers : M → Doing W → M → Type 0} {driver : DriverState W}
-    {was between is_so : List (Doing W) → Bool} {swept began at time : ℕ} {old mid now : M}
-    → Pauses hears answers driver was between swept began at old mid → Pauses hears answers driver between is_so swept at time mid now
-    → Pauses hears answers driver was is_so swept began time old now
-and_then one other = record { goes = λ many start first r. other.goes many start first (one.goes many start first r) }
+    {was between is_so : List (Doing W) → Bool} {left swept began at time : ℕ} {old mid now : M}
+    → Pauses hears answers driver was between left swept began at old mid
+    → Pauses hears answers driver between is_so left swept at time mid now
+    → Pauses hears answers driver was is_so left swept began time old now
+and_then one other = record {
+  goes = λ sweeps many start first remain r. other.goes sweeps many start first remain (one.goes sweeps many start first remain r);
+}
 
 pub if_ok : {A E : Type 0} {P Q : A → Type 0} (result : Result A E) → IfOk result P → ((a : A) → P a → Q a) → IfOk result Q
 if_ok (Ok a) p more = more a p

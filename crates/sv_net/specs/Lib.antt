@@ -1,4 +1,6 @@
 pub mod Sockets
 pub mod Sleep
 pub mod Serving
+pub mod Program
+pub mod Words
 pub mod Inside

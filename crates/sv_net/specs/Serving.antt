@@ -46,17 +46,19 @@ is_fresh = elim [ MadeSweep ∷ doings ↦ false | Told wire ∷ doings ↦ fals
 abbrev pub is_told : {W : Type 0} → List (Doing W) → Bool
 is_told = last_given (elim [ Waited limit true ended ↦ Some false | Told wire ↦ Some true | _ ↦ None ]) true
 
--- These actions of a loop lead from the driver's state `start` to its state `now`. Each sweep lets the milliseconds since the previous
--- sweep pass. If at least one millisecond passes, the reports of the last wait are passed to the sockets only after the sweep. No wait is
--- longer than allowed, and each wait begins after all earlier reports were passed to the sockets.
-abbrev pub Serves : {W : Type 0} → (W → Heard → W → Type 0) → List (Doing W) → DriverState W → DriverState W → Type 0
-Serves hears [] start now = now ≡ start
-Serves hears (MadeSweep ∷ doings) start now = let ticks = ticks_between (swept_at doings) (time_of doings) in
-    (between : DriverState _) × Serves hears doings start between × Steps (Sweeps hears ticks) between now × (0 < ticks → is_fresh doings
-    ≡ true)
-Serves hears (Waited limit reported ended ∷ doings) start now =
-    Serves hears doings start now × MaySleep (swept_at doings) (time_of doings) limit now × (is_told doings ≡ true)
-Serves hears (Told wire ∷ doings) start now = Serves hears doings start now × (wire ≡ now.wire)
+-- These actions of a loop lead from the driver's state `start` to its state `now`. The loop is to make `sweeps` sweeps. Each sweep lets
+-- the milliseconds since the previous sweep pass. If at least one millisecond passes, the reports of the last wait are passed to the
+-- sockets only after the sweep. No wait is longer than is allowed for the number of sweeps that remain. Each wait begins after all earlier
+-- reports were passed to the sockets.
+abbrev pub Serves : {W : Type 0} → ℕ → (W → Heard → W → Type 0) → List (Doing W) → DriverState W → DriverState W → Type 0
+Serves sweeps hears [] start now = now ≡ start
+Serves sweeps hears (MadeSweep ∷ doings) start now = let ticks = ticks_between (swept_at doings) (time_of doings) in
+    (between : DriverState _) × Serves sweeps hears doings start between × Steps (Sweeps hears ticks) between now × (0 < ticks → is_fresh
+    doings ≡ true)
+Serves sweeps hears (Waited limit reported ended ∷ doings) start now =
+    Serves sweeps hears doings start now × MaySleep (sweeps - length (handed_in doings)) (swept_at doings) (time_of doings) limit now
+    × (is_told doings ≡ true)
+Serves sweeps hears (Told wire ∷ doings) start now = Serves sweeps hears doings start now × (wire ≡ now.wire)
 
 -- The machine made the waits among these actions, in the order and with the results that the actions record. The machine also passed the
 -- reports to the wire wherever the actions say so.
@@ -65,8 +67,8 @@ Waits answers [] start now = now ≡ start
 Waits answers (MadeSweep ∷ doings) start now = Waits answers doings start now
 Waits answers (doing ∷ doings) start now = (between : _) × Waits answers doings start between × answers between doing now
 
--- A loop leads from the driver's state `old` to its state `new`, and `IsCount` holds of the number of the loop's sweeps. The loop's sweeps
--- alone, without the waits but with the same milliseconds, also lead from `old` to `new`.
-abbrev pub Served : {W : Type 0} → (W → Heard → W → Type 0) → (ℕ → Type 0) → DriverState W → DriverState W → Type 0
-Served hears IsCount old new = (doings : List (Doing _)) × IsCount (length (handed_in doings)) × Serves hears doings old new
+-- A loop leads from the driver's state `old` to its state `new`. The loop is to make `sweeps` sweeps, and `IsCount` holds of the number of
+-- sweeps that it made. These sweeps alone, without the waits but with the same milliseconds, also lead from `old` to `new`.
+abbrev pub Served : {W : Type 0} → ℕ → (W → Heard → W → Type 0) → (ℕ → Type 0) → DriverState W → DriverState W → Type 0
+Served sweeps hears IsCount old new = (doings : List (Doing _)) × IsCount (length (handed_in doings)) × Serves sweeps hears doings old new
     × Swept hears (handed_in doings) old new

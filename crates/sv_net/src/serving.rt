@@ -39,9 +39,9 @@ pub fn serve<N: Network + Drop, A: Allocator, S: Stream>(
     driver: &mut Driver<Net<N, A, S>, A>,
     sweeps: u32,
 ) -> io::Result<()>
-    ensures ok { OnOk result (Served (Hears S.remaining S.contents) (λ made. made ≡ sweeps)
+    ensures ok { OnOk result (Served sweeps (Hears S.remaining S.contents) (λ made. made ≡ sweeps)
         driver.old driver.new) }
-    ensures err { OnErr result (Served (Hears S.remaining S.contents) (λ made. made ≤ sweeps)
+    ensures err { OnErr result (Served sweeps (Hears S.remaining S.contents) (λ made. made ≤ sweeps)
         driver.old driver.new) }
 {
     let mut machine = System::begin(clock, watch)?;
@@ -56,7 +56,7 @@ fn run<M: Machine<S>, N: Network + Drop, A: Allocator, S: Stream>(
 ) -> io::Result<()>
     ensures ok { OnOk result (Ran (Hears S.remaining S.contents) M.answers sweeps
         driver.old driver.new machine.old machine.new) }
-    ensures err { OnErr result (Served (Hears S.remaining S.contents) (λ made. made ≤ sweeps)
+    ensures err { OnErr result (Served sweeps (Hears S.remaining S.contents) (λ made. made ≤ sweeps)
         driver.old driver.new) }
 {
     let mut pace = Pace::new();
@@ -118,7 +118,7 @@ fn pause<M: Machine<S>, N: Network + Drop, A: Allocator, S: Stream>(
     left: u32,
 ) -> io::Result<u64>
     ensures pauses { IfOk result (λ ended. Pauses (Hears S.remaining S.contents) M.answers
-        driver.now is_told is_fresh pace.old.swept began ended machine.old machine.new) }
+        driver.now is_told is_fresh left pace.old.swept began ended machine.old machine.new) }
     ensures swept { pace.new.swept ≡ pace.old.swept }
 {
     let spinning = pace.is_spinning(began);
@@ -144,7 +144,7 @@ fn spin<M: Machine<S>, N: Network + Drop, A: Allocator, S: Stream>(
     left: u32,
 ) -> io::Result<u64>
     ensures pauses { IfOk result (λ ended. Pauses (Hears S.remaining S.contents) M.answers
-        driver.now is_quiet is_fresh pace.old.swept began ended machine.old machine.new) }
+        driver.now is_quiet is_fresh left pace.old.swept began ended machine.old machine.new) }
     ensures swept { pace.new.swept ≡ pace.old.swept }
 {
     let mut now = began;
@@ -173,7 +173,7 @@ fn sleep<M: Machine<S>, N: Network + Drop, A: Allocator, S: Stream>(
     left: u32,
 ) -> io::Result<u64>
     ensures pauses { IfOk result (λ ended. Pauses (Hears S.remaining S.contents) M.answers
-        driver.now is_told is_fresh pace.old.swept now ended machine.old machine.new) }
+        driver.now is_told is_fresh left pace.old.swept now ended machine.old machine.new) }
     ensures swept { pace.new.swept ≡ pace.old.swept }
 {
     let limit = sleep_time(driver, pace, now, left);

@@ -1,6 +1,6 @@
 //! How long a server may sleep.
 
-ghost use Rattle.std.specs.Prelude.{◌≡◌, ◌<◌, ◌≤◌, ◌⊎◌, true, false, None};
+ghost use Rattle.std.specs.Prelude.{◌≡◌, ◌≤◌, ◌⊎◌, true, false};
 ghost use Rattle.sv_net.specs.Sleep.{NoneReady, IsIdle, MaySleep};
 
 use crate::net::Net;
@@ -48,16 +48,16 @@ fn longest<N: Network + Drop, A: Allocator, S: Stream>(driver: &Driver<Net<N, A,
 }
 
 /// Returns how long the server may sleep at most, if `left` sweeps remain. Returns `None` (no
-/// limit) only if nothing will ever be due: no entry of the scenario remains, and nothing becomes
-/// due within 4,294,967,295 ms, the longest timeout of a call (VXI-11 revision 1.0, section B.4.4).
+/// limit) only if more than a million sweeps remain, and nothing will ever be due: no entry of the
+/// scenario remains, and nothing becomes due within 4,294,967,295 ms, the longest timeout of a call
+/// (VXI-11 revision 1.0, section B.4.4).
 pub(crate) fn sleep_time<N: Network + Drop, A: Allocator, S: Stream>(
     driver: &Driver<Net<N, A, S>, A>,
     pace: &Pace,
     now: u64,
     left: u32,
 ) -> Option<Duration>
-    ensures may { MaySleep pace.now.swept now result driver.now }
-    ensures many { result ≡ None → 1000000 < left }
+    ensures { MaySleep left pace.now.swept now result driver.now }
 {
     let knocked = driver.wire().is_knocked();
     if left > FEW && !knocked && driver.is_played() && is_idle(driver, u32::MAX) {

@@ -10,7 +10,7 @@ use Rattle.sv_replay.specs.declared.fault.RunFault.TheVariants.{BadLine, Input, 
 use Rattle.sv_replay.specs.Text.{first_end}
 use Rattle.sv_replay.specs.Script.{parts}
 use Rattle.sv_replay.specs.Run.{set_up, Runs}
-use Rattle.sv_replay.specs.Stage.{IsStage, Goes}
+use Rattle.sv_replay.specs.Stage.{IsStage, Goes, Further}
 use Rattle.sv_replay.proofs.Parts.{parts_found, parts_none, parts_never}
 use Rattle.sv_replay.proofs.Staged.{LineDone, stage_start, stage_line, stage_last, stage_stop, stage_read, stage_long, stage_output, output_instead, stage_input}
 
@@ -39,9 +39,8 @@ goes_err server left number rest fault (Err e) read text failed is runs =
 -- what a turn makes of each stage
 abbrev pub Going : State → State → List ℕ → List ℕ → ℕ → ℕ → Option (List ℕ) → Option (List ℕ) → Option (List ℕ) → Option (List ℕ)
     → Result Bool RunFault → Type 0
-Going old new left rest number next reader after first last result = (read text : List ℕ) → IsStage old left number read text
-    → (more other : List ℕ) × Consumes reader after more × Appends first last other
-    × Goes new rest next after result (read ++ more) (text ++ other)
+Going old new left rest number next reader after first last result =
+    Further reader after first last (IsStage old left number) (Goes new rest next after result)
 
 pub go_line : (old new : State) (left line rest : List ℕ) (len number next : ℕ) (reader first last : Option (List ℕ))
     → first_end left ≡ Some len → line ≡ take len left → rest ≡ drop (len + 1) left

@@ -12,8 +12,8 @@ use Rattle.sv_replay.specs.declared.fault.RunFault.{RunFault}
 use Rattle.sv_replay.specs.declared.fault.RunFault.TheVariants.{BadLine, Input, Output, Memory}
 use Rattle.sv_replay.specs.Text.{first_end}
 use Rattle.sv_replay.specs.Script.{parts, events_of, Stops}
-use Rattle.sv_replay.specs.Run.{set_up, run_fault, IsWhole, Runs}
-use Rattle.sv_replay.specs.Stage.{IsStage, LineRuns}
+use Rattle.sv_replay.specs.Run.{set_up, run_fault, IsWhole, PrintedUpTo, Runs}
+use Rattle.sv_replay.specs.Stage.{IsStage, StopsAt, LineRuns}
 use Rattle.sv_replay.proofs.Parts.{parts_none, parts_more, parts_never}
 use Rattle.sv_replay.proofs.Printed.{script_push, prints_then, stops_then}
 
@@ -65,6 +65,32 @@ stage_last old new left line number next read text tail first last cut (lines, e
       ),
     )
 
+-- the replay stopped at one of a line's events
+line_short : (old new : State) (left line : List ℕ) (behind : List (List ℕ)) (number : ℕ) (fault : ReplayFault) (read text : List ℕ)
+    (tail first last : Option (List ℕ)) → parts left ≡ line ∷ behind → IsWhole behind tail → IsStage old left number read text
+    → ((history : List PlainEvent) → StandsFor old set_up history → (other : List ℕ) × (after : List PlainEvent)
+    × StopsAt line history fault other after × StandsFor new set_up after × Appends first last other)
+    → (other : List ℕ) × Appends first last other × ((lines others : List (List ℕ)) × (parts read ≡ lines ++ others)
+    × IsWhole others tail × PrintedUpTo lines fault (text ++ other))
+line_short old new left line behind number fault read text tail first last cut whole
+    (lines, events, history, is, count, script, prints, stands) does =
+    let (other, after, (said, short, says, stops), now, put) = does history stands in (
+      other,
+      put,
+      (
+        lines ++ line ∷ [],
+        behind,
+        is ∙ ap (λ (ps : List (List ℕ)). lines ++ ps) cut ∙ sym (append_assoc lines (line ∷ []) behind),
+        whole,
+        (
+          events ++ events_of said,
+          after,
+          script_push lines events line said script short says,
+          stops_then set_up [] events (events_of said) fault text other history after prints stops,
+        ),
+      ),
+    )
+
 -- a line stopped the run
 pub stage_stop : (old new : State) (left line : List ℕ) (behind : List (List ℕ)) (number next : ℕ) (fault : RunFault) (read text : List ℕ)
     (tail first last : Option (List ℕ)) → parts left ≡ line ∷ behind
@@ -105,61 +131,13 @@ stage_stop old new left line behind number next Input read text tail first last 
   stands,
 ) does =
     let (other, after, impossible, now, put) = does history stands in elim impossible [ ]
-stage_stop old new left line behind number next Output read text tail first last cut up whole (
-  lines,
-  events,
-  history,
-  is,
-  count,
-  script,
-  prints,
-  stands,
-) does =
-    let (other, after, (said, short, says, stops), now, put) = does history stands in (
-      other,
-      put,
-      (
-        lines ++ line ∷ [],
-        behind,
-        is ∙ ap (λ (ps : List (List ℕ)). lines ++ ps) cut ∙ sym (append_assoc lines (line ∷ []) behind),
-        whole,
-        inr (
-          Write,
-          (
-            events ++ events_of said,
-            after,
-            script_push lines events line said script short says,
-            stops_then set_up [] events (events_of said) _ text other history after prints stops,
-          ),
-        ),
-      ),
-    )
-stage_stop old new left line behind number next Memory read text tail first last cut up whole (
-  lines,
-  events,
-  history,
-  is,
-  count,
-  script,
-  prints,
-  stands,
-) does =
-    let (other, after, (said, short, says, stops), now, put) = does history stands in (
-      other,
-      put,
-      inr (
-        lines ++ line ∷ [],
-        behind,
-        is ∙ ap (λ (ps : List (List ℕ)). lines ++ ps) cut ∙ sym (append_assoc lines (line ∷ []) behind),
-        whole,
-        (
-          events ++ events_of said,
-          after,
-          script_push lines events line said script short says,
-          stops_then set_up [] events (events_of said) _ text other history after prints stops,
-        ),
-      ),
-    )
+stage_stop old new left line behind number next Output read text tail first last cut up whole stage does =
+    let (other, put, (lines, others, is, all, stops)) =
+    line_short old new left line behind number Write read text tail first last cut whole stage does in
+    (other, put, (lines, others, is, all, inr (Write, stops)))
+stage_stop old new left line behind number next Memory read text tail first last cut up whole stage does =
+    let (other, put, stops) = line_short old new left line behind number NoMemory read text tail first last cut whole stage does in
+    (other, put, inr stops)
 
 -- more was read
 pub stage_read : (server : State) (left : List ℕ) (number : ℕ) (read text more : List ℕ) → IsStage server left number read text

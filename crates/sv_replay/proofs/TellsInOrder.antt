@@ -1,5 +1,5 @@
 -- What lines tell is a scenario.
-use Rattle.std.proofs.Common.{◌≡◌, ℕ, List, [], ◌∷◌, sym, subst, inl, inr}
+use Rattle.std.proofs.Common.{ℕ, List, [], ◌∷◌, sym, subst, inl, inr}
 use Rattle.sv_replay.specs.declared.entry.Entry.{Entry}
 use Rattle.sv_replay.specs.Scenario.{Tells, IsScenario}
 

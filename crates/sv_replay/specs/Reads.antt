@@ -1,5 +1,6 @@
 -- How often a replay read from its reader, and what each read returned.
 use Rattle.std.specs.Prelude.{◌≡◌, ◌⊎◌, ℕ, ◌≤◌, List, [], ◌∷◌, length, Option, Bool, Result, Ok, Err, ⊤}
+use Rattle.sv_replay.specs.declared.run_state.Run.{Run}
 use Rattle.sv_replay.specs.declared.fault.RunFault.{RunFault}
 use Rattle.sv_replay.specs.declared.fault.RunFault.TheVariants.{Input}
 use Rattle.sv_replay.specs.declared.input.InputFault.{InputFault}
@@ -44,6 +45,11 @@ OnInput answer fact = ⊤
 abbrev pub IsTurned : {S : Type 0} → (S → Gave → S → Type 0) → S → S → ℕ → Result Bool RunFault → Type 0
 IsTurned gives first last count result = (reads : List Gave) × Made gives first reads last × WhileGoing result (length reads ≡ count)
     × OnInput result (IsLast reads)
+
+-- What a step of the run does to the reader: if as many reads were made before it as the run counted, `IsTurned` holds after it.
+abbrev pub Turns : {S A : Type 0} → (S → Gave → S → Type 0) → S → S → Run A → Run A → Result Bool RunFault → Type 0
+Turns {S} gives reader after old new result = (first : S) (reads : List Gave) → Made gives first reads reader
+    → length reads ≡ old.text.reads → IsTurned gives first after new.text.reads result
 
 -- In the run, the reader wasn't read more often than allowed. If the result is the fault `Input`, no further read is allowed.
 abbrev pub IsReadOut : {S : Type 0} → (S → Gave → S → Type 0) → S → S → Result ⊤ RunFault → Type 0

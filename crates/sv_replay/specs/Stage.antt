@@ -1,15 +1,15 @@
 -- How far the run of a replay has come, and what its next step does.
 use Rattle.std.specs.Prelude.{◌≡◌, ℕ, ◌+◌, ◌*◌, ◌≤◌, List, [], ◌++◌, length, Bool, true, false, Option, Result, Ok, Err, ⊤}
-use Rattle.std.specs.Io.KnownBytes.{IsAtEnd}
+use Rattle.std.specs.Io.KnownBytes.{Consumes, Appends, IsAtEnd}
 use Rattle.sv_server.specs.declared.replay.ReplayFault.{ReplayFault}
 use Rattle.sv_server.specs.declared.replay.ReplayFault.TheVariants.{NoMemory, Write}
 use Rattle.sv_history.specs.Event.{PlainEvent}
 use Rattle.sv_server.specs.Server.State.{State, StandsFor}
+use Rattle.sv_replay.specs.declared.run_state.Run.{Run}
 use Rattle.sv_replay.specs.declared.fault.RunFault.{RunFault}
 use Rattle.sv_replay.specs.declared.fault.RunFault.TheVariants.{BadLine, Input, Output, Memory}
 use Rattle.sv_replay.specs.Line.{Line, Says}
 use Rattle.sv_replay.specs.Script.{parts, events_of, IsScript, IsBad, Prints, Stops}
-use Rattle.sv_replay.specs.Text.{Held}
 use Rattle.sv_replay.specs.Run.{set_up, Runs}
 
 -- The first `number` lines of the text that was read are executed, and all that they print was written. `left` is the text after these
@@ -44,10 +44,23 @@ abbrev pub WhileGoing : {E : Type 0} → Result Bool E → Type 0 → Type 0
 WhileGoing (Ok true) fact = fact
 WhileGoing answer fact = Unit {0}
 
+-- More was read, between the reader's bytes `reader` and `after`; and more was printed, between the writer's bytes `first` and `last`. If
+-- `was` held of all that was read and printed before, `becomes` holds of all that is read and printed now.
+abbrev pub Further : Option (List ℕ) → Option (List ℕ) → Option (List ℕ) → Option (List ℕ) → (List ℕ → List ℕ → Type 0)
+    → (List ℕ → List ℕ → Type 0) → Type 0
+Further reader after first last was becomes = (read text : List ℕ) → was read text
+    → (more other : List ℕ) × Consumes reader after more × Appends first last other × becomes (read ++ more) (text ++ other)
+
+-- A step of the run leads from `old` to `new`, reads the bytes between `reader` and `after`, and prints those between `first` and `last`.
+abbrev pub Moves : {A : Type 0} → Run A → Run A → Option (List ℕ) → Option (List ℕ) → Option (List ℕ) → Option (List ℕ)
+    → Result Bool RunFault → Type 0
+Moves old new reader after first last result =
+    Further reader after first last (IsStage old.server old.text.text old.lines) (Goes new.server new.text.text new.lines after result)
+
 -- The progress of a step after which the run goes on. The step executes one line, or makes one read. The step preserves two bounds: the
 -- number of executed lines plus the number of stored bytes is at most 131,072 times the number of reads; and at most 4294967294 reads were
 -- made.
-pub record Progress (lines : ℕ) (held : Held) (done : ℕ) (left : Held) : Type 0 where
-  pub counted : done + left.reads ≡ lines + held.reads + 1
-  pub bounded : lines + length held.text ≤ 131072 * held.reads → done + length left.text ≤ 131072 * left.reads
-  pub few : held.reads ≤ 4294967294 → left.reads ≤ 4294967294
+pub record Progress {A : Type 0} (old new : Run A) : Type 0 where
+  pub counted : new.lines + new.text.reads ≡ old.lines + old.text.reads + 1
+  pub bounded : old.lines + length old.text.text ≤ 131072 * old.text.reads → new.lines + length new.text.text ≤ 131072 * new.text.reads
+  pub few : old.text.reads ≤ 4294967294 → new.text.reads ≤ 4294967294

@@ -12,6 +12,7 @@ mod line;
 mod number;
 mod perform;
 mod run;
+mod run_state;
 mod scenario;
 mod text;
 

@@ -1,42 +1,24 @@
 //! The run of a replay: the lines of a text, one after the other.
 
-ghost use Rattle.std.specs.Prelude.{◌≡◌, ◌≢◌, ◌⊎◌, ℕ, ◌+◌, ◌-◌, ◌*◌, ◌^◌, ◌<◌, ◌≤◌, List, [], ◌++◌, length, Err, None, IfOk, IfErr, OnOk};
+ghost use Rattle.std.specs.Prelude.{◌≡◌, ◌≢◌, ◌⊎◌, ℕ, ◌-◌, ◌^◌, ◌<◌, List, [], length, Err, None, IfOk, IfErr, OnOk};
 ghost use Rattle.std.specs.Io.Buffered.{writer_buffer, writer_contents};
 ghost use Rattle.std.specs.Io.KnownBytes.{Consumes, Appends, Keeps, IsAtEnd};
 ghost use Rattle.sv_history.specs.Event.{PlainEvent};
 ghost use Rattle.sv_server.specs.Server.State.{StandsFor};
-ghost use Rattle.sv_replay.specs.Text.{nothing_held, first_end};
+ghost use Rattle.sv_replay.specs.Text.{first_end};
 ghost use Rattle.sv_replay.specs.Run.{set_up, Runs};
-ghost use Rattle.sv_replay.specs.Reads.{Gave, Made, IsTurned, IsReadOut, OnInput};
-ghost use Rattle.sv_replay.specs.Stage.{IsStage, LineRuns, Goes, WhileGoing, Progress};
+ghost use Rattle.sv_replay.specs.Reads.{Turns, IsReadOut, OnInput};
+ghost use Rattle.sv_replay.specs.Stage.{LineRuns, WhileGoing, Progress, Moves};
 
 use crate::fault::RunFault;
 use crate::input::Source;
 use crate::line::read_line;
 use crate::perform::perform;
-use crate::text::{LONGEST_LINE, Text};
-use std::alloc::{AllocError, Allocator};
+use crate::run_state::{Run, start};
+use crate::text::LONGEST_LINE;
+use std::alloc::Allocator;
 use std::io::{BufWriter, Write};
-use sv_server::{Config, Server};
-
-/// The configuration of the server to which a run applies its events.
-const SET_UP: Config = Config {
-    core: 4096,
-    abort: 4097,
-    clock: 0,
-};
-
-/// A replay that is under way.
-#[derive(Drop)]
-struct Run<A: Allocator> {
-    server: Server<A>,
-    text: Text<A>,
-    /// The buffer in which the bytes of a `bytes` line are stored.
-    bytes: Vec<u8, A>,
-    /// How many lines were executed.
-    lines: u64,
-    ghost room: { length bytes.items ≡ 65536 },
-}
+use sv_server::Server;
 
 /// Replays a script: reads it line by line, and prints to the writer. The writer is flushed before
 /// each read. So a peer that waits for an answer before it sends more gets the answer. The writer
@@ -106,19 +88,6 @@ fn run_lines<A: Allocator + Copy, R: Source, W: Write>(
     Err(RunFault::Input)
 }
 
-/// Makes a replay with a new server. It has read no line yet.
-fn start<A: Allocator + Copy>(alloc: A) -> Result<Run<A>, AllocError>
-    ensures { IfOk result (λ run. StandsFor run.server set_up [] × (run.text ≡ nothing_held)
-        × (run.lines ≡ 0)) }
-{
-    Ok(Run {
-        server: Server::new(alloc, SET_UP)?,
-        text: Text::new(alloc)?,
-        bytes: vec![in alloc; 0; LONGEST_LINE]?,
-        lines: 0,
-    })
-}
-
 /// Flushes the writer.
 fn flush<W: Write>(writer: &mut W) -> Result<(), RunFault>
     ensures kept { Keeps (W.contents writer.old) (W.contents writer.new) }
@@ -167,18 +136,10 @@ impl<A: Allocator> Run<A> {
         writer: &mut W,
     ) -> Result<bool, RunFault>
         requires countable { self.old.lines < 2 ^ 64 - 1 }
-        ensures goes { (read text : List ℕ)
-            → IsStage self.old.server self.old.text.text self.old.lines read text
-            → (more other : List ℕ)
-            × Consumes (R.remaining reader.old) (R.remaining reader.new) more
-            × Appends (W.contents writer.old) (W.contents writer.new) other
-            × Goes self.new.server self.new.text.text self.new.lines (R.remaining reader.new) result
-            (read ++ more) (text ++ other) }
-        ensures progress { WhileGoing result
-            (Progress self.old.lines self.old.text self.new.lines self.new.text) }
-        ensures heard { (first : R) (reads : List Gave) → Made R.gives first reads reader.old
-            → length reads ≡ self.old.text.reads
-            → IsTurned R.gives first reader.new self.new.text.reads result }
+        ensures goes { Moves self.old self.new (R.remaining reader.old) (R.remaining reader.new)
+            (W.contents writer.old) (W.contents writer.new) result }
+        ensures progress { WhileGoing result (Progress self.old self.new) }
+        ensures heard { Turns R.gives reader.old reader.new self.old self.new result }
     {
         match self.text.whole_line() {
             Some(len) => {
@@ -205,18 +166,10 @@ impl<A: Allocator> Run<A> {
         writer: &mut W,
     ) -> Result<bool, RunFault>
         requires { (first_end self.old.text.text ≡ None) × (self.old.lines < 2 ^ 64 - 1) }
-        ensures goes { (read text : List ℕ)
-            → IsStage self.old.server self.old.text.text self.old.lines read text
-            → (more other : List ℕ)
-            × Consumes (R.remaining reader.old) (R.remaining reader.new) more
-            × Appends (W.contents writer.old) (W.contents writer.new) other
-            × Goes self.new.server self.new.text.text self.new.lines (R.remaining reader.new) result
-            (read ++ more) (text ++ other) }
-        ensures progress { WhileGoing result
-            (Progress self.old.lines self.old.text self.new.lines self.new.text) }
-        ensures heard { (first : R) (reads : List Gave) → Made R.gives first reads reader.old
-            → length reads ≡ self.old.text.reads
-            → IsTurned R.gives first reader.new self.new.text.reads result }
+        ensures goes { Moves self.old self.new (R.remaining reader.old) (R.remaining reader.new)
+            (W.contents writer.old) (W.contents writer.new) result }
+        ensures progress { WhileGoing result (Progress self.old self.new) }
+        ensures heard { Turns R.gives reader.old reader.new self.old self.new result }
     {
         if self.text.len() > LONGEST_LINE {
             return Err(RunFault::BadLine(self.lines + 1));

@@ -112,18 +112,14 @@ impl<A: Allocator> Scanner<A> {
             → result ≡ refused_by (setting_fault (effective acts) setting) }
         ensures refused { OnErr result (self.new ≡ self.old) }
     {
-        match self.may_set(&setting) {
-            Ok(()) => {
-                self.settings.set(setting);
-                self.touched = Touched {
-                    operation: false,
-                    questionable: false,
-                    limit: true,
-                };
-                Ok(())
-            }
-            Err(fault) => Err(fault),
-        }
+        self.may_set(&setting)?;
+        self.settings.set(setting);
+        self.touched = Touched {
+            operation: false,
+            questionable: false,
+            limit: true,
+        };
+        Ok(())
     }
 
     /// Whether [`Scanner::configure`] would change a setting.
@@ -157,19 +153,15 @@ impl<A: Allocator> Scanner<A> {
             → result ≡ refused_by (init_fault (effective acts)) }
         ensures refused { OnErr result (self.new ≡ self.old) }
     {
-        match self.may_init() {
-            Ok(()) => {
-                self.readings.clear();
-                self.run = Some(Run::new(self.settings.list, self.settings.count));
-                self.touched = Touched {
-                    operation: true,
-                    questionable: true,
-                    limit: true,
-                };
-                Ok(())
-            }
-            Err(busy) => Err(busy),
-        }
+        self.may_init()?;
+        self.readings.clear();
+        self.run = Some(Run::new(self.settings.list, self.settings.count));
+        self.touched = Touched {
+            operation: true,
+            questionable: true,
+            limit: true,
+        };
+        Ok(())
     }
 
     /// Whether [`Scanner::init`] would initiate a measurement.
@@ -245,21 +237,17 @@ impl<A: Allocator> Scanner<A> {
             ((run_state self.old.run (length self.old.readings) ≡ Waiting)
             × (run_state self.new.run (length self.new.readings) ≡ Scanning)) }
     {
-        match self.may_trigger(source) {
-            Ok(()) => {
-                let Some(run) = &mut self.run else {
-                    return Err(Code::TriggerIgnored);
-                };
-                run.trigger();
-                self.touched = Touched {
-                    operation: true,
-                    questionable: false,
-                    limit: false,
-                };
-                Ok(())
-            }
-            Err(ignored) => Err(ignored),
-        }
+        self.may_trigger(source)?;
+        let Some(run) = &mut self.run else {
+            return Err(Code::TriggerIgnored);
+        };
+        run.trigger();
+        self.touched = Touched {
+            operation: true,
+            questionable: false,
+            limit: false,
+        };
+        Ok(())
     }
 
     /// Whether [`Scanner::trigger`] with this source would begin the next scan.

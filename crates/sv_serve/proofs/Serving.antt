@@ -2,7 +2,6 @@
 use Rattle.std.proofs.Common.{◌≡◌, ℕ, zero, suc, ◌<◌, ◌≤◌, List, [], ◌∷◌, ◌++◌, length, refl, sym, ap, subst, subst₂, ◌∙◌, inl, inr, append_assoc, arith}
 use Rattle.std.specs.Prelude.{⊤}
 use Rattle.std.proofs.Math.Nat.{eq-or-lt_of_le}
-use Rattle.std.proofs.lemmas.List.Elements.{filter-append}
 use Rattle.sv_links.specs.Channels.{ChannelAct}
 use Rattle.sv_history.specs.declared.event.Config.{Config}
 use Rattle.sv_history.specs.declared.event.Role.TheVariants.{Core, Abort, Portmap}
@@ -23,8 +22,8 @@ use Rattle.sv_serve.specs.Served.{Serves, Served}
 use Rattle.sv_serve.proofs.Keeps.{Subject, OfRead, OfConn, OfNone, Keeps, keeps_none, keeps_then, keeps_each, hangs_up}
 use Rattle.sv_serve.proofs.Peers.{dials, passes}
 use Rattle.sv_serve.proofs.Carrying.{accepts, reads, write_by, writes, ends}
-use Rattle.sv_serve.proofs.GoingOn.{is_bytes, none_read, front_log, calls_over, within_log, waits_calls, Elsewhere, Unread, may_all}
-use Rattle.sv_serve.proofs.Turned.{Turned, Offered, offered_more, Nobody, keeps_unread, turned_keeps, turn_phase}
+use Rattle.sv_serve.proofs.GoingOn.{none_read, front_log, calls_over, within_log, waits_calls, Elsewhere, Unread, may_all}
+use Rattle.sv_serve.proofs.Turned.{Turned, Offered, had_more, offered_more, Nobody, keeps_unread, turned_keeps, turn_phase}
 
 -- ---- what waits is written
 
@@ -104,14 +103,7 @@ pub write_step : {W : Type 0} (hears : W → Heard → W → Type 0) (config : C
 write_step hears config c x y history events piece lt is t (bytes, (log, channel_log, was, tells_so, waits), inl (none, same)) = record {
   k = keeps_none hears (Mine c) config x y same;
   offered = record {
-    first = t.first;
-    turn = t.turn;
-    behind = t.behind;
-    before = t.before;
-    split = t.split;
-    was = t.was;
-    unread = t.unread;
-    takes = t.takes;
+    had = t.had;
     offers = λ after so.
         let still = still_waits config c history events log after t (subst (λ h. IsLogOf config h log) is was) so in
         inl (none_waits (waiting (of c after)) still.0 (sym none ∙ waits ∙ still.1));
@@ -123,15 +115,7 @@ write_step hears config c x y history events piece lt is t
     record {
       k = w.k;
       offered = record {
-        first = t.first;
-        turn = t.turn;
-        behind = w.k.events ++ t.behind;
-        before = t.before;
-        split = ap (λ e. w.k.events ++ e) t.split ∙ sym (append_assoc w.k.events t.behind (t.turn ++ t.first));
-        was = t.was;
-        unread = filter-append is_bytes w.k.events t.behind
-            ∙ rw (keeps_unread hears (Mine c) config x y (mine_unread c) w.k, t.unread) refl;
-        takes = t.takes;
+        had = had_more config c history events w.k.events (keeps_unread hears (Mine c) config x y (mine_unread c) w.k) t.had;
         offers = λ after so.
             let still = still_waits config c history events log after t (subst (λ h. IsLogOf config h log) is was) so in inr (
               still.0,

@@ -32,7 +32,8 @@ use Rattle.sv_serve.proofs.GoingOn.{is_bytes, brought, Elsewhere, Unread, brough
 
 -- ---- a connection that had its turn
 
-pub record Turned (config : Config) (c : ℕ) (history events : List PlainEvent) : Type 0 where
+-- the events of its turn, those before the turn and those behind it
+pub record HadTurn (config : Config) (c : ℕ) (history events : List PlainEvent) : Type 0 where
   pub first : List PlainEvent
   pub turn : List PlainEvent
   pub behind : List PlainEvent
@@ -40,27 +41,12 @@ pub record Turned (config : Config) (c : ℕ) (history events : List PlainEvent)
   pub split : events ≡ behind ++ (turn ++ first)
   pub was : IsLogOf config (first ++ history) before
   pub unread : filter is_bytes behind ≡ []
-  pub untouched : brought c behind ≡ []
   pub takes : Takes config c before turn
 
--- it has its turn now
-turned_by : (config : Config) (c : ℕ) (now history events turn : List PlainEvent) (log : List Act) → now ≡ events ++ history
-    → IsLogOf config now log → Takes config c log turn → Turned config c history (turn ++ events)
-turned_by config c now history events turn log is was takes = record {
-  first = events;
-  turn = turn;
-  behind = [];
-  before = log;
-  split = refl;
-  was = subst (λ h. IsLogOf config h log) is was;
-  unread = refl;
-  untouched = refl;
-  takes = takes;
-}
-
-pub turned_more : (config : Config) (c : ℕ) (history events more : List PlainEvent) → filter is_bytes more ≡ [] → brought c more ≡ []
-    → Turned config c history events → Turned config c history (more ++ events)
-turned_more config c history events more unread untouched t = record {
+-- with more events behind them
+abbrev pub had_more : (config : Config) (c : ℕ) (history events more : List PlainEvent) → filter is_bytes more ≡ []
+    → HadTurn config c history events → HadTurn config c history (more ++ events)
+had_more config c history events more unread t = record {
   first = t.first;
   turn = t.turn;
   behind = more ++ t.behind;
@@ -68,20 +54,43 @@ turned_more config c history events more unread untouched t = record {
   split = ap (λ l. more ++ l) t.split ∙ sym (append_assoc more t.behind (t.turn ++ t.first));
   was = t.was;
   unread = filter-append is_bytes more t.behind ∙ rw (unread, t.unread) refl;
-  untouched = flat_map-append (brings c) more t.behind ∙ rw (untouched, t.untouched) refl;
   takes = t.takes;
+}
+
+-- and behind the turn nothing was brought to it
+pub record Turned (config : Config) (c : ℕ) (history events : List PlainEvent) : Type 0 where
+  pub had : HadTurn config c history events
+  pub open had use *
+  pub untouched : brought c behind ≡ []
+
+-- it has its turn now
+turned_by : (config : Config) (c : ℕ) (now history events turn : List PlainEvent) (log : List Act) → now ≡ events ++ history
+    → IsLogOf config now log → Takes config c log turn → Turned config c history (turn ++ events)
+turned_by config c now history events turn log is was takes = record {
+  had = record {
+    first = events;
+    turn = turn;
+    behind = [];
+    before = log;
+    split = refl;
+    was = subst (λ h. IsLogOf config h log) is was;
+    unread = refl;
+    takes = takes;
+  };
+  untouched = refl;
+}
+
+pub turned_more : (config : Config) (c : ℕ) (history events more : List PlainEvent) → filter is_bytes more ≡ [] → brought c more ≡ []
+    → Turned config c history events → Turned config c history (more ++ events)
+turned_more config c history events more unread untouched t = record {
+  had = had_more config c history events more unread t.had;
+  untouched = flat_map-append (brings c) more t.behind ∙ rw (untouched, t.untouched) refl;
 }
 
 -- and what waited then was offered
 pub record Offered (config : Config) (c : ℕ) (history events : List PlainEvent) (piece : List Heard) : Type 0 where
-  pub first : List PlainEvent
-  pub turn : List PlainEvent
-  pub behind : List PlainEvent
-  pub before : List Act
-  pub split : events ≡ behind ++ (turn ++ first)
-  pub was : IsLogOf config (first ++ history) before
-  pub unread : filter is_bytes behind ≡ []
-  pub takes : Takes config c before turn
+  pub had : HadTurn config c history events
+  pub open had use *
   pub offers : (after : List Act) → IsLogOf config (turn ++ (first ++ history)) after → Offers c after piece
 
 pub offers_more : (c : ℕ) (log : List Act) (piece more : List Heard) → Offers c log piece → Offers c log (more ++ piece)
@@ -98,14 +107,7 @@ offers_more c log piece more (inr (bytes, answer, newer, older, is)) = inr (
 pub offered_more : (config : Config) (c : ℕ) (history events more : List PlainEvent) (piece later : List Heard) → filter is_bytes more ≡ []
     → Offered config c history events piece → Offered config c history (more ++ events) (later ++ piece)
 offered_more config c history events more piece later unread t = record {
-  first = t.first;
-  turn = t.turn;
-  behind = more ++ t.behind;
-  before = t.before;
-  split = ap (λ l. more ++ l) t.split ∙ sym (append_assoc more t.behind (t.turn ++ t.first));
-  was = t.was;
-  unread = filter-append is_bytes more t.behind ∙ rw (unread, t.unread) refl;
-  takes = t.takes;
+  had = had_more config c history events more unread t.had;
   offers = λ after is. offers_more c after piece later (t.offers after is);
 }
 

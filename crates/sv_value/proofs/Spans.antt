@@ -1,8 +1,8 @@
 -- Runs of channels.
 use Rattle.std.proofs.Common.{◌≡◌, ℕ, zero, suc, ◌+◌, ◌-◌, ◌<◌, ◌≤◌, ◌&&◌, Bool, true, false, List, [], ◌∷◌, ◌++◌, length, refl, sym, ap, ◌∙◌, inl, inr, arith}
-use Rattle.std.specs.Prelude.{reverse, nat_le, min, Option, Some, None, Result, Err}
+use Rattle.std.specs.Prelude.{reverse, nat_le, nat_lt, min, Option, Some, None, Result, Err, if◌then◌else◌}
 use Rattle.std.specs.List.{range_with_len}
-use Rattle.std.proofs.lemmas.Bool.{cases_lt, le-leb, lt-leb, leb-true, lt-ltb, le-ltb}
+use Rattle.std.proofs.lemmas.Bool.{cases_lt, le-leb, lt-leb, leb-true}
 use Rattle.std.proofs.lemmas.List.{append_assoc, length-append, length-reverse, reverse-append}
 use Rattle.std.specs.Int.{abs_diff}
 use Rattle.sv_errors.specs.declared.code.Code.{Code}
@@ -108,45 +108,18 @@ channel-same n m e c =
     second true b h = h
     second false b h = absurd cc
 
--- an item's channels behind others, where there is room for them
-pub add-done : (o : Option Ends) (span : Span) (before : List ℕ) → ends_up_to o ≡ Some span → is_channel span.first ≡ true
-    → is_channel span.last ≡ true
-    → length before + abs_diff span.first span.last < longest_list → (others : List ℕ → Result (List ℕ) Code)
-    → next o before others ≡ others (before ++ channel_range span.first span.last)
-add-done o span before h first last room others =
+-- an item's channels behind others, or the error where there is no room for them
+pub add_is : (o : Option Ends) (span : Span) (before : List ℕ) (full : Bool) → ends_up_to o ≡ Some span → is_channel span.first ≡ true
+    → is_channel span.last ≡ true → nat_lt longest_list (length before + abs_diff span.first span.last + 1) ≡ full
+    → (others : List ℕ → Result (List ℕ) Code)
+    → next o before others ≡ (if full then Err TooMuchData else others (before ++ channel_range span.first span.last))
+add_is o span before full h first last room others =
     let some = capped-some o span h in
     let f = channel-same some.0.first span.first some.2 first in
     let l = channel-same some.0.last span.last some.3 last in
-    let size = run-fits before span.first span.last in
-    rw (
-      some.1,
-      f,
-      l,
-      first,
-      last,
-      le-ltb longest_list (length (before ++ channel_range span.first span.last))
-          (omega (arith, size, room)),
-    ) refl
-
--- and where there is none
-pub add-full : (o : Option Ends) (span : Span) (before : List ℕ) → ends_up_to o ≡ Some span → is_channel span.first ≡ true
-    → is_channel span.last ≡ true
-    → longest_list ≤ length before + abs_diff span.first span.last → (others : List ℕ → Result (List ℕ) Code)
-    → next o before others ≡ Err TooMuchData
-add-full o span before h first last room others =
-    let some = capped-some o span h in
-    let f = channel-same some.0.first span.first some.2 first in
-    let l = channel-same some.0.last span.last some.3 last in
-    let size = run-fits before span.first span.last in
-    rw (
-      some.1,
-      f,
-      l,
-      first,
-      last,
-      lt-ltb longest_list (length (before ++ channel_range span.first span.last))
-          (omega (arith, size, room)),
-    ) refl
+    let size : length (before ++ channel_range span.first span.last) ≡ length before + abs_diff span.first span.last + 1 =
+    run-fits before span.first span.last ∙ omega arith in
+    rw (some.1, f, l, first, last, size, room) refl
 
 -- an item of three parts or more is none
 pub span-more : (a b : List ℕ) (others : List (List ℕ)) → 1 ≤ length others → span_of (a ∷ b ∷ others) ≡ None

@@ -3,9 +3,9 @@
 use crate::line::{Fault, put};
 use bstr::ByteVec;
 use std::alloc::Global;
-use sv_command::{Order, read_unit};
 use sv_errors::Code;
 use sv_header::{Path, Table};
+use sv_instrument::{Order, read_unit};
 use sv_lexer::unit;
 use sv_scan::{ScanList, Setting};
 

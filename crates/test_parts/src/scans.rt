@@ -17,27 +17,25 @@ pub(crate) fn put_scan(out: &mut String, scanner: &mut Scanner, text: &str) -> R
             put(out, words.questionable)?;
             put(out, words.limit)
         }
-        _ => match act_of(text) {
-            Ok(act) => put(out, scanner.act(act)),
-            Err(fault) => Err(fault),
-        },
+        _ => put_act(out, scanner, text),
     }
 }
 
-/// The act that a word and its value describe.
-fn act_of(text: &str) -> Result<ScanAct, Fault> {
-    match cut(text) {
-        ("init", "") => Ok(ScanAct::Init),
-        ("abort", "") => Ok(ScanAct::Abort),
-        ("reset", "") => Ok(ScanAct::Reset),
-        ("sample", "") => Ok(ScanAct::Sample),
-        ("trigger", source) => Ok(ScanAct::Trigger(source_of(source)?)),
+/// Prints the scanner's answer to the act that a word and its value describe.
+fn put_act(out: &mut String, scanner: &mut Scanner, text: &str) -> Result<(), Fault> {
+    let act = match cut(text) {
+        ("init", "") => ScanAct::Init,
+        ("abort", "") => ScanAct::Abort,
+        ("reset", "") => ScanAct::Reset,
+        ("sample", "") => ScanAct::Sample,
+        ("trigger", source) => ScanAct::Trigger(source_of(source)?),
         ("input", words) => {
             let (channel, microvolts) = cut(words);
-            Ok(ScanAct::Input(value_of(channel)?, value_of(microvolts)?))
+            ScanAct::Input(value_of(channel)?, value_of(microvolts)?)
         }
-        (name, value) => Ok(ScanAct::Configure(setting_of(name, value)?)),
-    }
+        (name, value) => ScanAct::Configure(setting_of(name, value)?),
+    };
+    put(out, scanner.act(act))
 }
 
 /// The setting that a name and its value describe.

@@ -2,8 +2,8 @@
 
 use std::alloc::Global;
 use std::test::Fail;
+use sv_net::{ProgramFault, Serve, Words, read_words};
 use sv_replay::RunFault;
-use sv_words::{ProgramFault, Serve, Words, read_words};
 
 #[test]
 fn faults_have_their_texts_and_statuses(rt: HostRuntime) -> Result<(), Fail> {

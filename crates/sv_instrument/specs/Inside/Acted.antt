@@ -3,8 +3,8 @@ use Rattle.std.specs.Prelude.{◌≡◌, ℕ, ◌+◌, ◌*◌, ◌<◌, ◌≤�
 use Rattle.sv_errors.specs.declared.code.Code.{Code}
 use Rattle.sv_exchange.specs.Exchange.{units_done, current, message, next_unit}
 use Rattle.sv_exchange.specs.Contents.{exchange_measure}
-use Rattle.sv_command.specs.declared.order.Order.{Order}
-use Rattle.sv_command.specs.Unit.{IsReadAs}
+use Rattle.sv_instrument.specs.declared.command.order.Order.{Order}
+use Rattle.sv_instrument.specs.Command.Unit.{IsReadAs}
 use Rattle.sv_layers.specs.declared.change.Awaited.{Awaited}
 use Rattle.sv_layers.specs.Act.{Act, exchange_acts}
 use Rattle.sv_layers.specs.Inside.Representation.{LayerState, StandsFor as Layers, max_count}

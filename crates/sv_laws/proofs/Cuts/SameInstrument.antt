@@ -12,8 +12,8 @@ use Rattle.sv_scan.specs.declared.setting.Setting.TheVariants as setting
 use Rattle.sv_scan.specs.Counted.{effective, setting_fault, init_fault, trigger_fault, read_fault}
 use Rattle.sv_scan.specs.Scan.{readings}
 use Rattle.sv_exchange.specs.Exchange.{Overran, UnitDone, TextDropped, Answered, AnswersDropped, Finished, Interrupted, text, answers, fits_response, due, Due, NothingDue, OverrunDue, InterruptDue, UnitDue, FinishDue}
-use Rattle.sv_command.specs.declared.order.Order.{Order}
-use Rattle.sv_command.specs.declared.order.Order.TheVariants as order
+use Rattle.sv_instrument.specs.declared.command.order.Order.{Order}
+use Rattle.sv_instrument.specs.declared.command.order.Order.TheVariants as order
 use Rattle.sv_header.specs.declared.command.Action.{Action}
 use Rattle.sv_header.specs.declared.command.Action.TheVariants as action
 use Rattle.sv_header.specs.declared.command.Question.{Question}

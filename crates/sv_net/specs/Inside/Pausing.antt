@@ -1,5 +1,5 @@
 -- What the parts of a loop of sweeps do.
-use Rattle.std.specs.Prelude.{◌≡◌, ℕ, ◌+◌, Bool, true, false, List, ◌∷◌, length}
+use Rattle.std.specs.Prelude.{◌≡◌, ℕ, ◌+◌, ◌-◌, Bool, true, false, List, ◌∷◌, length}
 use Rattle.sv_serve.specs.Heard.{Heard}
 use Rattle.sv_serve.specs.DriverView.{DriverState}
 use Rattle.sv_net.specs.Serving.{Doing, Waited, time_of, swept_at, ticks_between, handed_in, is_fresh, is_told, Serves, Waits}
@@ -9,33 +9,34 @@ abbrev pub is_quiet : {W : Type 0} → List (Doing W) → Bool
 is_quiet (Waited limit false ended ∷ doings) = is_told doings
 is_quiet _ = false
 
--- A loop made `many` sweeps, and the machine made the loop's waits, with the results that the loop's actions record. The last sweep began
--- at `swept`, the time is now `time`, and the condition `is_so` holds of the loop's actions.
+-- A loop is to make `sweeps` sweeps, and made `many` sweeps so far. The machine made the loop's waits, with the results that the loop's
+-- actions record. The last sweep began at `swept`, the time is now `time`, and the condition `is_so` holds of the loop's actions.
 pub record Running {W M : Type 0} (hears : W → Heard → W → Type 0) (answers : M → Doing W → M → Type 0) (is_so : List (Doing W) → Bool)
-    (many swept time : ℕ) (old new : DriverState W) (first now : M) : Type 0 where
+    (sweeps many swept time : ℕ) (old new : DriverState W) (first now : M) : Type 0 where
   pub doings : List (Doing W)
-  pub sweeps : length (handed_in doings) ≡ many
+  pub made : length (handed_in doings) ≡ many
   pub last : swept_at doings ≡ swept
   pub ended : time_of doings ≡ time
   pub so : is_so doings ≡ true
-  pub serves : Serves hears doings old new
+  pub serves : Serves sweeps hears doings old new
   pub waits : Waits answers doings first now
 
 -- The loop makes one more sweep, in which `ticks` milliseconds pass for the server.
 pub record Rounds {W M : Type 0} (hears : W → Heard → W → Type 0) (answers : M → Doing W → M → Type 0) (ticks : ℕ) (old new : DriverState W)
     (first now : M) : Type 0 where
-  pub goes : (many swept time : ℕ) (start : DriverState W) (machine : M) → ticks ≡ ticks_between swept time
-      → Running hears answers is_fresh many swept time start old machine first
-      → Running hears answers is_told (many + 1) time time start new machine now
+  pub goes : (sweeps many swept time : ℕ) (start : DriverState W) (machine : M) → ticks ≡ ticks_between swept time
+      → Running hears answers is_fresh sweeps many swept time start old machine first
+      → Running hears answers is_told sweeps (many + 1) time time start new machine now
 
--- The loop waits, and makes no sweep. Before the waits the time was `began`, and the condition `was` held of the loop's actions. After
--- the waits the time is `time`, and the condition `is_so` holds of the loop's actions.
+-- The loop waits, and makes no sweep. `left` sweeps remain. Before the waits the time was `began`, and the condition `was` held of the
+-- loop's actions. After the waits the time is `time`, and the condition `is_so` holds of the loop's actions.
 pub record Pauses {W M : Type 0} (hears : W → Heard → W → Type 0) (answers : M → Doing W → M → Type 0) (driver : DriverState W)
-    (was is_so : List (Doing W) → Bool) (swept began time : ℕ) (old now : M) : Type 0 where
-  pub goes : (many : ℕ) (start : DriverState W) (first : M) → Running hears answers was many swept began start driver first old
-      → Running hears answers is_so many swept time start driver first now
+    (was is_so : List (Doing W) → Bool) (left swept began time : ℕ) (old now : M) : Type 0 where
+  pub goes : (sweeps many : ℕ) (start : DriverState W) (first : M) → left ≡ sweeps - many
+      → Running hears answers was sweeps many swept began start driver first old
+      → Running hears answers is_so sweeps many swept time start driver first now
 
--- A loop made `many` sweeps, no matter when. Its last action was a wait, or it has done nothing yet.
+-- A loop made all its `sweeps` sweeps, no matter when. Its last action was a wait, or it has done nothing yet.
 abbrev pub Ran : {W M : Type 0} → (W → Heard → W → Type 0) → (M → Doing W → M → Type 0) → ℕ → DriverState W → DriverState W → M → M → Type 0
-Ran hears answers many old new first now =
-    (swept : ℕ) × (time : ℕ) × Running hears answers is_fresh many swept time old new first now
+Ran hears answers sweeps old new first now =
+    (swept : ℕ) × (time : ℕ) × Running hears answers is_fresh sweeps sweeps swept time old new first now

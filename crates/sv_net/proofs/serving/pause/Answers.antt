@@ -6,8 +6,8 @@ pub returns-then-not-has_work-clause-pauses : goal.returns-then-not-has_work-cla
 returns-then-not-has_work-clause-pauses g c = rw c.end.ensures.times.0 at c.sleep.ensures.pauses
 
 pub returns-then-not-spinning-2-clause-pauses : goal.returns-then-not-spinning-2-clause-pauses
-returns-then-not-spinning-2-clause-pauses g c = one_look _ _ _ _ _ _ _ _ _ _ refl c.in_ok-reported.ensures.answers
+returns-then-not-spinning-2-clause-pauses g c = one_look _ _ _ _ _ _ _ _ _ _ _ refl c.in_ok-reported.ensures.answers
 
 pub returns-clause-pauses : goal.returns-clause-pauses
 returns-clause-pauses g c = if_ok c.spin.result (rw c.in_ok-reported.ensures.swept at c.spin.ensures.pauses)
-    (λ ended more. and_then (in_vain _ _ _ _ _ _ _ _ _ refl (rw c.if-reported.false at c.in_ok-reported.ensures.answers)) more)
+    (λ ended more. and_then (in_vain _ _ _ _ _ _ _ _ _ _ refl (rw c.if-reported.false at c.in_ok-reported.ensures.answers)) more)

@@ -5,5 +5,5 @@ use Rattle.sv_net.proofs.serving.run.Given as goal
 
 abbrev pub invariant-loop-made : goal.invariant-loop-made
 invariant-loop-made g l =
-    Running (Hears g.S.Read.remaining g.S.Write.contents) g.M.Machine.answers is_fresh l.made l.pace.swept l.now l.fn.driver l.driver
-    l.fn.machine l.machine
+    Running (Hears g.S.Read.remaining g.S.Write.contents) g.M.Machine.answers is_fresh l.fn.sweeps l.made l.pace.swept l.now
+    l.fn.driver l.driver l.fn.machine l.machine

@@ -1,4 +1,3 @@
-use Rattle.std.proofs.Common.{[]}
 use Rattle.sv_replay.specs.Script.{parts}
 use Rattle.sv_replay.proofs.TellsInOrder.{in_order}
 use Rattle.sv_replay.proofs.laws.told_in_order.Goals as goal

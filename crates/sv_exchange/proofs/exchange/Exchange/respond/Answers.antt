@@ -1,18 +1,25 @@
-use Rattle.std.proofs.Common.{◌≡◌, ◌+◌, cond, length, sym, ◌∙◌, refl, arith}
+use Rattle.std.proofs.Common.{◌≡◌, ◌+◌, length, drop, sym, ◌∙◌, refl, arith}
 use Rattle.std.proofs.lemmas.Bool.{lt-ltb, le-ltb}
 use Rattle.sv_exchange.proofs.Fields.{size_with, with_all}
 use Rattle.sv_exchange.proofs.Stands.{fits_is, answered_stands, dropped_stands}
+use Rattle.sv_exchange.proofs.exchange.Exchange.respond.Given.{Over}
 use Rattle.sv_exchange.proofs.exchange.Exchange.respond.Goals as goal
-use Rattle.sv_exchange.proofs.exchange.Exchange.respond.Goals.{then-self, else-self}
+use Rattle.sv_exchange.proofs.exchange.Exchange.respond.Goals.{then-self, else-self, Joined-self}
+use Rattle.sv_exchange.specs.Fields.{with_answer}
 use Rattle.sv_exchange.specs.Limits.{max_response}
+
+-- how long the answers are with this one
+size_is : (g : Over) (c : Joined-self g)
+    → length (with_answer c.self.inside.answering (drop c.self.inside.read c.self.inside.response.items) c.args.answer.now)
+    ≡ c.if-self.before + length c.args.answer.now
+size_is g c =
+    size_with c.self.inside.answering c.self.inside.response.items c.args.answer.now c.self.inside.read c.if-self.before
+    c.self.invariant.0.output
+    (elim c.if-self.branch [ then-self w ↦ rw w.if-self.true (omega arith) | else-self w ↦ rw w.if-self.false w.before-is ])
 
 pub returns-then-answer-before-clause-stands : goal.returns-then-answer-before-clause-stands
 returns-then-answer-before-clause-stands g c =
-    let before : c.if-self.before ≡ cond c.self.inside.answering (length c.self.inside.response.items + 1) 0 =
-    elim c.if-self.branch [ then-self w ↦ rw w.if-self.true (omega arith) | else-self w ↦ rw w.if-self.false w.before-is ] in
-    let size =
-    size_with c.self.inside.answering c.self.inside.response.items c.args.answer.now c.self.inside.read c.if-self.before
-    c.self.invariant.0.output before in
+    let size = size_is g (goal.at.returns-then-answer-before-clause-stands g c).Joined-self in
     let may = rw (← c.self.view_is) at c.requires in
     rw (← c.self.view_is) (λ acts s. (
       sym (fits_is _ acts c.args.answer.now _ size s ∙ le-ltb (c.if-self.before + length c.args.answer.now) max_response (omega arith)),
@@ -21,11 +28,7 @@ returns-then-answer-before-clause-stands g c =
 
 pub returns-clause-stands : goal.returns-clause-stands
 returns-clause-stands g c =
-    let before : c.if-self.before ≡ cond c.self.inside.answering (length c.self.inside.response.items + 1) 0 =
-    elim c.if-self.branch [ then-self w ↦ rw w.if-self.true (omega arith) | else-self w ↦ rw w.if-self.false w.before-is ] in
-    let size =
-    size_with c.self.inside.answering c.self.inside.response.items c.args.answer.now c.self.inside.read c.if-self.before
-    c.self.invariant.0.output before in
+    let size = size_is g (goal.at.returns-clause-stands g c).Joined-self in
     let may = rw (← c.self.view_is) at c.requires in
     rw (← c.self.view_is) (λ acts s. (
       sym (fits_is _ acts c.args.answer.now _ size s ∙ lt-ltb (c.if-self.before + length c.args.answer.now) max_response (omega arith)),

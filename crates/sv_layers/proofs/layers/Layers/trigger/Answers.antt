@@ -1,4 +1,5 @@
 use Rattle.std.proofs.Common.{rules, refl, ap, ◌∙◌, length}
+use Rattle.std.proofs.lemmas.Result.{err_from_is_err_and}
 use Rattle.sv_scan.specs.declared.acts.ScanAct.TheVariants.{Trigger}
 use Rattle.sv_scan.specs.Representation.{run_state}
 use Rattle.sv_scan.specs.Stands.{Contents}
@@ -7,10 +8,10 @@ use Rattle.sv_layers.proofs.Lent.{lent_scanner}
 use Rattle.sv_layers.proofs.Refusals.{no_fault, the_fault}
 use Rattle.sv_layers.proofs.layers.Layers.trigger.Goals as goal
 
-pub returns-in-Ok-clause-applied : goal.returns-in-Ok-clause-applied
-returns-in-Ok-clause-applied g c = λ log h.
+pub returns-clause-applied : goal.returns-clause-applied
+returns-clause-applied g c = λ log h.
     let j = rw (← c.self.view_is) at h.joined in (
-      no_fault _ (c.in-Ok.ensures.answer (scan_acts log) (lent_scanner _ log (rw (← c.self.view_is) at h))),
+      no_fault _ (c.in_ok-trigger.ensures.answer (scan_acts log) (lent_scanner _ log (rw (← c.self.view_is) at h))),
       rw (← c.self.view_is) (c.update_status.ensures.applied log (Scanned (Trigger c.args.source)) (record {
         status_log = h.status_log;
         are = h.are;
@@ -27,12 +28,13 @@ returns-in-Ok-clause-applied g c = λ log h.
       }) refl),
     )
 
-pub returns-in-Ok-clause-scanning : goal.returns-in-Ok-clause-scanning
-returns-in-Ok-clause-scanning g c = (
-  rw (← c.self.view_is) c.in-Ok.ensures.scanning.0,
-  ap (λ (held : Contents). run_state held.run (length held.readings)) c.update_status.ensures.scanner ∙ c.in-Ok.ensures.scanning.1,
+pub returns-clause-scanning : goal.returns-clause-scanning
+returns-clause-scanning g c = (
+  rw (← c.self.view_is) c.in_ok-trigger.ensures.scanning.0,
+  ap (λ (held : Contents). run_state held.run (length held.readings)) c.update_status.ensures.scanner ∙ c.in_ok-trigger.ensures.scanning.1,
 )
 
-pub returns-in-Err-clause-applied : goal.returns-in-Err-clause-applied
-returns-in-Err-clause-applied g c = λ log h.
-    the_fault _ _ (c.in-Err.ensures.answer (scan_acts log) (lent_scanner _ log (rw (← c.self.view_is) at h)))
+pub returns-in_err-trigger-clause-applied : goal.returns-in_err-trigger-clause-applied
+returns-in_err-trigger-clause-applied g c = λ log h.
+    let told = err_from_is_err_and c.from_residual.result c.from_residual.ensures.1 in
+    rw (told.1, told.2) (the_fault _ _ (c.in_err-trigger.ensures.answer (scan_acts log) (lent_scanner _ log (rw (← c.self.view_is) at h))))

@@ -1,2 +1,0 @@
-pub mod OneReading
-pub mod First

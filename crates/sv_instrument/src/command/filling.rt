@@ -1,0 +1,60 @@
+//! The order of a command, with the value of its parameter.
+
+ghost use Rattle.std.specs.Prelude.{◌≡◌};
+ghost use Rattle.sv_instrument.specs.Command.Order.{parameter_of as given_by, order_of, set_order};
+
+use crate::command::order::Order;
+use crate::command::values::{count, list, list_if_given, mask, monitor};
+use sv_errors::Code;
+use sv_header::{CommandId, SettingName};
+use sv_lexer::Token;
+use sv_scan::Setting;
+use sv_value::{boolean, keyword, microvolts, whole};
+
+/// All bits of a mask but bit 6.
+const ALL_BUT_SIX: u8 = 191;
+
+/// Returns the order of a command with this parameter, or without a parameter (`None`); or returns
+/// the error, if the parameter is wrong or missing.
+pub(crate) fn order(command: CommandId, given: Option<Token<'_>>) -> Result<Order, Code>
+    ensures { result ≡ order_of command (given_by given.entry) }
+{
+    match command {
+        CommandId::Do(action) => Ok(Order::Do(action)),
+        CommandId::Ask(question) => Ok(Order::Ask(question)),
+        CommandId::Set(name) => match given {
+            Some(token) => set(name, &token),
+            None => Err(Code::MissingParameter),
+        },
+        CommandId::Configure => Ok(Order::Configure(list_if_given(given)?)),
+        CommandId::Measure => Ok(Order::Measure(list_if_given(given)?)),
+    }
+}
+
+/// Returns the order that sets a setting to the value of a token, or the error of this value.
+fn set(name: SettingName, token: &Token<'_>) -> Result<Order, Code>
+    ensures { result ≡ set_order name token.now.kind token.now.text.now }
+{
+    let setting = match name {
+        SettingName::StandardEnable => return Ok(Order::EnableStandard(mask(token)?)),
+        SettingName::ServiceEnable => return Ok(Order::EnableService(mask(token)? & ALL_BUT_SIX)),
+        SettingName::Enable(register) => {
+            return Ok(Order::Enable(register, whole(token, 0, u16::MAX)?));
+        }
+        SettingName::Rise(register) => {
+            return Ok(Order::SetRise(register, whole(token, 0, u16::MAX)?));
+        }
+        SettingName::Fall(register) => {
+            return Ok(Order::SetFall(register, whole(token, 0, u16::MAX)?));
+        }
+        SettingName::ScanList => Setting::List(list(token)?),
+        SettingName::Monitor => Setting::Monitor(monitor(token)?),
+        SettingName::Range => Setting::Range(microvolts(token)?),
+        SettingName::UpperLimit => Setting::Upper(microvolts(token)?),
+        SettingName::LowerLimit => Setting::Lower(microvolts(token)?),
+        SettingName::Limits => Setting::Limits(boolean(token)?),
+        SettingName::Source => Setting::Source(keyword(token)?),
+        SettingName::Count => Setting::Count(count(token)?),
+    };
+    Ok(Order::Set(setting))
+}

@@ -1,0 +1,42 @@
+//! A replay that is under way.
+
+ghost use Rattle.std.specs.Prelude.{◌≡◌, [], length, IfOk};
+ghost use Rattle.sv_server.specs.Server.State.{StandsFor};
+ghost use Rattle.sv_replay.specs.Text.{nothing_held};
+ghost use Rattle.sv_replay.specs.Run.{set_up};
+
+use crate::text::{LONGEST_LINE, Text};
+use std::alloc::{AllocError, Allocator};
+use sv_server::{Config, Server};
+
+/// The configuration of the server to which a run applies its events.
+const SET_UP: Config = Config {
+    core: 4096,
+    abort: 4097,
+    clock: 0,
+};
+
+/// A replay that is under way.
+#[derive(Drop)]
+pub(crate) struct Run<A: Allocator> {
+    pub(crate) server: Server<A>,
+    pub(crate) text: Text<A>,
+    /// The buffer in which the bytes of a `bytes` line are stored.
+    pub(crate) bytes: Vec<u8, A>,
+    /// How many lines were executed.
+    pub(crate) lines: u64,
+    ghost room: { length bytes.items ≡ 65536 },
+}
+
+/// Makes a replay with a new server. It has read no line yet.
+pub(crate) fn start<A: Allocator + Copy>(alloc: A) -> Result<Run<A>, AllocError>
+    ensures { IfOk result (λ run. StandsFor run.server set_up [] × (run.text ≡ nothing_held)
+        × (run.lines ≡ 0)) }
+{
+    Ok(Run {
+        server: Server::new(alloc, SET_UP)?,
+        text: Text::new(alloc)?,
+        bytes: vec![in alloc; 0; LONGEST_LINE]?,
+        lines: 0,
+    })
+}

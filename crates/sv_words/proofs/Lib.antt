@@ -1,3 +1,0 @@
-mod Among
-mod Asked
-mod Served
