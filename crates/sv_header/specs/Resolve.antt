@@ -3,7 +3,7 @@ use Rattle.std.specs.Prelude.{◌≡◌, ℕ, Bool, true, false, List, [], ◌�
 use Rattle.std.specs.List.{Contains}
 use Rattle.sv_text.specs.Header.{lead, mnemonics, is_query}
 use Rattle.sv_text.specs.declared.header.Lead.{Lead}
-use Rattle.sv_text.specs.declared.header.Lead.TheVariants.{Common, Root, Onward}
+use Rattle.sv_text.specs.declared.header.Lead.TheVariants.{Common, Onward}
 use Rattle.sv_header.specs.declared.command.CommandId.{CommandId}
 use Rattle.sv_header.specs.Pattern.{Row, Fits}
 use Rattle.sv_header.specs.Table.{table}

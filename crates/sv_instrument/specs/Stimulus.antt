@@ -5,7 +5,7 @@ use Rattle.sv_errors.specs.declared.code.Code.{Code}
 use Rattle.sv_errors.specs.declared.source.Source.TheVariants.{Immediate, Bus, External}
 use Rattle.sv_scan.specs.declared.acts.ScanAct.TheVariants.{Trigger, Sample}
 use Rattle.sv_scan.specs.declared.setting.State.{State}
-use Rattle.sv_scan.specs.declared.setting.State.TheVariants.{Idle, Waiting, Scanning}
+use Rattle.sv_scan.specs.declared.setting.State.TheVariants.{Scanning}
 use Rattle.sv_scan.specs.Counted.{trigger_fault}
 use Rattle.sv_scan.specs.Scan.{state}
 use Rattle.sv_layers.specs.Act.{Act, Scanned, Reported}

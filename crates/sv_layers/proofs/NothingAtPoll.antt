@@ -1,12 +1,11 @@
 -- A poll changes nothing that the status byte sums up, so it gives no reason for service. It ends a request, and raises none.
-use Rattle.std.proofs.Common.{◌≡◌, ℕ, ◌+◌, Bool, true, List, [], ◌∷◌, ◌⊎◌, inl, inr, arith, refl, ap, sym, ◌∙◌}
+use Rattle.std.proofs.Common.{◌≡◌, ℕ, Bool, true, List, [], ◌∷◌, ◌⊎◌, inl, inr, arith, refl, ap, sym, ◌∙◌}
 use Rattle.std.specs.Prelude.{◌&&◌, ◌||◌}
 use Rattle.std.specs.List.{range_with_len}
 use Rattle.sv_logs.specs.Since.{is_since}
 use Rattle.sv_logs.proofs.Since.{since_empty, since_step, since_same, since_ended}
 use Rattle.sv_status.specs.declared.register_name.RegisterName.{RegisterName}
 use Rattle.sv_status.specs.declared.register_name.RegisterName.TheVariants.{Operation, Questionable}
-use Rattle.sv_scan.specs.Condition as scan
 use Rattle.sv_layers.specs.Act.{Act, Polled}
 use Rattle.sv_layers.specs.Filter.{rise, fall, enable, has_bit, passes, leaves}
 use Rattle.sv_layers.specs.Condition.{word, summary, condition}
