@@ -85,7 +85,7 @@ def test_bad_options(pytester: pytest.Pytester) -> None:
         "bad line 1 of the scenario /*/bad: after the time comes *", "*No such file or directory: '/*/none'",
         "the marker scanvolt has no option voltages, but scenario, patience",
         "the marker scanvolt has no option without a name, but scenario, patience",
-        "*scanvolt doesn't serve: scanvolt: bad line 1"])
+        "* doesn't serve: scanvolt: bad line 1"])
 
 
 def test_a_test_that_is_interrupted(pytester: pytest.Pytester) -> None:
