@@ -7,7 +7,7 @@ use Rattle.sv_net.specs.declared.fault.ProgramFault.TheVariants.{BadWords, Run, 
 use Rattle.sv_net.specs.declared.words.Serve.{Serve}
 use Rattle.sv_net.specs.declared.words.Words.{Words}
 use Rattle.sv_net.specs.declared.words.Words.TheVariants.{Replay, Server}
-use Rattle.sv_net.specs.Words.{AsksFor, Serves, ReadsWords}
+use Rattle.sv_net.specs.Words.{AsksFor, AsksToServe, ReadsWords}
 
 -- the first text is that of the first word
 pub first_text : {A : Type 0} (text : A → Text) (words : List A) (word : A) → Some word ≡ slice_get words 0
@@ -16,7 +16,7 @@ first_text text [] word e = absurd (none-some word (sym e))
 first_text text (w ∷ ws) word e = ap (λ a. Some (text a)) (sym (same_Some word w e))
 
 -- the word `serve`, with what asks for a server
-pub asks_server : (texts : List Text) (serve : Serve) → slice_get texts 0 ≡ Some (codes "serve") → Serves texts serve
+pub asks_server : (texts : List Text) (serve : Serve) → slice_get texts 0 ≡ Some (codes "serve") → AsksToServe texts serve
     → AsksFor texts (Server serve)
 asks_server [] serve e serves = absurd (none-some _ e)
 asks_server (t ∷ ts) serve e serves = (same_Some t _ e, serves)
@@ -25,7 +25,7 @@ asks_server (t ∷ ts) serve e serves = (same_Some t _ e, serves)
 pub differ : codes "replay" ≡ codes "serve" → ⊥
 differ is = cc
 
-no_server : (texts : List Text) → slice_get texts 0 ≡ Some (codes "serve") → ((serve : Serve) → Serves texts serve → ⊥)
+no_server : (texts : List Text) → slice_get texts 0 ≡ Some (codes "serve") → ((serve : Serve) → AsksToServe texts serve → ⊥)
     → (asked : Words) → AsksFor texts asked → ⊥
 no_server texts e none Replay is = differ (same_Some _ _ (sym (ap (λ ts. slice_get ts 0) is) ∙ e))
 no_server [] e none (Server serve) asks = asks
@@ -33,7 +33,7 @@ no_server (t ∷ ts) e none (Server serve) asks = none serve asks.1
 
 -- the word `serve`, with what asks for no server
 pub asks_fault : (texts : List Text) (fault : ProgramFault) → slice_get texts 0 ≡ Some (codes "serve")
-    → ReadsWords (Serves texts) (Err fault) → ReadsWords (AsksFor texts) (Err fault)
+    → ReadsWords (AsksToServe texts) (Err fault) → ReadsWords (AsksFor texts) (Err fault)
 asks_fault texts BadWords e none = no_server texts e none
 asks_fault texts (Run fault) e is = is
 asks_fault texts Socket e never = never

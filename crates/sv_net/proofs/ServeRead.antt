@@ -12,7 +12,7 @@ use Rattle.clap.proofs.OnLiterals.{clap_on_literals}
 use Rattle.clap.proofs.WalkLemmas.{first_value-rows}
 use Rattle.sv_net.specs.declared.words.Serve.{Serve}
 use Rattle.sv_net.specs.declared.fault.ProgramFault.{ProgramFault}
-use Rattle.sv_net.specs.Words.{serve_command, ServesBy, IfGiven, IsCount, Serves, ReadsWords, IsUsageFault}
+use Rattle.sv_net.specs.Words.{serve_command, ServesBy, IfGiven, IsCount, AsksToServe, ReadsWords, IsUsageFault}
 
 -- the command is of the kind whose matches are a function of the words
 command_is_simple : is_simple serve_command ≡ true
@@ -42,14 +42,14 @@ tells_same f g same serve (core, abort, portmap, scenario, sweeps) = (
 -- What the command found tells what is to be served where no word is `--`, or nothing is.
 pub served : (app : App) (words : List Text) (found : ArgMatches) (serve : Serve) → app ≡ serve_command → HasMatchesOf app words found
     → (is_simple_and_free app ≡ true → fault_of app words ≡ []) → ServesBy (λ name. first_value (found_of found) name) serve
-    → (Contains words (codes "--") → ⊥) → Serves words serve
+    → (Contains words (codes "--") → ⊥) → AsksToServe words serve
 served app words found serve is has faultless tells no_end =
     let none : fault_of serve_command words ≡ [] =
     subst (λ (a : App). is_simple_and_free a ≡ true → fault_of a words ≡ []) is faultless command_is_free in
     (no_end, none, tells_same _ _ (same_values words found (subst (λ (a : App). HasMatchesOf a words found) is has)) serve tells)
 
 pub not_served : (app : App) (words : List Text) (found : ArgMatches) → app ≡ serve_command → HasMatchesOf app words found
-    → ((serve : Serve) → ServesBy (λ name. first_value (found_of found) name) serve → ⊥) → (serve : Serve) → Serves words serve → ⊥
+    → ((serve : Serve) → ServesBy (λ name. first_value (found_of found) name) serve → ⊥) → (serve : Serve) → AsksToServe words serve → ⊥
 not_served app words found is has tells serve serves =
     tells serve (tells_same _ _
     (λ name. sym (same_values words found (subst (λ (a : App). HasMatchesOf a words found) is has) name)) serve serves.2)
@@ -57,12 +57,12 @@ not_served app words found is has tells serve serves =
 -- words that the command refuses ask for no server, unless memory was refused
 pub refused : (app : App) (words : List Text) (error : Error) (fault : ProgramFault) → app ≡ serve_command
     → (is_simple_and_free app ≡ true → HasKind (fault_of app words) error) → IsUsageFault (kind_of error) fault
-    → ReadsWords (Serves words) (Err fault)
-refused app words error fault is has (inl (kind, e)) = subst (λ (f : ProgramFault). ReadsWords (Serves words) (Err f)) (sym e) refl
+    → ReadsWords (AsksToServe words) (Err fault)
+refused app words error fault is has (inl (kind, e)) = subst (λ (f : ProgramFault). ReadsWords (AsksToServe words) (Err f)) (sym e) refl
 refused app words error fault is has (inr (kind, e)) =
     let faults : HasKind (fault_of serve_command words) error =
     subst (λ (a : App). is_simple_and_free a ≡ true → HasKind (fault_of a words) error) is has command_is_free in
-    subst (λ (f : ProgramFault). ReadsWords (Serves words) (Err f)) (sym e)
+    subst (λ (f : ProgramFault). ReadsWords (AsksToServe words) (Err f)) (sym e)
     (λ serve serves. none_of error kind (subst (λ faults. HasKind faults error) serves.1 faults))
   where
     none_of : (error : Error) → (kind_of error ≡ OutOfMemory → ⊥) → HasKind [] error → ⊥

@@ -42,8 +42,8 @@ ServesBy value serve = IfGiven (value (codes "core")) (λ text. IsCount 65535 te
     × IfGiven (value (codes "sweeps")) (λ text. IsCount 4294967295 text serve.sweeps)
 
 -- No word is `--`; clap's command finds no fault in the words; and the values that it finds for the options say what to serve.
-abbrev pub Serves : List Text → Serve → Type 0
-Serves words serve = (Contains words (codes "--") → ⊥) × (fault_of serve_command words ≡ [])
+abbrev pub AsksToServe : List Text → Serve → Type 0
+AsksToServe words serve = (Contains words (codes "--") → ⊥) × (fault_of serve_command words ≡ [])
     × ServesBy (λ name. first_of name (matches_of serve_command words)) serve
 
 -- The words of the command line tell the program to do this: for a replay, they are the single word `replay`; for a server, they are
@@ -51,7 +51,7 @@ Serves words serve = (Contains words (codes "--") → ⊥) × (fault_of serve_co
 abbrev pub AsksFor : List Text → Words → Type 0
 AsksFor words Replay = words ≡ codes "replay" ∷ []
 AsksFor [] (Server serve) = ⊥
-AsksFor (word ∷ words) (Server serve) = (word ≡ codes "serve") × Serves (word ∷ words) serve
+AsksFor (word ∷ words) (Server serve) = (word ≡ codes "serve") × AsksToServe (word ∷ words) serve
 
 -- What reading the command line returns: something of which `P` holds; `BadWords`, if `P` holds of nothing; or that memory was refused.
 abbrev pub ReadsWords : {A : Type 0} → (A → Type 0) → Result A ProgramFault → Type 0

@@ -3,7 +3,7 @@
 ghost use Rattle.std.specs.Prelude.{◌≡◌, Decides, codes, map};
 ghost use Rattle.std.specs.List.{Contains};
 ghost use Rattle.clap.specs.Values.{kind_of};
-ghost use Rattle.sv_net.specs.Words.{Serves, AsksFor, ReadsWords, IsUsageFault};
+ghost use Rattle.sv_net.specs.Words.{AsksToServe, AsksFor, ReadsWords, IsUsageFault};
 
 mod options;
 
@@ -66,7 +66,7 @@ pub fn read_words<'a, S: AsStr>(alloc: Global, words: &'a [S]) -> Result<Words<'
 
 /// Reads the word `serve` and the options after it.
 fn read_serve<'a, S: AsStr>(alloc: Global, words: &'a [S]) -> Result<Serve<'a>, ProgramFault>
-    ensures { ReadsWords (Serves (map S.text words.now)) result }
+    ensures { ReadsWords (AsksToServe (map S.text words.now)) result }
 {
     if has_end_of_options(words) {
         return Err(ProgramFault::BadWords);
