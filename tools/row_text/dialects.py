@@ -1,4 +1,4 @@
-"""The lines that each test crate has in its rows besides calls, replies and requests for service."""
+"""The lines that each kind of row has besides calls, replies and requests for service."""
 import re
 
 from .lines import Reading, unquoted
@@ -6,7 +6,7 @@ from .values import TextError
 
 
 class Scripts(Reading):
-    """crates/test_scripts: lines of a replay or of events (its `src`), and what is printed.
+    """Lines of a replay or of events, and what is printed; for each kind that isn't in KINDS.
 
     Lines for which the text has no words are copied as they are, after `line` or `prints`. `given` means the next line
     that is asked, as a row of the kind `line by line` prints it.
@@ -61,10 +61,9 @@ class Scripts(Reading):
 
 
 class Driver(Reading):
-    """crates/test_driver: what a wire answers, and after `> ` what the driver asks it. `0 CALL` gives the bytes that are
-    read on connection 0.
+    """The kinds `sweeps`, `peers` and `pace`: what a wire answers, and after `> ` what the driver asks it.
 
-    `peer 0 CALL` is what a peer sends.
+    `0 CALL` gives the bytes that are read on connection 0; `peer 0 CALL` is what a peer sends.
     """
 
     WANTED = ("reply", "request", "gets", ">")
@@ -89,7 +88,7 @@ class Driver(Reading):
 
 
 class Sockets(Reading):
-    """crates/sv_sockets: what peers do. Each peer is a letter: `a CALL` is what it sends, and `reply a ..` what it waits for.
+    """The kind `sockets`: what peers do. Each peer is a letter: `a CALL` is what it sends, and `reply a ..` what it waits for.
 
     After `> ` comes any other line that is printed.
     """
@@ -123,4 +122,15 @@ class Sockets(Reading):
         return unquoted(self.alone(line[2:], more))
 
 
-DIALECTS = {"test_driver": Driver, "sv_sockets": Sockets}
+class Parts(Reading):
+    """The kind `parts`: `QUESTION -> ANSWER`, a line each; or `QUESTION ->` if nothing is answered."""
+
+    def read(self, line, more=()):
+        question, arrow, answer = self.alone(line, more).partition(" ->")
+        if not arrow:
+            raise TextError("a question without ` ->` and its answer: " + line)
+        return [question], ["->" + answer]
+
+
+# The lines of a row by the first word of its kind.
+KINDS = {"sweeps": Driver, "peers": Driver, "pace": Driver, "sockets": Sockets, "parts": Parts}

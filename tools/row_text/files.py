@@ -1,7 +1,7 @@
 """Files of rows: each row has a title, and lines that say what is asked and what is wanted.
 
 A line that begins with `#` is a comment. These lines may follow the title: `kind WORDS`, what is done with the row
-(crates/test_scripts/src/main.rt lists the kinds); `joined`, its hexadecimal has no blanks; `unended`, its last line has
+(crates/test_rows/src/main.rt lists the kinds); `joined`, its hexadecimal has no blanks; `unended`, its last line has
 no new line; `singly`, the row is run a second time with its writes cut into single bytes. A line `and MESSAGE` continues
 the line before it: the messages come together.
 """
@@ -10,7 +10,7 @@ import glob
 import os
 from typing import List
 
-from .dialects import DIALECTS, Scripts
+from .dialects import KINDS, Scripts
 from .singly import PREFIX, cut
 from .values import TextError
 
@@ -28,11 +28,10 @@ class Row:
     lines: List[tuple] = dataclasses.field(default_factory=list)
     asked: List[str] = dataclasses.field(default_factory=list)
     wanted: List[str] = dataclasses.field(default_factory=list)
-    dialect: type = Scripts
 
     def reading(self):
         """A reader for the lines of this row."""
-        return self.dialect("joined" in self.marks)
+        return KINDS.get(self.kind.partition(" ")[0], Scripts)("joined" in self.marks)
 
     def read(self):
         """Reads the lines of the text."""
@@ -50,22 +49,22 @@ class Row:
         return self
 
 
-def rows_of(path, dialect=Scripts):
+def rows_of(path):
     """The rows of a file."""
     rows = []
     with open(path, encoding="utf-8") as file:
         for number, line in enumerate(file.read().split("\n"), 1):
             if line and not line.startswith("#"):
-                _take(rows, line, path, number, dialect)
+                _take(rows, line, path, number)
     return [row.read() for row in rows]
 
 
-def _take(rows, line, path, number, dialect):
+def _take(rows, line, path, number):
     """Adds a line to the last row, or begins a row with it."""
     word, _, rest = line.partition(" ")
     place = "%s:%d" % (path, number)
     if word == "title":
-        rows.append(Row(rest.strip(), place, dialect=dialect))
+        rows.append(Row(rest.strip(), place))
     elif not rows:
         raise TextError("%s: a line before the first title" % place)
     elif word == "kind" and not rows[-1].lines:
@@ -83,8 +82,7 @@ def rows_in(folder):
     paths = sorted(glob.glob(os.path.join(glob.escape(folder), "*.rows")))
     if not paths:
         raise TextError("no *.rows in " + folder)
-    dialect = DIALECTS.get(os.path.basename(os.path.dirname(os.path.abspath(folder))), Scripts)
-    rows = [row for path in paths for row in rows_of(path, dialect)]
+    rows = [row for path in paths for row in rows_of(path)]
     again = sorted((row for row in rows if "singly" in row.marks), key=lambda row: row.title)
     return rows + [_cut(row) for row in again]
 

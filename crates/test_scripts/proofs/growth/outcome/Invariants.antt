@@ -1,6 +1,0 @@
-use denote.Shadow.{shadow}
-use denote.Text.{Utf8}
-use Rattle.test_scripts.proofs.growth.outcome.Given as goal
-
-abbrev pub invariant-loop-line : goal.invariant-loop-line
-invariant-loop-line l = shadow (Utf8 l.brought)
