@@ -181,19 +181,43 @@ fn repeat<W: Write + Drop>(
     Ok(())
 }
 
+/// Executes the lines before the first `times`, and then each section that begins with `times`.
+fn sections<W: Write + Drop>(
+    heap: &FailingAllocator<Global>,
+    server: &mut Played<'_>,
+    lines: &str,
+    writer: &mut BufWriter<W>,
+) -> io::Result<()> {
+    let mut front = true;
+    for section in lines.split("\ntimes ") {
+        if front {
+            steps(heap, server, section, writer)?;
+        } else {
+            repeat(heap, server, section, writer)?;
+        }
+        front = false;
+    }
+    Ok(())
+}
+
+/// The clock at the start, and the lines after the line that says so.
+fn clock_of(text: &str) -> io::Result<(u64, &str)> {
+    match text.strip_prefix("clock ") {
+        Some(rest) => {
+            let (clock, lines) = rest.split_once('\n').unwrap_or((rest, ""));
+            Ok((number(clock)?, lines))
+        }
+        None => Ok((0, text)),
+    }
+}
+
 /// Plays the lines of a row after `! events`, on a new server.
 pub(crate) fn play<W: Write + Drop>(
     alloc: Global,
     text: &str,
     writer: &mut BufWriter<W>,
 ) -> io::Result<()> {
-    let (clock, lines) = match text.strip_prefix("clock ") {
-        Some(rest) => {
-            let (clock, lines) = rest.split_once('\n').unwrap_or((rest, ""));
-            (number(clock)?, lines)
-        }
-        None => (0, text),
-    };
+    let (clock, lines) = clock_of(text)?;
     let config = Config {
         core: 4096,
         abort: 4097,
@@ -201,10 +225,5 @@ pub(crate) fn play<W: Write + Drop>(
     };
     let heap = FailingAllocator::new(alloc);
     let mut server = Server::new(&heap, config)?;
-    let (front, _) = lines.split_once("\ntimes ").unwrap_or((lines, ""));
-    steps(&heap, &mut server, front, writer)?;
-    for section in lines.split("\ntimes ").skip(1) {
-        repeat(&heap, &mut server, section, writer)?;
-    }
-    Ok(())
+    sections(&heap, &mut server, lines, writer)
 }

@@ -164,14 +164,8 @@ fn start<'a>(
     })
 }
 
-/// Plays a script one time, and returns what it prints. `heap` may refuse one allocation.
-fn outcome(
-    alloc: Global,
-    heap: &FailingAllocator<Global>,
-    refuses: bool,
-    script: &str,
-) -> io::Result<String> {
-    let mut play = start(alloc, heap, refuses)?;
+/// Plays the lines of a script, and returns what they print.
+fn play_on(play: &mut Growing<'_>, script: &str) -> io::Result<String> {
     let mut brought = "";
     for line in script.lines() {
         play.step(brought, line)?;
@@ -180,6 +174,17 @@ fn outcome(
         }
     }
     Ok(play.told.clone()?)
+}
+
+/// Plays a script one time, and returns what it prints. `heap` may refuse one allocation.
+fn outcome(
+    alloc: Global,
+    heap: &FailingAllocator<Global>,
+    refuses: bool,
+    script: &str,
+) -> io::Result<String> {
+    let mut play = start(alloc, heap, refuses)?;
+    play_on(&mut play, script)
 }
 
 /// Prints the outcomes of a script: first the server's first allocation is refused, then its

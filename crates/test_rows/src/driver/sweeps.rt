@@ -136,11 +136,15 @@ fn sweep_each<W: Write + Drop>(
     row: &str,
     writer: &mut BufWriter<W>,
 ) -> io::Result<()> {
-    for (place, section) in row.split("\nsweep ").enumerate().skip(1) {
-        let (line, behind) = section.split_once('\n').unwrap_or((section, ""));
-        sweep(heap, driver, place, line, writer)?;
-        show_still(driver, behind, writer)?;
-        show_played(driver, behind, writer)?;
+    let mut place = 0usize;
+    for section in row.split("\nsweep ") {
+        if place > 0 {
+            let (line, behind) = section.split_once('\n').unwrap_or((section, ""));
+            sweep(heap, driver, place, line, writer)?;
+            show_still(driver, behind, writer)?;
+            show_played(driver, behind, writer)?;
+        }
+        place = place.saturating_add(1);
     }
     Ok(())
 }

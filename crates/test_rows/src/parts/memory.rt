@@ -3,7 +3,7 @@
 use crate::parts::line::put;
 use crate::words::bad;
 use failing_alloc::FailingAllocator;
-use std::alloc::{AllocError, Global};
+use std::alloc::Global;
 use std::io;
 use sv_errors::ErrorQueue;
 use sv_exchange::Exchange;
@@ -23,47 +23,44 @@ const CONFIG: Config = Config {
     clock: 0,
 };
 
-/// Calls `make` again and again: first its first allocation is refused, then its second, and so on.
-/// Each of these calls must fail. After each of them, `make` is called without a refusal, and this
-/// call must succeed. At last no allocation is refused, and the call must succeed. Returns how many
-/// allocations `make` makes.
-fn allocations<'a, T: Drop, F: Fn(&'a FailingAllocator<Global>) -> Result<T, AllocError>>(
-    heap: &'a FailingAllocator<Global>,
-    make: F,
-) -> io::Result<u64>
-    requires { F.IsAlwaysCallable make }
-{
+/// Makes the part of this name. Returns whether it was made.
+fn is_made(heap: &FailingAllocator<Global>, name: &str) -> io::Result<bool> {
+    match name {
+        "RecordBuf" => Ok(RecordBuf::new(heap).is_ok()),
+        "ErrorQueue" => Ok(ErrorQueue::new(heap).is_ok()),
+        "Table" => Ok(Table::new(heap).is_ok()),
+        "Scanner" => Ok(Scanner::new(heap).is_ok()),
+        "Exchange" => Ok(Exchange::new(heap).is_ok()),
+        "Layers" => Ok(Layers::new(heap).is_ok()),
+        "Instrument" => Ok(Instrument::new(heap).is_ok()),
+        "Server" => Ok(Server::new(heap, CONFIG).is_ok()),
+        _ => Err(bad()),
+    }
+}
+
+/// Makes a part again and again: first its first allocation is refused, then its second, and so on.
+/// Each time the part must not be made, and must be made right after that without a refusal. At
+/// last no allocation is refused, and the part must be made. Prints how many allocations it makes;
+/// for the server, which has two buffers for each of its 16 connections, whether it makes at least
+/// 32.
+pub(crate) fn put_allocations(alloc: Global, out: &mut String, name: &str) -> io::Result<()> {
+    let heap = FailingAllocator::new(alloc);
     for number in 1..MOST {
         heap.refuse(number);
-        let made = make(heap).is_ok();
-        if heap.is_armed() {
-            return if made { Ok(number - 1) } else { Err(bad()) };
+        let made = is_made(&heap, name)?;
+        if made != heap.is_armed() {
+            return Err(bad());
         }
-        if made || make(heap).is_err() {
+        if made {
+            let count = number - 1;
+            return match name {
+                "Server" => put(out, count >= 32),
+                _ => put(out, count),
+            };
+        }
+        if !is_made(&heap, name)? {
             return Err(bad());
         }
     }
     Err(bad())
-}
-
-/// Prints how many allocations the part of this name makes. Each of them is refused once, and then
-/// the part can't be made; once memory is there, it can. The server has two buffers for each of its
-/// 16 connections; prints whether it makes at least so many allocations.
-pub(crate) fn put_allocations(alloc: Global, out: &mut String, name: &str) -> io::Result<()> {
-    let heap = FailingAllocator::new(alloc);
-    let count = match name {
-        "RecordBuf" => allocations(&heap, |heap| RecordBuf::new(heap))?,
-        "ErrorQueue" => allocations(&heap, |heap| ErrorQueue::new(heap))?,
-        "Table" => allocations(&heap, |heap| Table::new(heap))?,
-        "Scanner" => allocations(&heap, |heap| Scanner::new(heap))?,
-        "Exchange" => allocations(&heap, |heap| Exchange::new(heap))?,
-        "Layers" => allocations(&heap, |heap| Layers::new(heap))?,
-        "Instrument" => allocations(&heap, |heap| Instrument::new(heap))?,
-        "Server" => {
-            let count = allocations(&heap, |heap| Server::new(heap, CONFIG))?;
-            return put(out, count >= 32);
-        }
-        _ => return Err(bad()),
-    };
-    put(out, count)
 }

@@ -19,11 +19,23 @@ pub(crate) fn put_orders(
 ) -> io::Result<()> {
     let mut path = Path::root();
     for part in text.split(';') {
-        let bytes = Vec::unescape_bytes(alloc, part)?;
-        let order = read_unit(table, &mut path, unit(bytes.as_slice()));
-        put_order(out, &order)?;
+        put_part(alloc, out, table, &mut path, part)?;
     }
     Ok(())
+}
+
+/// Prints what a unit asks for, or the unit's first fault. `path` is the path that the units before
+/// it left.
+fn put_part(
+    alloc: Global,
+    out: &mut String,
+    table: &Table,
+    path: &mut Path,
+    text: &str,
+) -> io::Result<()> {
+    let bytes = Vec::unescape_bytes(alloc, text)?;
+    let order = read_unit(table, path, unit(bytes.as_slice()));
+    put_order(out, &order)
 }
 
 /// Prints the order that a unit gives to the instrument, or the unit's fault.

@@ -42,6 +42,18 @@ fn show<W: Write + Drop>(bytes: &[u8], writer: &mut BufWriter<W>) -> io::Result<
     writeln!(writer)
 }
 
+/// Executes lines of the row.
+fn run_steps<W: Write + Drop>(
+    stage: &mut Stage,
+    lines: &str,
+    writer: &mut BufWriter<W>,
+) -> io::Result<()> {
+    for line in lines.lines() {
+        step(stage, line, writer)?;
+    }
+    Ok(())
+}
+
 /// Plays a row. Prints the results of its lines.
 pub(crate) fn play<W: Write + Drop>(
     rt: HostRuntime,
@@ -50,10 +62,7 @@ pub(crate) fn play<W: Write + Drop>(
 ) -> io::Result<()> {
     let (scenario, steps) = lines.split_once("\n\n").unwrap_or(("", lines));
     let mut stage = Stage::new(rt, scenario)?;
-    for line in steps.lines() {
-        step(&mut stage, line, writer)?;
-    }
-    Ok(())
+    run_steps(&mut stage, steps, writer)
 }
 
 /// Executes a line of the row, and prints the line's result, if it has one.

@@ -6,7 +6,7 @@ use std::alloc::Global;
 use std::io::{self, Error, ErrorKind};
 use std::time::{Clock, Duration, Instant};
 use sv_net::{Net, Watch, serve};
-use sv_replay::read_scenario;
+use sv_replay::{Entry, read_scenario};
 use sv_serve::Driver;
 use sv_server::{Config, Port, Server};
 
@@ -43,12 +43,30 @@ fn listen(rt: HostRuntime) -> io::Result<(Watch<Global>, Net<HostRuntime, Global
     Err(late())
 }
 
+/// The driver with which a row is played.
+type Played = Driver<Net<HostRuntime, Global>, Global>;
+
+/// Makes a driver of a new server over these sockets, with this scenario.
+fn driver_over(
+    alloc: Global,
+    net: Net<HostRuntime, Global>,
+    scenario: Vec<Entry>,
+) -> io::Result<Played> {
+    let config = Config {
+        core: PORTS[0],
+        abort: PORTS[1],
+        clock: 0,
+    };
+    let server = Server::new(alloc, config)?;
+    Ok(Driver::new(alloc, server, net, scenario)?)
+}
+
 /// A server with its peers.
 #[derive(Drop)]
 pub(crate) struct Stage {
     pub(crate) rt: HostRuntime,
     watch: Watch<Global>,
-    driver: Driver<Net<HostRuntime, Global>, Global>,
+    driver: Played,
     pub(crate) peers: Vec<Peer>,
     /// When the measurement of time started.
     start: Instant,
@@ -60,19 +78,14 @@ impl Stage {
         let Ok(scenario) = read_scenario(rt.alloc(), scenario.as_bytes()) else {
             return Err(bad());
         };
-        let config = Config {
-            core: PORTS[0],
-            abort: PORTS[1],
-            clock: 0,
-        };
-        let server = Server::new(rt.alloc(), config)?;
+        let start = Instant::now(&rt)?;
         let (watch, net) = listen(rt)?;
         Ok(Stage {
             rt,
             watch,
-            driver: Driver::new(rt.alloc(), server, net, scenario)?,
+            driver: driver_over(rt.alloc(), net, scenario)?,
             peers: Vec::new(rt.alloc()),
-            start: Instant::now(&rt)?,
+            start,
         })
     }
 
