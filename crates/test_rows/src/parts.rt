@@ -1,5 +1,5 @@
 //! Plays rows about single parts of the instrument. Each line of a row is a question to one part of
-//! the instrument, or to the whole instrument. Prints the line's answer, after `->`. Each row begins
+//! the instrument, or to the whole instrument. Prints the line's answer after `->`. Each row begins
 //! with new parts.
 //!
 //! | Line | Answer |
