@@ -60,13 +60,13 @@ def marked(wanted, came):
 
 
 def context(row, index):
-    """The lines of the text before the one that wants line `index`, that line itself, and the calls so far."""
+    """The lines of the text up to what is asked before line `index`, the line that wants it, and the calls so far."""
     reading, lines, count = row.reading(), [], 0
     for _, (first, *more) in row.lines:
         said, before = [first] + ["and " + one for one in more], copy.deepcopy(reading.numbering)
         wanted = reading.read(first, more)[1]
         if wanted and count == index:
-            return lines, said, before
+            return lines + ([] if is_wanted(first) else said), said, before
         count += len(wanted)
         lines += said
     return lines, None, reading.numbering

@@ -10,7 +10,7 @@ TOP = os.path.dirname(os.path.dirname(os.path.dirname(os.path.abspath(__file__))
 sys.path[:0] = [TOP + "/tools", TOP + "/python"]
 
 from row_text import messages                                               # noqa: E402
-from row_text.dialects import Driver, Scripts, Sockets                      # noqa: E402
+from row_text.dialects import Driver, Parts, Scripts, Sockets               # noqa: E402
 from row_text.files import rows_of, streams                                 # noqa: E402
 from row_text.lines import Telling, hex_of                                  # noqa: E402
 from row_text.singly import DONE                                            # noqa: E402
@@ -117,9 +117,11 @@ class Messages(Rows):
     def test_lines_that_cannot_be_read(self):
         for line in ("0 create_lnk", "0 null lid", '0 create_link device="inst', "0 null fragments=1", "what", "tick x"):
             self.assertRaises(TextError, Scripts().asked, line)
-        for reading, line in ((Scripts(), "0 turn"), (Scripts(), "refused 4"), (Driver(), "sweep 0"), (Sockets(), "> yes")):
+        for reading, line in ((Scripts(), "0 turn"), (Scripts(), "refused 4"), (Driver(), "sweep 0"), (Sockets(), "> yes"),
+                              (Parts(), "queue take -> None")):
             self.assertRaises(TextError, reading.read, line, ["null"])
         self.assertRaises(TextError, Sockets().read, "a nul")
+        self.assertRaises(TextError, Parts().read, "queue take")
 
     def test_xids(self):
         reading = Scripts()
@@ -134,7 +136,7 @@ class Messages(Rows):
         self.assertEqual(reading.asked("0 null part=3..4"), ["bytes 0 0028"])
         self.assertEqual(reading.asked("0 null part=5..8"), ["bytes 0 0000000c"])
 
-    def test_other_crates(self):
+    def test_other_kinds(self):
         null = calls.null().encode(1).hex()
         reply = encode_reply(1).hex()
         driver, sockets = Driver(), Sockets()
@@ -143,6 +145,8 @@ class Messages(Rows):
         self.assertEqual(driver.read("> sweep 0"), ([], ["sweep 0"]))
         self.assertEqual(sockets.read("a null joined"), (["a < " + null], []))
         self.assertEqual(sockets.read("reply a null"), (["a > %d" % (len(reply) // 2)], ["a " + reply]))
+        self.assertEqual(Parts().read("queue take -> Taken(None)"), (["queue take"], ["-> Taken(None)"]))
+        self.assertEqual(Parts().read("queue clear ->"), (["queue clear"], ["->"]))
         self.assertEqual(Telling(driver.numbering, always=True).told("write c0 " + reply), ["reply 0 null xid=1"])
 
 
@@ -206,6 +210,14 @@ class Differences(Rows):
         self.assertEqual(lines[at + 1], "  came    reply 0 device_write error=4 xid=1 (invalid link identifier)")
         self.assertEqual(lines[at + 2].index("^"), lines[at].index("size"))
         self.assertIn("1 of 3 rows differ", told)
+
+    def test_a_question_beside_its_answer_is_shown(self):
+        self.write("two/rows/a.rows", "title a queue\nkind parts\nqueue count -> 0\nqueue take -> Taken(None)\n")
+        self.assertEqual(self.tool("rows", self.folder + "/two")[0], 0)
+        self.write("two/out/stdout", self.read("two/stdout").replace("Taken(None)", "Cleared"))
+        status, told = self.tool("row-diff", self.folder + "/two")
+        self.assertEqual(status, 1)
+        self.assertIn("  | queue take -> Taken(None)\n  wanted  -> Taken(None)\n  came    -> Cleared\n", told)
 
     def test_a_line_less_a_line_more_and_an_end(self):
         self.assertIn("  came    nothing more", self.told(self.wanted.replace("refused 4\na b \n= s", "refused 4\n= s"))[1])

@@ -16,7 +16,6 @@
 //! | `still N` | below a sweep: prints whether nothing becomes due within N milliseconds |
 //! | `played` | below a sweep: prints whether the scenario is at its end |
 //!
-//!
 //! A row of the kind `peers N` makes N sweeps. It has a line of hexadecimal for each peer, which
 //! sends these bytes on the core channel. The row prints what each peer gets on its connection and
 //! on its interrupt channel, as `c0 80..` and `i0 80..`. Then the row is played again and again,

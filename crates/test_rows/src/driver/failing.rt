@@ -1,5 +1,5 @@
-//! Plays rows of the kind `peers N`. Prints what each peer gets, and whether the
-//! peer still gets every byte if one call to the wire, such as a read or a write, fails.
+//! Plays rows of the kind `peers N`. Prints what each peer gets, and whether the peer still gets
+//! every byte if one call to the wire, such as a read or a write, fails.
 
 use super::peers::{Call, Peer, Peers};
 use crate::words::{bad, bytes_of, number};
