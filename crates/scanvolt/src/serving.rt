@@ -3,7 +3,7 @@
 use std::alloc::Global;
 use std::fs;
 use std::io::{Error, ErrorKind};
-use sv_net::{ProgramFault, Serve, Watch};
+use sv_net::{Net, ProgramFault, Serve, Watch};
 use sv_replay::{Entry, RunFault, read_scenario};
 use sv_serve::Driver;
 use sv_server::{Config, Server};
@@ -26,24 +26,53 @@ fn scenario(rt: &HostRuntime, path: &str) -> Result<Vec<Entry, Global>, ProgramF
     Ok(read_scenario(rt.alloc(), &text)?)
 }
 
-/// Serves sockets on three ports of 127.0.0.1. Prints `ready` and the ports when it listens on
-/// them.
-pub(crate) fn serve(rt: &HostRuntime, words: &Serve<'_>) -> Result<(), ProgramFault> {
-    let scenario = scenario(rt, words.scenario)?;
+/// Listens on the three ports of the command line.
+fn listen(
+    rt: &HostRuntime,
+    words: &Serve<'_>,
+) -> Result<(Watch<Global>, Net<HostRuntime>), ProgramFault> {
+    let ports = [words.core, words.abort, words.portmap];
+    match Watch::listen(*rt, rt.alloc(), ports) {
+        Ok(listening) => Ok(listening),
+        Err(error) => Err(fault_or(&error, ProgramFault::Socket)),
+    }
+}
+
+/// Makes a server for the ports of the command line, and its driver. The server's clock starts at
+/// 0.
+fn driver(
+    rt: &HostRuntime,
+    words: &Serve<'_>,
+    net: Net<HostRuntime>,
+    scenario: Vec<Entry, Global>,
+) -> Result<Driver<Net<HostRuntime>>, ProgramFault> {
     let config = Config {
         core: words.core,
         abort: words.abort,
         clock: 0,
     };
     let server = Server::new(rt.alloc(), config)?;
-    let ports = [words.core, words.abort, words.portmap];
-    let (mut watch, net) = Watch::listen(*rt, rt.alloc(), ports).map_err(|error| fault_or(
-        &error,
-        ProgramFault::Socket,
-    ))?;
-    let mut driver = Driver::new(rt.alloc(), server, net, scenario)?;
+    Ok(Driver::new(rt.alloc(), server, net, scenario)?)
+}
+
+/// Prints `ready` and the ports, and makes the sweeps.
+fn run(
+    rt: &HostRuntime,
+    words: &Serve<'_>,
+    watch: &mut Watch<Global>,
+    driver: &mut Driver<Net<HostRuntime>>,
+) -> Result<(), ProgramFault> {
     println!(rt; "ready {} {} {}", words.core, words.abort, words.portmap).map_err(
         |_| ProgramFault::Run(RunFault::Output),
     )?;
-    sv_net::serve(rt, &mut watch, &mut driver, words.sweeps).map_err(|_| ProgramFault::Socket)
+    sv_net::serve(rt, watch, driver, words.sweeps).map_err(|_| ProgramFault::Socket)
+}
+
+/// Serves sockets on three ports of 127.0.0.1. Prints `ready` and the ports when it listens on
+/// them.
+pub(crate) fn serve(rt: &HostRuntime, words: &Serve<'_>) -> Result<(), ProgramFault> {
+    let scenario = scenario(rt, words.scenario)?;
+    let (mut watch, net) = listen(rt, words)?;
+    let mut driver = driver(rt, words, net, scenario)?;
+    run(rt, words, &mut watch, &mut driver)
 }

@@ -21,20 +21,22 @@ pub(crate) struct Door {
 }
 
 impl Door {
-    /// Listens on a port of 127.0.0.1.
-    pub(crate) fn listen(network: &impl Network, port: u16) -> io::Result<Door> {
+    /// Listens on a port of 127.0.0.1, and registers the socket for the system's reports. Each
+    /// report about the socket then has this token.
+    pub(crate) fn listen(
+        network: &impl Network,
+        port: u16,
+        registry: &Registry,
+        token: Token,
+    ) -> io::Result<Door> {
         let addr = SocketAddr::V4(SocketAddrV4::new(Ipv4Addr::LOCALHOST, port));
+        let mut listener = TcpListener::bind(network, addr)?;
+        registry.register(&mut listener, token, Interest::READABLE)?;
         Ok(Door {
-            listener: TcpListener::bind(network, addr)?,
+            listener,
             knocked: Cell::new(false),
             delay: Cell::new(0),
         })
-    }
-
-    /// Registers the socket for the system's reports. Each report about the socket then has this
-    /// token.
-    pub(crate) fn register(&mut self, registry: &Registry, token: Token) -> io::Result<()> {
-        registry.register(&mut self.listener, token, Interest::READABLE)
     }
 
     /// Records a report of the system about the socket: connections might be waiting to be

@@ -10,7 +10,7 @@ use crate::stream::Stream;
 use mio::event::Event;
 use mio::net::TcpStream;
 use mio::{Poll, Registry, Token};
-use std::alloc::{Allocator, Global};
+use std::alloc::{AllocError, Allocator, Global};
 use std::io;
 use std::marker::Model;
 use std::net::Net as Network;
@@ -97,6 +97,32 @@ fn write_at<S: Stream>(place: &mut Option<Socket<S>>, bytes: &[u8]) -> Answer<us
     }
 }
 
+/// Listens on three ports, and registers the three sockets for the system's reports. Their tokens
+/// follow those of the sockets of connections and interrupt channels.
+fn open_doors(
+    network: &impl Network,
+    registry: &Registry,
+    ports: [u16; 3],
+) -> io::Result<[Door; 3]> {
+    let [core, abort, portmap] = ports;
+    Ok([
+        Door::listen(network, core, registry, Token(SOCKETS))?,
+        Door::listen(network, abort, registry, Token(SOCKETS + 1))?,
+        Door::listen(network, portmap, registry, Token(SOCKETS + 2))?,
+    ])
+}
+
+/// Makes the places of the sockets. No place has a socket yet.
+fn no_sockets<A: Allocator, S: Stream>(alloc: A) -> Result<Vec<Option<Socket<S>>, A>, AllocError>
+    ensures { IfOk result (λ sockets. sockets.items ≡ replicate 32 None) }
+{
+    let mut sockets = Vec::with_capacity(alloc, SOCKETS)?;
+    for _ in 0..SOCKETS {
+        sockets.push(None)?;
+    }
+    Ok(sockets)
+}
+
 impl<N: Network + Drop, A: Allocator, S: Stream> Net<N, A, S> {
     /// Listens on the ports of the core channel, the abort channel and the port mapper.
     ///
@@ -111,20 +137,12 @@ impl<N: Network + Drop, A: Allocator, S: Stream> Net<N, A, S> {
         ensures { IfOk result (λ net. net ≡ replicate 32 None) }
     {
         let registry = poll.registry().try_clone()?;
-        let mut core = Door::listen(&network, ports[0])?;
-        let mut abort = Door::listen(&network, ports[1])?;
-        let mut portmap = Door::listen(&network, ports[2])?;
-        core.register(&registry, Token(SOCKETS))?;
-        abort.register(&registry, Token(SOCKETS + 1))?;
-        portmap.register(&registry, Token(SOCKETS + 2))?;
-        let mut sockets = Vec::with_capacity(alloc, SOCKETS)?;
-        for _ in 0..SOCKETS {
-            sockets.push(None)?;
-        }
+        let doors = open_doors(&network, &registry, ports)?;
+        let sockets = no_sockets(alloc)?;
         Ok(Net {
             network,
             registry,
-            doors: [core, abort, portmap],
+            doors,
             sockets,
         })
     }

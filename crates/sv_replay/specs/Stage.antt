@@ -64,3 +64,9 @@ pub record Progress {A : Type 0} (old new : Run A) : Type 0 where
   pub counted : new.lines + new.text.reads ≡ old.lines + old.text.reads + 1
   pub bounded : old.lines + length old.text.text ≤ 131072 * old.text.reads → new.lines + length new.text.text ≤ 131072 * new.text.reads
   pub few : old.text.reads ≤ 4294967294 → new.text.reads ≤ 4294967294
+
+-- A run from the first line of a script to its end, or to a fault, reads the bytes between `reader` and `after`, and prints those between
+-- `first` and `last`.
+abbrev pub ScriptRuns : Option (List ℕ) → Option (List ℕ) → Option (List ℕ) → Option (List ℕ) → Result ⊤ RunFault → Type 0
+ScriptRuns reader after first last result =
+    (read text : List ℕ) × Consumes reader after read × Appends first last text × Runs read after result text

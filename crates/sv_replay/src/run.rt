@@ -5,10 +5,10 @@ ghost use Rattle.std.specs.Io.Buffered.{writer_buffer, writer_contents};
 ghost use Rattle.std.specs.Io.KnownBytes.{Consumes, Appends, Keeps, IsAtEnd};
 ghost use Rattle.sv_history.specs.Event.{PlainEvent};
 ghost use Rattle.sv_server.specs.Server.State.{StandsFor};
-ghost use Rattle.sv_replay.specs.Text.{first_end};
+ghost use Rattle.sv_replay.specs.Text.{first_end, nothing_held};
 ghost use Rattle.sv_replay.specs.Run.{set_up, Runs};
 ghost use Rattle.sv_replay.specs.Reads.{Turns, IsReadOut, OnInput};
-ghost use Rattle.sv_replay.specs.Stage.{LineRuns, WhileGoing, Progress, Moves};
+ghost use Rattle.sv_replay.specs.Stage.{LineRuns, WhileGoing, Progress, Moves, ScriptRuns};
 
 use crate::fault::RunFault;
 use crate::input::Source;
@@ -72,20 +72,15 @@ fn run_lines<A: Allocator + Copy, R: Source, W: Write>(
     reader: &mut R,
     writer: &mut W,
 ) -> Result<(), RunFault>
-    ensures runs { (read text : List ℕ)
-        × Consumes (R.remaining reader.old) (R.remaining reader.new) read
-        × Appends (W.contents writer.old) (W.contents writer.new) text
-        × Runs read (R.remaining reader.new) result text }
+    ensures runs { ScriptRuns (R.remaining reader.old) (R.remaining reader.new)
+        (W.contents writer.old) (W.contents writer.new) result }
     ensures end { OnOk result (IsAtEnd (R.remaining reader.new)) }
     ensures reads { IsReadOut R.gives reader.old reader.new result }
 {
-    let mut run = start(alloc)?;
-    for _ in 0..u64::MAX {
-        if !run.turn(reader, writer)? {
-            return Ok(());
-        }
+    match start(alloc) {
+        Ok(mut run) => run.to_end(reader, writer),
+        Err(_) => Err(RunFault::Memory),
     }
-    Err(RunFault::Input)
 }
 
 /// Flushes the writer.
@@ -128,6 +123,28 @@ fn do_line<A: Allocator, W: Write>(
 }
 
 impl<A: Allocator> Run<A> {
+    /// Executes the lines of a script up to its end, but doesn't flush the writer after the last
+    /// lines.
+    fn to_end<R: Source, W: Write>(
+        &mut self,
+        reader: &mut R,
+        writer: &mut W,
+    ) -> Result<(), RunFault>
+        requires { StandsFor self.old.server set_up [] × (self.old.text ≡ nothing_held)
+            × (self.old.lines ≡ 0) }
+        ensures runs { ScriptRuns (R.remaining reader.old) (R.remaining reader.new)
+            (W.contents writer.old) (W.contents writer.new) result }
+        ensures end { OnOk result (IsAtEnd (R.remaining reader.new)) }
+        ensures reads { IsReadOut R.gives reader.old reader.new result }
+    {
+        for _ in 0..u64::MAX {
+            if !self.turn(reader, writer)? {
+                return Ok(());
+            }
+        }
+        Err(RunFault::Input)
+    }
+
     /// Executes the next line, or reads more if no line is complete. Returns false at the end of
     /// the script, else true.
     fn turn<R: Source, W: Write>(

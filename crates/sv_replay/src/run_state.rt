@@ -33,10 +33,12 @@ pub(crate) fn start<A: Allocator + Copy>(alloc: A) -> Result<Run<A>, AllocError>
     ensures { IfOk result (λ run. StandsFor run.server set_up [] × (run.text ≡ nothing_held)
         × (run.lines ≡ 0)) }
 {
+    let text = Text::new(alloc)?;
+    let bytes = vec![in alloc; 0; LONGEST_LINE]?;
     Ok(Run {
         server: Server::new(alloc, SET_UP)?,
-        text: Text::new(alloc)?,
-        bytes: vec![in alloc; 0; LONGEST_LINE]?,
+        text,
+        bytes,
         lines: 0,
     })
 }

@@ -1,71 +1,11 @@
-use Rattle.std.proofs.Common.{false, true, ap, length, arith, sym, refl, []}
-use Rattle.std.specs.Prelude.{Ok, Err}
-use Rattle.sv_replay.specs.Text.{Held}
-use Rattle.sv_replay.proofs.Heard.{on_input}
-use Rattle.sv_replay.proofs.Going.{so_far_start, so_far_turn, so_far_stop, so_far_end, so_far_at_end, no_memory}
+use Rattle.std.proofs.Common.{arith, refl, []}
+use Rattle.std.specs.Prelude.{Err}
+use Rattle.sv_replay.proofs.Going.{no_memory}
+use Rattle.sv_replay.specs.declared.fault.RunFault.TheVariants.{Memory}
 use Rattle.sv_replay.proofs.run.run_lines.Goals as goal
 
-pub returns-in_err-run-clause-runs : goal.returns-in_err-run-clause-runs
-returns-in_err-run-clause-runs g c = no_memory _ _ c.from_residual.result c.from_residual.ensures.0 c.from_residual.ensures.1
+pub returns-in-Err-clause-runs : goal.returns-in-Err-clause-runs
+returns-in-Err-clause-runs g c = no_memory _ _ (Err Memory) refl refl
 
-pub loop-init : goal.loop-init
-loop-init g c =
-    let (stands, none, zero_lines) = c.in_ok-run.ensures in (
-      so_far_start c.in_ok-run.run'.server c.in_ok-run.run'.text.text c.in_ok-run.run'.lines _ _ stands
-          (ap (λ (h : Held). h.text) none) zero_lines,
-      omega (arith, zero_lines, ap (λ (h : Held). h.reads) none),
-      omega (arith, zero_lines, ap (λ (h : Held). length h.text) none),
-      omega (arith, ap (λ (h : Held). h.reads) none),
-      ([], (refl, omega arith), sym (ap (λ (h : Held). h.reads) none)),
-    )
-
-pub returns-in_err-turn-clause-runs : goal.returns-in_err-turn-clause-runs
-returns-in_err-turn-clause-runs g c =
-    so_far_stop c.turn.new.self.server c.turn.new.self.text.text c.turn.new.self.lines _ _ _ _ c.in_err-turn.field-0.0
-    c.from_residual-in_err-turn.result c.from_residual-in_err-turn.ensures.0
-    c.from_residual-in_err-turn.ensures.1 (so_far_turn c.loop.run.server c.turn.new.self.server c.loop.run.text.text
-    c.turn.new.self.text.text c.loop.run.lines c.turn.new.self.lines _ _ _ _ _ _
-    (Err c.in_err-turn.field-0.0) c.loop.invariant.0 c.in_err-turn.ensures.goes)
-
-pub returns-then-not-branch-clause-runs : goal.returns-then-not-branch-clause-runs
-returns-then-not-branch-clause-runs g c =
-    so_far_end c.turn.new.self.server c.turn.new.self.text.text c.turn.new.self.lines _ _ _ _
-    (so_far_turn c.loop.run.server c.turn.new.self.server c.loop.run.text.text c.turn.new.self.text.text c.loop.run.lines
-    c.turn.new.self.lines _ _ _ _ _ _ (Ok false) c.loop.invariant.0 (rw c.if-not-branch.true at c.in_ok-turn.ensures.goes))
-
-pub returns-then-not-branch-clause-end : goal.returns-then-not-branch-clause-end
-returns-then-not-branch-clause-end g c =
-    so_far_at_end c.turn.new.self.server c.turn.new.self.text.text c.turn.new.self.lines _ _ _ _
-    (so_far_turn c.loop.run.server c.turn.new.self.server c.loop.run.text.text c.turn.new.self.text.text c.loop.run.lines
-    c.turn.new.self.lines _ _ _ _ _ _ (Ok false) c.loop.invariant.0 (rw c.if-not-branch.true at c.in_ok-turn.ensures.goes))
-
-pub loop-preserved : goal.loop-preserved
-loop-preserved g c =
-    let e = c.if-not-branch.false in (
-      so_far_turn c.loop.run.server c.turn.new.self.server c.loop.run.text.text c.turn.new.self.text.text c.loop.run.lines
-          c.turn.new.self.lines _ _ _ _ _ _ (Ok true) c.loop.invariant.0
-          (rw e at c.in_ok-turn.ensures.goes),
-      omega (arith, (rw e at c.in_ok-turn.ensures.progress).counted, c.loop.invariant.1),
-      (rw e at c.in_ok-turn.ensures.progress).bounded c.loop.invariant.2,
-      (rw e at c.in_ok-turn.ensures.progress).few c.loop.invariant.3,
-      (let (reads, made, as_many) = c.loop.invariant.4 in
-          let (others, they, count, on) = rw e at (c.in_ok-turn.ensures.heard _ reads made as_many) in (others, they, count)),
-    )
-
-pub returns-in_err-run-clause-reads : goal.returns-in_err-run-clause-reads
-returns-in_err-run-clause-reads g c =
-    ([], (refl, omega arith), on_input c.from_residual.result _ _ c.from_residual.ensures.0 c.from_residual.ensures.1 tt)
-
-pub returns-in_err-turn-clause-reads : goal.returns-in_err-turn-clause-reads
-returns-in_err-turn-clause-reads g c =
-    let (reads, made, as_many) = c.loop.invariant.4 in
-    let (others, they, going, on) = c.in_err-turn.ensures.heard _ reads made as_many in (
-      others,
-      they,
-      on_input c.from_residual-in_err-turn.result _ _ c.from_residual-in_err-turn.ensures.0 c.from_residual-in_err-turn.ensures.1 on,
-    )
-
-pub returns-then-not-branch-clause-reads : goal.returns-then-not-branch-clause-reads
-returns-then-not-branch-clause-reads g c =
-    let (reads, made, as_many) = c.loop.invariant.4 in
-    let (others, they, going, on) = c.in_ok-turn.ensures.heard _ reads made as_many in (others, they, tt)
+pub returns-in-Err-clause-reads : goal.returns-in-Err-clause-reads
+returns-in-Err-clause-reads g c = ([], (refl, omega arith), tt)
