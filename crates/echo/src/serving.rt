@@ -2,8 +2,8 @@
 
 use crate::connection::Connection;
 use mio::net::TcpListener;
-use mio::{Events, Interest, Poll, Token};
-use std::alloc::Global;
+use mio::{Events, Interest, Poll, Registry, Token};
+use std::alloc::{AllocError, Global};
 use std::io;
 use std::net::{Ipv4Addr, SocketAddr, SocketAddrV4};
 use std::time::{Duration, Instant};
@@ -47,6 +47,23 @@ fn echo(connections: &mut Vec<Option<Connection>, Global>, number: usize, buffer
     }
 }
 
+/// Makes the places of the connections. No place has a connection yet.
+fn no_connections(alloc: Global) -> Result<Vec<Option<Connection>, Global>, AllocError> {
+    let mut connections = Vec::with_capacity(alloc, CONNECTIONS)?;
+    for _ in 0..CONNECTIONS {
+        connections.push(None)?;
+    }
+    Ok(connections)
+}
+
+/// Listens on a port, and registers the socket for the system's reports.
+fn listener(rt: &HostRuntime, port: u16, registry: &Registry) -> io::Result<TcpListener> {
+    let addr = SocketAddr::V4(SocketAddrV4::new(Ipv4Addr::LOCALHOST, port));
+    let mut listener = TcpListener::bind(rt, addr)?;
+    registry.register(&mut listener, Token(CONNECTIONS), Interest::READABLE)?;
+    Ok(listener)
+}
+
 /// The state of the echo server.
 #[derive(Drop)]
 struct Served {
@@ -60,21 +77,17 @@ struct Served {
 impl Served {
     /// Listens on a port.
     fn listen(rt: &HostRuntime, port: u16) -> io::Result<Served> {
+        let connections = no_connections(rt.alloc())?;
+        let buffer = vec![in rt.alloc(); 0; 16_384]?;
+        let events = Events::with_capacity(rt.alloc(), 64)?;
         let poll = Poll::new(rt)?;
-        let addr = SocketAddr::V4(SocketAddrV4::new(Ipv4Addr::LOCALHOST, port));
-        let mut listener = TcpListener::bind(rt, addr)?;
-        poll.registry()
-            .register(&mut listener, Token(CONNECTIONS), Interest::READABLE)?;
-        let mut connections = Vec::with_capacity(rt.alloc(), CONNECTIONS)?;
-        for _ in 0..CONNECTIONS {
-            connections.push(None)?;
-        }
+        let listener = listener(rt, port, poll.registry())?;
         Ok(Served {
             poll,
-            events: Events::with_capacity(rt.alloc(), 64)?,
+            events,
             listener,
             connections,
-            buffer: vec![in rt.alloc(); 0; 16_384]?,
+            buffer,
         })
     }
 
@@ -98,6 +111,11 @@ impl Served {
 /// Listens on a port, and makes this number of polls.
 pub(crate) fn serve(rt: &HostRuntime, port: u16, looks: u32) -> io::Result<()> {
     let mut served = Served::listen(rt, port)?;
+    run(rt, &mut served, port, looks)
+}
+
+/// Prints `ready` and the port, and makes this number of polls.
+fn run(rt: &HostRuntime, served: &mut Served, port: u16, looks: u32) -> io::Result<()> {
     println!(rt; "ready {port}")?;
     let start = Instant::now(rt)?;
     let mut pace = Pace::new();
