@@ -32,10 +32,7 @@ fn listen(
     words: &Serve<'_>,
 ) -> Result<(Watch<Global>, Net<HostRuntime>), ProgramFault> {
     let ports = [words.core, words.abort, words.portmap];
-    match Watch::listen(*rt, rt.alloc(), ports) {
-        Ok(listening) => Ok(listening),
-        Err(error) => Err(fault_or(&error, ProgramFault::Socket)),
-    }
+    Watch::listen(*rt, rt.alloc(), ports).map_err(|error| fault_or(&error, ProgramFault::Socket))
 }
 
 /// Makes a server for the ports of the command line, and its driver. The server's clock starts at

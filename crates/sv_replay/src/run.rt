@@ -77,10 +77,8 @@ fn run_lines<A: Allocator + Copy, R: Source, W: Write>(
     ensures end { OnOk result (IsAtEnd (R.remaining reader.new)) }
     ensures reads { IsReadOut R.gives reader.old reader.new result }
 {
-    match start(alloc) {
-        Ok(mut run) => run.to_end(reader, writer),
-        Err(_) => Err(RunFault::Memory),
-    }
+    let mut run = start(alloc)?;
+    run.to_end(reader, writer)
 }
 
 /// Flushes the writer.
