@@ -15,16 +15,13 @@
 //! ```
 //!
 //! A contract cannot describe the contents of a cell, so `refuse` and `is_armed` have no contract;
-//! the tests show what they do. It is proved that memory is used safely: each block comes from the
-//! inner allocator for the requested layout, and goes back to it with that layout and at most once.
-//! But no contract says that a block is ever given back.
+//! a row of `test_rows` shows what they do. It is proved that memory is used safely: each block
+//! comes from the inner allocator for the requested layout, and goes back to it with that layout
+//! and at most once. But no contract says that a block is ever given back.
 #![tactic(auto)]
 
 use std::alloc::{AllocError, Allocator};
 use std::cell::Cell;
-
-#[cfg(test)]
-mod tests;
 
 /// An allocator for tests: it refuses one allocation, and passes every other call on to another
 /// allocator.

@@ -107,8 +107,9 @@ fn show<W: Write + Drop>(
     port: &str,
     writer: &mut BufWriter<W>,
 ) -> io::Result<()> {
+    let bytes = server.waiting(port_of(port)?);
     write!(writer, "{port} ")?;
-    for byte in server.waiting(port_of(port)?) {
+    for byte in bytes {
         write!(writer, "{byte:02x}")?;
     }
     writeln!(writer)

@@ -111,15 +111,21 @@ impl Growing<'_> {
         Ok(found_none)
     }
 
+    /// Refuses the call of a line `turn N`, and sends the call again by `brought`.
+    fn send_again(&mut self, brought: &str, line: &str) -> io::Result<()> {
+        let conn = line.strip_prefix("turn ").unwrap_or("");
+        let refused = format!(in self.alloc; "refuse {conn}")?;
+        self.apply(&refused)?;
+        self.apply(brought)?;
+        Ok(())
+    }
+
     /// Handles an event that found no memory. If `refuses` is true, first refuses the event's call,
     /// and sends the call again by `brought`, the `bytes` line that brought the call. Then tries
     /// the event of `line` again.
     fn go_on(&mut self, brought: &str, line: &str) -> io::Result<()> {
         if self.refuses {
-            let conn = line.strip_prefix("turn ").unwrap_or("");
-            let refused = format!(in self.alloc; "refuse {conn}")?;
-            self.apply(&refused)?;
-            self.apply(brought)?;
+            self.send_again(brought, line)?;
         }
         if self.apply(line)? {
             self.told.push_str("twice\n")?;

@@ -35,6 +35,7 @@
 //! | `words TEXT` | what the words of a command line tell the program to do |
 //! | `fault NAME` | the text and the exit status of a fault of the program |
 //! | `memory NAME` | how many allocations a part makes; each of them is refused once |
+//! | `heap ACTS` | the answers of an allocator for tests; the acts have `, ` between them |
 //!
 //! The text of `white`, `trim`, `unit`, `orders`, `session tell` and `session say` may have
 //! escapes, such as `\n`, `\x7F` and `\\`.
@@ -43,6 +44,7 @@ mod codes;
 mod command_line;
 mod fields;
 mod headers;
+mod heap;
 mod line;
 mod memory;
 mod orders;
@@ -60,6 +62,7 @@ use codes::put_code;
 use command_line::{put_fault, put_words};
 use fields::{put_call, put_header, put_read, put_written};
 use headers::{put_arity, put_commands};
+use heap::put_heap;
 use memory::put_allocations;
 use orders::put_orders;
 use records::put_records;
@@ -85,14 +88,7 @@ pub(crate) fn play<W: Write + Drop>(
     text: &str,
     writer: &mut BufWriter<W>,
 ) -> io::Result<()> {
-    let mut parts = Parts::new(alloc)?;
-    let mut answer = String::new(alloc);
-    for line in text.lines() {
-        answer.clear();
-        parts.put_answer(alloc, &mut answer, line)?;
-        writeln!(writer, "->{answer}")?;
-    }
-    Ok(())
+    Parts::new(alloc)?.play(alloc, text, writer)
 }
 
 /// The parts of the instrument on which the lines perform acts, and the table of commands.
@@ -123,6 +119,28 @@ impl Parts {
         })
     }
 
+    /// Prints the answer of each line.
+    fn play<W: Write + Drop>(
+        &mut self,
+        alloc: Global,
+        text: &str,
+        writer: &mut BufWriter<W>,
+    ) -> io::Result<()> {
+        let mut answer = String::new(alloc);
+        for line in text.lines() {
+            answer.clear();
+            self.put_answer(alloc, &mut answer, line)?;
+            writeln!(writer, "->{answer}")?;
+        }
+        Ok(())
+    }
+
+    /// Makes all parts anew.
+    fn renew(&mut self, alloc: Global) -> io::Result<()> {
+        *self = Parts::new(alloc)?;
+        Ok(())
+    }
+
     /// Appends a space and the answer of a line.
     fn put_answer(&mut self, alloc: Global, out: &mut String, line: &str) -> io::Result<()> {
         let (word, text) = cut(line);
@@ -140,10 +158,7 @@ impl Parts {
     fn put_one(&mut self, alloc: Global, out: &mut String, line: &str) -> io::Result<()> {
         let (word, text) = cut(line);
         match word {
-            "new" => {
-                *self = Parts::new(alloc)?;
-                Ok(())
-            }
+            "new" => self.renew(alloc),
             "headers" => put_commands(out, &self.commands, text),
             "arity" => put_arity(out, &self.commands, text),
             "orders" => put_orders(alloc, out, &self.commands, text),
@@ -177,6 +192,7 @@ fn put_of_text(alloc: Global, out: &mut String, word: &str, text: &str) -> io::R
         "words" => put_words(alloc, out, text),
         "fault" => put_fault(out, text),
         "memory" => put_allocations(alloc, out, text),
+        "heap" => put_heap(alloc, out, text),
         _ => put_value(out, word, text),
     }
 }

@@ -39,23 +39,32 @@ fn show_written<W: Write + Drop>(
 pub(crate) fn show<W: Write + Drop>(call: &Call, writer: &mut BufWriter<W>) -> io::Result<()> {
     match call {
         Call::Accept { role, conn, .. } => match conn {
-            Some(conn) => writeln!(writer, "{} {conn}", word(*role)),
+            Some(conn) => show_asked(word(*role), *conn, "", writer),
             None => writeln!(writer, "{} -", word(*role)),
         },
-        Call::Read { conn, .. } => writeln!(writer, "read {conn}"),
-        Call::Probe { conn, drops, .. } => match drops {
-            true => writeln!(writer, "probe {conn} drops"),
-            false => writeln!(writer, "probe {conn}"),
-        },
+        Call::Read { conn, .. } => show_asked("read", *conn, "", writer),
+        Call::Probe { conn, drops, .. } => {
+            show_asked("probe", *conn, if *drops { " drops" } else { "" }, writer)
+        }
         Call::Write { port, bytes, .. } => show_written(*port, bytes, writer),
         Call::Dial { conn, dial, .. } => {
             let (addr, port) = (dial.addr, dial.port);
             writeln!(writer, "dial {conn} {addr:08x}:{port}")
         }
-        Call::Dialed { conn, .. } => writeln!(writer, "dialed {conn}"),
+        Call::Dialed { conn, .. } => show_asked("dialed", *conn, "", writer),
         Call::Close { port } => {
             let (letter, number) = name(*port);
             writeln!(writer, "close {letter}{number}")
         }
     }
+}
+
+/// Prints a call about a connection: its word, the connection, and what the wire answered.
+fn show_asked<W: Write + Drop>(
+    word: &str,
+    conn: u8,
+    answer: &str,
+    writer: &mut BufWriter<W>,
+) -> io::Result<()> {
+    writeln!(writer, "{word} {conn}{answer}")
 }

@@ -23,17 +23,22 @@ const CONFIG: Config = Config {
     clock: 0,
 };
 
+/// Whether this is a part and no refusal. Drops the part.
+fn is_part<T: Drop, E: Drop>(part: Result<T, E>) -> bool {
+    part.is_ok()
+}
+
 /// Makes the part of this name. Returns whether it was made.
 fn is_made(heap: &FailingAllocator<Global>, name: &str) -> io::Result<bool> {
     match name {
-        "RecordBuf" => Ok(RecordBuf::new(heap).is_ok()),
-        "ErrorQueue" => Ok(ErrorQueue::new(heap).is_ok()),
-        "Table" => Ok(Table::new(heap).is_ok()),
-        "Scanner" => Ok(Scanner::new(heap).is_ok()),
-        "Exchange" => Ok(Exchange::new(heap).is_ok()),
-        "Layers" => Ok(Layers::new(heap).is_ok()),
-        "Instrument" => Ok(Instrument::new(heap).is_ok()),
-        "Server" => Ok(Server::new(heap, CONFIG).is_ok()),
+        "RecordBuf" => Ok(is_part(RecordBuf::new(heap))),
+        "ErrorQueue" => Ok(is_part(ErrorQueue::new(heap))),
+        "Table" => Ok(is_part(Table::new(heap))),
+        "Scanner" => Ok(is_part(Scanner::new(heap))),
+        "Exchange" => Ok(is_part(Exchange::new(heap))),
+        "Layers" => Ok(is_part(Layers::new(heap))),
+        "Instrument" => Ok(is_part(Instrument::new(heap))),
+        "Server" => Ok(is_part(Server::new(heap, CONFIG))),
         _ => Err(bad()),
     }
 }

@@ -2,13 +2,14 @@
 
 use crate::parts::line::put;
 use bstr::ByteVec;
-use std::alloc::Global;
+use std::alloc::{AllocError, Global};
 use std::io;
 use sv_errors::Code;
 use sv_header::{Path, Table};
 use sv_instrument::{Order, read_unit};
 use sv_lexer::unit;
 use sv_scan::{ScanList, Setting};
+use sv_status::RegisterName;
 
 /// Prints what each unit of a message asks for, or the unit's first fault.
 pub(crate) fn put_orders(
@@ -41,43 +42,54 @@ fn put_part(
 /// Prints the order that a unit gives to the instrument, or the unit's fault.
 fn put_order(out: &mut String, order: &Result<Order, Code>) -> io::Result<()> {
     match order {
-        Ok(Order::Set(setting)) => put_setting(out, setting),
-        Ok(Order::Configure(list)) => put_list(out, "Configure", list),
-        Ok(Order::Measure(list)) => put_list(out, "Measure", list),
-        Ok(order) => put_values(out, order),
+        Ok(order) => Ok(put_given(out, order)?),
         Err(code) => put(out, Err::<(), Code>(*code)),
     }
 }
 
-/// Prints an order that changes a setting.
-fn put_setting(out: &mut String, setting: &Setting) -> io::Result<()> {
-    match setting {
-        Setting::List(list) => write!(out, " Ok(Set(List({:?})))", list.channels())?,
-        setting => write!(out, " Ok(Set({setting:?}))")?,
+/// Prints an order.
+fn put_given(out: &mut String, order: &Order) -> Result<(), AllocError> {
+    match order {
+        Order::Do(action) => write!(out, " Ok(Do({action:?}))"),
+        Order::Ask(question) => write!(out, " Ok(Ask({question:?}))"),
+        Order::Set(setting) => put_setting(out, setting),
+        Order::Configure(list) => put_list(out, "Configure", list),
+        Order::Measure(list) => put_list(out, "Measure", list),
+        Order::EnableStandard(mask) => put_mask(out, "EnableStandard", *mask),
+        Order::EnableService(mask) => put_mask(out, "EnableService", *mask),
+        Order::Enable(name, mask) => put_filter(out, "Enable", *name, *mask),
+        Order::SetRise(name, mask) => put_filter(out, "SetRise", *name, *mask),
+        Order::SetFall(name, mask) => put_filter(out, "SetFall", *name, *mask),
     }
-    Ok(())
+}
+
+/// Prints an order that changes a setting.
+fn put_setting(out: &mut String, setting: &Setting) -> Result<(), AllocError> {
+    match setting {
+        Setting::List(list) => write!(out, " Ok(Set(List({:?})))", list.channels()),
+        setting => write!(out, " Ok(Set({setting:?}))"),
+    }
 }
 
 /// Prints an order that may have a list of channels. `word` is the order's name.
-fn put_list(out: &mut String, word: &str, list: &Option<ScanList>) -> io::Result<()> {
+fn put_list(out: &mut String, word: &str, list: &Option<ScanList>) -> Result<(), AllocError> {
     match list {
-        Some(list) => write!(out, " Ok({word}(Some({:?})))", list.channels())?,
-        None => write!(out, " Ok({word}(None))")?,
+        Some(list) => write!(out, " Ok({word}(Some({:?})))", list.channels()),
+        None => write!(out, " Ok({word}(None))"),
     }
-    Ok(())
 }
 
-/// Prints an order without a list of channels: its word and its values.
-fn put_values(out: &mut String, order: &Order) -> io::Result<()> {
-    match order {
-        Order::Do(action) => write!(out, " Ok(Do({action:?}))")?,
-        Order::Ask(question) => write!(out, " Ok(Ask({question:?}))")?,
-        Order::EnableStandard(mask) => write!(out, " Ok(EnableStandard({mask}))")?,
-        Order::EnableService(mask) => write!(out, " Ok(EnableService({mask}))")?,
-        Order::Enable(name, mask) => write!(out, " Ok(Enable({name:?}, {mask}))")?,
-        Order::SetRise(name, mask) => write!(out, " Ok(SetRise({name:?}, {mask}))")?,
-        Order::SetFall(name, mask) => write!(out, " Ok(SetFall({name:?}, {mask}))")?,
-        Order::Set(_) | Order::Configure(_) | Order::Measure(_) => (),
-    }
-    Ok(())
+/// Prints an order that sets an enable mask. `word` is the order's name.
+fn put_mask(out: &mut String, word: &str, mask: u8) -> Result<(), AllocError> {
+    write!(out, " Ok({word}({mask}))")
+}
+
+/// Prints an order that sets a mask of a status register. `word` is the order's name.
+fn put_filter(
+    out: &mut String,
+    word: &str,
+    name: RegisterName,
+    mask: u16,
+) -> Result<(), AllocError> {
+    write!(out, " Ok({word}({name:?}, {mask}))")
 }

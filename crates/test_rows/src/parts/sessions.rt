@@ -35,23 +35,34 @@ pub(crate) fn put_session(
     instrument: &mut Instrument,
     text: &str,
 ) -> io::Result<()> {
-    let raised = match cut(text) {
-        ("tell", text) => tell(alloc, out, instrument, text, true)?,
-        ("say", text) => tell(alloc, out, instrument, text, false)?,
-        ("read", "") => read(out, instrument, None)?,
-        ("read", most) => read(out, instrument, Some(value_of(most)?))?,
-        ("poll", "") => {
-            put(out, instrument.poll())?;
-            0
-        }
-        ("ticks", count) => tick(instrument, value_of(count)?),
-        (name, words) => apply(instrument, name, words)?,
-    };
+    let raised = act(alloc, out, instrument, text)?;
     let raised = raised.wrapping_add(settle(instrument));
     if raised > 0 {
         write!(out, " +{raised}")?;
     }
     Ok(())
+}
+
+/// Performs an act, and prints the instrument's answer. Returns how many requests for service the
+/// act raised.
+fn act(
+    alloc: Global,
+    out: &mut String,
+    instrument: &mut Instrument,
+    text: &str,
+) -> io::Result<u64> {
+    match cut(text) {
+        ("tell", text) => tell(alloc, out, instrument, text, true),
+        ("say", text) => tell(alloc, out, instrument, text, false),
+        ("read", "") => read(out, instrument, None),
+        ("read", most) => read(out, instrument, Some(value_of(most)?)),
+        ("poll", "") => {
+            put(out, instrument.poll())?;
+            Ok(0)
+        }
+        ("ticks", count) => Ok(tick(instrument, value_of(count)?)),
+        (name, words) => apply(instrument, name, words),
+    }
 }
 
 /// Takes steps of the instrument until no step is due. Returns how many requests for service these

@@ -12,12 +12,19 @@ const MOST: u64 = 1_000_000_000;
 /// Prints the value of a unit's first parameter. For `print`, prints a voltage as response data.
 pub(crate) fn put_value(out: &mut String, word: &str, text: &str) -> io::Result<()> {
     match word {
-        "voltage" => put(out, microvolts(&parameter(text)?)),
-        "boolean" => put(out, boolean(&parameter(text)?)),
-        "keyword" => put(out, keyword(&parameter(text)?)),
-        "channels" => put(out, channel_list(&parameter(text)?)),
         "whole" => put_whole(out, text),
         "print" => put_printed(out, value_of(text)?),
+        _ => put_parameter(out, word, &parameter(text)?),
+    }
+}
+
+/// Prints the value of a parameter.
+fn put_parameter(out: &mut String, word: &str, token: &Token<'_>) -> io::Result<()> {
+    match word {
+        "voltage" => put(out, microvolts(token)),
+        "boolean" => put(out, boolean(token)),
+        "keyword" => put(out, keyword(token)),
+        "channels" => put(out, channel_list(token)),
         _ => Err(bad()),
     }
 }
