@@ -131,6 +131,14 @@ fn ration<W: Write + Drop>(
     }
 }
 
+/// Reads the event that a line `took PORT COUNT` describes.
+fn took(text: &str) -> io::Result<Event<'_>> {
+    let (port, count) = cut(text);
+    let port = port_of(port)?;
+    let count = number(count)?.min(u64::from(u32::MAX)) as u32;
+    Ok(Event::Took { port, count })
+}
+
 /// Executes a line of an `! events` row.
 fn step<W: Write + Drop>(
     heap: &FailingAllocator<Global>,
@@ -144,12 +152,7 @@ fn step<W: Write + Drop>(
         "ask" => ask(server, conn_of(rest)?, writer),
         "show" => show(server, rest, writer),
         "used" => writeln!(writer, "used {}", server.connections_used()),
-        "took" => {
-            let (port, count) = cut(rest);
-            let port = port_of(port)?;
-            let count = number(count)?.min(u64::from(u32::MAX)) as u32;
-            apply(server, Event::Took { port, count }, writer)
-        }
+        "took" => apply(server, took(rest)?, writer),
         _ => replayed(server, line, writer),
     }
 }

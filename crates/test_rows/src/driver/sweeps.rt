@@ -100,31 +100,19 @@ fn sweep<W: Write + Drop>(
 }
 
 /// Prints, for each line `still N` after a sweep, whether nothing becomes due within N
-/// milliseconds.
-fn show_still<W: Write + Drop>(
+/// milliseconds; and for each line `played`, whether the scenario is at its end.
+fn show_state<W: Write + Drop>(
     driver: &Played<'_>,
     lines: &str,
     writer: &mut BufWriter<W>,
 ) -> io::Result<()> {
     for line in lines.lines() {
-        if let Some(text) = line.strip_prefix("still ") {
-            let ticks = number(text)?.min(u64::from(u32::MAX)) as u32;
-            writeln!(writer, "{line}: {}", driver.is_still(ticks))?;
-        }
-    }
-    Ok(())
-}
-
-/// Prints, for each line `played` after a sweep, whether the scenario is at its end.
-fn show_played<W: Write + Drop>(
-    driver: &Played<'_>,
-    lines: &str,
-    writer: &mut BufWriter<W>,
-) -> io::Result<()> {
-    for line in lines.lines() {
-        if line == "played" {
-            writeln!(writer, "played: {}", driver.is_played())?;
-        }
+        let so = match line.strip_prefix("still ") {
+            Some(text) => driver.is_still(number(text)?.min(u64::from(u32::MAX)) as u32),
+            None if line == "played" => driver.is_played(),
+            None => continue,
+        };
+        writeln!(writer, "{line}: {so}")?;
     }
     Ok(())
 }
@@ -141,8 +129,7 @@ fn sweep_each<W: Write + Drop>(
         if place > 0 {
             let (line, behind) = section.split_once('\n').unwrap_or((section, ""));
             sweep(heap, driver, place, line, writer)?;
-            show_still(driver, behind, writer)?;
-            show_played(driver, behind, writer)?;
+            show_state(driver, behind, writer)?;
         }
         place = place.saturating_add(1);
     }
