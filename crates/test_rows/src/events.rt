@@ -16,6 +16,7 @@
 //! For an event that was refused, the number of the refusal is printed. For a Turn that found no
 //! call, `idle` is printed. For any other event nothing is printed.
 
+use crate::hexadecimal::show_bytes;
 use crate::words::{bad, cut, number};
 use failing_alloc::FailingAllocator;
 use std::alloc::Global;
@@ -85,14 +86,13 @@ fn ask<W: Write + Drop>(
     writer: &mut BufWriter<W>,
 ) -> io::Result<()> {
     let (ready, faulted) = (server.ready(conn), server.faulted(conn));
-    write!(writer, "ready {ready}, faulted {faulted}")?;
     let (replies, calls) = (
         server.waiting(Port::Conn(conn)).len(),
         server.waiting(Port::Intr(conn)).len(),
     );
     write!(
         writer,
-        ", room {}, c{conn} {replies}, i{conn} {calls}",
+        "ready {ready}, faulted {faulted}, room {}, c{conn} {replies}, i{conn} {calls}",
         server.room(conn)
     )?;
     match server.dial(conn) {
@@ -107,12 +107,8 @@ fn show<W: Write + Drop>(
     port: &str,
     writer: &mut BufWriter<W>,
 ) -> io::Result<()> {
-    let bytes = server.waiting(port_of(port)?);
     write!(writer, "{port} ")?;
-    for byte in bytes {
-        write!(writer, "{byte:02x}")?;
-    }
-    writeln!(writer)
+    show_bytes(server.waiting(port_of(port)?), writer)
 }
 
 /// Chooses the allocation that is refused. For `?`, prints whether the chosen allocation was made.

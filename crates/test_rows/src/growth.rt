@@ -7,7 +7,6 @@ use crate::turns::each;
 use crate::words::bad;
 use failing_alloc::FailingAllocator;
 use std::alloc::Global;
-use std::fmt::Write as Print;
 use std::io::{self, BufWriter, Write};
 use sv_replay::{Line, read_line};
 use sv_server::{Config, Event, Port, Refused, Server};
@@ -44,11 +43,12 @@ fn tell(told: &mut String, letter: char, conn: u8, bytes: &[u8]) -> io::Result<(
     if bytes.is_empty() {
         return Ok(());
     }
-    write!(told, "{letter}{conn} ").map_err(|_| bad())?;
+    write!(told, "{letter}{conn} ")?;
     for byte in bytes {
-        write!(told, "{byte:02x}").map_err(|_| bad())?;
+        write!(told, "{byte:02x}")?;
     }
-    writeln!(told).map_err(|_| bad())
+    told.push_str("\n")?;
+    Ok(())
 }
 
 impl Growing<'_> {
@@ -58,7 +58,7 @@ impl Growing<'_> {
         for conn in 0..CONNECTIONS {
             let (ready, faulted) = (self.server.ready(conn), self.server.faulted(conn));
             let (room, dial) = (self.server.room(conn), self.server.dial(conn));
-            writeln!(asked, "{ready} {faulted} {room} {dial:?}").map_err(|_| bad())?;
+            writeln!(asked, "{ready} {faulted} {room} {dial:?}")?;
             tell(&mut asked, 'c', conn, self.server.waiting(Port::Conn(conn)))?;
             tell(&mut asked, 'i', conn, self.server.waiting(Port::Intr(conn)))?;
         }
@@ -103,7 +103,7 @@ impl Growing<'_> {
         };
         let mut found_none = false;
         if let Err(refused) = self.server.apply(event) {
-            writeln!(self.told, "refused {}", refused as u8).map_err(|_| bad())?;
+            writeln!(self.told, "refused {}", refused as u8)?;
             found_none = matches!(refused, Refused::NoMemory);
         }
         self.take_connections()?;
@@ -111,21 +111,15 @@ impl Growing<'_> {
         Ok(found_none)
     }
 
-    /// Refuses the call of a line `turn N`, and sends the call again by `brought`.
-    fn send_again(&mut self, brought: &str, line: &str) -> io::Result<()> {
-        let conn = line.strip_prefix("turn ").unwrap_or("");
-        let refused = format!(in self.alloc; "refuse {conn}")?;
-        self.apply(&refused)?;
-        self.apply(brought)?;
-        Ok(())
-    }
-
     /// Handles an event that found no memory. If `refuses` is true, first refuses the event's call,
     /// and sends the call again by `brought`, the `bytes` line that brought the call. Then tries
     /// the event of `line` again.
     fn go_on(&mut self, brought: &str, line: &str) -> io::Result<()> {
         if self.refuses {
-            self.send_again(brought, line)?;
+            let conn = line.strip_prefix("turn ").unwrap_or("");
+            let refused = format!(in self.alloc; "refuse {conn}")?;
+            self.apply(&refused)?;
+            self.apply(brought)?;
         }
         if self.apply(line)? {
             self.told.push_str("twice\n")?;

@@ -49,6 +49,7 @@
 mod driver;
 mod events;
 mod growth;
+mod hexadecimal;
 mod line_by_line;
 mod parts;
 mod replays;

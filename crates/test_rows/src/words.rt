@@ -15,11 +15,11 @@ pub(crate) fn cut(text: &str) -> (&str, &str) {
 }
 
 /// Reads a value from a text.
-pub(crate) fn value_of<T: FromStr>(text: &str) -> io::Result<T>
+pub(crate) fn value_of<T: FromStr + Drop>(text: &str) -> io::Result<T>
 where
     T::Err: Drop,
 {
-    text.parse().map_err(|_| bad())
+    text.parse().or(Err(bad()))
 }
 
 /// Reads a decimal number.
@@ -29,5 +29,5 @@ pub(crate) fn number(text: &str) -> io::Result<u64> {
 
 /// The bytes that these hexadecimal digits stand for.
 pub(crate) fn bytes_of(alloc: Global, digits: &str) -> io::Result<Vec<u8>> {
-    hex::decode(alloc, digits).map_err(|_| bad())
+    hex::decode(alloc, digits).or(Err(bad()))
 }

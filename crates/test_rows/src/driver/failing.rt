@@ -2,6 +2,7 @@
 //! every byte if one call to the wire, such as a read or a write, fails.
 
 use super::peers::{Call, Peer, Peers};
+use crate::hexadecimal::show_bytes;
 use crate::words::{bad, bytes_of, number};
 use std::alloc::Global;
 use std::io::{self, BufWriter, Write};
@@ -66,10 +67,7 @@ fn show<W: Write + Drop>(
         return Ok(());
     }
     write!(writer, "{letter}{number} ")?;
-    for byte in bytes {
-        write!(writer, "{byte:02x}")?;
-    }
-    writeln!(writer)
+    show_bytes(bytes, writer)
 }
 
 /// The word for a peer's result in a run in which one call to the wire fails: `struck` if the call

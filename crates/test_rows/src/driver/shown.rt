@@ -1,5 +1,6 @@
 //! Prints the calls that a driver makes to its wire, one on each line.
 
+use crate::hexadecimal::show_bytes;
 use std::io::{self, BufWriter, Write};
 use sv_recording::Call;
 use sv_server::{Port, Role};
@@ -29,10 +30,7 @@ fn show_written<W: Write + Drop>(
 ) -> io::Result<()> {
     let (letter, number) = name(port);
     write!(writer, "write {letter}{number} ")?;
-    for byte in bytes {
-        write!(writer, "{byte:02x}")?;
-    }
-    writeln!(writer)
+    show_bytes(bytes, writer)
 }
 
 /// Prints a call that the driver made to the wire.

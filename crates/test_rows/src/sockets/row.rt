@@ -1,5 +1,6 @@
 //! Plays a row: makes a server with the row's scenario, and executes the row's other lines.
 
+use crate::hexadecimal::show_bytes;
 use crate::sockets::peer::Peer;
 use crate::sockets::pouring::{is_in_order, pour};
 use crate::sockets::stage::{PORTS, Stage};
@@ -32,14 +33,6 @@ fn letter(text: &str) -> io::Result<char> {
 /// The word for a yes-or-no result: `yes` or `no`.
 fn word(so: bool) -> &'static str {
     if so { "yes" } else { "no" }
-}
-
-/// Prints bytes in hexadecimal, and ends the line.
-fn show<W: Write + Drop>(bytes: &[u8], writer: &mut BufWriter<W>) -> io::Result<()> {
-    for byte in bytes {
-        write!(writer, "{byte:02x}")?;
-    }
-    writeln!(writer)
 }
 
 /// Executes lines of the row.
@@ -166,7 +159,7 @@ fn show_came<W: Write + Drop>(
     stage.wait_for(name, count)?;
     let peer = stage.peer(name)?;
     write!(writer, "{name} ")?;
-    show(peer.came.get(..count).unwrap_or(&peer.came), writer)?;
+    show_bytes(peer.came.get(..count).unwrap_or(&peer.came), writer)?;
     let count = count.min(peer.came.len());
     peer.came.drain(..count);
     Ok(())
@@ -214,7 +207,7 @@ fn drain<W: Write + Drop>(
         peer.came.len(),
         word(so)
     )?;
-    show(peer.came.get(..SHOWN).unwrap_or(&[]), writer)?;
+    show_bytes(peer.came.get(..SHOWN).unwrap_or(&[]), writer)?;
     peer.came.clear();
     Ok(())
 }
