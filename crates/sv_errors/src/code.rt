@@ -13,7 +13,7 @@ const DEVICE_ERROR: u8 = 1 << 3;
 const QUERY_ERROR: u8 = 1 << 2;
 
 /// An error of the instrument, or the value for no error.
-#[derive(Clone, Copy, Debug, PartialEq, Eq)]
+#[derive(Clone, Copy, Debug)]
 pub enum Code {
     /// Nothing is wrong.
     NoError,

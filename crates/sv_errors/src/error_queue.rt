@@ -13,7 +13,7 @@ use std::marker::Model;
 pub const MOST_ERRORS: usize = 64;
 
 /// An act of the error queue.
-#[derive(Clone, Copy, Debug, PartialEq, Eq)]
+#[derive(Clone, Copy)]
 pub enum QueueAct {
     /// An error is reported.
     Report(Code),
@@ -24,7 +24,7 @@ pub enum QueueAct {
 }
 
 /// The answer to an act of the error queue.
-#[derive(Clone, Copy, Debug, PartialEq, Eq)]
+#[derive(Clone, Copy, Debug)]
 pub enum QueueAnswer {
     /// Whether the queue was full when the error was reported.
     Reported(bool),

@@ -11,7 +11,7 @@ use crate::pattern::Node;
 
 /// A node of the tree of headers. The tree is stored as a list: right after a node come the nodes
 /// below it, and then its next sibling.
-#[derive(Clone, Copy, Debug)]
+#[derive(Clone, Copy)]
 pub(crate) struct Branch {
     /// The mnemonic of this node, in its two forms.
     pub(crate) node: Node,

@@ -4,7 +4,7 @@ use sv_status::RegisterName;
 
 /// The command that a header names. A header with a question mark names another command than the
 /// same header without it.
-#[derive(Clone, Copy, Debug, PartialEq, Eq)]
+#[derive(Clone, Copy, Debug)]
 pub enum CommandId {
     /// A command without a parameter, or a query whose answer might have to wait.
     Do(Action),
@@ -20,7 +20,7 @@ pub enum CommandId {
 }
 
 /// What is done by a command without a parameter, or by a query whose answer might have to wait.
-#[derive(Clone, Copy, Debug, PartialEq, Eq)]
+#[derive(Clone, Copy, Debug)]
 pub enum Action {
     /// `*CLS`: clear events and the error queue (IEEE 488.2, 10.3).
     ClearStatus,
@@ -45,7 +45,7 @@ pub enum Action {
 }
 
 /// What is returned by a query whose answer never has to wait.
-#[derive(Clone, Copy, Debug, PartialEq, Eq)]
+#[derive(Clone, Copy, Debug)]
 pub enum Question {
     /// `*IDN?`: the identification of the instrument.
     Identification,
@@ -72,7 +72,7 @@ pub enum Question {
 }
 
 /// A value that a command sets and a query returns.
-#[derive(Clone, Copy, Debug, PartialEq, Eq)]
+#[derive(Clone, Copy, Debug)]
 pub enum SettingName {
     /// `*ESE`: the enable of the standard events.
     StandardEnable,

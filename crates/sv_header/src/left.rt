@@ -8,7 +8,7 @@ use sv_text::first_part;
 
 /// The mnemonics of a header that are still to be looked up in the tree: `first`, then those of the
 /// path in `kept`, then those of the header's text in `sent`.
-#[derive(Clone, Copy, Debug)]
+#[derive(Clone, Copy)]
 pub(crate) struct Mnemonics<'a> {
     /// The mnemonic that is looked up next; `None` if none remains.
     pub(crate) first: Option<&'a [u8]>,

@@ -12,7 +12,7 @@ use std::marker::Model;
 use sv_text::{Lead, first_part, header_parts};
 
 /// A mnemonic of at most 12 characters.
-#[derive(Debug, Drop)]
+#[derive(Drop)]
 pub(crate) struct Mnemonic {
     text: ArrayVec<u8, 12>,
 }
@@ -60,7 +60,7 @@ impl Mnemonic {
 /// before the next header's own mnemonics, unless that header starts at the root or is a common
 /// command. The path has at most four mnemonics: no pattern has more than five nodes, and the last
 /// mnemonic of a header isn't part of the path.
-#[derive(Debug, Drop)]
+#[derive(Drop)]
 pub struct Path {
     mnemonics: ArrayVec<Mnemonic, 4>,
 }

@@ -8,7 +8,7 @@ ghost use Rattle.sv_header.specs.Inside.Walk.{IsBehind, IsAllOf};
 use crate::left::Mnemonics;
 
 /// A mnemonic of a pattern, in its short and its long form, in capitals.
-#[derive(Clone, Copy, Debug)]
+#[derive(Clone, Copy)]
 pub(crate) struct Node {
     /// The short form.
     pub(crate) short: &'static [u8],

@@ -10,7 +10,7 @@ use crate::path::Path;
 use sv_text::{Lead, header_parts};
 
 /// A header and the path relative to which it is read.
-#[derive(Clone, Copy, Debug)]
+#[derive(Clone, Copy)]
 pub(crate) struct Sent<'a> {
     /// Whether the header is a common command.
     pub(crate) common: bool,

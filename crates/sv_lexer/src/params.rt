@@ -14,7 +14,7 @@ use sv_text::trim;
 
 /// The parameters of a unit: the parts between the commas that are outside parentheses. Contracts
 /// see this value as the bytes of the unit.
-#[derive(Debug, Drop)]
+#[derive(Drop)]
 pub struct Params<'a> {
     /// The bytes of the unit.
     bytes: &'a [u8],

@@ -18,7 +18,7 @@ const MOST: usize = 12;
 /// A unit whose bytes come one by one (IEEE 488.2, 7.3). The bytes aren't stored. The fields record
 /// the stage that the bytes have reached, where the header and the program data begin and end, and
 /// how long the mnemonics are.
-#[derive(Debug, Drop)]
+#[derive(Drop)]
 pub struct Partial {
     /// How far the unit was read: the part of the unit to which the last byte read belongs.
     stage: Stage,

@@ -11,7 +11,7 @@ use std::marker::Model;
 use sv_errors::Code;
 
 /// A unit with a well-formed header. Contracts see a unit as the bytes that it was read from.
-#[derive(Debug, Drop)]
+#[derive(Drop)]
 pub struct Unit<'a> {
     /// The bytes that the unit was read from.
     pub(crate) bytes: &'a [u8],

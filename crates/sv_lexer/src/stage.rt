@@ -8,7 +8,7 @@ use sv_text::is_space;
 
 /// How far a unit was read: the part of the unit to which the last byte read belongs (IEEE 488.2,
 /// 7.3 and 7.6).
-#[derive(Clone, Copy, Debug)]
+#[derive(Clone, Copy)]
 pub(crate) enum Stage {
     /// No byte was read yet, or only white space before the program header.
     WhiteSpace,

@@ -4,7 +4,7 @@ ghost use Rattle.std.specs.Prelude.{◌≡◌, min};
 ghost use Rattle.sv_lexer.specs.Token.{kind_of, in_u32};
 
 /// The kind of data of a token, determined by its first byte.
-#[derive(Clone, Copy, Debug, PartialEq, Eq)]
+#[derive(Clone, Copy, Debug)]
 pub enum Kind {
     /// A decimal number: a digit, a sign or a point begins it.
     Number,
@@ -20,7 +20,7 @@ pub enum Kind {
 
 /// The header or a parameter of a unit: a slice of the unit, with its position and its kind of
 /// data.
-#[derive(Clone, Copy, Debug)]
+#[derive(Clone, Copy)]
 pub struct Token<'a> {
     /// The bytes of the token, without white space around them.
     pub text: &'a [u8],

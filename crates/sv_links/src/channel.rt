@@ -15,7 +15,7 @@ use std::marker::Model;
 use sv_bytes::drop_front;
 
 /// The state of an interrupt channel.
-#[derive(Clone, Copy, Debug, PartialEq, Eq)]
+#[derive(Clone, Copy, PartialEq, Eq)]
 pub(crate) enum Stage {
     /// The channel is closed.
     Closed,

@@ -8,7 +8,7 @@ use arrayvec::ArrayVec;
 use std::marker::Model;
 
 /// The handle by which a controller identifies a link: at most [`MAX_HANDLE`] bytes.
-#[derive(Debug, Drop)]
+#[derive(Drop)]
 pub(crate) struct Handle {
     bytes: ArrayVec<u8, MAX_HANDLE>,
 }
@@ -43,7 +43,7 @@ impl Handle {
 }
 
 /// A link that has service requests enabled.
-#[derive(Debug, Drop)]
+#[derive(Drop)]
 pub(crate) struct Enabled {
     /// The number of the link.
     pub(crate) lid: u32,

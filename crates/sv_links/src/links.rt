@@ -15,7 +15,7 @@ use thiserror::Error;
 const LAST: u32 = i32::MAX as u32;
 
 /// A link that wasn't destroyed.
-#[derive(Clone, Copy, Debug, PartialEq, Eq)]
+#[derive(Clone, Copy)]
 pub struct Link {
     /// The number of the link.
     pub lid: u32,
@@ -24,7 +24,7 @@ pub struct Link {
 }
 
 /// Why no link was made.
-#[derive(Clone, Copy, Debug, PartialEq, Eq, Error)]
+#[derive(Clone, Copy, Debug, Error)]
 pub enum CreateRefused {
     /// There are [`MAX_LINKS`] links, or no number remains for a further link (VXI-11 error 9).
     #[error("no further link may be made")]

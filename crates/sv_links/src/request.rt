@@ -13,7 +13,7 @@ use sv_xdr::Writer;
 const DEVICE_INTR_SRQ: u32 = 30;
 
 /// The client's program to which the server sends the calls on an interrupt channel.
-#[derive(Clone, Copy, Debug, PartialEq, Eq)]
+#[derive(Clone, Copy, PartialEq, Eq)]
 pub struct Peer {
     /// The number of the program.
     pub prog: u32,

@@ -11,7 +11,7 @@ use std::alloc::{AllocError, Allocator, Global};
 use std::marker::Model;
 
 /// What a suspended call waits for.
-#[derive(Clone, Copy, Debug, PartialEq, Eq)]
+#[derive(Clone, Copy)]
 pub enum Wait {
     /// The call waits until no other link holds the lock.
     Lock,
@@ -25,7 +25,7 @@ pub enum Wait {
 }
 
 /// A suspended call.
-#[derive(Clone, Copy, Debug, PartialEq, Eq)]
+#[derive(Clone, Copy)]
 pub struct Entry {
     /// The connection of the call, below [`MAX_CONNECTIONS`](crate::MAX_CONNECTIONS).
     pub conn: u8,

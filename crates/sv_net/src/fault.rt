@@ -7,7 +7,7 @@ use sv_replay::{RunFault, ScenarioFault};
 use thiserror::Error;
 
 /// Why the program stopped.
-#[derive(Clone, Copy, Debug, PartialEq, Eq, Error)]
+#[derive(Clone, Copy, Debug, Error)]
 pub enum ProgramFault {
     /// The program doesn't accept the words of the command line.
     #[error("bad words")]

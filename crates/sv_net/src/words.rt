@@ -16,7 +16,7 @@ use std::convert::AsStr;
 use sv_replay::RunFault;
 
 /// What the words tell the program to do.
-#[derive(Clone, Copy, Debug, PartialEq, Eq)]
+#[derive(Clone, Copy, Debug)]
 pub enum Words<'a> {
     /// Replay the script that comes on the standard input.
     Replay,
@@ -25,7 +25,7 @@ pub enum Words<'a> {
 }
 
 /// What the command line says about the server to run.
-#[derive(Clone, Copy, Debug, PartialEq, Eq)]
+#[derive(Clone, Copy, Debug)]
 pub struct Serve<'a> {
     /// The TCP port of the core channel, 1 to 65535.
     pub core: u16,

@@ -8,7 +8,7 @@ use sv_server::ReplayFault;
 use thiserror::Error;
 
 /// Why a replay stopped. What was printed before the fault stays printed.
-#[derive(Clone, Copy, Debug, PartialEq, Eq, Error)]
+#[derive(Clone, Copy, Debug, Error)]
 pub enum RunFault {
     /// The line with this number, counted from 1, has more than 65,536 bytes, or isn't a line of a
     /// replay.

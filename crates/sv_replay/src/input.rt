@@ -6,7 +6,7 @@ ghost use Rattle.sv_replay.specs.Text.{IsBehind};
 use std::io::{ErrorKind, Read};
 
 /// The reader failed, or had already been read as many times as allowed.
-#[derive(Clone, Copy, Debug, PartialEq, Eq)]
+#[derive(Clone, Copy)]
 pub struct InputFault;
 
 /// A reader for which contracts can state what each read returned. Every type that implements

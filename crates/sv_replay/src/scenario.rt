@@ -10,7 +10,7 @@ use sv_text::first_part;
 use thiserror::Error;
 
 /// Why a scenario can't be read.
-#[derive(Clone, Copy, Debug, PartialEq, Eq, Error)]
+#[derive(Clone, Copy, Debug, Error)]
 pub enum ScenarioFault {
     /// The line with this number, counted from 1, has more than 65,536 bytes, or isn't an entry, or
     /// its entry is earlier than the entry before it.

@@ -11,7 +11,7 @@ use thiserror::Error;
 const MAX_AUTH: u32 = 400;
 
 /// A call, without its credential and verifier.
-#[derive(Clone, Copy, Debug, PartialEq, Eq)]
+#[derive(Clone, Copy, Debug)]
 pub struct Call<'a> {
     /// The number of the transaction, which the reply repeats.
     pub xid: u32,
@@ -26,7 +26,7 @@ pub struct Call<'a> {
 }
 
 /// Why a record isn't a call that a program can answer.
-#[derive(Clone, Copy, Debug, PartialEq, Eq, Error)]
+#[derive(Clone, Copy, Debug, Error)]
 pub enum CallFault {
     /// The record isn't a call: it is too short, its message type isn't 0, or, with RPC version 2,
     /// a later field of the header can't be read. The server sends no reply.

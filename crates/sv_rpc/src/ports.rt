@@ -15,7 +15,7 @@ const VERSION: u32 = 1;
 const TCP: u32 = 6;
 
 /// The ports on which the core and the abort channel are served.
-#[derive(Clone, Copy, Debug, PartialEq, Eq)]
+#[derive(Clone, Copy)]
 pub struct Ports {
     /// The port of the core channel.
     pub core: u16,

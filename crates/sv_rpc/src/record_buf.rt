@@ -21,7 +21,7 @@ const MAX_RECORDS: usize = CAPACITY / 4;
 const MAX_RECORD: usize = 8192;
 
 /// Why the buffer returns no further record.
-#[derive(Clone, Copy, Debug, PartialEq, Eq, Error)]
+#[derive(Clone, Copy, Debug, Error)]
 pub enum RpcFault {
     /// A fragment's header makes its record longer than a record may be. No record after this one
     /// is read.
@@ -30,7 +30,7 @@ pub enum RpcFault {
 }
 
 /// What the next byte of the stream belongs to.
-#[derive(Clone, Copy, Debug)]
+#[derive(Clone, Copy)]
 enum Place {
     /// The next byte belongs to a fragment's header.
     Header,

@@ -8,7 +8,7 @@ ghost use Rattle.sv_rpc.specs.Reply.{reply_fields, call_fields};
 use sv_xdr::{Writer, XdrFault};
 
 /// How a call is answered (RFC 5531, section 9).
-#[derive(Clone, Copy, Debug, PartialEq, Eq)]
+#[derive(Clone, Copy)]
 pub enum Reply {
     /// The call was executed, and its result follows.
     Success,

@@ -4,7 +4,7 @@ use crate::setting::Setting;
 use sv_errors::{Code, Source};
 
 /// An act of the scanner.
-#[derive(Clone, Copy, Debug)]
+#[derive(Clone, Copy)]
 pub enum ScanAct {
     /// The input of a channel becomes this voltage, in microvolts.
     Input(u8, i64),
@@ -23,7 +23,7 @@ pub enum ScanAct {
 }
 
 /// The answer to an act of the scanner.
-#[derive(Clone, Copy, Debug, PartialEq, Eq)]
+#[derive(Clone, Copy, Debug)]
 pub enum ScanAnswer {
     /// The act has no answer.
     Done,

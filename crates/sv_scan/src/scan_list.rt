@@ -8,7 +8,7 @@ use std::marker::Model;
 use sv_errors::LONGEST_LIST;
 
 /// Channels, at most [`LONGEST_LIST`], in the order in which they are read.
-#[derive(Clone, Copy, Debug)]
+#[derive(Clone, Copy)]
 pub struct ScanList {
     /// The channels, and zeros after them.
     channels: [u8; LONGEST_LIST],

@@ -5,7 +5,7 @@ use sv_errors::Source;
 
 /// A setting and its value. [`Setting::Monitor`] and the settings of the limits can be changed at
 /// any time, the other settings only while no measurement is under way.
-#[derive(Clone, Copy, Debug)]
+#[derive(Clone, Copy)]
 pub enum Setting {
     /// The channels of a scan, in the order in which they are read; at least one. The default is
     /// channel 1.
@@ -29,7 +29,7 @@ pub enum Setting {
 }
 
 /// The state of the trigger system (SCPI-1999, volume 2, chapter 24).
-#[derive(Clone, Copy, Debug, PartialEq, Eq)]
+#[derive(Clone, Copy, Debug)]
 pub enum State {
     /// No measurement is under way.
     Idle,
@@ -40,7 +40,7 @@ pub enum State {
 }
 
 /// The reading of one sample.
-#[derive(Clone, Copy, Debug, PartialEq, Eq)]
+#[derive(Clone, Copy, Debug)]
 pub enum Reading {
     /// A voltage within the range, in microvolts.
     Value(i64),

@@ -22,7 +22,7 @@ const ABOVE: u16 = 1 << 1;
 const OUTSIDE: u16 = 1 << 2;
 
 /// The condition words of the status registers, as they are now (SCPI-1999, chapter 20).
-#[derive(Clone, Copy, Debug, PartialEq, Eq)]
+#[derive(Clone, Copy)]
 pub struct Conditions {
     /// Bit 4: a scan is under way; bit 5: a scan waits for its trigger; bit 8: a measurement is
     /// under way.

@@ -24,7 +24,7 @@ use sv_history::{Event, Port, Refused};
 use thiserror::Error;
 
 /// Why a replay stopped.
-#[derive(Clone, Copy, Debug, PartialEq, Eq, Error)]
+#[derive(Clone, Copy, Debug, Error)]
 pub enum ReplayFault {
     /// There was no memory for an event.
     #[error("no memory was left")]

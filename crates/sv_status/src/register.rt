@@ -15,7 +15,7 @@ const MASK_END: u16 = 1 << 15;
 const ALL: u16 = 32767;
 
 /// An act of a register.
-#[derive(Clone, Copy, Debug, PartialEq, Eq)]
+#[derive(Clone, Copy)]
 pub enum RegisterAct {
     /// The condition word becomes this value.
     Condition(u16),
@@ -37,7 +37,7 @@ pub enum RegisterAct {
 }
 
 /// The answer to an act of a register.
-#[derive(Clone, Copy, Debug, PartialEq, Eq)]
+#[derive(Clone, Copy, Debug)]
 pub enum RegisterAnswer {
     /// The event register as it was before it was read.
     Event(u16),
@@ -46,7 +46,7 @@ pub enum RegisterAnswer {
 }
 
 /// A status register: condition, transition filters, event bits and enable.
-#[derive(Debug, Drop)]
+#[derive(Drop)]
 pub struct Register {
     condition: u16,
     rise: u16,

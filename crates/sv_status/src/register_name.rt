@@ -1,7 +1,7 @@
 //! The names of the status registers (SCPI-1999, chapter 20, STATus).
 
 /// A status register.
-#[derive(Clone, Copy, Debug, PartialEq, Eq)]
+#[derive(Clone, Copy, Debug)]
 pub enum RegisterName {
     /// What the instrument is doing, such as measuring or waiting for a trigger:
     /// `STATus:OPERation`. Its summary is bit 7 of the status byte.

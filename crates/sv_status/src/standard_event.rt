@@ -12,7 +12,7 @@ use sv_errors::Layer;
 const POWER_ON: u8 = 1 << 7;
 
 /// An act of the register.
-#[derive(Clone, Copy, Debug, PartialEq, Eq)]
+#[derive(Clone, Copy)]
 pub enum StandardAct {
     /// Each event whose bit is set in this value occurs.
     Occur(u8),
@@ -25,7 +25,7 @@ pub enum StandardAct {
 }
 
 /// The answer to an act of the register.
-#[derive(Clone, Copy, Debug, PartialEq, Eq)]
+#[derive(Clone, Copy, Debug)]
 pub enum StandardAnswer {
     /// The register as it was before it was read.
     Event(u8),
@@ -34,7 +34,7 @@ pub enum StandardAnswer {
 }
 
 /// The standard event status register, and its enable.
-#[derive(Debug, Drop)]
+#[derive(Drop)]
 pub struct StandardEvent {
     event: u8,
     enable: u8,

@@ -11,7 +11,7 @@ use sv_errors::Layer;
 const REQUEST: u8 = 1 << 6;
 
 /// An act of the status byte.
-#[derive(Clone, Copy, Debug, PartialEq, Eq)]
+#[derive(Clone, Copy)]
 pub enum StatusAct {
     /// The summary bits and the service request enable become these values.
     Update {
@@ -25,7 +25,7 @@ pub enum StatusAct {
 }
 
 /// The answer to an act of the status byte.
-#[derive(Clone, Copy, Debug, PartialEq, Eq)]
+#[derive(Clone, Copy, Debug)]
 pub enum StatusAnswer {
     /// Whether the update raises a request for service.
     Raised(bool),
@@ -34,7 +34,7 @@ pub enum StatusAnswer {
 }
 
 /// The summary bits, the service request enable, and whether a request for service is pending.
-#[derive(Debug, Drop)]
+#[derive(Drop)]
 pub struct StatusByte {
     bits: u8,
     enable: u8,

@@ -4,7 +4,7 @@ ghost use Rattle.std.specs.Prelude.{◌≡◌};
 ghost use Rattle.sv_text.specs.Header.{body, is_query, lead as lead_of, unsigned};
 
 /// What a header begins with.
-#[derive(Clone, Copy, Debug, PartialEq, Eq)]
+#[derive(Clone, Copy, Debug)]
 pub enum Lead {
     /// An asterisk: a common command (IEEE 488.2, 7.6.1).
     Common,
@@ -16,7 +16,7 @@ pub enum Lead {
 
 /// The parts into which a header is split. Any bytes can be split into these parts, even bytes that
 /// aren't a header.
-#[derive(Clone, Copy, Debug)]
+#[derive(Clone, Copy)]
 pub struct Header<'a> {
     /// What the header begins with.
     pub lead: Lead,

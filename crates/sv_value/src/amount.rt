@@ -21,7 +21,7 @@ const MOST_EXPONENT: u64 = 32_000;
 
 /// A whole number as it was read. A magnitude above [`crate::digits::MOST`], which is beyond the
 /// range of every parameter, is stored as this bound.
-#[derive(Clone, Copy, Debug)]
+#[derive(Clone, Copy)]
 pub(crate) struct Amount {
     /// Whether the number begins with a minus.
     pub(crate) negative: bool,

@@ -16,7 +16,7 @@ use sv_text::{first_part, trim};
 
 /// The first and the last channel number of an item, each capped at a bound above every channel
 /// number.
-#[derive(Clone, Copy, Debug)]
+#[derive(Clone, Copy)]
 struct Span {
     first: u64,
     last: u64,

@@ -11,7 +11,7 @@ use crate::digits::digits;
 use sv_text::without_start;
 
 /// A decimal number, split into its parts.
-#[derive(Clone, Copy, Debug)]
+#[derive(Clone, Copy)]
 pub(crate) struct Decimal<'a> {
     /// Whether the number begins with a minus.
     pub(crate) negative: bool,

@@ -17,7 +17,7 @@ pub struct LockWait {
 }
 
 /// The calls whose arguments are Device_GenericParms.
-#[derive(Clone, Copy, Debug, PartialEq, Eq)]
+#[derive(Clone, Copy)]
 pub enum GenericCall {
     /// device_readstb.
     Readstb,

@@ -4,7 +4,7 @@ ghost use Rattle.std.specs.Prelude.{◌≡◌, pos};
 ghost use Rattle.sv_vxi.specs.ErrorCode.{error_number};
 
 /// Why a call failed; `NoError` if it didn't fail.
-#[derive(Clone, Copy, Debug, PartialEq, Eq)]
+#[derive(Clone, Copy)]
 pub enum ErrorCode {
     /// No error.
     NoError = 0,

@@ -4,7 +4,7 @@ ghost use Rattle.std.specs.Prelude.{◌≡◌, pos};
 ghost use Rattle.sv_vxi.specs.Reason.{reason_number};
 
 /// Why a read ended. Several reasons may apply to the same read.
-#[derive(Clone, Copy, Debug, PartialEq, Eq)]
+#[derive(Clone, Copy)]
 pub struct Reason {
     /// As many bytes were read as the call requested (REQCNT).
     pub request_count: bool,

@@ -3,7 +3,7 @@
 use thiserror::Error;
 
 /// Why a field can't be read or written. A fault leaves the reader or writer unchanged.
-#[derive(Clone, Copy, Debug, PartialEq, Eq, Error)]
+#[derive(Clone, Copy, Debug, Error)]
 pub enum XdrFault {
     /// The bytes end before the field does.
     #[error("the bytes end before the field does")]

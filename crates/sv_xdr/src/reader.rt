@@ -10,7 +10,7 @@ use std::marker::Model;
 
 /// A position in bytes, from which fields are read in order. Contracts see a reader as the bytes
 /// from its position on.
-#[derive(Debug, Drop)]
+#[derive(Drop)]
 pub struct Reader<'a> {
     rest: &'a [u8],
 }

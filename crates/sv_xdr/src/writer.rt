@@ -7,7 +7,7 @@ use crate::reader::pad_len;
 
 /// A caller's buffer, into which fields are written in order. In contracts, `text_of` returns the
 /// bytes written so far, and `rest_of` the rest of the buffer.
-#[derive(Debug, Drop)]
+#[derive(Drop)]
 pub struct Writer<'b> {
     out: &'b mut [u8],
     written: usize,

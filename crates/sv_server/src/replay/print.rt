@@ -13,7 +13,7 @@ use sv_history::{Port, Refused};
 const PIECE: usize = 256;
 
 /// The writer failed, or took no byte.
-#[derive(Clone, Copy, Debug, PartialEq, Eq)]
+#[derive(Clone, Copy)]
 pub struct WriteFault;
 
 /// Writes a prefix of these bytes, and returns the prefix's length; 0 if a signal interrupted the

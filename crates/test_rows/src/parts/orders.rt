@@ -67,7 +67,13 @@ fn put_given(out: &mut String, order: &Order) -> Result<(), AllocError> {
 fn put_setting(out: &mut String, setting: &Setting) -> Result<(), AllocError> {
     match setting {
         Setting::List(list) => write!(out, " Ok(Set(List({:?})))", list.channels()),
-        setting => write!(out, " Ok(Set({setting:?}))"),
+        Setting::Monitor(channel) => write!(out, " Ok(Set(Monitor({channel})))"),
+        Setting::Range(microvolts) => write!(out, " Ok(Set(Range({microvolts})))"),
+        Setting::Upper(microvolts) => write!(out, " Ok(Set(Upper({microvolts})))"),
+        Setting::Lower(microvolts) => write!(out, " Ok(Set(Lower({microvolts})))"),
+        Setting::Limits(on) => write!(out, " Ok(Set(Limits({on})))"),
+        Setting::Source(source) => write!(out, " Ok(Set(Source({source:?})))"),
+        Setting::Count(count) => write!(out, " Ok(Set(Count({count})))"),
     }
 }
 
