@@ -197,6 +197,11 @@ def start_of(all_of_them, given):
             if one[1] != "StandsFor"}
 
 
+def of_driver(seen):
+    """Those of these names that the crates of the driver define."""
+    return {one for one in seen if one[0].startswith(("Rattle.sv_serve.", "Rattle.sv_driver_laws."))}
+
+
 def believed(all_of_them):
     """What the promises of the server rest on, what its laws rest on in addition, and what all claims of the README rest on."""
     history = "Rattle.sv_history.specs."
@@ -204,10 +209,10 @@ def believed(all_of_them):
     start = start_of(all_of_them, [one for one in server if one[0] != "replay"])
     start |= {(history + "History", "IsLogOf"), (history + "Settling", "IsSettled")}
     promises = closure(all_of_them, start, {"StandsFor"})
-    start = {one for crate in ("sv_laws", "sv_serve") for brought, text in laws(crate)
+    start = {one for crate in ("sv_laws", "sv_driver_laws") for brought, text in laws(crate)
              for one in all_of_them.cited("", text, brought)}
     besides = closure(all_of_them, start, BOTH_SIDES) - promises
-    others = [one for crate in ("sv_replay", "sv_serve", "sv_net")
+    others = [one for crate in ("sv_replay", "sv_serve", "sv_driver_laws", "sv_net")
               for one in contracts(crate, r"\n(?:    )?pub fn")]
     start = start_of(all_of_them, server + others)
     return promises, besides, promises | besides | closure(all_of_them, start, {"StandsFor"})

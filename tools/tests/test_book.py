@@ -67,7 +67,7 @@ FILES = {
     "crates/one/src/laws.rt": "/// It holds.\npub fn law()\n    ensures { Law }\n{}\n",
     "crates/rows/rows/a.rows": "title one\n0 turn\n\ntitle two\nsingly\n0 turn\n",
     "docs/EVIDENCE.md": EVIDENCE,
-    "docs/THEOREMS.md": "Of `sv_serve` only these are believed, 0\nlines.\n",
+    "docs/THEOREMS.md": "Of the driver's definitions only these are believed, 0\nlines.\n",
     "bench/results/some.csv": "date,commit,what,value,aim\n,,a,1.25,\n,,b,1500,\n",
 }
 
@@ -123,11 +123,11 @@ class Books(unittest.TestCase):
     def test_counts_and_figures(self):
         self.assertEqual(self.told(), [])
         self.write("docs/EVIDENCE.md", EVIDENCE.replace("3 rows", "4 rows").replace("1,500", "1,600"))
-        self.write("docs/THEOREMS.md", "Of `sv_serve` only these are believed, 10 lines.\n")
+        self.write("docs/THEOREMS.md", "Of the driver's definitions only these are believed, 10 lines.\n")
         self.assertEqual(self.told(), [
             "docs/EVIDENCE.md:1: rows has 3 rows",
             "docs/EVIDENCE.md:2: 1600 isn't in some.csv",
-            "docs/THEOREMS.md: the laws rest on 0 lines of sv_serve",
+            "docs/THEOREMS.md: the laws rest on 0 lines of the driver's definitions",
         ])
 
 

@@ -1,9 +1,8 @@
 -- A loop of sweeps, sweep by sweep.
 use Rattle.std.proofs.Common.{◌≡◌, ℕ, ◌<◌, Bool, List, [], ◌∷◌, refl, sym, arith}
-use Rattle.sv_serve.specs.Carried.{Swept}
+use Rattle.sv_serve.specs.Sweep.{Swept, Sweeps}
 use Rattle.sv_serve.specs.Heard.{Heard}
 use Rattle.sv_serve.specs.DriverView.{DriverState, Steps}
-use Rattle.sv_serve.specs.Sweep.{Sweeps}
 use Rattle.sv_net.specs.Serving.{Doing, MadeSweep, Waited, Told, handed_in, Serves, Served}
 use Rattle.sv_net.specs.Inside.Pausing.{Running, Rounds}
 

@@ -3,7 +3,7 @@
 ghost use Rattle.std.specs.Prelude.{◌≡◌, ◌<◌};
 ghost use Rattle.sv_history.specs.declared.event.Port.{Port};
 ghost use Rattle.sv_history.specs.Event.{port_number};
-ghost use Rattle.sv_serve.specs.Carried.{Carried};
+ghost use Rattle.sv_driver_laws.specs.Carried.{Carried};
 ghost use Rattle.sv_net.specs.Sockets.{socket_number, Hears};
 
 use crate::net::Net;
@@ -17,11 +17,11 @@ pub fn own_sockets()
         → socket_number port ≡ socket_number other → port ≡ other }
 {}
 
-/// The law `carried` of `sv_serve` holds for a driver whose wire is these sockets: the server
+/// The law `carried` of `sv_driver_laws` holds for a driver whose wire is these sockets: the server
 /// receives what is read from the sockets, and what is written to the sockets is what the server
 /// sends. The law covers the sweeps of [`serve`](crate::serve).
 pub fn carried<N: Network + Drop, A: Allocator, S: Stream>()
     ensures { Carried (Hears S.remaining S.contents) }
 {
-    sv_serve::laws::carried::<Net<N, A, S>>();
+    sv_driver_laws::laws::carried::<Net<N, A, S>>();
 }

@@ -1,7 +1,6 @@
 -- What was kept is what was asked.
 use Rattle.std.proofs.Common.{◌≡◌, List, [], ◌∷◌, ◌++◌, true, ap, ◌∙◌}
-use Rattle.sv_serve.specs.Heard.{Heard}
-use Rattle.sv_serve.specs.Served.{Through}
+use Rattle.sv_serve.specs.Heard.{Heard, Through}
 use Rattle.sv_recording.specs.Recorded.{Recording, Passes}
 
 pub kept : {W : Type 0} (hears : W → Heard → W → Type 0) (trace : List Heard) (start now : Recording W)

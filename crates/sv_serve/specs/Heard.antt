@@ -1,5 +1,5 @@
--- The calls of a wire's methods, with their answers.
-use Rattle.std.specs.Prelude.{ℕ, ◌≤◌, Bool, List, length, take, Option, ⊤}
+-- The calls of a wire's methods, with their answers; and traces, which are lists of these calls, the newest first.
+use Rattle.std.specs.Prelude.{◌≡◌, ℕ, ◌≤◌, Bool, List, [], ◌∷◌, length, take, Option, ⊤}
 use Rattle.sv_history.specs.declared.event.Role.{Role}
 use Rattle.sv_history.specs.declared.event.Port.{Port}
 use Rattle.sv_history.specs.declared.event.Dial.{Dial}
@@ -33,3 +33,8 @@ IsWithin answer most = ⊤
 abbrev pub IsPiece : Answer (List ℕ) → ℕ → Type 0
 IsPiece (Got bytes) most = length bytes ≤ most
 IsPiece answer most = ⊤
+
+-- The wire's methods were called as this trace says, and returned the answers of the trace.
+abbrev pub Through : {W : Type 0} → (W → Heard → W → Type 0) → List Heard → W → W → Type 0
+Through hears [] start now = now ≡ start
+Through hears (heard ∷ trace) start now = (between : _) × Through hears trace start between × hears between heard now

@@ -5,6 +5,3 @@ pub mod Steps
 pub mod Sweep
 pub mod Premises
 pub mod Still
-pub mod Timed
-pub mod Served
-pub mod Carried

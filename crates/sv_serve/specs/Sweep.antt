@@ -1,4 +1,4 @@
--- A sweep of a driver: the steps of the sweep, and their order.
+-- A sweep of a driver: the steps of the sweep, and their order; and runs of sweeps.
 use Rattle.std.specs.Prelude.{◌≡◌, ℕ, ◌+◌, ◌<◌, ◌≤◌, ◌==◌, Bool, true, false, List, [], ◌∷◌, Result, Ok, Err, ⊤, if◌then◌else◌}
 use Rattle.sv_history.specs.declared.event.Config.{Config}
 use Rattle.sv_history.specs.declared.event.Did.{Did}
@@ -9,7 +9,7 @@ use Rattle.sv_history.specs.Event.{PlainEvent, Tick}
 use Rattle.sv_replay.specs.Entry.{stimulus_event}
 use Rattle.sv_replay.specs.declared.entry.Entry.{Entry}
 use Rattle.sv_serve.specs.Heard.{Heard}
-use Rattle.sv_serve.specs.DriverView.{DriverView, ◌then◌, ForEach}
+use Rattle.sv_serve.specs.DriverView.{DriverState, DriverView, Steps, ◌then◌, ForEach}
 use Rattle.sv_serve.specs.Steps.{Given, Accepts, ReadsFrom, Turns, Dials, WritesTo, Ends}
 
 -- The server is given an event, and applies or refuses it.
@@ -62,3 +62,10 @@ abbrev pub Sweeps : {W : Type 0} → (W → Heard → W → Type 0) → ℕ → 
 Sweeps hears ticks = Accepts hears Core then Accepts hears Abort then Accepts hears Portmap then ForEach 16 (ReadsFrom hears)
     then ForEach 16 Turns then ForEach 16 (Dials hears) then Passes ticks then ForEach 16 (λ c. WritesTo hears (Conn c))
     then ForEach 16 (λ c. WritesTo hears (Intr c)) then ForEach 16 (Ends hears)
+
+-- A run of sweeps leads from one state of the driver to another. The list has, for each sweep, the number of milliseconds that
+-- pass in the sweep.
+abbrev pub Swept : {W : Type 0} → (W → Heard → W → Type 0) → List ℕ → DriverState W → DriverState W → Type 0
+Swept hears [] start now = now ≡ start
+Swept hears (ticks ∷ passed) start now = (between : DriverState _) × Swept hears passed start between × Steps
+    (Sweeps hears ticks) between now

@@ -6,7 +6,6 @@ mod accepting;
 mod calling;
 mod closing;
 mod driver;
-pub mod laws;
 mod passing;
 mod reading;
 mod still;

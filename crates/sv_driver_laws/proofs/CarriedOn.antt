@@ -15,18 +15,19 @@ use Rattle.sv_history.specs.History.{is_port_shut, last_clock, IsLogOf}
 use Rattle.sv_history.proofs.AlwaysTold.{some_told}
 use Rattle.sv_replay.specs.Scenario.{IsScenario}
 use Rattle.sv_server.specs.Server.State.{StandsFor}
-use Rattle.sv_serve.specs.Timed.{handed_ticks}
-use Rattle.sv_serve.proofs.Timing.{Played, begins, behind}
-use Rattle.sv_serve.specs.Heard.{Heard}
+use Rattle.sv_driver_laws.specs.Timed.{handed_ticks}
+use Rattle.sv_driver_laws.proofs.Timing.{Played, begins, behind}
+use Rattle.sv_serve.specs.Heard.{Heard, Through}
 use Rattle.sv_serve.specs.DriverView.{DriverState, driver_view}
-use Rattle.sv_serve.specs.Served.{Through, event_of, is_outer}
-use Rattle.sv_serve.specs.Carried.{Swept, ClosesAtOnce, IsCarried, InSweeps, Carried}
-use Rattle.sv_serve.proofs.Ports.{Holds, Both, Keeping, came, went, left_bytes}
-use Rattle.sv_serve.proofs.Reasons.{HasReasons, told_more, once_join}
-use Rattle.sv_serve.proofs.Handing.{HandsOver}
-use Rattle.sv_serve.proofs.LettingGo.{LetsGoRightly}
-use Rattle.sv_serve.proofs.Keeps.{through_join}
-use Rattle.sv_serve.proofs.Serving.{sweep_once, serves}
+use Rattle.sv_driver_laws.specs.Served.{event_of, is_outer}
+use Rattle.sv_driver_laws.specs.Carried.{ClosesAtOnce, IsCarried, InSweeps, Carried}
+use Rattle.sv_serve.specs.Sweep.{Swept}
+use Rattle.sv_driver_laws.proofs.Ports.{Holds, Both, Keeping, came, went, left_bytes}
+use Rattle.sv_driver_laws.proofs.Reasons.{HasReasons, told_more, once_join}
+use Rattle.sv_driver_laws.proofs.Handing.{HandsOver}
+use Rattle.sv_driver_laws.proofs.LettingGo.{LetsGoRightly}
+use Rattle.sv_driver_laws.proofs.Keeps.{through_join}
+use Rattle.sv_driver_laws.proofs.Serving.{sweep_once, serves}
 
 keeping_none : (c : ℕ) (log : List Act) (channel_log : List ChannelAct) → log ≡ [] → HearsOf (device_acts log) channel_log
     → Both c (of c log) channel_log []

@@ -20,8 +20,8 @@ use Rattle.sv_history.specs.History.{IsLogOf}
 use Rattle.sv_laws.proofs.Brought.{brings, AreCalls, OnlyCalls, tells, OnlyAdds, OnlyRequests}
 use Rattle.sv_serve.specs.declared.wire.Answer.TheVariants.{Got}
 use Rattle.sv_serve.specs.Heard.{Heard, WasAccepted, WasRead, WasWritten, WasClosed}
-use Rattle.sv_serve.specs.Served.{event_of}
-use Rattle.sv_serve.specs.Carried.{begins, read, taken_bytes, since}
+use Rattle.sv_driver_laws.specs.Served.{event_of}
+use Rattle.sv_driver_laws.specs.Carried.{begins, read, taken_bytes, since}
 
 -- ---- one connection
 

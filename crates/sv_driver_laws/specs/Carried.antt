@@ -15,18 +15,11 @@ use Rattle.sv_server.specs.Server.State.{StandsFor}
 use Rattle.sv_history.specs.Queries.{WaitOn, Answered}
 use Rattle.sv_serve.specs.declared.wire.Answer.{Answer}
 use Rattle.sv_serve.specs.declared.wire.Answer.TheVariants.{Got, Failed}
-use Rattle.sv_serve.specs.Heard.{Heard, WasAccepted, WasRead, WasProbed, WasWritten, WasDialed, PeerAnswered, WasClosed}
-use Rattle.sv_serve.specs.DriverView.{DriverState, Steps}
-use Rattle.sv_serve.specs.Sweep.{Sweeps}
-use Rattle.sv_serve.specs.Timed.{is_timed, time_events, handed_ticks}
-use Rattle.sv_serve.specs.Served.{Through, event_of, is_outer, IsServed}
-
--- A run of sweeps leads from one state of the driver to another. The list has, for each sweep, the number of milliseconds that
--- pass in the sweep.
-abbrev pub Swept : {W : Type 0} → (W → Heard → W → Type 0) → List ℕ → DriverState W → DriverState W → Type 0
-Swept hears [] start now = now ≡ start
-Swept hears (ticks ∷ passed) start now = (between : DriverState _) × Swept hears passed start between × Steps
-    (Sweeps hears ticks) between now
+use Rattle.sv_serve.specs.Heard.{Heard, WasAccepted, WasRead, WasProbed, WasWritten, WasDialed, PeerAnswered, WasClosed, Through}
+use Rattle.sv_serve.specs.DriverView.{DriverState}
+use Rattle.sv_serve.specs.Sweep.{Swept}
+use Rattle.sv_driver_laws.specs.Timed.{is_timed, time_events, handed_ticks}
+use Rattle.sv_driver_laws.specs.Served.{event_of, is_outer, IsServed}
 
 -- whether two ports are the same
 abbrev pub is_same : Port → Port → Bool

@@ -7,10 +7,10 @@ use Rattle.sv_history.specs.Event.{PlainEvent}
 use Rattle.sv_history.specs.Queries.{WaitOn}
 use Rattle.sv_serve.specs.declared.wire.Answer.{Answer}
 use Rattle.sv_serve.specs.Heard.{Heard, WasWritten}
-use Rattle.sv_serve.specs.Served.{event_of, is_outer}
-use Rattle.sv_serve.specs.Carried.{EachHeard, Once}
-use Rattle.sv_serve.proofs.Reasons.{once_more}
-use Rattle.sv_serve.proofs.Ports.{AreSilent}
+use Rattle.sv_driver_laws.specs.Served.{event_of, is_outer}
+use Rattle.sv_driver_laws.specs.Carried.{EachHeard, Once}
+use Rattle.sv_driver_laws.proofs.Reasons.{once_more}
+use Rattle.sv_driver_laws.proofs.Ports.{AreSilent}
 
 abbrev pub HandsOver : Config → List PlainEvent → List Heard → Type 0
 HandsOver config history trace = EachHeard (λ heard older. (port : Port) (bytes : List ℕ) (answer : Answer ℕ)

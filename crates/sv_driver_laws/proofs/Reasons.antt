@@ -12,9 +12,9 @@ use Rattle.sv_history.specs.Connection.{waiting, is_faulted}
 use Rattle.sv_history.specs.History.{IsLogOf}
 use Rattle.sv_serve.specs.declared.wire.Answer.{Answer}
 use Rattle.sv_serve.specs.Heard.{Heard, WasWritten, WasClosed}
-use Rattle.sv_serve.specs.Served.{event_of, is_outer}
-use Rattle.sv_serve.specs.Carried.{ends_port, ClosesAtOnce, EachHeard, Follows, Once}
-use Rattle.sv_serve.proofs.Ports.{AreSilent}
+use Rattle.sv_driver_laws.specs.Served.{event_of, is_outer}
+use Rattle.sv_driver_laws.specs.Carried.{ends_port, ClosesAtOnce, EachHeard, Follows, Once}
+use Rattle.sv_driver_laws.proofs.Ports.{AreSilent}
 
 -- ---- what is no failure
 

@@ -1,10 +1,10 @@
 //! Laws of one sweep of a driver, and of any number of sweeps. Each is the contract of a function
 //! that does nothing.
 
-ghost use Rattle.sv_serve.specs.Carried.{Carried};
-ghost use Rattle.sv_serve.specs.Served.{Served};
+ghost use Rattle.sv_driver_laws.specs.Carried.{Carried};
+ghost use Rattle.sv_driver_laws.specs.Served.{Served};
 
-use crate::wire::Wire;
+use sv_serve::Wire;
 
 /// In any number of sweeps, every byte that is read from the wire enters the stream of its
 /// connection, and every byte that the wire takes is one that the server sends: in the same order,

@@ -18,12 +18,12 @@ use Rattle.sv_serve.specs.Heard.{Heard, WasWritten, WasClosed, IsWithin as IsWit
 use Rattle.sv_serve.specs.DriverView.{DriverView, driver_view, ForEach}
 use Rattle.sv_serve.specs.Steps.{ReadsFrom, Dials, EndsWrite, WritesTo, Ends}
 use Rattle.sv_serve.specs.Sweep.{Sweeps}
-use Rattle.sv_serve.specs.Served.{Serves, Served}
-use Rattle.sv_serve.proofs.Keeps.{Subject, OfRead, OfConn, OfNone, Keeps, keeps_none, keeps_then, keeps_each, hangs_up}
-use Rattle.sv_serve.proofs.Peers.{dials, passes}
-use Rattle.sv_serve.proofs.Carrying.{accepts, reads, write_by, writes, ends}
-use Rattle.sv_serve.proofs.GoingOn.{none_read, front_log, calls_over, within_log, waits_calls, Elsewhere, Unread, may_all}
-use Rattle.sv_serve.proofs.Turned.{Turned, Offered, had_more, offered_more, Nobody, keeps_unread, turned_keeps, turn_phase}
+use Rattle.sv_driver_laws.specs.Served.{Serves, Served}
+use Rattle.sv_driver_laws.proofs.Keeps.{Subject, OfRead, OfConn, OfNone, Keeps, keeps_none, keeps_then, keeps_each, hangs_up}
+use Rattle.sv_driver_laws.proofs.Peers.{dials, passes}
+use Rattle.sv_driver_laws.proofs.Carrying.{accepts, reads, write_by, writes, ends}
+use Rattle.sv_driver_laws.proofs.GoingOn.{none_read, front_log, calls_over, within_log, waits_calls, Elsewhere, Unread, may_all}
+use Rattle.sv_driver_laws.proofs.Turned.{Turned, Offered, had_more, offered_more, Nobody, keeps_unread, turned_keeps, turn_phase}
 
 -- ---- what waits is written
 

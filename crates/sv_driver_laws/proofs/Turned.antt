@@ -25,10 +25,10 @@ use Rattle.sv_laws.proofs.ShutIsClear.{shut_is_clear}
 use Rattle.sv_serve.specs.Heard.{Heard, WasWritten}
 use Rattle.sv_serve.specs.DriverView.{DriverView, ForEach}
 use Rattle.sv_serve.specs.Steps.{Given, EndsTurn, TurnsIf, Turns}
-use Rattle.sv_serve.specs.Served.{Takes, Offers}
-use Rattle.sv_serve.proofs.Keeps.{Subject, Keeps, keeps_none, keeps_then, inner_by}
-use Rattle.sv_serve.proofs.Carrying.{ends}
-use Rattle.sv_serve.proofs.GoingOn.{is_bytes, brought, Elsewhere, Unread, brought_outer, brought_piece, bytes_outer, bytes_piece, may_all}
+use Rattle.sv_driver_laws.specs.Served.{Takes, Offers}
+use Rattle.sv_driver_laws.proofs.Keeps.{Subject, Keeps, keeps_none, keeps_then, inner_by}
+use Rattle.sv_driver_laws.proofs.Carrying.{ends}
+use Rattle.sv_driver_laws.proofs.GoingOn.{is_bytes, brought, Elsewhere, Unread, brought_outer, brought_piece, bytes_outer, bytes_piece, may_all}
 
 -- ---- a connection that had its turn
 

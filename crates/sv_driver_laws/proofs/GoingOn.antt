@@ -19,8 +19,8 @@ use Rattle.sv_laws.proofs.OneLog.{one_log}
 use Rattle.sv_laws.proofs.OnlyCalls.{only_calls}
 use Rattle.sv_serve.specs.declared.wire.Answer.TheVariants.{Got, Pending, Failed}
 use Rattle.sv_serve.specs.Heard.{Heard, WasAccepted, WasRead, WasProbed, WasWritten, WasDialed, PeerAnswered, WasClosed}
-use Rattle.sv_serve.specs.Served.{event_of, is_outer}
-use Rattle.sv_serve.proofs.Keeps.{Subject, OfRead, OfConn, OfNone, about, AllMay}
+use Rattle.sv_driver_laws.specs.Served.{event_of, is_outer}
+use Rattle.sv_driver_laws.proofs.Keeps.{Subject, OfRead, OfConn, OfNone, about, AllMay}
 
 abbrev pub is_bytes : PlainEvent → Bool
 is_bytes (Bytes c piece) = true

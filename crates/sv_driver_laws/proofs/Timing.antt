@@ -26,9 +26,9 @@ use Rattle.sv_serve.specs.Heard.{Heard}
 use Rattle.sv_serve.specs.DriverView.{DriverState, DriverView, driver_view, ForEach, ◌then◌}
 use Rattle.sv_serve.specs.Steps.{ReadsFrom, Turns, Dials, WritesTo, Ends}
 use Rattle.sv_serve.specs.Sweep.{PlaysOne, IsNoneDue, Plays, most_ticks, Counts, TicksOnce, Passes, Sweeps}
-use Rattle.sv_serve.specs.Timed.{is_timed, entry_events, time_events, handed_ticks}
-use Rattle.sv_serve.proofs.Keeps.{applied}
-use Rattle.sv_serve.proofs.Idling.{Idles, idles_same, idles_then, idles_each, accepts_idles, reads_idles, turns_idles, dials_idles, writes_idles, ends_idles}
+use Rattle.sv_driver_laws.specs.Timed.{is_timed, entry_events, time_events, handed_ticks}
+use Rattle.sv_driver_laws.proofs.Keeps.{applied}
+use Rattle.sv_driver_laws.proofs.Idling.{Idles, idles_same, idles_then, idles_each, accepts_idles, reads_idles, turns_idles, dials_idles, writes_idles, ends_idles}
 
 -- ---- entries by their ticks
 

@@ -17,18 +17,18 @@ use Rattle.sv_laws.proofs.OnlyRequests.{only_requests}
 use Rattle.sv_history.proofs.AlwaysTold.{some_told}
 use Rattle.sv_laws.specs.Laws.{Suits}
 use Rattle.sv_laws.proofs.Brought.{brings, tells}
-use Rattle.sv_serve.specs.Heard.{Heard, WasAccepted, WasRead, WasProbed, WasWritten, WasClosed}
+use Rattle.sv_serve.specs.Heard.{Heard, WasAccepted, WasRead, WasProbed, WasWritten, WasClosed, Through}
 use Rattle.sv_serve.specs.DriverView.{DriverView, ForEach}
 use Rattle.sv_serve.specs.Steps.{Given, IsApplied, called_of, ClosesChannelOn, ClosesChannel}
 use Rattle.sv_serve.specs.Sweep.{Applies}
-use Rattle.sv_serve.specs.Served.{Through, event_of, is_outer}
-use Rattle.sv_serve.specs.Carried.{ClosesAtOnce}
-use Rattle.sv_serve.specs.Carried.{ends_port}
-use Rattle.sv_serve.proofs.LettingGo.{LetsGoRightly, IsEnd, IsNoHang, NoneHung, Adds, adds_nothing, adds_one, lets_more, lets_event, none_hung}
-use Rattle.sv_serve.proofs.Handing.{HandsOver, Fits, AllFit, IsNoWrite, NoneWritten, all_fit_none, hands_more, hands_silent, hands_event}
+use Rattle.sv_driver_laws.specs.Served.{event_of, is_outer}
+use Rattle.sv_driver_laws.specs.Carried.{ClosesAtOnce}
+use Rattle.sv_driver_laws.specs.Carried.{ends_port}
+use Rattle.sv_driver_laws.proofs.LettingGo.{LetsGoRightly, IsEnd, IsNoHang, NoneHung, Adds, adds_nothing, adds_one, lets_more, lets_event, none_hung}
+use Rattle.sv_driver_laws.proofs.Handing.{HandsOver, Fits, AllFit, IsNoWrite, NoneWritten, all_fit_none, hands_more, hands_silent, hands_event}
 use Rattle.sv_serve.proofs.Suited.{suited}
-use Rattle.sv_serve.proofs.Reasons.{IsCalm, AreCalm, Reasons, Closing, told_more, closing_silent, closing_more, closing_then, closing_event}
-use Rattle.sv_serve.proofs.Ports.{Both, IsSilent, AreSilent, Keeping, keeping_event, keeping_silent}
+use Rattle.sv_driver_laws.proofs.Reasons.{IsCalm, AreCalm, Reasons, Closing, told_more, closing_silent, closing_more, closing_then, closing_event}
+use Rattle.sv_driver_laws.proofs.Ports.{Both, IsSilent, AreSilent, Keeping, keeping_event, keeping_silent}
 
 -- ---- what steps carry
 

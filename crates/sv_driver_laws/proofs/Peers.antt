@@ -25,18 +25,18 @@ use Rattle.sv_replay.specs.declared.entry.Stimulus.TheVariants as stimuli
 use Rattle.sv_laws.proofs.Brought.{brings, tells, peer_in, opened_to}
 use Rattle.sv_serve.specs.declared.wire.Answer.{Answer}
 use Rattle.sv_serve.specs.declared.wire.Answer.TheVariants.{Got, Pending, Failed}
-use Rattle.sv_serve.specs.Heard.{Heard, WasDialed, PeerAnswered, WasClosed}
+use Rattle.sv_serve.specs.Heard.{Heard, WasDialed, PeerAnswered, WasClosed, Through}
 use Rattle.sv_serve.specs.DriverView.{DriverView, ◌then◌}
 use Rattle.sv_serve.specs.Steps.{IsApplied, called_of, is_wanted, KeepsCall, CancelsUnwanted, ConnectResult, PollResult, CallsFor, Dials}
 use Rattle.sv_serve.specs.Sweep.{PlaysOne, Plays, Counts, TicksOnce, Passes}
-use Rattle.sv_serve.specs.Served.{Through, event_of, is_outer}
-use Rattle.sv_serve.specs.Carried.{begins, read, taken_bytes}
-use Rattle.sv_serve.specs.Carried.{ends_port}
-use Rattle.sv_serve.proofs.LettingGo.{LetsGoRightly, IsNoHang, Adds, adds_nothing, none_hung, end_shut, cancel_unwanted, hung_same}
-use Rattle.sv_serve.proofs.Handing.{HandsOver, IsNoWrite, NoneWritten, fits_none}
-use Rattle.sv_serve.proofs.Reasons.{IsCalm, AreCalm, closing_silent}
-use Rattle.sv_serve.proofs.Ports.{Both, AreSilent, holds_silent, step_opened, Keeping}
-use Rattle.sv_serve.proofs.Keeps.{Subject, OfNone, about, AllMay, may_join, Keeps, through_join, keeps_none, keeps_then, keeps_each, quiet_keeps, quiet_one, only_heard, hangs_up, happened, event_keeps, inner_by, inner_applies}
+use Rattle.sv_driver_laws.specs.Served.{event_of, is_outer}
+use Rattle.sv_driver_laws.specs.Carried.{begins, read, taken_bytes}
+use Rattle.sv_driver_laws.specs.Carried.{ends_port}
+use Rattle.sv_driver_laws.proofs.LettingGo.{LetsGoRightly, IsNoHang, Adds, adds_nothing, none_hung, end_shut, cancel_unwanted, hung_same}
+use Rattle.sv_driver_laws.proofs.Handing.{HandsOver, IsNoWrite, NoneWritten, fits_none}
+use Rattle.sv_driver_laws.proofs.Reasons.{IsCalm, AreCalm, closing_silent}
+use Rattle.sv_driver_laws.proofs.Ports.{Both, AreSilent, holds_silent, step_opened, Keeping}
+use Rattle.sv_driver_laws.proofs.Keeps.{Subject, OfNone, about, AllMay, may_join, Keeps, through_join, keeps_none, keeps_then, keeps_each, quiet_keeps, quiet_one, only_heard, hangs_up, happened, event_keeps, inner_by, inner_applies}
 
 -- ---- peers are called
 

@@ -17,7 +17,7 @@ use Rattle.sv_serve.specs.declared.wire.Answer.TheVariants.{Got, Pending, Failed
 use Rattle.sv_serve.specs.Heard.{Heard, WasClosed}
 use Rattle.sv_serve.specs.DriverView.{DriverView, ForEach}
 use Rattle.sv_serve.specs.Steps.{Hears, Given, IsApplied, Remembers, called_of, Opens, Accepts, ClosesChannelOn, Closes, ClosesIf, Comes, Drops, ProbesIf, ReadsFrom, RefusesIf, EndsTurn, TurnsIf, Turns, KeepsCall, CancelsUnwanted, ConnectResult, PollResult, CallsFor, Dials, EndsWrite, WritesTo, EndsIf, Ends}
-use Rattle.sv_serve.specs.Timed.{is_timed}
+use Rattle.sv_driver_laws.specs.Timed.{is_timed}
 
 -- what is to come, how many milliseconds passed, and what time brought, is as before
 abbrev pub Idles : {W : Type 0} → DriverView W → DriverView W → Type 0

@@ -13,15 +13,10 @@ use Rattle.sv_history.specs.History.{IsLogOf, Answers}
 use Rattle.sv_server.specs.Server.State.{StandsFor}
 use Rattle.sv_serve.specs.declared.wire.Answer.{Answer}
 use Rattle.sv_serve.specs.declared.wire.Answer.TheVariants.{Got, Failed}
-use Rattle.sv_serve.specs.Heard.{Heard, WasAccepted, WasRead, WasWritten, WasDialed, PeerAnswered, WasClosed}
+use Rattle.sv_serve.specs.Heard.{Heard, WasAccepted, WasRead, WasWritten, WasDialed, PeerAnswered, WasClosed, Through}
 use Rattle.sv_serve.specs.DriverView.{DriverState, Steps}
 use Rattle.sv_serve.specs.Sweep.{Sweeps}
-use Rattle.sv_serve.specs.Timed.{is_timed}
-
--- The wire's methods were called as this trace says, and returned the answers of the trace.
-abbrev pub Through : {W : Type 0} → (W → Heard → W → Type 0) → List Heard → W → W → Type 0
-Through hears [] start now = now ≡ start
-Through hears (heard ∷ trace) start now = (between : _) × Through hears trace start between × hears between heard now
+use Rattle.sv_driver_laws.specs.Timed.{is_timed}
 
 -- the event that an answer of the wire causes, if it causes one
 abbrev pub event_of : Heard → List PlainEvent

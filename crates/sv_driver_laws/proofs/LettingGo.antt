@@ -7,9 +7,9 @@ use Rattle.sv_history.specs.Event.{PlainEvent}
 use Rattle.sv_history.specs.Act.{Act}
 use Rattle.sv_history.specs.History.{is_port_shut, IsLogOf}
 use Rattle.sv_serve.specs.Heard.{Heard, WasClosed}
-use Rattle.sv_serve.specs.Served.{event_of, is_outer}
-use Rattle.sv_serve.specs.Carried.{ends_port, EachHeard, Follows, Once}
-use Rattle.sv_serve.proofs.Reasons.{once_more}
+use Rattle.sv_driver_laws.specs.Served.{event_of, is_outer}
+use Rattle.sv_driver_laws.specs.Carried.{ends_port, EachHeard, Follows, Once}
+use Rattle.sv_driver_laws.proofs.Reasons.{once_more}
 
 abbrev pub IsShut : ℕ → Config → List PlainEvent → Type 0
 IsShut c config earlier = (log : List Act) × IsLogOf config earlier log × (is_port_shut (Intr c) log ≡ true)

@@ -21,19 +21,18 @@ use Rattle.sv_laws.proofs.OneLog.{one_log}
 use Rattle.sv_history.proofs.AlwaysTold.{some_told}
 use Rattle.sv_serve.specs.declared.wire.Answer.{Answer}
 use Rattle.sv_serve.specs.declared.wire.Answer.TheVariants.{Got, Pending, Failed}
-use Rattle.sv_serve.specs.Heard.{Heard, WasAccepted, WasRead, WasProbed, WasWritten, WasClosed, IsWithin}
+use Rattle.sv_serve.specs.Heard.{Heard, WasAccepted, WasRead, WasProbed, WasWritten, WasClosed, IsWithin, Through}
 use Rattle.sv_serve.specs.DriverView.{DriverView}
 use Rattle.sv_serve.specs.Asked.{IsLowest}
 use Rattle.sv_serve.specs.Steps.{Opens, Accepts, Closes, ClosesIf, Comes, Drops, ProbesIf, ReadsFrom, RefusesIf, EndsTurn, TurnsIf, Turns, EndsWrite, WritesTo, EndsIf, Ends}
-use Rattle.sv_serve.specs.Served.{Through}
-use Rattle.sv_serve.specs.Carried.{ClosesAtOnce}
+use Rattle.sv_driver_laws.specs.Carried.{ClosesAtOnce}
 use Rattle.sv_history.specs.Queries.{WaitOn}
-use Rattle.sv_serve.proofs.LettingGo.{LetsGoRightly, NoneHung, hung_same}
-use Rattle.sv_serve.proofs.Handing.{HandsOver, Fits, AllFit, hands_silent}
-use Rattle.sv_serve.proofs.Reasons.{IsCalm, IsReason, Reasons, closing_silent, closed_same, written_else}
-use Rattle.sv_serve.proofs.Ports.{IsSilent, AreSilent, step_open, step_read, step_took, step_close, step_sent, Keeping, keeping_silent}
-use Rattle.sv_serve.proofs.Keeps.{Subject, OfRead, OfConn, OfNone, about, AllMay, may_join, Keeps, through_join, keeps_none, keeps_then, silent_events, only_heard, hangs_up, happened, event_keeps, answer_keeps, inner_by}
-use Rattle.sv_serve.proofs.Peers.{step_else}
+use Rattle.sv_driver_laws.proofs.LettingGo.{LetsGoRightly, NoneHung, hung_same}
+use Rattle.sv_driver_laws.proofs.Handing.{HandsOver, Fits, AllFit, hands_silent}
+use Rattle.sv_driver_laws.proofs.Reasons.{IsCalm, IsReason, Reasons, closing_silent, closed_same, written_else}
+use Rattle.sv_driver_laws.proofs.Ports.{IsSilent, AreSilent, step_open, step_read, step_took, step_close, step_sent, Keeping, keeping_silent}
+use Rattle.sv_driver_laws.proofs.Keeps.{Subject, OfRead, OfConn, OfNone, about, AllMay, may_join, Keeps, through_join, keeps_none, keeps_then, silent_events, only_heard, hangs_up, happened, event_keeps, answer_keeps, inner_by}
+use Rattle.sv_driver_laws.proofs.Peers.{step_else}
 
 -- ---- connections are accepted
 

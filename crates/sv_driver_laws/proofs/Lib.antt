@@ -1,0 +1,13 @@
+mod Ports
+mod Reasons
+mod Handing
+mod LettingGo
+mod Keeps
+mod Peers
+mod Carrying
+mod CarriedOn
+mod GoingOn
+mod Turned
+mod Serving
+mod Idling
+mod Timing

@@ -1,0 +1,3 @@
+pub mod Timed
+pub mod Served
+pub mod Carried
