@@ -1,7 +1,7 @@
 //! Plays rows about the driver of `sv_serve`. Each row gets a new driver over a wire whose answers
 //! are given by the lines of the row. Prints the calls that the driver made to the wire's
 //! functions. The crate `sv_recording` records these function calls as the trace that the laws of
-//! `sv_serve` are about.
+//! `sv_driver_laws` are about.
 //!
 //! A row of the kind `sweeps` has these lines:
 //!
