@@ -171,3 +171,19 @@ at_interrupt contents due =
     at false told answering (Some unit) false ended is = absurd cc
     at false told true (Some unit) true ended is = (unit, refl)
     at false told false (Some unit) true ended is = (unit, refl)
+
+-- a message interrupts only a response that is there
+pub at_response : (contents : Contents) → next_of contents ≡ InterruptDue → is_something (shown_by contents) ≡ true
+at_response contents due =
+    at contents.overlong contents.overrun_reported (unit_of contents) (is_something (shown_by contents)) contents.ended due
+  where
+    at : (long told : Bool) (found : Option (List ℕ)) (something ended : Bool) → due_by long told found something ended ≡ InterruptDue
+        → something ≡ true
+    at long told found true ended is = refl
+    at true false found false ended is = absurd cc
+    at true true None false true is = absurd cc
+    at true true None false false is = absurd cc
+    at true true (Some unit) false ended is = absurd cc
+    at false told None false true is = absurd cc
+    at false told None false false is = absurd cc
+    at false told (Some unit) false ended is = absurd cc

@@ -3,5 +3,6 @@ pub mod Cuts
 pub mod Responses
 pub mod Dues
 pub mod Stands
+pub mod Measures
 pub mod Fields
 pub mod Looking

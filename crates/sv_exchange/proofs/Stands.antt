@@ -2,7 +2,7 @@
 use Rattle.std.proofs.Common.{◌≡◌, ◌≢◌, ℕ, zero, suc, ◌+◌, ◌≤◌, ◌<◌, ◌==◌, Bool, true, false, not, ◌&&◌, ◌||◌, cond, List, [], ◌∷◌, ◌++◌, length, take, drop, refl, sym, ap, ◌∙◌, nat_lt, append_assoc, IsTrue, arith}
 use Rattle.std.proofs.lemmas.Bool.{lt-ltb, le-ltb, ltb-true}
 use Rattle.std.proofs.lemmas.List.{length-append, drop-drop, drop_all, length-take-le}
-use Rattle.sv_exchange.specs.Exchange.{ExchangeAct, Accepted, UnitDone, Answered, AnswersDropped, Finished, ResponseRead, TextDropped, text, messages, message, messages_finished, current, units, units_done, has_overrun, has_dropped, answers, response, fits_response, is_something, joined_answers}
+use Rattle.sv_exchange.specs.Exchange.{ExchangeAct, Accepted, UnitDone, Answered, AnswersDropped, Finished, ResponseRead, TextDropped, Interrupted, text, messages, message, messages_finished, current, units, units_done, has_overrun, has_dropped, answers, response, fits_response, is_something, joined_answers}
 use Rattle.sv_exchange.specs.Contents.{Contents, StandsFor, IsShown, empty, IsUnitDue, symbols, following, readable_of, shown_by, next_of, is_open, may_respond}
 use Rattle.sv_exchange.specs.Fields.{first_size, has_line, second_at, after_accept, after_finish, with_answer}
 use Rattle.sv_exchange.specs.FirstUnit.{IsFirst}
@@ -247,6 +247,20 @@ read_stands contents new acts count few is s =
     (λ later. left ∙ drop_all count (response acts) (omega (arith, ap length (s.no_response later)))) s.no_answers s.answers_dropped
     (rw left (read_said contents.answering contents.output (answers acts) (response acts) count few s.shows)) s
 
+-- without a response nothing is shown
+said_nothing : (answering : Bool) (out : List ℕ) (given : List (List ℕ)) (readable : List ℕ)
+    → is_something (readable_of answering out) ≡ true → IsShown answering out given readable → IsShown answering [] given []
+said_nothing true out given readable some said = absurd cc
+said_nothing false out given readable some said = (said.0, refl)
+
+-- a response was dropped
+pub interrupted_stands : (contents new : Contents) (acts : List ExchangeAct) → is_something (shown_by contents) ≡ true
+    → new ≡ record contents { output = [] }
+    → StandsFor contents acts → StandsFor new (Interrupted ∷ acts)
+interrupted_stands contents new acts some is s =
+    output_stands contents new acts (Interrupted ∷ acts) _ _ _ is refl refl refl refl (λ later. refl) s.no_answers s.answers_dropped
+    (said_nothing contents.answering contents.output (answers acts) (response acts) some s.shows) s
+
 -- without answers the response is what it was
 said_alone : (answering : Bool) (out : List ℕ) (given : List (List ℕ)) (readable : List ℕ) → answering ≡ false
     → IsShown answering out given readable → IsShown answering out [] readable
@@ -273,4 +287,23 @@ text_dropped_stands contents new acts open_now is s =
       overrun_reported = refl;
       answers_dropped = refl;
       shows = said_alone contents.answering contents.output (answers acts) (response acts) none s.shows;
+    })
+
+-- after a device clear nothing is left
+pub cleared_stands : (new : Contents) (acts : List ExchangeAct) → new ≡ empty → StandsFor new (Interrupted ∷ TextDropped ∷ acts)
+cleared_stands new acts is =
+    rw is (record {
+      message = [];
+      executed = [];
+      text_left = refl;
+      size = refl;
+      units_left = λ short. refl;
+      count = refl;
+      no_response = λ later. refl;
+      whole = λ unended short. refl;
+      unbegun = λ unended. refl;
+      no_answers = λ unended. refl;
+      overrun_reported = refl;
+      answers_dropped = refl;
+      shows = (refl, refl);
     })

@@ -1,12 +1,14 @@
 -- What is kept of channels, over acts.
-use Rattle.std.proofs.Common.{◌≡◌, ◌≢◌, ℕ, ◌<◌, List, [], ◌∷◌, ◌++◌, length, Option, Some, None, refl, sym, ap, subst, ◌∙◌, inl, inr}
+use Rattle.std.proofs.Common.{◌≡◌, ◌≢◌, ℕ, ◌+◌, ◌<◌, List, [], ◌∷◌, ◌++◌, length, Option, Some, None, refl, sym, ap, subst, ◌∙◌, inl, inr, eq-eqb, arith}
 use Rattle.std.specs.Prelude.{map, slice_index_or, slice_set}
 use Rattle.std.specs.List.{fold}
-use Rattle.std.proofs.lemmas.Bool.{cases_eq}
-use Rattle.std.proofs.lemmas.List.{get_or-set_same, get_or-set_other}
+use Rattle.std.proofs.lemmas.Bool.{cases_eq, cases_lt, ne_eqb}
+use Rattle.std.proofs.lemmas.List.{get_or-set_same, get_or-set_other, get_or_append_left}
+use Rattle.std.proofs.Math.Seq.{get_or-append_seam}
 use Rattle.sv_links.specs.declared.enabled.Enabled.{Enabled}
 use Rattle.sv_links.specs.declared.request.Peer.{Peer}
-use Rattle.sv_links.specs.Channels.{ChannelAct, SrqEnabled, SrqDisabled, Requested, enabled_links, peer, bytes_taken, calls, add_call, handles_of}
+use Rattle.sv_links.specs.Limits.{max_connections}
+use Rattle.sv_links.specs.Channels.{ChannelAct, SrqEnabled, SrqDisabled, Requested, ChannelClosed, enabled_links, peer, bytes_taken, calls, add_call, handles_of}
 use Rattle.sv_links.specs.ChannelRepresentation.{Channel, Channels, AreChannels, without_links, IsChannel, IsChannelFor, IsQueued, opened_for}
 use Rattle.sv_links.proofs.Asking.{other_links}
 use Rattle.sv_links.proofs.Rising.{with_link, enabled-enabled, enabled-disabled}
@@ -70,3 +72,56 @@ at_set P kept i c new other within here there = elim (cases_eq c i) [
       subst P (sym (place ∙ get_or-set_same kept i new other within)) (here e)
   | inr e ↦ subst P (sym (get_or-set_other kept i c new other e)) (there e)
 ]
+
+-- and one that is put behind the others
+pub at_push : (P : Channel → Type 0) (kept : List Channel) (i c : ℕ) (new other : Channel) → length kept ≡ i → c < i + 1 → P new
+    → (c < i → P (slice_index_or kept c other)) → P (slice_index_or (kept ++ new ∷ []) c other)
+at_push P kept i c new other long within here there = elim (cases_lt c i) [
+  | inl below ↦ rw (get_or_append_left kept (new ∷ []) other c (omega (arith, long, below))) (there below)
+  | inr above ↦
+      let last : c ≡ length kept = omega (arith, long, within, above) in
+      let place = ap (λ (c : ℕ). slice_index_or (kept ++ new ∷ []) c other) last in
+      subst P (sym (place ∙ get_or-append_seam kept new [] other)) here
+]
+
+-- ---- a channel that stays open, or stays closed, and keeps its calls
+
+channel-kept : (what : Option Peer) (old new : Channel) (count : ℕ) (calls : List (List ℕ))
+    → ((count : ℕ) (calls : List (List ℕ)) → IsQueued old count calls → IsQueued new count calls)
+    → IsChannelFor what old count calls → IsChannelFor what new count calls
+channel-kept None old new count calls keeps is = tt
+channel-kept (Some what) old new count calls keeps is = keeps count calls is
+
+pub AreChannels-kept : (kept : Channels) (i : ℕ) (old new : Channel) (acts : List ChannelAct) → i < max_connections
+    → i < length kept.channels → old ≡ slice_index_or kept.channels i old → opened_for new.stage ≡ opened_for old.stage
+    → ((count : ℕ) (calls : List (List ℕ)) → IsQueued old count calls → IsQueued new count calls) → AreChannels kept acts
+    → AreChannels (record kept { channels = slice_set kept.channels i new }) acts
+AreChannels-kept kept i old new acts lt within value stage keeps is =
+    let before : IsChannel old i acts = subst (λ c. IsChannel c i acts) (sym value) (is.each i old lt) in
+    let after : IsChannel new i acts =
+    (stage ∙ before.0, channel-kept (peer i acts) old new (bytes_taken i acts) (calls i acts) keeps before.1) in
+    record {
+      enabled = is.enabled;
+      each = λ k other le.
+          at_set (λ c. IsChannel c k acts) kept.channels i k new other within (λ same. subst (λ k. IsChannel new k acts) (sym same) after)
+          (λ apart. is.each k other le);
+      beyond = is.beyond;
+    }
+
+-- a channel that is closed
+pub AreChannels-closed : (kept : Channels) (i : ℕ) (new : Channel) (acts : List ChannelAct) → i < length kept.channels
+    → opened_for new.stage ≡ None → AreChannels kept acts
+    → AreChannels (record kept { channels = slice_set kept.channels i new }) (ChannelClosed i ∷ acts)
+AreChannels-closed kept i new acts within stage is =
+    let after : IsChannel new i (ChannelClosed i ∷ acts) = rw (eq-eqb i i refl) (stage, tt) in
+    record {
+      enabled = is.enabled;
+      each = λ k other le.
+          at_set (λ c. IsChannel c k (ChannelClosed i ∷ acts)) kept.channels i k new other within
+          (λ same. subst (λ k. IsChannel new k (ChannelClosed i ∷ acts)) (sym same) after)
+          (λ apart. rw (ne_eqb i k (λ e. apart (sym e))) (is.each k other le));
+      beyond = λ k past. elim (cases_eq i k) [
+        | inl same ↦ rw (eq-eqb i k same) refl
+        | inr apart ↦ rw (ne_eqb i k apart) (is.beyond k past)
+      ];
+    }

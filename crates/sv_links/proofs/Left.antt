@@ -4,7 +4,7 @@ use Rattle.std.specs.Prelude.{map, sum}
 use Rattle.std.specs.List.{concat, AllByRecursion}
 use Rattle.std.proofs.lemmas.Bool.{cases_Bool, ltb-true, ltb-false, lt-ltb, le-ltb}
 use Rattle.std.proofs.lemmas.List.{length-append, length-drop, drop_at, drop-drop, drop-append-le}
-use Rattle.std.proofs.lemmas.List.Sums.{sum_by-cons}
+use Rattle.std.proofs.lemmas.List.Sums.{sum_by-cons, sum_by-append}
 use Rattle.sv_links.specs.Channels.{calls_left}
 use Rattle.sv_links.specs.Limits.{longest_call}
 use Rattle.sv_links.specs.ChannelRepresentation.{left_in}
@@ -104,3 +104,12 @@ length-left count (size ∷ sizes) = elim (cases_Bool (ltb count size)) [
 pub sum-bounded : (sizes : List ℕ) → AllByRecursion (λ size. size ≤ longest_call) sizes → sum sizes ≤ longest_call * length sizes
 sum-bounded [] h = omega arith
 sum-bounded (size ∷ sizes) h = omega (arith, sum-cons size sizes, h.0, sum-bounded sizes h.1)
+
+-- one more size is added
+pub sum-push : (sizes : List ℕ) (size : ℕ) → sum (sizes ++ size ∷ []) ≡ sum sizes + size
+sum-push sizes size = omega (arith, sum_by-append (λ (x : ℕ). x) sizes (size ∷ []))
+
+pub all-push : (most : ℕ) (sizes : List ℕ) (size : ℕ) → AllByRecursion (λ size. size ≤ most) sizes → size ≤ most
+    → AllByRecursion (λ size. size ≤ most) (sizes ++ size ∷ [])
+all-push most [] size h le = (le, tt)
+all-push most (first ∷ sizes) size h le = (h.0, all-push most sizes size h.1 le)

@@ -1,16 +1,16 @@
 -- What is held stands for the stream as it goes on.
-use Rattle.std.proofs.Common.{◌≡◌, ℕ, ◌+◌, ◌-◌, ◌%◌, ◌<◌, ◌≤◌, ◌^◌, Bool, true, false, cond, leb, List, [], ◌∷◌, ◌++◌, length, take, drop, set, refl, sym, ap, subst, ◌∙◌, arith, inl, inr}
+use Rattle.std.proofs.Common.{◌≡◌, ℕ, ◌+◌, ◌-◌, ◌%◌, ◌<◌, ◌≤◌, ◌^◌, Bool, true, false, cond, leb, List, [], ◌∷◌, ◌++◌, length, take, drop, set, refl, sym, ap, subst, ◌∙◌, append-nil, arith, inl, inr}
 use Rattle.std.specs.Prelude.{sum}
 use Rattle.std.specs.Int.{w32, from_be_bytes}
 use Rattle.std.proofs.lemmas.Bool.{cases_lt, le-ltb, lt-ltb}
-use Rattle.std.proofs.lemmas.List.{length-append, drop-append-le, append_assoc}
+use Rattle.std.proofs.lemmas.List.{length-append, length-take-le, take_more_set, drop-append-le, append_assoc}
 use Rattle.sv_rpc.specs.Limits.{max_record}
 use Rattle.sv_rpc.specs.Record.{Tail, Header, Data, TooLong, Splits, header_of}
 use Rattle.sv_rpc.specs.RecordBuf.{Records, StandsFor}
 use Rattle.sv_rpc.specs.declared.record_buf.Place.{Place}
 use Rattle.sv_rpc.specs.declared.record_buf.Place.TheVariants as place
 use Rattle.sv_rpc.specs.Representation.{IsPlace, IsInHeader, held_of, tail_of, cut, GoesOn, after_byte, after_header, after_data}
-use Rattle.sv_rpc.proofs.Steps.{header_grows, header_ends, empty_ends, empty_last_ends, header_too_long, data_grows, data_ends, data_last_ends}
+use Rattle.sv_rpc.proofs.Steps.{header_grows, header_ends, empty_ends, empty_last_ends, header_too_long, still_long, data_grows, data_ends, data_last_ends}
 
 abbrev held : List (List ℕ) → Tail → Records
 held records tail = record { records = records; tail = tail }
@@ -99,6 +99,18 @@ pub GoesOn-then : (old mid new : Records) (a b : List ℕ) → GoesOn old mid a 
 GoesOn-then old mid new a b first second stream dropped st =
     subst (λ (l : List ℕ). StandsFor new l dropped) (append_assoc stream a b) (second (stream ++ a) dropped (first stream dropped st))
 
+-- no stretch at all
+pub GoesOn-none : (held : Records) → GoesOn held held []
+GoesOn-none held stream dropped st = rw (append-nil stream) st
+
+-- all of a piece, once none of it is left
+pub GoesOn-all : (old new : Records) (piece rest : List ℕ) → length rest ≡ 0
+    → (taken : List ℕ) × (piece ≡ taken ++ rest) × GoesOn old new taken
+    → GoesOn old new piece
+GoesOn-all old new piece [] e stands =
+    subst (λ (l : List ℕ). GoesOn old new l) (sym (stands.1 ∙ append-nil stands.0)) stands.2
+GoesOn-all old new piece (b ∷ rest) e stands = absurd (omega arith)
+
 -- a byte of a header, where a buffer takes it in
 pub header_goes_on : (bytes lengths header : List ℕ) (spot : Place) (old new : Records) (byte : ℕ) → held_of bytes lengths header spot ≡ old
     → IsInHeader old.tail
@@ -135,6 +147,41 @@ three_came place.Header payload n p h at in_header le = omega (arith, at.1)
 three_came (place.Data missing last) payload n p h at in_header le = absurd in_header
 three_came place.TooLong payload n p h at in_header le = absurd in_header
 
+-- a byte that leaves its header unfinished
+pub header_grown : (bytes lengths header : List ℕ) (n byte : ℕ) (spot : Place) (old : Records)
+    → held_of bytes lengths (take n header) spot ≡ old → IsInHeader old.tail → n < 3 → length header ≡ 4
+    → held_of bytes lengths (take (n + 1) (set header n byte)) spot ≡ after_byte old.records old.tail byte
+header_grown bytes lengths header n byte spot old is in_header less four =
+    subst (λ (h : Records). IsInHeader h.tail
+    → held_of bytes lengths (take (n + 1) (set header n byte)) spot ≡ after_byte h.records h.tail byte) is (at spot) in_header
+  where
+    at : (p : Place) → IsInHeader (tail_of p (drop (sum lengths) bytes) (take n header))
+        → held_of bytes lengths (take (n + 1) (set header n byte)) p
+        ≡ after_byte (cut lengths bytes) (tail_of p (drop (sum lengths) bytes) (take n header)) byte
+    at place.Header h =
+        rw (take_more_set header n byte (omega arith), length-take-le n header (omega arith), lt-ltb n 3 less) refl
+    at (place.Data missing last) h = absurd h
+    at place.TooLong h = absurd h
+
+-- a byte that completes its header
+pub header_opens : (bytes lengths header : List ℕ) (n byte word : ℕ) (spot : Place) (old new : Records)
+    → held_of bytes lengths (take n header) spot ≡ old → IsInHeader old.tail → length header ≡ 4 → n ≡ 3
+    → word ≡ from_be_bytes w32 (set header n byte)
+    → new ≡ after_header (cut lengths bytes) (tail_of spot (drop (sum lengths) bytes) []) (word % 2 ^ 31) (leb (2 ^ 31) word)
+    → new ≡ after_byte old.records old.tail byte
+header_opens bytes lengths header n byte word spot old new is in_header four whole word_is value =
+    value ∙ subst (λ (h : Records). IsInHeader h.tail
+    → after_header (cut lengths bytes) (tail_of spot (drop (sum lengths) bytes) []) (word % 2 ^ 31) (leb (2 ^ 31) word)
+    ≡ after_byte h.records h.tail byte) is (at spot) in_header
+  where
+    at : (p : Place) → IsInHeader (tail_of p (drop (sum lengths) bytes) (take n header))
+        → after_header (cut lengths bytes) (tail_of p (drop (sum lengths) bytes) []) (word % 2 ^ 31) (leb (2 ^ 31) word)
+        ≡ after_byte (cut lengths bytes) (tail_of p (drop (sum lengths) bytes) (take n header)) byte
+    at place.Header h =
+        rw (length-take-le n header (omega arith), le-ltb n 3 (omega arith), ← set_last header n byte four whole, ← word_is) refl
+    at (place.Data missing last) h = absurd h
+    at place.TooLong h = absurd h
+
 -- some of a fragment's data, where a buffer takes it in
 pub data_goes_on : (bytes lengths header : List ℕ) (spot : Place) (old new : Records) (missing : ℕ) (last : Bool) (piece : List ℕ)
     → held_of bytes lengths header spot ≡ old
@@ -143,3 +190,14 @@ data_goes_on bytes lengths header spot old new missing last piece is at value wi
     let old_is : held_of bytes lengths header (place.Data missing last) ≡ old = ap (held_of bytes lengths header) (sym at) ∙ is in
     rw value (subst (λ (h : Records). GoesOn h (after_data h.records h.tail piece) piece) old_is
     (data_goes (cut lengths bytes) (drop (sum lengths) bytes) piece missing last within))
+
+-- after a record that is too long
+long_goes : (records : List (List ℕ)) (piece : List ℕ) → GoesOn (held records TooLong) (held records TooLong) piece
+long_goes records piece stream dropped st =
+    same_records records TooLong TooLong stream piece dropped st (still_long stream piece st.all st.splits)
+
+-- the same, where a buffer takes it in
+pub long_goes_on : (bytes lengths header : List ℕ) (spot : Place) (old : Records) (piece : List ℕ)
+    → held_of bytes lengths header spot ≡ old → spot ≡ place.TooLong → GoesOn old old piece
+long_goes_on bytes lengths header spot old piece is at =
+    subst (λ (h : Records). GoesOn h h piece) (ap (held_of bytes lengths header) (sym at) ∙ is) (long_goes (cut lengths bytes) piece)

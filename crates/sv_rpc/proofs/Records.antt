@@ -1,14 +1,15 @@
 -- What a change of the fields makes of what is held.
-use Rattle.std.proofs.Common.{◌≡◌, ◌≢◌, ℕ, ◌+◌, ◌-◌, ◌*◌, ◌<◌, ◌≤◌, Bool, true, false, List, [], ◌∷◌, ◌++◌, length, take, drop, refl, sym, ap, subst, ◌∙◌, arith, inl, inr}
+use Rattle.std.proofs.Common.{◌≡◌, ◌≢◌, ℕ, ◌+◌, ◌-◌, ◌*◌, ◌<◌, ◌≤◌, Bool, true, false, List, [], ◌∷◌, ◌++◌, length, take, drop, get_or, set, refl, sym, ap, subst, ◌∙◌, arith, inl, inr}
 use Rattle.std.proofs.lemmas.Bool.{cases_lt, lt-ltb, le-ltb}
 use Rattle.std.specs.Prelude.{sum}
-use Rattle.std.proofs.lemmas.List.{length-append, length-take-le, drop-drop, drop-append-le, drop_all}
+use Rattle.std.proofs.lemmas.List.{length-append, length-set, length-drop, length-take-le, drop-drop, drop-append-le, drop_all}
+use Rattle.std.proofs.lemmas.List.Sums.{sum_by-append}
 use Rattle.sv_rpc.specs.declared.record_buf.Place.{Place}
 use Rattle.sv_rpc.specs.declared.record_buf.Place.TheVariants as place
 use Rattle.sv_rpc.specs.Limits.{capacity}
 use Rattle.sv_rpc.specs.Record.{Header, Data}
 use Rattle.sv_rpc.specs.RecordBuf.{Records, StandsFor, IsRoom, used_by, room_of}
-use Rattle.sv_rpc.specs.Representation.{IsValid, InRoom, IsPlace, IsBeforeHeader, IsInData, held_of, cut, tail_of, finish_record, begun_of, after_data}
+use Rattle.sv_rpc.specs.Representation.{IsValid, InRoom, IsPlace, IsInHeader, IsBeforeHeader, IsInData, held_of, cut, tail_of, finish_record, begun_of, after_data}
 use Rattle.sv_rpc.proofs.Cuts.{sum-push, cut-append, cut-push, used_at_header, used_in_data}
 
 -- the room of a value is the room of the stream
@@ -34,6 +35,49 @@ drop_answer old new stream dropped e some s =
           absurd (some (s.kept ∙ drop_all dropped s.all le))
     ] in
     rw e (record { all = s.all; splits = s.splits; bounded = few; kept = kept })
+
+-- a complete record has a length
+pub some_length : (bytes lengths : List ℕ) → cut lengths bytes ≢ [] → 0 < length lengths
+some_length bytes [] some = absurd (some refl)
+some_length bytes (n ∷ lengths) some = omega arith
+
+-- the first length counts the first record
+first_counted : (n size : ℕ) (lengths bytes : List ℕ) (payload : ℕ) → size ≡ n → sum (n ∷ lengths) + payload ≡ length bytes
+    → size + sum lengths + payload ≡ length bytes
+first_counted n size lengths bytes payload e whole = omega (arith, sum_by-append (λ (m : ℕ). m) (n ∷ []) lengths)
+
+-- the fields without the first record
+pub first_dropped : (bytes bytes' lengths lengths' header : List ℕ) (space space' slots slots' payload header_len size : ℕ) (spot : Place)
+    → IsValid bytes lengths header space slots payload header_len spot → 0 < length lengths → size ≡ get_or lengths 0 size
+    → lengths' ≡ drop 1 lengths → bytes' ≡ drop size bytes → space' ≡ space → slots' ≡ slots
+    → IsValid bytes' lengths' header space' slots' payload header_len spot
+first_dropped bytes bytes' [] lengths' header space space' slots slots' payload header_len size spot k some is e f g h =
+    absurd (omega arith)
+first_dropped bytes bytes' (n ∷ lengths) lengths' header space space' slots slots' payload header_len size spot k some is e f g h =
+    let whole = first_counted n size lengths bytes payload is k.whole in
+    let left : length bytes' ≡ length bytes - size = ap length f ∙ length-drop size bytes in
+    let fewer : length lengths' ≡ length lengths = ap length e in
+    record {
+      whole = omega (arith, ap sum e, whole, left);
+      four = k.four;
+      at = k.at;
+      enough = omega (arith, k.enough);
+      many = omega (arith, k.many);
+      counted = omega (arith, k.counted, left, fewer);
+    }
+
+-- what is held without the first record
+pub first_gone : (bytes bytes' lengths lengths' header : List ℕ) (payload size : ℕ) (spot : Place) (old : Records)
+    → held_of bytes lengths header spot ≡ old → sum lengths + payload ≡ length bytes → 0 < length lengths
+    → size ≡ get_or lengths 0 size
+    → lengths' ≡ drop 1 lengths → bytes' ≡ drop size bytes
+    → held_of bytes' lengths' header spot ≡ record { records = drop 1 old.records; tail = old.tail }
+first_gone bytes bytes' [] lengths' header payload size spot old is whole some first e f = absurd (omega arith)
+first_gone bytes bytes' (n ∷ lengths) lengths' header payload size spot old is whole some first e f =
+    let rest : drop (sum lengths') bytes' ≡ drop (sum (n ∷ lengths)) bytes =
+    rw (e, f) (drop-drop (sum lengths) size bytes ∙ ap (λ (m : ℕ). drop m bytes)
+    (omega (arith, first, sum_by-append (λ (m : ℕ). m) (n ∷ []) lengths))) in
+    rw (← is, rest, e, f, first) refl
 
 -- the room, by the lengths of the parts
 pub room_by_parts : (bytes lengths header : List ℕ) (space slots payload header_len begun : ℕ) (spot : Place)
@@ -112,6 +156,22 @@ data_room bytes lengths header space slots payload header_len n missing last pla
 data_room bytes lengths header space slots payload header_len n missing last (place.Data m l) k e room =
     omega (arith, used_in_data lengths bytes payload m l k.whole)
 data_room bytes lengths header space slots payload header_len n missing last place.TooLong k e room = absurd cc
+
+-- the fields with a byte of a header that stays unfinished
+pub header_keeps : (bytes lengths header : List ℕ) (space slots payload header_len byte : ℕ) (spot : Place)
+    → IsValid bytes lengths header space slots payload header_len spot
+    → IsInHeader (tail_of spot (drop (sum lengths) bytes) (take header_len header)) → header_len < 3
+    → IsValid bytes lengths (set header header_len byte) space slots payload (header_len + 1) spot
+header_keeps bytes lengths header space slots payload header_len byte place.Header k h less = record {
+  whole = k.whole;
+  four = length-set header header_len byte ∙ k.four;
+  at = (k.at.0, omega arith);
+  enough = k.enough;
+  many = k.many;
+  counted = k.counted;
+}
+header_keeps bytes lengths header space slots payload header_len byte (place.Data missing last) k h less = absurd h
+header_keeps bytes lengths header space slots payload header_len byte place.TooLong k h less = absurd h
 
 -- the fields with a piece of data
 pub data_keeps : (bytes bytes' lengths header piece : List ℕ) (space space' slots payload header_len : ℕ) (spot spot' : Place)

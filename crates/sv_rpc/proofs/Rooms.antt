@@ -1,13 +1,15 @@
 -- What is taken in stays within the room.
-use Rattle.std.proofs.Common.{◌≡◌, ℕ, ◌+◌, ◌≤◌, Bool, true, false, cond, List, [], ◌∷◌, ◌++◌, length, ap, ◌∙◌, arith, inl, inr}
-use Rattle.std.specs.Prelude.{sum_by}
+use Rattle.std.proofs.Common.{◌≡◌, ℕ, ◌+◌, ◌-◌, ◌<◌, ◌≤◌, Bool, true, false, cond, List, [], ◌∷◌, ◌++◌, length, drop, ap, subst, ◌∙◌, arith, inl, inr}
+use Rattle.std.specs.Prelude.{sum, sum_by}
 use Rattle.std.proofs.lemmas.Bool.{cases_lt, le-ltb, lt-ltb}
 use Rattle.std.proofs.lemmas.List.{length-append}
 use Rattle.std.proofs.lemmas.List.Sums.{sum_by-append, sum_by-cons}
-use Rattle.sv_rpc.specs.Limits.{max_record}
+use Rattle.sv_rpc.specs.declared.record_buf.Place.{Place}
+use Rattle.sv_rpc.specs.declared.record_buf.Place.TheVariants as place
+use Rattle.sv_rpc.specs.Limits.{capacity, max_record}
 use Rattle.sv_rpc.specs.Record.{Tail, Header, Data, TooLong}
-use Rattle.sv_rpc.specs.RecordBuf.{Records}
-use Rattle.sv_rpc.specs.Representation.{InRoom, Fits, IsInHeader, spare_of, after_byte, after_header}
+use Rattle.sv_rpc.specs.RecordBuf.{Records, used_by, room_of}
+use Rattle.sv_rpc.specs.Representation.{InRoom, Fits, IsInHeader, IsInData, held_of, tail_of, spare_of, after_byte, after_header, after_data}
 
 -- what records count, with one more
 counted-push : (records : List (List ℕ)) (r : List ℕ)
@@ -50,4 +52,61 @@ byte_room held new byte n in_header value fits = rw value (at held.tail in_heade
           | inr three ↦ rw (le-ltb (length header) 3 three) (header_room held.records payload header _ n _ (omega (arith, f)))
         ]
     at (Data payload missing last) h f = absurd h
+    at TooLong h f = absurd h
+
+-- what the room holds fits
+pub room_fits : (held : Records) (n : ℕ) → n ≤ room_of held → 0 < n → InRoom held n
+room_fits held n le some = at held.tail le
+  where
+    at : (tail : Tail) → n ≤ capacity - used_by held.records tail → Fits held.records tail n
+    at (Header payload header) h = omega (arith, h, some)
+    at (Data payload missing last) h = omega (arith, h, some)
+    at TooLong h = tt
+
+-- the last byte of a header leaves room for a record's
+pub header_fits : (bytes lengths header : List ℕ) (spot : Place) (old : Records) → held_of bytes lengths header spot ≡ old
+    → IsInHeader old.tail → length header ≡ 3 → InRoom old 1
+    → InRoom (held_of bytes lengths [] spot) 4
+header_fits bytes lengths header spot old is in_header three fits =
+    subst (λ (h : Records). IsInHeader h.tail → InRoom h 1 → InRoom (held_of bytes lengths [] spot) 4) is (at spot) in_header fits
+  where
+    at : (p : Place) → IsInHeader (tail_of p (drop (sum lengths) bytes) header) → InRoom (held_of bytes lengths header p) 1
+        → InRoom (held_of bytes lengths [] p) 4
+    at place.Header h f = omega (arith, f)
+    at (place.Data missing last) h f = absurd h
+    at place.TooLong h f = absurd h
+
+-- fewer bytes fit where more fit
+pub fewer_fit : (held : Records) (n m : ℕ) → n ≤ m → InRoom held m → InRoom held n
+fewer_fit held n m le fits = at held.tail fits
+  where
+    at : (tail : Tail) → Fits held.records tail m → Fits held.records tail n
+    at (Header payload header) f = omega (arith, f, le)
+    at (Data payload missing last) f = omega (arith, f, le)
+    at TooLong f = tt
+
+-- behind some of a fragment's data
+data_room : (records : List (List ℕ)) (payload piece : List ℕ) (missing : ℕ) (last : Bool) (n m : ℕ) → length piece + m ≡ n
+    → Fits records (Data payload missing last) n
+    → InRoom (after_data records (Data payload missing last) piece) m
+data_room records payload piece missing last n m all fits =
+    elim (cases_lt (length piece) missing) [
+      | inl less ↦ rw (lt-ltb (length piece) missing less) (omega (arith, fits, length-append payload piece))
+      | inr whole ↦ rw (le-ltb (length piece) missing whole) (ends last)
+    ]
+  where
+    ends : (b : Bool) → InRoom (cond b (record { records = records ++ (payload ++ piece) ∷ []; tail = Header [] [] })
+        (record { records = records; tail = Header (payload ++ piece) [] })) m
+    ends true = omega (arith, counted-push records (payload ++ piece), length-append payload piece, fits)
+    ends false = omega (arith, length-append payload piece, fits)
+
+-- behind some of a fragment's data, where a buffer takes it in
+pub piece_room : (held new : Records) (piece : List ℕ) (missing : ℕ) (last : Bool) (n m : ℕ) → IsInData held.tail missing last
+    → length piece + m ≡ n → new ≡ after_data held.records held.tail piece → InRoom held n
+    → InRoom new m
+piece_room held new piece missing last n m in_data all value fits = rw value (at held.tail in_data fits)
+  where
+    at : (tail : Tail) → IsInData tail missing last → Fits held.records tail n → InRoom (after_data held.records tail piece) m
+    at (Header payload header) h f = absurd h
+    at (Data payload left ends) h f = data_room held.records payload piece left ends n m all f
     at TooLong h f = absurd h

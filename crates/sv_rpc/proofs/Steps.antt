@@ -98,6 +98,12 @@ header_too_long stream all payload header byte size last splits is small long =
     longer stream (byte ∷ []) all (Header payload header) _ splits
     (b.0, size, last, [], rw (b.1, append_assoc, is, append-nil (header_of last size)) refl, rw (← b.2) b.4, small, rw (← b.2) long)
 
+-- after a record that is too long nothing changes that
+pub still_long : (stream piece : List ℕ) (all : List (List ℕ)) → Splits stream all TooLong → Splits (stream ++ piece) all TooLong
+still_long stream piece all splits =
+    let b = splits.behind in
+    longer stream piece all TooLong _ splits (b.0, b.1, b.2, b.3 ++ piece, rw b.4 (simp append_assoc), b.5, b.6, b.7)
+
 -- a piece of the data, but not all that are missing
 pub data_grows : (stream piece : List ℕ) (all : List (List ℕ)) (payload : List ℕ) (missing : ℕ) (last : Bool)
     → Splits stream all (Data payload missing last)

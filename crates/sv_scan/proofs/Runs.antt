@@ -35,12 +35,16 @@ channel_in channels read possible =
     All-get_or (λ (channel : ℕ). is_channel channel ≡ true) channels (read % length channels) 0
     (mod_below read (length channels) (omega arith)) (AllPass-from_list_all is_channel channels all)
 
+-- the scan under way, of a state that is valid
+pub run_in : (contents : Contents) (capacity : ℕ) (r : Run) → contents.run ≡ Some r → IsValid contents capacity
+    → IsRun r (length contents.readings)
+run_in contents capacity r e kept = subst (λ (o : Option Run). IsRunOf o (length contents.readings)) e kept.run
+
 -- the channel whose turn it is
 pub turn_is : (contents : Contents) (capacity : ℕ) (r : Run) → contents.run ≡ Some r → IsValid contents capacity
     → is_channel (channel_at r.channels (length contents.readings)) ≡ true
 turn_is contents capacity r e kept =
-    let run : IsRun r (length contents.readings) = subst (λ (o : Option Run). IsRunOf o (length contents.readings)) e kept.run in
-    channel_in r.channels (length contents.readings) run.channels
+    channel_in r.channels (length contents.readings) (run_in contents capacity r e kept).channels
 
 -- in a scan not each triggered channel was read
 is_short : (all triggered : Bool) → is_scanning (if all then Idle else if triggered then Waiting else Scanning) ≡ true → triggered ≡ false

@@ -305,7 +305,7 @@ pub not_true : (b : Bool) → true ≡ not b → b ≡ false
 not_true true e = absurd cc
 not_true false e = refl
 
-not_false : (b : Bool) → false ≡ not b → b ≡ true
+pub not_false : (b : Bool) → false ≡ not b → b ≡ true
 not_false true e = refl
 not_false false e = absurd cc
 

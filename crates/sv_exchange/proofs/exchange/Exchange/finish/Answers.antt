@@ -1,15 +1,10 @@
-use Rattle.std.proofs.Common.{◌≤◌, length, arith}
-use Rattle.std.proofs.lemmas.Grind.{common_steps}
+use Rattle.std.proofs.Common.{◌≤◌, length}
 use Rattle.sv_exchange.proofs.Dues.{at_finish}
+use Rattle.sv_exchange.proofs.Measures.{finish_measure}
 use Rattle.sv_exchange.proofs.Stands.{finish_stands}
 use Rattle.sv_exchange.proofs.Fields.{few_later, finish_fields}
 use Rattle.sv_exchange.proofs.exchange.Exchange.finish.Goals as goal
 use Rattle.sv_exchange.specs.Limits.{max_message}
-
-pub returns-clause-stands : goal.returns-clause-stands
-returns-clause-stands g c =
-    let few : length c.args.self.now.later ≤ max_message = rw (← c.self.view_is) (few_later _ _ _ _ _ c.self.invariant.0.bounds) in
-    λ acts s. finish_stands c.args.self.now _ acts (at_finish c.args.self.now c.requires) few (grind (arith, common_steps)) s
 
 pub returns-clause-value : goal.returns-clause-value
 returns-clause-value g c =
@@ -21,5 +16,10 @@ returns-clause-value g c =
     c.self.invariant.0.output in
     rw (← c.self.view_is) fields
 
+pub returns-clause-stands : goal.returns-clause-stands
+returns-clause-stands g c =
+    let few : length c.args.self.now.later ≤ max_message = rw (← c.self.view_is) (few_later _ _ _ _ _ c.self.invariant.0.bounds) in
+    λ acts s. finish_stands c.args.self.now _ acts (at_finish c.args.self.now c.requires) few (returns-clause-value g c) s
+
 pub returns-clause-measure : goal.returns-clause-measure
-returns-clause-measure g c = grind (arith, common_steps)
+returns-clause-measure g c = finish_measure c.args.self.now _ (at_finish c.args.self.now c.requires) (returns-clause-value g c)

@@ -1,6 +1,7 @@
-use Rattle.std.proofs.Common.{◌≡◌, ◌+◌, length, drop, sym, ◌∙◌, refl, arith}
+use Rattle.std.proofs.Common.{◌≡◌, ◌+◌, true, false, length, drop, sym, ◌∙◌, refl, arith}
 use Rattle.std.proofs.lemmas.Bool.{lt-ltb, le-ltb}
 use Rattle.sv_exchange.proofs.Fields.{size_with, with_all}
+use Rattle.sv_exchange.proofs.Measures.{answer_measure}
 use Rattle.sv_exchange.proofs.Stands.{fits_is, answered_stands, dropped_stands}
 use Rattle.sv_exchange.proofs.exchange.Exchange.respond.Given.{Over}
 use Rattle.sv_exchange.proofs.exchange.Exchange.respond.Goals as goal
@@ -39,3 +40,22 @@ returns-clause-stands g c =
                 c.self.inside.read c.self.invariant.0.output,
           ) refl) s,
     ))
+
+pub returns-then-answer-before-clause-value : goal.returns-then-answer-before-clause-value
+returns-then-answer-before-clause-value g c = rw (← c.self.view_is) (rw c.clear.ensures.items refl)
+
+pub returns-then-answer-before-clause-measure : goal.returns-then-answer-before-clause-measure
+returns-then-answer-before-clause-measure g c =
+    answer_measure c.args.self.now _ c.args.answer.now false (returns-then-answer-before-clause-value g c)
+
+pub returns-clause-value : goal.returns-clause-value
+returns-clause-value g c =
+    rw (← c.self.view_is)
+    (rw (
+      c.put_answer.ensures.items,
+      with_all c.self.inside.answering c.self.inside.response.items c.args.answer.now
+          c.self.inside.read c.self.invariant.0.output,
+    ) refl)
+
+pub returns-clause-measure : goal.returns-clause-measure
+returns-clause-measure g c = answer_measure c.args.self.now _ c.args.answer.now true (returns-clause-value g c)

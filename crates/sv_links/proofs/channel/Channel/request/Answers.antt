@@ -1,8 +1,10 @@
-use Rattle.std.proofs.Common.{◌+◌, ◌-◌, length, refl, ap, arith}
+use Rattle.std.proofs.Common.{◌≡◌, ◌+◌, ◌-◌, [], ◌∷◌, length, refl, ap, arith}
 use Rattle.std.proofs.lemmas.List.{length-append}
+use Rattle.sv_links.specs.Limits.{longest_call}
 use Rattle.sv_links.specs.Request.{request}
 use Rattle.sv_links.specs.ChannelRepresentation.{Channel}
-use Rattle.sv_links.proofs.Left.{sum-bounded}
+use Rattle.sv_links.proofs.Left.{sum-bounded, sum-push, all-push}
+use Rattle.sv_links.proofs.Requests.{request_is_short}
 use Rattle.sv_links.proofs.Sent.{IsQueued-sent, open≢closed}
 use Rattle.sv_links.proofs.channel.Channel.request.Goals as goal
 
@@ -18,6 +20,35 @@ put_request-requires-clause-room g c =
       c.if-len-ge-MAX_CALLS.false,
       c.len.ensures.value,
       inside.bytes.ok.0,
+    )
+
+pub invariant_of-self : goal.invariant_of-self
+invariant_of-self g c =
+    let inside = c.self.inside in
+    let sizes = inside.sizes.items in
+    let size = c.len-2.result - c.len-before.result in
+    let call = request (inside.made + 1) c.args.peer c.args.handle.now in
+    let size_is : size ≡ length call = omega (
+      arith,
+      ap length c.put_request.ensures.sent,
+      length-append inside.bytes.items call,
+      c.len-2.ensures,
+      c.len-before.ensures,
+      inside.bytes.ok.0,
+      c.put_request.new.out.ok.0,
+    ) in
+    let short = request_is_short (inside.made + 1) c.args.peer c.args.handle.now c.requires.short in (
+      rw c.push.ensures.items (omega (
+        arith,
+        ap length c.put_request.ensures.sent,
+        length-append inside.bytes.items call,
+        sum-push sizes size,
+        size_is,
+        c.self.invariant.0,
+      )),
+      rw c.push.ensures.items (all-push longest_call sizes size c.self.invariant.1 (omega (arith, size_is, short))),
+      rw c.push.ensures.items (omega (arith, length-append sizes (size ∷ []), c.if-len-ge-MAX_CALLS.false, c.len.ensures.value)),
+      λ there. omega (arith, c.put_request.ensures.capacity, c.self.invariant.3 there),
     )
 
 pub returns-clause-queued : goal.returns-clause-queued

@@ -1,6 +1,21 @@
-use Rattle.std.proofs.Common.{refl, arith, ap}
-use Rattle.sv_links.specs.ChannelRepresentation.{opened_for}
+use Rattle.std.proofs.Common.{◌≡◌, ◌++◌, ◌∷◌, [], length, refl, arith, ap}
+use Rattle.std.proofs.lemmas.List.{length-append}
+use Rattle.sv_links.specs.declared.channel.Stage.TheVariants.{Closed}
+use Rattle.sv_links.specs.ChannelRepresentation.{Channel, opened_for}
+use Rattle.sv_links.proofs.Acts.{at_push}
 use Rattle.sv_links.proofs.intr.Intr.new.Goals as goal
+
+pub loop-preserved : goal.loop-preserved
+loop-preserved g c =
+    let items = c.loop.channels.items in
+    let one : Channel = c.new.result in
+    let grown : c.push.new.self.items ≡ items ++ one ∷ [] = c.in_ok-push.ensures.items in
+    record {
+      long = omega (arith, ap length grown, length-append items (one ∷ []), c.loop.invariant.long);
+      closed = λ k other lt.
+          rw grown (at_push (λ kept. kept.stage ≡ Closed) items c.loop.counter k one other c.loop.invariant.long lt c.new.ensures
+          (c.loop.invariant.closed k other));
+    }
 
 pub returns : goal.returns
 returns g c = record {

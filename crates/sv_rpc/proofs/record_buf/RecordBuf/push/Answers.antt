@@ -1,9 +1,24 @@
-use Rattle.std.proofs.Common.{◌≡◌, ℕ, ◌-◌, List, ◌++◌, length, take, sym, ap, subst, ◌∙◌, append_assoc, arith}
+use Rattle.std.proofs.Common.{◌≡◌, ℕ, ◌-◌, List, [], ◌++◌, length, take, refl, sym, ap, subst, ◌∙◌, append_assoc, append-nil, arith}
+use Rattle.std.proofs.lemmas.Bool.{eqb-true, eqb-false}
 use Rattle.std.proofs.lemmas.List.{take-append-drop}
 use Rattle.sv_rpc.specs.Representation.{InRoom}
-use Rattle.sv_rpc.proofs.Goes.{GoesOn-then}
+use Rattle.sv_rpc.proofs.Goes.{GoesOn-all, GoesOn-none, GoesOn-then}
 use Rattle.sv_rpc.proofs.Keeping.{keeps_then}
+use Rattle.sv_rpc.proofs.Rooms.{room_fits}
 use Rattle.sv_rpc.proofs.record_buf.RecordBuf.push.Goals as goal
+
+pub loop-rest-init : goal.loop-rest-init
+loop-rest-init g c = record {
+  fits = λ some. room_fits c.args.self.now (length c.args.piece.now) c.requires some;
+  stands = ([], refl, GoesOn-none c.args.self.now);
+  keeps = ([], sym (append-nil c.args.self.now.records));
+}
+
+pub take_in-count-requires-clause-some : goal.take_in-count-requires-clause-some
+take_in-count-requires-clause-some g c = omega (arith, eqb-false (length c.loop-rest.rest.now) 0 (sym c.loop-rest-test.ensures))
+
+pub take_in-count-requires-clause-fits : goal.take_in-count-requires-clause-fits
+take_in-count-requires-clause-fits g c = c.loop-rest.invariant.fits (take_in-count-requires-clause-some g c)
 
 pub loop-rest-preserved : goal.loop-rest-preserved
 loop-rest-preserved g c =
@@ -24,3 +39,11 @@ loop-rest-preserved g c =
       );
       keeps = keeps_then c.args.self.now c.loop-rest.self c.take_in-count.new.self kept c.take_in-count.ensures.keeps;
     }
+
+pub returns-clause-stands : goal.returns-clause-stands
+returns-clause-stands g c =
+    GoesOn-all c.args.self.now c.loop-rest.self c.args.piece.now c.loop-rest.rest.now
+    (eqb-true (length c.loop-rest.rest.now) 0 (sym c.loop-rest-test.ensures)) c.loop-rest.invariant.stands
+
+pub returns-clause-keeps : goal.returns-clause-keeps
+returns-clause-keeps g c = c.loop-rest.invariant.keeps

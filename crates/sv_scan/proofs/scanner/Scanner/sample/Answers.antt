@@ -1,12 +1,46 @@
-use Rattle.std.proofs.Common.{◌∙◌, ◌-◌, ℕ, ℤ, pos, ap, sym, arith, get_or, w64, to_z, of_z, rules}
+use Rattle.std.proofs.Common.{◌≡◌, ◌∙◌, ◌-◌, ℕ, ℤ, true, false, pos, ap, sym, arith, get_or, w64, to_z, of_z, rules}
 use Rattle.std.proofs.lemmas.Int.{to_z-of_z}
 use mir.Val.{SFits}
 use Rattle.sv_scan.specs.declared.acts.ScanAct.TheVariants.{Sample}
 use Rattle.sv_scan.specs.Scan.{channel_at, reading_in}
 use Rattle.sv_scan.specs.Counted.{effective, is_scanning}
-use Rattle.sv_scan.proofs.Runs.{has_room, turn_is, IsValid-sample}
-use Rattle.sv_scan.proofs.Stands.{StandsFor-counted, Holds-sample}
+use Rattle.sv_scan.proofs.Runs.{size_in, channel_in, run_in, has_room, turn_is, IsValid-sample}
+use Rattle.sv_scan.proofs.Stands.{StandsFor-counted, StandsFor-dropped, Holds-sample}
 use Rattle.sv_scan.proofs.scanner.Scanner.sample.Goals as goal
+
+pub returns-then-not-is_scanning-clause-answer : goal.returns-then-not-is_scanning-clause-answer
+returns-then-not-is_scanning-clause-answer g c acts is =
+    sym (ap is_scanning (sym (c.state.ensures.answer acts is)) ∙ sym c.is_scanning.ensures ∙ c.if-not-is_scanning.true)
+
+pub returns-then-not-is_scanning-clause-stands : goal.returns-then-not-is_scanning-clause-stands
+returns-then-not-is_scanning-clause-stands g c acts is =
+    StandsFor-dropped _ Sample acts (sym (returns-then-not-is_scanning-clause-answer g c acts is)) is
+
+pub returns-in_default-clause-answer : goal.returns-in_default-clause-answer
+returns-in_default-clause-answer g c acts is =
+    let scanning = rw (← c.self.view_is) at (ap is_scanning (sym c.state.ensures.value) ∙ sym c.is_scanning.ensures
+    ∙ c.if-not-is_scanning.false) in
+    let never : false ≡ true = rw c.in_default.is at scanning in
+    absurd cc
+
+pub returns-in_default-clause-stands : goal.returns-in_default-clause-stands
+returns-in_default-clause-stands g c acts is =
+    StandsFor-dropped _ Sample acts (sym (returns-in_default-clause-answer g c acts is)) is
+
+pub channel-channel-requires : goal.channel-channel-requires
+channel-channel-requires g c =
+    let run = run_in _ _ c.in-Some.run' c.in-Some.is c.self.invariant in
+    omega (arith, (size_in c.in-Some.run'.channels run.channels).0)
+
+pub voltage-requires : goal.voltage-requires
+voltage-requires g c =
+    let run = run_in _ _ c.in-Some.run' c.in-Some.is c.self.invariant in
+    rw c.channel-channel.ensures (channel_in c.in-Some.run'.channels c.len.result run.channels)
+
+pub reading_in-reading-requires : goal.reading_in-reading-requires
+reading_in-reading-requires g c =
+    let fits : SFits w64 c.self.inside.settings.range = search rules in
+    rw (to_z-of_z w64 c.self.inside.settings.range fits) c.self.invariant.range
 
 pub push_reserved-requires : goal.push_reserved-requires
 push_reserved-requires g c =

@@ -1,22 +1,23 @@
-use Rattle.std.proofs.Common.{rules, ◌≡◌, ◌∙◌, true, false, refl, sym, subst}
+use Rattle.std.proofs.Common.{◌≡◌, ◌∙◌, true, false, refl, sym, subst}
 use Rattle.std.specs.Prelude.{ℕ, Option, None, codes}
 use Rattle.std.specs.Str.{bytes_eq}
 use Rattle.sv_links.specs.Links.{holder, is_locked_out}
 use Rattle.sv_history.specs.Act.{link_acts}
 use Rattle.sv_history.specs.Admission.{may_make_more}
+use Rattle.sv_server.proofs.OnDevice.Parts.{not_false}
 use Rattle.sv_server.proofs.device.Device.link_stop.Goals as goal
 use Rattle.sv_server.proofs.device.Device.link_stop.Goals.{else-lock_device-via-then-lock_device+else-is_locked_out, else-lock_device-via-else-lock_device}
 
 pub returns-then-not-may_make_more : goal.returns-then-not-may_make_more
 returns-then-not-may_make_more g c = λ config acts is.
-    let named : bytes_eq c.args.device.now (codes "inst0") ≡ true = search (rules, c.as_slice.ensures, c.ne.ensures, c.if-ne.false) in
+    let named : bytes_eq c.args.device.now (codes "inst0") ≡ true = rw (← c.as_slice.ensures) (not_false _ c.if-ne.ensures) in
     let may : may_make_more acts ≡ false = sym (c.may_make_more.ensures config acts is) ∙ c.if-not-may_make_more.true in
     rw (named, may) refl
 
 pub returns-then-is_locked_out : goal.returns-then-is_locked_out
 returns-then-is_locked_out g c = λ config acts old.
     let is = rw (← c.self.view_is) at old in
-    let named : bytes_eq c.args.device.now (codes "inst0") ≡ true = search (rules, c.as_slice.ensures, c.ne.ensures, c.if-ne.false) in
+    let named : bytes_eq c.args.device.now (codes "inst0") ≡ true = rw (← c.as_slice.ensures) (not_false _ c.if-ne.ensures) in
     let may : may_make_more acts ≡ true = sym (c.may_make_more.ensures config acts old) ∙ c.if-not-may_make_more.false in
     let locked : is_locked_out (holder (link_acts acts)) None ≡ true = subst (λ (h : Option ℕ). is_locked_out h None ≡ true)
     (c.holder.ensures.answer (link_acts acts) is.0) (sym c.is_locked_out.ensures ∙ c.if-is_locked_out.true) in
@@ -25,7 +26,7 @@ returns-then-is_locked_out g c = λ config acts old.
 pub returns : goal.returns
 returns g c = λ config acts old.
     let is = rw (← c.self.view_is) at old in
-    let named : bytes_eq c.args.device.now (codes "inst0") ≡ true = search (rules, c.as_slice.ensures, c.ne.ensures, c.if-ne.false) in
+    let named : bytes_eq c.args.device.now (codes "inst0") ≡ true = rw (← c.as_slice.ensures) (not_false _ c.if-ne.ensures) in
     let may : may_make_more acts ≡ true = sym (c.may_make_more.ensures config acts old) ∙ c.if-not-may_make_more.false in
     elim c.else-lock_device.branch [
       | else-lock_device-via-then-lock_device+else-is_locked_out w ↦

@@ -1,5 +1,6 @@
 use Rattle.std.proofs.Common.{refl}
 use Rattle.std.proofs.lemmas.Bool.{le-ltb, lt-ltb}
+use Rattle.std.proofs.lemmas.List.{get_or_default}
 use Rattle.sv_history.specs.Act.{Piece, of}
 use Rattle.sv_history.specs.Event.{Bytes}
 use Rattle.sv_server.proofs.OnServer.Logs.{connection_of, one_act}
@@ -38,3 +39,15 @@ returns-clause-acts g c = λ config log rep.
           (used_act c.self.inside.connections_used conn.number (Piece c.args.piece.now) log state.connections_used
           (unshut_used conn.number log unshut))),
     )
+
+pub returns-in_err-conn-clause-within : goal.returns-in_err-conn-clause-within
+returns-in_err-conn-clause-within g c =
+    (c.ranges.conn.fits, λ k d lt. rw (get_or_default c.args.piece.now k d 0 lt) (c.type_inv.piece k).fits)
+
+pub returns-then-room-piece-clause-within : goal.returns-then-room-piece-clause-within
+returns-then-room-piece-clause-within g c =
+    (c.ranges.conn.fits, λ k d lt. rw (get_or_default c.args.piece.now k d 0 lt) (c.type_inv.piece k).fits)
+
+pub returns-clause-within : goal.returns-clause-within
+returns-clause-within g c =
+    (c.ranges.conn.fits, λ k d lt. rw (get_or_default c.args.piece.now k d 0 lt) (c.type_inv.piece k).fits)

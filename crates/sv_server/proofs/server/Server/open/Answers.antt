@@ -1,5 +1,5 @@
 use Rattle.std.proofs.Common.{refl, sym, ◌∙◌, arith}
-use Rattle.std.proofs.lemmas.Bool.{le-ltb}
+use Rattle.std.proofs.lemmas.Bool.{lt-ltb, le-ltb}
 use Rattle.sv_history.specs.Act.{Opened, of}
 use Rattle.sv_server.proofs.OnServer.Logs.{connection_of, open_is, one_act, none_taken}
 use Rattle.sv_server.proofs.OnServer.Used.{used_opened}
@@ -21,3 +21,7 @@ returns-clause-acts g c = λ config log rep.
           (used_opened c.self.inside.connections_used conn.number _
           (Opened c.args.role) log c.max-self-inside.ensures state.connections_used)),
     )
+
+pub returns-in_default-clause-acts : goal.returns-in_default-clause-acts
+returns-in_default-clause-acts g c = λ config log rep channel_log tells.
+    rw (lt-ltb 15 c.args.conn (omega (arith, c.in_default.ensures))) refl

@@ -1,0 +1,14 @@
+use Rattle.std.proofs.Common.{refl}
+use Rattle.sv_history.specs.Act.{instrument_acts}
+use Rattle.sv_server.proofs.OnDevice.Parts.{not_true, not_false}
+use Rattle.sv_server.proofs.device.Device.input_wait.Goals as goal
+
+pub returns-then-can_write-clause-answer : goal.returns-then-can_write-clause-answer
+returns-then-can_write-clause-answer g c = λ config acts old.
+    let is = rw (← c.self.view_is) at old in
+    rw (not_true _ (c.if-can_write.ensures.answer (instrument_acts acts) is.1)) refl
+
+pub returns-clause-answer : goal.returns-clause-answer
+returns-clause-answer g c = λ config acts old.
+    let is = rw (← c.self.view_is) at old in
+    rw (not_false _ (c.if-can_write.ensures.answer (instrument_acts acts) is.1)) refl
