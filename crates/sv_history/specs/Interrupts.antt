@@ -18,8 +18,8 @@ use Rattle.sv_history.specs.Request.{core_call_in}
 abbrev pub has_channel : ℕ → List DeviceAct → Bool
 has_channel c acts = is_channel_open c (channel_acts acts)
 
--- device_enable_srq: a link enables service requests, with a handle of at most 40 bytes (error 5 for a longer handle), or disables
--- them
+-- device_enable_srq: a link enables service requests, with a handle of at most 40 bytes, or disables them. A longer handle gets error
+-- 5; but no call comes here with one, because its arguments can't be read (`opaque max_handle`, VXI-11 revision 1.0, section B.6).
 abbrev pub enable_srq : ℕ → Bool → ℕ → List ℕ → CallOutcome
 enable_srq c true lid handle = if nat_lt max_handle (length handle) then only (Plain ParameterError)
     else answer_with (Channel (SrqEnabled lid c handle) ∷ []) (Plain NoError)

@@ -1,8 +1,9 @@
--- A call that a Turn takes is answered; or it is no call; or it waits, for what isn't there.
+-- A record that a Turn takes is no call; or it is one, and is answered, or waits for what isn't there.
 use Rattle.std.proofs.Common.{◌≡◌, ℕ, true, List, ◌∷◌, ◌++◌, Option, Some, None, refl, sym, ap, subst, ◌∙◌, inl, inr, ◌⊎◌}
-use Rattle.std.specs.Prelude.{map, is_some, Err}
+use Rattle.std.specs.Prelude.{map, is_some, Result, Err}
+use Rattle.sv_rpc.specs.declared.call.CallFault.{CallFault}
 use Rattle.sv_rpc.specs.declared.call.CallFault.TheVariants.{BadHeader}
-use Rattle.sv_rpc.specs.Call.{call_at}
+use Rattle.sv_rpc.specs.Call.{PlainCall, call_at}
 use Rattle.sv_vxi.specs.Arguments.{Arguments}
 use Rattle.sv_vxi.specs.Results.{Outcome}
 use Rattle.sv_links.specs.declared.waiting.Wait.{Wait}
@@ -15,7 +16,7 @@ use Rattle.sv_history.specs.Connection.{is_open, next_call, open_role, pending_c
 use Rattle.sv_history.specs.CallOutcome.{CallOutcome}
 use Rattle.sv_history.specs.CoreCall.{CoreCall}
 use Rattle.sv_history.specs.Effect.{acts_of, replies, result_reply}
-use Rattle.sv_history.specs.Request.{Request, NoCall, CoreRequest, core_call_in, request_of, request_for, next_request}
+use Rattle.sv_history.specs.Request.{Request, NoCall, Decided, CoreRequest, AbortRequest, PortRequest, core_call_in, request_of, request_for, next_request}
 use Rattle.sv_history.specs.Execution.{request_effect, aborts}
 use Rattle.sv_history.specs.Resuming.{effect_of}
 use Rattle.sv_history.specs.History.{turn_acts, own_acts, IsLogOf}
@@ -31,31 +32,32 @@ use Rattle.sv_laws.proofs.EveryLog.Fit.{of_each}
 
 -- ---- the connection of the call
 
--- The call is answered, or is no call, or has no answer yet.
+-- The record is no call; or it is one, and is answered or has no answer yet.
 abbrev Stands : List ℕ → List ConnAct → List ConnAct → Type 0
-Stands call before acts = ((reply : List ℕ) × (acts ≡ Replied reply ∷ CallTaken call ∷ before))
-    ⊎ ((acts ≡ Faulted ∷ CallTaken call ∷ before) × (call_at call ≡ Err BadHeader)) ⊎ (acts ≡ CallTaken call ∷ before)
+Stands call before acts = ((call_at call ≡ Err BadHeader) × (acts ≡ Faulted ∷ CallTaken call ∷ before))
+    ⊎ ((call_at call ≡ Err BadHeader → ⊥) × (((reply : List ℕ) × (acts ≡ Replied reply ∷ CallTaken call ∷ before))
+    ⊎ (acts ≡ CallTaken call ∷ before)))
 
 -- what is recorded of a suspended call leaves that so
-stands_replies : (xid : ℕ) (result : Option Outcome) (call : List ℕ) (before acts : List ConnAct) → acts ≡ CallTaken call ∷ before
-    → Stands call before (replies xid result ++ acts)
-stands_replies xid (Some result) call before acts is =
-    inl (result_reply xid result, ap (λ (l : List ConnAct). Replied (result_reply xid result) ∷ l) is)
-stands_replies xid None call before acts is = inr (inr is)
+stands_replies : (xid : ℕ) (result : Option Outcome) (call : List ℕ) (before acts : List ConnAct) → (call_at call ≡ Err BadHeader → ⊥)
+    → acts ≡ CallTaken call ∷ before → Stands call before (replies xid result ++ acts)
+stands_replies xid (Some result) call before acts some is =
+    inr (some, inl (result_reply xid result, ap (λ (l : List ConnAct). Replied (result_reply xid result) ∷ l) is))
+stands_replies xid None call before acts some is = inr (some, inr is)
 
 stands_ended : (c : ℕ) (does : Arguments → CallOutcome) (call : List ℕ) (before acts : List ConnAct) → Stands call before acts
     → Stands call before ((effect_of c does (core_call_in (pending_call acts))).own ++ acts)
-stands_ended c does call before acts (inl (reply, is)) =
+stands_ended c does call before acts (inl (none, is)) =
     subst (λ (l : List ConnAct). Stands call before ((effect_of c does (core_call_in (pending_call l))).own ++ l)) (sym is)
-    (inl (reply, refl))
-stands_ended c does call before acts (inr (inl (is, none))) =
+    (inl (none, refl))
+stands_ended c does call before acts (inr (some, inl (reply, is))) =
     subst (λ (l : List ConnAct). Stands call before ((effect_of c does (core_call_in (pending_call l))).own ++ l)) (sym is)
-    (inr (inl (refl, none)))
-stands_ended c does call before acts (inr (inr is)) = by (core_call_in (pending_call acts))
+    (inr (some, inl (reply, refl)))
+stands_ended c does call before acts (inr (some, inr is)) = by (core_call_in (pending_call acts))
   where
     by : (found : Option CoreCall) → Stands call before ((effect_of c does found).own ++ acts)
-    by (Some found) = stands_replies found.xid (does found.arguments).result call before acts is
-    by None = inr (inr is)
+    by (Some found) = stands_replies found.xid (does found.arguments).result call before acts some is
+    by None = inr (some, inr is)
 
 -- ---- in a log
 
@@ -79,14 +81,20 @@ steps_keep c call before config =
 
 -- ---- the Turn
 
+-- a record that has an xid is a call
+is_call : {xid : ℕ} (found : Result PlainCall CallFault) → xid_of found ≡ Some xid → found ≡ Err BadHeader → ⊥
+is_call {xid = xid} found is bad = let z : None ≡ Some xid = rw bad at is in absurd cc
+
 -- what its request comes to
 stands_request : (config : Config) (polled c : ℕ) (call : List ℕ) (before : List ConnAct) (request : Request) (acts : List DeviceAct)
     → xid_of (call_at call) ≡ xid_in request
     → Stands call before ((request_effect config polled c request acts).own ++ CallTaken call ∷ before)
-stands_request config polled c call before NoCall acts is = inr (inl (refl, none_bad (call_at call) is))
+stands_request config polled c call before NoCall acts is = inl (none_bad (call_at call) is, refl)
 stands_request config polled c call before (CoreRequest request_for) acts is =
-    stands_replies request_for.xid _ call before (CallTaken call ∷ before) refl
-stands_request config polled c call before _ acts is = inl (_, refl)
+    stands_replies request_for.xid _ call before (CallTaken call ∷ before) (is_call (call_at call) is) refl
+stands_request config polled c call before (Decided xid reply) acts is = inr (is_call (call_at call) is, inl (_, refl))
+stands_request config polled c call before (AbortRequest xid lid) acts is = inr (is_call (call_at call) is, inl (_, refl))
+stands_request config polled c call before (PortRequest xid args) acts is = inr (is_call (call_at call) is, inl (_, refl))
 
 in_turn : (config : Config) (polled c : ℕ) (call : List ℕ) (request : Request) (log : List Act) → next_call (of c log) ≡ Some call
     → next_request (of c log) ≡ Some request → StandsIn c call (of c log) (turn_acts config polled c (Some call) (Some request) log ++ log)
@@ -130,9 +138,9 @@ turn_answered config history before log c call was now next =
     let ends = each_settled config (StandsIn c call (of c now.0)) (step_keeps config _ (steps_keep c call (of c now.0) config)) now.8.0
     (own_acts config now.1 (Turn c) now.0 ++ now.0) log begins now.8.1 in
     elim (subst (λ (l : List Act). Stands call (of c l) (of c log)) same ends) [
-      | inl answered ↦ inl answered
-      | inr (inl faulted) ↦ inr (inl faulted)
-      | inr (inr is) ↦
+      | inl faulted ↦ inl faulted
+      | inr (some, inl answered) ↦ inr (some, inl answered)
+      | inr (some, inr is) ↦
           let wait = waits_on config (Turn c ∷ history) log c call now (ap pending_call is) in
-          inr (inr (is, wait.0, wait.1, (none_late config (Turn c ∷ history) log c now).1))
+          inr (some, inr (is, wait.0, wait.1, (none_late config (Turn c ∷ history) log c now).1))
     ]

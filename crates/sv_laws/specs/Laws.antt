@@ -72,7 +72,8 @@ one_if false = 0
 abbrev pub IsPaid : ℕ → List Act → Type 0
 IsPaid c log = calls_taken (of c log) ≡ records_ended (of c log) + one_if (is_some (waits c (wait_acts (device_acts log))))
 
--- Each call that is taken is either answered exactly once, or suspended.
+-- Since a connection opened, each call that was taken on it was either answered exactly once, or is suspended. This is a count; which
+-- reply answers which call is said by `RepliesMatch`.
 abbrev pub EachAnswered : Type 0
 EachAnswered = (config : Config) (history : List PlainEvent) (log : List Act) (c : ℕ) → IsLogOf config history log → IsPaid c log
 
@@ -87,12 +88,12 @@ RepliesMatch = (config : Config) (history : List PlainEvent) (log : List Act) (c
     → IsLogOf config history log → of c log ≡ newer ++ Replied reply ∷ older
     → (call : List ℕ) × (pending_call older ≡ Some call) × HasXidOf call reply
 
--- After a Turn that takes a record there are three cases: the record is a call that was answered; it is a call that is suspended and can't
--- resume yet (VXI-11 revision 1.0, section B.4.4); or it isn't a call, and its connection is at fault.
+-- A Turn takes a record. If the record isn't a call, the connection is at fault and nothing is replied. If the record is a call, it is
+-- answered, or it is suspended and can't resume yet (VXI-11 revision 1.0, section B.4.4).
 abbrev pub TurnAnswered : Type 0
 TurnAnswered = (config : Config) (history : List PlainEvent) (before log : List Act) (c : ℕ) (call : List ℕ) → IsLogOf config history before
     → IsLogOf config (Turn c ∷ history) log → next_call (of c before) ≡ Some call
-    → ((reply : List ℕ) × (of c log ≡ Replied reply ∷ CallTaken call ∷ of c before))
-    ⊎ ((of c log ≡ Faulted ∷ CallTaken call ∷ of c before) × (call_at call ≡ Err BadHeader))
+    → ((call_at call ≡ Err BadHeader) × (of c log ≡ Faulted ∷ CallTaken call ∷ of c before))
+    ⊎ ((call_at call ≡ Err BadHeader → ⊥) × (((reply : List ℕ) × (of c log ≡ Replied reply ∷ CallTaken call ∷ of c before))
     ⊎ ((of c log ≡ CallTaken call ∷ of c before) × (wait : Wait) × (waits c (wait_acts (device_acts log)) ≡ Some wait)
-    × (CanResume (device_acts log) c → ⊥))
+    × (CanResume (device_acts log) c → ⊥))))

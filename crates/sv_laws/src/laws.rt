@@ -40,14 +40,16 @@ pub fn none_late()
     ensures { NoneLate }
 {}
 
-/// An event that the answers of the server's queries allow is never refused. So the server stores
-/// all bytes that come while it has room for them, and removes from its output all bytes that the
-/// peer took.
+/// Six kinds of events are never refused if the server's queries allow them: an Open of a free
+/// number, Bytes that fit the room, a Took of bytes that wait, a Close of an open port, a Dialed
+/// while a create_intr_chan waits for its peer, and an Input with a valid channel and voltage; nor
+/// is the external trigger.
 pub fn nothing_lost()
     ensures { NothingLost }
 {}
 
-/// Each call that is taken on a connection is either answered exactly once, or suspended.
+/// While a connection is open, each call that was taken on it is either answered exactly once, or
+/// suspended. This counts calls and replies; `replies_match` pairs them.
 pub fn each_answered()
     ensures { EachAnswered }
 {}
@@ -59,7 +61,8 @@ pub fn replies_match()
 {}
 
 /// A call that a Turn takes is answered at once, unless it is suspended because it can't go on yet
-/// (VXI-11 revision 1.0, section B.4.4). A record that isn't a call puts its connection at fault.
+/// (VXI-11 revision 1.0, section B.4.4). A record that isn't a call gets no reply, and puts its
+/// connection at fault.
 pub fn turn_answered()
     ensures { TurnAnswered }
 {}
