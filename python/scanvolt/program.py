@@ -1,22 +1,32 @@
-"""The program `scanvolt`: finds it, and starts servers of it on free ports."""
+"""The program `scanvolt`: finds it, checks that it fits this package, and starts servers of it on free ports."""
 import os
 import pathlib
+import select
 import shutil
 import socket
 import subprocess
-from typing import Iterable, List, Optional, Tuple, Type, TypeVar, Union
+import time
+from typing import Callable, Dict, Iterable, List, Optional, Set, Tuple, Type, TypeVar, Union
+
+from .lifeline import Tied
+from .stimulus import read_scenario
 
 Itself = TypeVar("Itself", bound="Server")
 BUILT = ("crates/scanvolt/out/scanvolt", "out/unproved/scanvolt")     # in a checkout
 SWEEPS = 10 ** 8        # a server that nobody ends ends after this many sweeps, which take an hour at least
 TRIES = 5               # tries to start a server: another process may take a free port before the server listens on it
+PATIENCE = 30.0         # seconds that a program may take to answer, or to be ready
+READING = 100000        # bytes of a scenario for which a program with run-time checks may take one more second
 MISSING = ("no program scanvolt: set SCANVOLT to its path, put it on PATH, or build it in a checkout by "
            "`tools/serve BUILD=1`")
+# A replay of these lines prints this, since the instrument has 128 channels.
+PROBES, ANSWER = b"input 128 0\ninput 255 0\n", b"refused 8\n"
+SHOWN_MOST = 200        # characters of what a program printed that are shown
 Name = Union[str, "os.PathLike[str]"]
 
 
 class ProgramError(Exception):
-    """The program is missing, ended, or printed what it shouldn't."""
+    """The program is missing, ended, printed what it shouldn't, or doesn't fit this package."""
 
 
 def find_program(start: Optional[Name] = None) -> str:
@@ -57,15 +67,111 @@ def free_ports(count: int) -> List[int]:
     return ports
 
 
+def started(command: List[str], stdin: int = subprocess.DEVNULL) -> Tied:
+    """Starts a program. Raises ProgramError if it can't be run."""
+    try:
+        return Tied(command, stdin)
+    except OSError as fault:
+        raise ProgramError("the program can't be run: %s: %s" % (command[0], fault.strerror)) from None
+
+
+class Heard:
+    """What a program printed and wrote to standard error until it was `enough`, it ended, or the time was over."""
+
+    def __init__(self, process: "subprocess.Popen[bytes]", seconds: float, enough: Callable[[bytes], bool]) -> None:
+        assert process.stdout is not None and process.stderr is not None
+        self.process = process
+        self.out, self.err = process.stdout.fileno(), process.stderr.fileno()
+        self.told: Dict[int, bytes] = {self.out: b"", self.err: b""}
+        self.open: Set[int] = {self.out, self.err}
+        until = time.monotonic() + seconds
+        while self.out in self.open and not enough(self.told[self.out]) and self._more(until):
+            pass
+        self.late = self.out in self.open and not enough(self.told[self.out])
+        if not self.late and not enough(self.told[self.out]):       # its output ended; so should it
+            until = time.monotonic() + 1
+            while self.open and self._more(until):
+                pass
+        self.printed = self.told[self.out]
+
+    def _more(self, until: float) -> bool:
+        """Waits until a program prints something. Returns whether it did, or ended, by this time."""
+        poll = select.poll()
+        for number in self.open:
+            poll.register(number, select.POLLIN)
+        ready = poll.poll(max(0.0, 1000 * (until - time.monotonic())))
+        for number, _ in ready:
+            piece = os.read(number, 65536)
+            self.told[number] += piece
+            if not piece:
+                self.open.discard(number)
+        return bool(ready)
+
+    def text(self) -> str:
+        """What it wrote to standard error, or else what it printed, in one line."""
+        told = " ".join((self.told[self.err] or self.printed).decode("utf-8", "replace").split())
+        return told if len(told) <= SHOWN_MOST else told[:SHOWN_MOST] + ".."
+
+    def ended(self) -> str:
+        """How it ended. If it only closed its output, kills it."""
+        if self.open:
+            self.process.kill()
+        status = self.process.wait()
+        return "it ended by signal %d" % -status if status < 0 else "it ended with status %d" % status
+
+
+_fitting: Set[Tuple[str, int, int]] = set()     # the programs that were found to fit: path, time and size
+
+
+def check_fits(path: str) -> None:
+    """Raises ProgramError unless the program at this path is a scanvolt that this package can use. Each program is
+    asked once, unless its file changes.
+    """
+    try:
+        status = os.stat(path)
+    except OSError as fault:
+        raise ProgramError("the program can't be run: %s: %s" % (path, fault.strerror)) from None
+    known = (os.path.abspath(path), status.st_mtime_ns, status.st_size)
+    if known not in _fitting:
+        fault_found = _unlike(path)
+        if fault_found:
+            raise ProgramError("%s isn't scanvolt 2.0, or doesn't fit this package: %s" % (path, fault_found))
+        _fitting.add(known)
+
+
+def _unlike(path: str) -> str:
+    """How a program answers otherwise than this package expects; empty if it doesn't."""
+    with started([path, "replay"], subprocess.PIPE) as tied:
+        assert tied.process.stdin is not None
+        try:
+            tied.process.stdin.write(PROBES)
+            tied.process.stdin.close()
+        except BrokenPipeError:
+            pass
+        heard = Heard(tied.process, PATIENCE, lambda _: False)
+        if heard.late:
+            return "it says nothing for %g s" % PATIENCE
+        how = heard.ended()
+        if heard.process.returncode or not heard.printed:
+            return how + (": " + heard.text() if heard.text() else "")
+        return "" if heard.printed == ANSWER else "to `%s` it answered `%s` and not `%s`" % tuple(
+            " ".join(one.decode("utf-8", "replace").split())[:SHOWN_MOST] for one in (PROBES, heard.printed, ANSWER))
+
+
 class Server:
     """`scanvolt serve` on free ports of 127.0.0.1, with the scenario in a file or none. `close` ends it, and so
-    does the end of a `with` block.
+    do the end of a `with` block and the end of this process.
+
+    Raises ProgramError if the program doesn't serve, ValueError if a line of the scenario is bad, and OSError if
+    the scenario can't be read.
     """
 
     def __init__(self, scenario: Optional[Name] = None, program: Optional[Name] = None) -> None:
         self.program = os.fspath(program) if program is not None else find_program()
         self.scenario = os.devnull if scenario is None else os.fspath(scenario)
-        self.process, (self.core, self.abort, self.port_mapper) = self._started()
+        check_fits(self.program)
+        self._tied, (self.core, self.abort, self.port_mapper) = self._started()
+        self.process = self._tied.process
 
     def __enter__(self: Itself) -> Itself:
         return self
@@ -75,29 +181,50 @@ class Server:
 
     def close(self) -> None:
         """Ends the program."""
-        self.process.terminate()
-        self.process.communicate()
+        self._tied.end()
 
-    def _started(self) -> "Tuple[subprocess.Popen[str], Tuple[int, ...]]":
+    def _started(self) -> Tuple[Tied, Tuple[int, ...]]:
         """Starts a program and waits until it listens. Returns the program and its ports."""
         told = ""
         for _ in range(TRIES):
             ports = tuple(free_ports(3))
-            process = self._popen(ports)
-            assert process.stdout is not None
-            if process.stdout.readline() == "ready %d %d %d\n" % ports:
-                return process, ports
-            told = process.communicate()[1].strip()
+            tied = started(self._command(ports))
+            try:
+                told = self._told(tied.process, "ready %d %d %d\n" % ports)
+            except BaseException:
+                tied.end()
+                raise
+            if not told:
+                return tied, ports
+            tied.end()
             if told != "scanvolt: socket":      # with this message, another process took a port first
                 break
-        raise ProgramError("%s doesn't serve: %s" % (self.program, told or "it said nothing"))
+        raise ProgramError("%s doesn't serve: %s" % (self.program, told))
 
-    def _popen(self, ports: Tuple[int, ...]) -> "subprocess.Popen[str]":
+    def _command(self, ports: Tuple[int, ...]) -> List[str]:
+        """The command that serves on these ports."""
         command = [self.program, "serve", "--scenario", self.scenario, "--sweeps", str(SWEEPS)]
         for name, port in zip(("--core", "--abort", "--portmap"), ports):
             command += [name, str(port)]
+        return command
+
+    def _told(self, process: "subprocess.Popen[bytes]", ready: str) -> str:
+        """Waits until a program prints that it is ready. Returns what it tells instead, or else nothing."""
+        patience = PATIENCE + self._size() / READING
+        heard = Heard(process, patience, lambda printed: b"\n" in printed)
+        if heard.printed == ready.encode():
+            return ""
+        if heard.late:
+            return "it didn't print `ready` within %g s%s" % (
+                patience, ", but: " + heard.text() if heard.text() else "")
+        if b"\n" in heard.printed:
+            return "it printed: %s" % heard.text()
+        how = heard.ended()
+        return heard.text() or how
+
+    def _size(self) -> int:
+        """How many bytes the scenario has, as far as that can be known."""
         try:
-            return subprocess.Popen(command, stdin=subprocess.DEVNULL, stdout=subprocess.PIPE,
-                                    stderr=subprocess.PIPE, text=True)
-        except OSError as fault:
-            raise ProgramError("the program can't be run: %s" % fault) from None
+            return os.stat(self.scenario).st_size
+        except OSError:
+            return 0

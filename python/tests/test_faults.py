@@ -80,7 +80,7 @@ class Ends(unittest.TestCase):
             with self.subTest(text), script(text) as path:
                 self.assertRaisesRegex(ProgramError, told, Meter, path)
         with script("echo fault >&2; exit 3") as path:
-            self.assertRaisesRegex(ProgramError, "doesn't serve: fault$", Server, None, path)
+            self.assertRaisesRegex(ProgramError, "with status 3: fault$", Server, None, path)
 
     def test_a_program_that_says_nothing(self) -> None:
         with script("exec sleep 60") as path, mock.patch.object(replay, "PATIENCE", 0.2):

@@ -1,0 +1,180 @@
+"""Servers on sockets: they end with the process that started them, and a program that doesn't serve is told as such."""
+import gc
+import os
+import pathlib
+import signal
+import subprocess
+import sys
+import threading
+import time
+import unittest
+import warnings
+from typing import Callable, List, Optional
+from unittest import mock
+
+from scanvolt import program
+from scanvolt.program import ProgramError, Server, find_program
+
+from .test_faults import TOP, is_there, script
+
+# A program that replays as scanvolt does, and does something else in place of serving.
+OTHERWISE = '[ "$1" = replay ] && exec "%s" replay\n%s\n'
+WAITS = '"%s" "$@" &\necho $! > "$0.pid"\nwait\n'
+STARTS = """
+import os, signal, sys, threading, time
+from scanvolt.program import Server
+signal.signal(signal.SIGINT, signal.default_int_handler)
+servers = []
+starter = threading.Thread(target=lambda: servers.append(Server()))
+starter.start()
+starter.join()
+print(servers[0].process.pid, flush=True)
+%s
+time.sleep(60)
+"""
+FORKS = "os.fork() or (os.close(1), time.sleep(8), os._exit(0))"
+
+
+def goes(number: int, seconds: float = 10.0) -> bool:
+    """Whether a process ends within this time."""
+    end = time.monotonic() + seconds
+    while is_there(number) and time.monotonic() < end:
+        time.sleep(0.01)
+    return not is_there(number)
+
+
+def stop(number: int) -> None:
+    """Stops a process, and waits until it stands."""
+    os.kill(number, signal.SIGSTOP)
+    while pathlib.Path("/proc/%d/stat" % number).read_text().rpartition(")")[2].split()[0] != "T":
+        time.sleep(0.01)
+
+
+def kill(number: int) -> None:
+    """Kills a process that shouldn't be there any more."""
+    if is_there(number):
+        os.kill(number, signal.SIGKILL)
+
+
+def ends(work: Callable[[], object], seconds: float = 10.0) -> bool:
+    """Whether a function returns within this time."""
+    worker = threading.Thread(target=work, daemon=True)
+    worker.start()
+    worker.join(seconds)
+    return not worker.is_alive()
+
+
+def fault_of(path: str) -> str:
+    """Why a program can't serve."""
+    try:
+        Server(program=path).close()
+    except ProgramError as fault:
+        return str(fault)
+    return "it serves"
+
+
+class NothingLeft(unittest.TestCase):
+    """No program remains."""
+
+    def leaves(self, how: Optional[signal.Signals], stopped: bool = False, text: str = "") -> None:
+        """Ends a process that has started a server in a thread that has ended, by a signal or by its own end."""
+        child = subprocess.Popen([sys.executable, "-c", STARTS % (text if how else "sys.exit()")], cwd=TOP,
+                                 stdout=subprocess.PIPE, stderr=subprocess.DEVNULL, text=True)
+        assert child.stdout is not None
+        number = int(child.stdout.readline())
+        try:
+            if how is not None:
+                self.assertFalse(goes(number, 0.2))
+                if stopped:
+                    stop(number)
+                child.send_signal(how)
+            self.assertTrue(goes(number, 7))
+        finally:
+            child.kill()
+            child.communicate()
+            kill(number)
+
+    def test_python_ends(self) -> None:
+        for how in (None, signal.SIGINT, signal.SIGTERM, signal.SIGHUP, signal.SIGKILL):
+            with self.subTest(how):
+                self.leaves(how)
+
+    def test_the_program_is_stopped(self) -> None:
+        self.leaves(signal.SIGKILL, stopped=True)
+
+    def test_a_fork_of_python_goes_on(self) -> None:
+        self.leaves(signal.SIGKILL, text=FORKS)
+
+    def test_a_program_that_is_stopped_is_closed(self) -> None:
+        server = Server()
+        stop(server.process.pid)
+        try:
+            self.assertTrue(ends(server.close))
+        finally:
+            server.process.kill()
+        self.assertEqual(server.process.returncode, -signal.SIGKILL)
+
+    def test_what_a_script_started(self) -> None:
+        """A script that starts the program, and waits for it, leaves none."""
+        with script(OTHERWISE % (find_program(), WAITS % find_program())) as path:
+            server = Server(program=path)
+            number = int(pathlib.Path(path + ".pid").read_text())
+            self.assertTrue(is_there(number))
+            try:
+                self.assertTrue(ends(server.close))
+                self.assertTrue(goes(number, 5))
+            finally:
+                kill(number)
+
+    def test_garbage(self) -> None:
+        """A server that is dropped leaves no process, no zombie, and no open pipe."""
+        before = os.listdir("/proc/self/fd")
+        with warnings.catch_warnings():
+            warnings.simplefilter("error")
+            server = Server()
+            number = server.process.pid
+            del server
+            gc.collect()
+        self.assertFalse(os.path.exists("/proc/%d" % number))
+        self.assertEqual(len(os.listdir("/proc/self/fd")), len(before))
+
+    def test_closed_twice(self) -> None:
+        before = os.listdir("/proc/self/fd")
+        server = Server()
+        server.close()
+        server.close()
+        self.assertFalse(os.path.exists("/proc/%d" % server.process.pid))
+        self.assertEqual(len(os.listdir("/proc/self/fd")), len(before))
+
+
+class NotReady(unittest.TestCase):
+    """Programs that don't say that they are ready."""
+
+    def told(self, text: str) -> str:
+        """What is told of a program that does this instead of serving. It must not remain."""
+        before = os.listdir("/proc/self/fd")
+        with script(OTHERWISE % (find_program(), "echo $$ > $0.pid\n" + text)) as path:
+            faults: List[str] = []
+            with mock.patch.object(program, "PATIENCE", 1.0, create=True):
+                self.assertTrue(ends(lambda: faults.append(fault_of(path))), "it waits for ever")
+            self.assertTrue(goes(int(pathlib.Path(path + ".pid").read_text()), 0.5))
+        self.assertEqual(len(os.listdir("/proc/self/fd")), len(before))
+        return faults[0]
+
+    def test_a_program_that_prints_nothing(self) -> None:
+        self.assertRegex(self.told("exec sleep 60"), "doesn't serve: it didn't print `ready` within 1 s$")
+        self.assertRegex(self.told("echo a bad day >&2\nexec sleep 60"),
+                         "doesn't serve: it didn't print `ready` within 1 s, but: a bad day$")
+        self.assertRegex(self.told("printf 'read'\nexec sleep 60"), "within 1 s, but: read$")
+
+    def test_a_program_that_prints_something_else(self) -> None:
+        self.assertRegex(self.told("echo welcome\nexec sleep 60"), "doesn't serve: it printed: welcome$")
+
+    def test_a_program_that_ends(self) -> None:
+        self.assertRegex(self.told("echo fault >&2; exit 3"), "doesn't serve: fault$")
+        self.assertRegex(self.told("exit 3"), "doesn't serve: it ended with status 3$")
+        self.assertRegex(self.told("kill -9 $$"), "doesn't serve: it ended by signal 9$")
+
+
+if __name__ == "__main__":
+    unittest.main()
