@@ -4,7 +4,8 @@ A program holds the read end of a pipe. This process alone holds the write end. 
 SIGKILL to the program, and to what it started, when the write end closes; and that closes when this process is gone.
 So a program ends too that is stopped, or busy, or never reads. PR_SET_PDEATHSIG would end the program with the thread
 that started it, and needs code between fork and exec, which isn't safe beside other threads. A process that watches
-would cost one more process for each program, and could be killed itself.
+would cost one more process for each program, and could be killed itself. Only a process that is killed in the moment
+between the start of a program and these calls leaves the program behind.
 """
 import fcntl
 import os

@@ -8,6 +8,8 @@ import contextlib
 import io
 import os
 import pathlib
+import subprocess
+import sys
 import tempfile
 from typing import List, Optional, Sequence, Tuple
 from unittest import mock
@@ -17,11 +19,12 @@ from scanvolt.vxi11 import calls, encode_reply, words
 
 START = 1_700_000_000_000       # when the server was ready, in milliseconds since 1970
 SYN, ACK = 2, 16
+MAGIC = "\n\r\r\n"            # how a pcapng file begins
 ENDS = (("127.0.0.1", 50000), ("127.0.0.1", 4096))
 
 TSHARK = """#!/bin/sh
 case " $* " in
-*" fields "*) cat "$CAPTURE" ;;
+*" fields "*) cat "$CAPTURE.packets" ;;
 *) cat "$CAPTURE.followed" ;;
 esac
 """
@@ -91,7 +94,7 @@ class Folder:
     def write(self, name: str, text: str, mode: int = 0o644) -> str:
         """Writes a file. Returns its path."""
         path = self.path / name
-        path.write_text(text, encoding="utf-8")
+        path.write_bytes(text.encode())
         path.chmod(mode)
         return str(path)
 
@@ -103,11 +106,25 @@ class Folder:
                 contextlib.redirect_stdout(printed), contextlib.redirect_stderr(printed):
             return main(list(given)), printed.getvalue()
 
+    def begin(self, *given: str, **variables: str) -> "subprocess.Popen[bytes]":
+        """Starts the command in a process of its own."""
+        variables["PATH"] = "%s:%s" % (self.path, os.environ["PATH"])
+        text = "import signal, sys; signal.signal(signal.SIGINT, signal.default_int_handler)\n" \
+            "from scanvolt.capturing.command import main; sys.exit(main())"
+        return subprocess.Popen([sys.executable, "-c", text, *given], env=dict(os.environ, **variables),
+                                cwd=pathlib.Path(__file__).resolve().parent.parent, stdout=subprocess.PIPE,
+                                stderr=subprocess.DEVNULL)
+
+    def captured(self, capture: Capture) -> str:
+        """Writes a capture, and what `tshark` prints for it. Returns its path."""
+        self.write("captured.packets", "\n".join(capture.lines) + "\n")
+        self.write("captured.followed", "\n".join(capture.followed) + "\n")
+        return self.write("captured", MAGIC)
+
     def compare(self, capture: Capture, *given: str, program: Optional[str] = None,
                 scenario: Optional[str] = None, replies: Sequence[bytes] = ()) -> Tuple[int, str]:
         """Compares. Returns the status, and the lines that are printed."""
-        captured = self.write("captured", "\n".join(capture.lines) + "\n")
-        self.write("captured.followed", "\n".join(capture.followed) + "\n")
+        captured = self.captured(capture)
         stored = self.write("replies", "".join(one.hex() + "\n" for one in replies))
         command = ["compare", captured, "--program", program or self.replay, *given]
         if scenario is not None:

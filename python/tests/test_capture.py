@@ -1,11 +1,17 @@
 """scanvolt-capture: what counts as a difference, and what is printed about it."""
 import base64
+import signal
+import threading
+import time
 import unittest
 from typing import Optional, Tuple
+from unittest import mock
 
+from scanvolt.capturing import compare
 from scanvolt.vxi11 import calls, encode_reply, opaque, words
 
 from .captures import START, Capture, Folder, call
+from .processes import goes, kill
 
 
 def told(start: int) -> Tuple[str, str]:
@@ -113,6 +119,138 @@ class Comparing(unittest.TestCase):
         self.assertIn("isn't in the capture", text)
 
 
+class Telling(unittest.TestCase):
+    """What is printed while other ticks and starts are tried, and about voltages."""
+
+    SCENARIO = "0 input 1 1\n1000 input 1 2\n"
+
+    def setUp(self) -> None:
+        self.folder = Folder()
+        self.addCleanup(self.folder.close)
+
+    def test_the_first_difference_comes_first(self) -> None:
+        """When the second replay begins, the first difference was printed."""
+        capture = Capture(10)
+        capture.asks(100, 1, words(7))
+        counted = self.folder.write("counted", """#!/bin/sh
+echo begun >> "$0.runs"
+[ $(wc -l < "$0.runs") -lt 2 ] || exec sleep 60
+exec %s replay
+""" % self.folder.replay, 0o755)
+        told_text = self.begin(capture, "--program", counted).decode()
+        self.assertRegex(told_text, "capture: at the times of the capture, the first difference is this:\nreply 1 [(]device_")
+        self.assertIn("byte ", told_text)
+        self.assertTrue(told_text.endswith(
+            "\ncapture: other ticks are tried, up to 3 milliseconds earlier or later, for at most 60 s\n"), told_text)
+
+    def begin(self, capture: Capture, *given: str) -> bytes:
+        """Starts a comparison. Returns what it prints up to the line about what is tried."""
+        captured = self.folder.captured(capture)
+        process = self.folder.begin("compare", captured, *told(0), *given, CAPTURE=captured)
+        assert process.stdout is not None
+        killer = threading.Timer(20, process.kill)
+        killer.start()
+        found = b""
+        for line in process.stdout:
+            found += line
+            if b"tried" in line:
+                break
+        killer.cancel()
+        process.kill()
+        process.communicate()
+        return found
+
+    def test_other_starts_are_announced(self) -> None:
+        capture = Capture(980)
+        capture.asks(980, 1, words(7))
+        status, text = self.folder.compare(capture, scenario=self.SCENARIO)
+        self.assertEqual(status, 1)
+        self.assertIn("\ncapture: other starts of the server are tried, for at most 60 s\n", text)
+        self.assertEqual(text.count("reply 1 (device_readstb)"), 1, text)
+        self.assertIn("\ncapture: the difference remains with all that was tried\n", text)
+
+    def test_the_time_of_a_search_is_limited(self) -> None:
+        capture = Capture(980)
+        capture.asks(980, 1, words(7))
+        with mock.patch.object(compare, "PATIENCE", 0):
+            status, text = self.folder.compare(capture, scenario=self.SCENARIO)
+        self.assertEqual(status, 1)
+        self.assertIn("\ncapture: the difference remains with what could be tried in 0 s\n", text)
+
+    def test_nothing_is_tried(self) -> None:
+        capture = Capture(10)
+        capture.asks(100, 1, words(7))
+        status, text = self.folder.compare(capture, *told(0), "--slack", "0")
+        self.assertEqual(status, 1)
+        self.assertNotIn("tried", text)
+        self.assertEqual(text.count("reply 1 (device_readstb)"), 1, text)
+
+    def test_a_later_difference(self) -> None:
+        """Other ticks settle the first difference. The one that remains is shown too."""
+        capture = Capture(10)
+        capture.asks(998, 1, words(2))
+        capture.asks(1200, 2, words(9))
+        status, text = self.folder.compare(capture, *told(0), scenario=self.SCENARIO)
+        self.assertEqual(status, 1)
+        self.assertRegex(text, "(?s)first difference is this:\nreply 1 .*the difference that remains with other ticks:\nreply 2 ")
+
+    def read(self, found: bytes, other: bytes, *given: str) -> str:
+        """What is printed if the answer to a query is `found` in the capture, and `other` in the replay."""
+        capture = Capture(10)
+        replies = []
+        for answer in found, other:
+            replies.append(encode_reply(1, words(0, calls.ENDED) + opaque(answer)))
+        capture.packet(20, True, calls.device_read(7, 100, 0).encode(1))
+        capture.packet(21, False, replies[0])
+        status, text = self.folder.compare(capture, *told(0), "--slack", "0", *given, replies=replies[1:])
+        self.assertEqual(status, 1, text)
+        return text
+
+    def test_voltages_without_a_scenario(self) -> None:
+        hint = "capture: without --scenario all inputs are 0 V; give the scenario of the session\n"
+        for found, other in ((b"+1.250000\n", b"+0.000000\n"), (b"-0.300000\n", b"+0.000000\n"),
+                             (b"+0.000000,-10.000000\n", b"+0.000000,+0.000000\n")):
+            self.assertTrue(self.read(found, other).endswith(hint), found)
+        for found, other in ((b"+1.250000\n", b"+1.260000\n"), (b"SV31\n", b"SV32\n"), (b"+0.000000\n", b"+1.250000\n")):
+            self.assertNotIn(hint, self.read(found, other))
+        scenario = self.folder.write("scenario", "0 external\n")
+        self.assertNotIn(hint, self.read(b"+1.250000\n", b"+0.000000\n", "--scenario", scenario))
+
+
+class Signals(unittest.TestCase):
+    """If the command is ended by a signal, no replaying program remains, whatever that does."""
+
+    def test_a_program_that_is_busy(self) -> None:
+        for how in (signal.SIGTERM, signal.SIGINT, signal.SIGHUP, signal.SIGKILL):
+            with self.subTest(how):
+                self.leaves_none(how, "exec sleep 60\n")
+
+    def test_a_program_that_is_stopped(self) -> None:
+        self.leaves_none(signal.SIGKILL, "kill -STOP $$\n")
+        self.leaves_none(signal.SIGTERM, "kill -STOP $$\n")
+
+    def leaves_none(self, how: signal.Signals, text: str) -> None:
+        folder = Folder()
+        self.addCleanup(folder.close)
+        capture = Capture(10)
+        capture.asks(100, 1, words(7))
+        # A process that is killed within the moment in which it starts a program may leave that.
+        program = folder.write("busy", "#!/bin/sh\nsleep 0.5; echo $$ > $0.new; mv $0.new $0.pid\n" + text, 0o755)
+        captured = folder.captured(capture)
+        process = folder.begin("compare", captured, *told(0), "--program", program, CAPTURE=captured)
+        end = time.monotonic() + 20
+        while not (folder.path / "busy.pid").exists() and time.monotonic() < end:
+            time.sleep(0.01)
+        number = int((folder.path / "busy.pid").read_text())
+        try:
+            process.send_signal(how)
+            process.communicate(timeout=20)
+            self.assertTrue(goes(number))
+        finally:
+            process.kill()
+            kill(number)
+
+
 class Starts(unittest.TestCase):
     """The voltage shows whether a line of the scenario was due."""
 
@@ -127,13 +265,13 @@ class Starts(unittest.TestCase):
         return capture
 
     def test_a_start_that_is_told_59_ms_late_is_found(self) -> None:
-        status, text = self.folder.compare(self.asked(1030, 2), *told(59),
+        status, text = self.folder.compare(self.asked(1030, 2), *told(59), "--other-starts",
                                            scenario="0 input 1 1\n1000 input 1 2\n")
         self.assertEqual(status, 0, text)
         self.assertIn("earlier", text)
 
     def test_a_start_that_is_told_too_early_is_found(self) -> None:
-        status, text = self.folder.compare(self.asked(980, 1), *told(-59),
+        status, text = self.folder.compare(self.asked(980, 1), *told(-59), "--other-starts",
                                            scenario="0 input 1 1\n1000 input 1 2\n")
         self.assertEqual(status, 0, text)
         self.assertIn("later", text)
@@ -142,6 +280,24 @@ class Starts(unittest.TestCase):
         status, text = self.folder.compare(self.asked(20030, 2),
                                            scenario="0 input 1 1\n20000 input 1 2\n")
         self.assertEqual(status, 0, text)
+
+    def test_a_start_that_is_told_is_taken(self) -> None:
+        """Another start would make the replies equal, but isn't tried."""
+        status, text = self.folder.compare(self.asked(1030, 2), *told(59), scenario="0 input 1 1\n1000 input 1 2\n")
+        self.assertEqual(status, 1, text)
+        self.assertNotIn("other starts of the server", text)
+        self.assertIn("--start may be wrong; `make serve` prints it. --other-starts tries others\n", text)
+
+    def test_a_start_far_from_the_session(self) -> None:
+        """Both times are named."""
+        for start, how in (-61000, "61.010 s before"), (10 ** 8, "99999.990 s after"):
+            capture = self.asked(10, 0)
+            status, text = self.folder.compare(capture, *told(start))
+            self.assertEqual((status, text), (2, (
+                "scanvolt-capture: --start %.3f is %s the first packet of the session, which came at 1700000000.010; "
+                "--far-start takes it\n") % ((START + start) / 1000, how)))
+            self.assertEqual(self.folder.compare(capture, *told(start), "--far-start")[0], 0)
+        self.assertEqual(self.folder.compare(self.asked(10, 0), *told(-59000))[0], 0)
 
     def test_the_start_may_be_what_is_wrong(self) -> None:
         scenario = "0 input 1 1\n1000 input 1 2\n"
@@ -178,11 +334,18 @@ class Faults(unittest.TestCase):
         self.is_fault("there is no capture /nonexistent$", "script", "/nonexistent")
 
     def test_tshark_is_missing(self) -> None:
-        self.is_fault("tshark is missing: it is Debian's package tshark$", "script", __file__, path="/nonexistent")
+        capture = self.folder.captured(self.capture)
+        self.is_fault("tshark is missing: it is Debian's package tshark$", "script", capture, path="/nonexistent")
 
     def test_tshark_cannot_read_it(self) -> None:
         self.folder.write("tshark", "#!/bin/sh\necho of no use >&2\necho it is cut short >&2\nexit 2\n", 0o755)
-        self.is_fault("tshark can't read it: it is cut short$", "script", __file__)
+        self.is_fault("tshark can't read it: it is cut short$", "script", self.folder.captured(self.capture))
+
+    def test_what_is_no_capture(self) -> None:
+        """tshark reads a file of lines of text as packets, too."""
+        for text in ("", "hello\n", "time,1\n0,1\n", "{}\n", "\n\r\r"):
+            path = self.folder.write("other", text)
+            self.is_fault("%s isn't a capture: it begins neither as a pcap file nor as a pcapng file$" % path, "compare", path)
 
     def test_a_packet_that_is_not_whole(self) -> None:
         self.capture.lines[-1] = self.capture.lines[-1].rpartition("\t")[0] + "\t60"

@@ -1,5 +1,4 @@
 """Programs that are missing, end, are killed, or print what they shouldn't. No process remains after any of that."""
-import contextlib
 import gc
 import os
 import pathlib
@@ -10,32 +9,13 @@ import tempfile
 import threading
 import time
 import unittest
-from typing import Iterator
 from unittest import mock
 
 from scanvolt import program, replay
 from scanvolt.program import ProgramError, Server, find_program
 from scanvolt.virtual import Meter
 
-TOP = str(pathlib.Path(__file__).resolve().parent.parent)
-
-
-@contextlib.contextmanager
-def script(text: str) -> Iterator[str]:
-    """A program that is this shell script."""
-    with tempfile.TemporaryDirectory() as folder:
-        path = pathlib.Path(folder, "program")
-        path.write_text("#!/bin/sh\n" + text)
-        path.chmod(0o755)
-        yield str(path)
-
-
-def is_there(number: int) -> bool:
-    """Whether a process exists and isn't a zombie."""
-    try:
-        return pathlib.Path("/proc/%d/stat" % number).read_text().rpartition(")")[2].split()[0] != "Z"
-    except FileNotFoundError:
-        return False
+from .processes import TOP, is_there, script
 
 
 class Missing(unittest.TestCase):

@@ -15,7 +15,7 @@ from unittest import mock
 from scanvolt import program
 from scanvolt.program import ProgramError, Server, find_program
 
-from .test_faults import TOP, is_there, script
+from .processes import TOP, goes, is_there, kill, script, stop
 
 # A program that replays as scanvolt does, and does something else in place of serving.
 OTHERWISE = '[ "$1" = replay ] && exec "%s" replay\n%s\n'
@@ -33,27 +33,6 @@ print(servers[0].process.pid, flush=True)
 time.sleep(60)
 """
 FORKS = "os.fork() or (os.close(1), time.sleep(8), os._exit(0))"
-
-
-def goes(number: int, seconds: float = 10.0) -> bool:
-    """Whether a process ends within this time."""
-    end = time.monotonic() + seconds
-    while is_there(number) and time.monotonic() < end:
-        time.sleep(0.01)
-    return not is_there(number)
-
-
-def stop(number: int) -> None:
-    """Stops a process, and waits until it stands."""
-    os.kill(number, signal.SIGSTOP)
-    while pathlib.Path("/proc/%d/stat" % number).read_text().rpartition(")")[2].split()[0] != "T":
-        time.sleep(0.01)
-
-
-def kill(number: int) -> None:
-    """Kills a process that shouldn't be there any more."""
-    if is_there(number):
-        os.kill(number, signal.SIGKILL)
 
 
 def ends(work: Callable[[], object], seconds: float = 10.0) -> bool:

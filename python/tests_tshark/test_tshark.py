@@ -140,8 +140,11 @@ class Reading(unittest.TestCase):
             packets(str(self.path))
 
     def test_what_is_no_capture(self) -> None:
-        with self.assertRaisesRegex(Fault, "tshark can't read it: .*isn't a capture file"):
+        with self.assertRaisesRegex(Fault, "isn't a capture: it begins neither as a pcap file nor as a pcapng file"):
             packets(__file__)
+        self.path.write_bytes(PCAP[:4] + bytes(200))
+        with self.assertRaisesRegex(Fault, "tshark can't read it: "):
+            packets(str(self.path))
 
 
 class Comparing(unittest.TestCase):

@@ -19,12 +19,13 @@ Ticks aren't exact, since a capture has none. They are put where the times of th
 suggest, which may be wrong by one or two milliseconds. Some replies depend on that: those that show whether
 a scan, an entry of the scenario or a deadline had come, such as a status byte, the error of a timeout, or a
 live voltage. So `compare` tries other ticks at the call whose reply differs, up to --slack milliseconds
-off. With a scenario it also tries other starts of the server: each up to 100 milliseconds off; and of those
-farther off, the ones at which a line of the scenario comes about the time of that reply, up to 150 for
-triggers and 150 for voltages. It does so for at most a minute. Give the start that `make serve` prints, and
-no other has to be tried. If the calls of two connections came within 3 milliseconds and waited, as for the
-lock, it tries the other order. It says what it moved. With --slack 0 it moves nothing; nor does `script`
-without --program. A server that stood still for more than a second lost the rest of that time, which a
+off. With a scenario, and without --start or with --other-starts, it also tries other starts of the server:
+each up to 100 milliseconds off; and of those farther off, the ones at which a line of the scenario comes
+about the time of that reply, up to 150 for triggers and 150 for voltages. It prints the first difference
+before it tries anything, tries for at most a minute for each difference, and says what it tries and what it
+moved. Give the start that `make serve` prints. If the calls of two connections came within 3 milliseconds and
+waited, as for the lock, it tries the other order. With --slack 0 it moves nothing; nor does `script` without
+--program. A server that stood still for more than a second lost the rest of that time, which a
 capture doesn't show. Replies that the replay sends in the last 50 milliseconds of the capture may be
 missing in the capture, which may have ended between a call and its reply: they count as equal.
 
@@ -32,25 +33,26 @@ If its peer closed an interrupt channel, the channel counts as closed after a re
 connection isn't in the capture isn't compared; the reply to its call says whether it was made.
 
 Status: 0 a script was written, or all replies are equal; 1 a reply differs; 2 it can't be done: the file
-isn't a capture, is cut off or lacks bytes; tshark is missing; or the program that replays ends early.
-Standard error has the reason then.
+isn't a capture, is cut off or lacks bytes; tshark is missing; --start is far from the first packet; or the
+program that replays ends early. Standard error has the reason then.
 """
 import argparse
-import signal
 import sys
 from typing import Dict, List, Optional, Set
 
 from ..program import ProgramError, find_program
 from ..vxi11.calls import PORT
 from .compare import Comparison
-from .packets import Fault, nanoseconds, packets
+from .packets import Fault, moment, nanoseconds, packets
 from .script import Scheduled, scenario, script
 from .session import Session
 from .streams import streams
-from .told import counted, moves, start_of, summary, told
+from .telling import Telling, say
+from .told import lacks_voltages, moves, start_of, summary
 from .virtually import Again
 
 NAME = "scanvolt-capture"
+FAR = 60 * 10 ** 9      # nanoseconds between the start and the first packet that are probably wrong
 
 
 def words(given: Optional[List[str]]) -> argparse.Namespace:
@@ -65,6 +67,9 @@ def words(given: Optional[List[str]]) -> argparse.Namespace:
     parser.add_argument("--scenario", help="the scenario of the session")
     parser.add_argument("--start", help="when the server was ready, in seconds since 1970; "
                         "without it, the time of the first packet")
+    parser.add_argument("--other-starts", action="store_true", help="tries other starts too, near and far, if --start is given")
+    parser.add_argument("--far-start", action="store_true", help="takes --start also if it is more than a minute from the "
+                        "first packet, as of a server that no client asked for so long")
     parser.add_argument("--slack", type=int, default=3, help="how many milliseconds ticks may be moved; 3 without it")
     parser.add_argument("--core", type=int, default=4096, help="the port of the core channel; 4096 without it")
     parser.add_argument("--abort", type=int, default=4097, help="the port of the abort channel; 4097 without it")
@@ -83,23 +88,27 @@ def session_of(given: argparse.Namespace) -> Session:
     session = Session(streams(given.capture, found, server), ports, end, start)
     if not session.connections:
         raise Fault("the capture has no connection to the ports %s" % ", ".join(map(str, sorted(server))))
+    gap = session.points[0].time
+    if abs(gap) > FAR and not given.far_start:
+        raise Fault("--start %s is %s s %s the first packet of the session, which came at %s; --far-start takes it" % (
+            given.start, moment(abs(gap)), "before" if gap > 0 else "after", moment(session.start + gap)))
     return session
 
 
 def compare(session: Session, entries: List[Scheduled], given: argparse.Namespace) -> int:
     """Compares, and prints the outcome. Returns the status."""
-    comparison = Comparison(session, entries, given.program or find_program())
-    difference, ticks = comparison.settle(given.slack)
-    printing()
-    print("capture: " + summary(session))
+    comparison = Comparison(session, entries, given.program or find_program(), given.other_starts)
+    telling = Telling(session, given.slack)
+    difference, ticks = comparison.settle(given.slack, telling)
     if difference is None:
-        print("capture: all equal in the replay, " + moves(comparison, ticks))
+        telling.begin()
+        say(["capture: all equal in the replay, " + moves(comparison, ticks)])
         return again(session, ticks, given) if given.mode == "virtual" else 0
-    print("capture: the first difference, with ticks tried up to %s earlier or later:" %
-          counted(given.slack, "millisecond"))
-    print("\n".join(told(session, difference)))
+    telling.remains(difference, comparison)
     if entries:
-        print("capture: " + start_of(comparison))
+        say(["capture: " + start_of(comparison)])
+    elif lacks_voltages(difference) and not given.scenario:
+        say(["capture: without --scenario all inputs are 0 V; give the scenario of the session"])
     return 1
 
 
@@ -107,13 +116,8 @@ def again(session: Session, ticks: List[int], given: argparse.Namespace) -> int:
     """Makes the same calls in virtual time, and prints the outcome. Returns the status."""
     found = Again(session, ticks, given.program, given.scenario)
     told_again = found.differences()
-    print("\n".join("capture: " + line for line in told_again or [found.summary()]))
+    say(["capture: " + line for line in told_again or [found.summary()]])
     return 1 if told_again else 0
-
-
-def printing() -> None:
-    """From here on, a reader of the output that ends (SIGPIPE) ends this too; before, the replaying program may end."""
-    signal.signal(signal.SIGPIPE, signal.SIG_DFL)
 
 
 def main(given_words: Optional[List[str]] = None) -> int:
@@ -128,8 +132,7 @@ def main(given_words: Optional[List[str]] = None) -> int:
         ticks = [point.ticks for point in session.points]
         if given.program:
             ticks = Comparison(session, entries, given.program).settle(given.slack)[1]
-        printing()
-        sys.stdout.writelines(line + "\n" for line in script(session.points, ticks, entries))
+        say(script(session.points, ticks, entries))
         return 0
     except (Fault, ProgramError) as fault:
         print("%s: %s" % (NAME, fault), file=sys.stderr)

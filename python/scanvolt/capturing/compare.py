@@ -5,6 +5,7 @@ import time
 from dataclasses import dataclass
 from typing import Dict, Iterable, Iterator, List, Optional, Tuple
 
+from ..lifeline import Tied
 from . import orders
 from .flows import Flow, Point, reply_at
 from .packets import Fault
@@ -14,7 +15,7 @@ from .session import Session
 NEAR = 100              # starts up to this many milliseconds off are tried
 STARTS = 150            # starts farther off: this many are tried for each kind of entry of the scenario
 BEFORE, BEHIND = 16, 2  # milliseconds by which an entry may come before a reply, or after it
-PATIENCE = 60           # seconds for which other starts are tried, for one difference
+PATIENCE = 60           # seconds for which other ticks and starts are tried, for one difference
 ENDING = 50_000_000     # nanoseconds before the capture's end: replies in them may be missing
 LINE = re.compile(r"refused \d+|[ci]\d+ (?:[0-9a-f]{2})+")
 
@@ -36,14 +37,15 @@ def replies(program: str, lines: List[str], count: int) -> List[List[List[str]]]
     """What the replay prints after each point. `count` is how many points there are."""
     text = "".join(line + "\n" for line in lines).encode()
     try:
-        told = subprocess.run([program, "replay"], input=text, capture_output=True, check=False)
+        with Tied([program, "replay"], subprocess.PIPE) as tied:
+            printed, faults = tied.process.communicate(text)
+            status = tied.process.returncode
     except OSError as error:
         raise Fault("%s doesn't run: %s" % (program, error.strerror)) from None
-    if told.returncode != 0:
-        raise Fault("%s replay: status %d, %s" % (
-            program, told.returncode, told.stderr.decode(errors="replace").strip()))
+    if status != 0:
+        raise Fault("%s replay: status %d, %s" % (program, status, faults.decode(errors="replace").strip()))
     blocks: List[List[List[str]]] = [[]]
-    for line in told.stdout.decode(errors="replace").splitlines():
+    for line in printed.decode(errors="replace").splitlines():
         if line == MARKED:
             blocks.append([])
         elif LINE.fullmatch(line):
@@ -56,12 +58,26 @@ def replies(program: str, lines: List[str], count: int) -> List[List[List[str]]]
     return blocks[:-1]
 
 
-class Comparison:
-    """A session, and the program that replays it."""
+class Watch:
+    """Is told what a comparison finds and tries. This one does nothing with it."""
 
-    def __init__(self, session: Session, entries: List[Scheduled], program: str) -> None:
+    def found(self, difference: Difference) -> None:
+        """A difference was found. Other ticks are tried next."""
+
+    def starts(self, difference: Difference) -> None:
+        """No other ticks settle the difference. Other starts are tried next."""
+
+
+class Comparison:
+    """A session, and the program that replays it. If the start of the server was told, others are tried only if
+    `others` says so.
+    """
+
+    def __init__(self, session: Session, entries: List[Scheduled], program: str, others: bool = False) -> None:
         self.points = session.points
         self.told = session.told    # whether --start was given
+        self.others = others or not self.told
+        self.late = False           # whether the time for the last difference was over before all was tried
         self.ending = session.end - session.start - ENDING
         self.entries = entries
         self.program = program
@@ -112,33 +128,41 @@ class Comparison:
             return None
         return Difference("more", number, flow, len(flow.wanted), bytes(found))
 
-    def settle(self, slack: int) -> Tuple[Optional[Difference], List[int]]:
+    def settle(self, slack: int, watch: Optional[Watch] = None) -> Tuple[Optional[Difference], List[int]]:
         """The first difference that remains if the ticks of each point may be up to `slack` earlier or
         later; and the ticks of each point.
         """
+        watch = watch or Watch()
         ticks = [point.ticks for point in self.points]
         while True:
             difference = self.first(ticks)
             if difference is None:
                 return None, ticks
-            trial = self.better(ticks, difference, slack)
+            watch.found(difference)
+            trial = self.better(ticks, difference, slack, watch)
             if trial is None:
                 return difference, ticks
             ticks = trial
 
-    def better(self, ticks: List[int], difference: Difference, slack: int) -> Optional[List[int]]:
+    def better(self, ticks: List[int], difference: Difference, slack: int, watch: Watch) -> Optional[List[int]]:
         """Ticks with which there is no difference up to the point of `difference`, if some are found: one
         point is moved, or the start.
         """
         if slack and self.reorder(ticks, difference):
             return ticks
+        until = time.monotonic() + PATIENCE
+        self.late = False
         for trial in self.trials(ticks, difference, slack):
+            if self.is_over(until):
+                return None
             if self.first(trial, difference.point) is None:
                 return trial
-        until = time.monotonic() + PATIENCE
-        for step in self.starts(difference) if slack else []:
-            if time.monotonic() > until:
-                break
+        steps = self.starts(difference) if slack else []
+        if steps:
+            watch.starts(difference)
+        for step in steps:
+            if self.is_over(until):
+                return None
             self.farthest = max(self.farthest, abs(step))
             trial = [max(0, point.ticks + step) for point in self.points]
             if self.first(trial, difference.point) is None:
@@ -146,13 +170,18 @@ class Comparison:
                 return trial
         return None
 
+    def is_over(self, until: float) -> bool:
+        """Whether the time for a difference is over. Notes that it is."""
+        self.late = time.monotonic() >= until
+        return self.late
+
     def starts(self, difference: Difference) -> List[int]:
-        """By how many milliseconds the server may have started earlier, the least first. Without a scenario
-        none is tried. With one, each start that is near, and those at which an entry of the scenario comes
+        """By how many milliseconds the server may have started earlier, the least first. Without a scenario, and
+        with a start that was told, none is tried. With one, each start that is near, and those at which an entry of the scenario comes
         about the time of the reply that differs. Without --start, the server started no later than the
         first packet.
         """
-        if not self.entries:
+        if not (self.entries and self.others):
             return []
         at = self.points[difference.point].ticks
         found = set(self.farther(range(-NEAR, NEAR + 1)))

@@ -10,6 +10,10 @@ FIELDS = ("frame.number", "frame.time_epoch", "tcp.stream", "ip.src", "tcp.srcpo
 PLAIN = ("-o", "tcp.desegment_tcp_streams:FALSE", "-o", "tcp.relative_sequence_numbers:TRUE",
          "-o", "tcp.analyze_sequence_numbers:TRUE", "--disable-protocol", "rpc")
 FIN, SYN, RST, ACK = 1, 2, 4, 16
+# How a capture begins: pcap in both orders of bytes, with times in micro- or nanoseconds, and pcapng. tshark also reads
+# them compressed, by gzip, zstd or lz4. It would read any lines of text as packets, too.
+BEGINNINGS = tuple(map(bytes.fromhex, ("a1b2c3d4", "d4c3b2a1", "a1b23c4d", "4d3cb2a1", "a1b2cd34", "34cdb2a1", "0a0d0d0a",
+                                       "1f8b", "28b52ffd", "04224d18")))
 End = Tuple[str, int]
 
 
@@ -34,6 +38,11 @@ class Packet:
     size: int
 
 
+def moment(time: int) -> str:
+    """Nanoseconds, in seconds to the millisecond."""
+    return "%d.%03d" % (time // 10 ** 9, time // 10 ** 6 % 1000)
+
+
 def nanoseconds(text: str) -> int:
     """A decimal number of seconds, in nanoseconds."""
     whole, _, part = text.partition(".")
@@ -42,10 +51,22 @@ def nanoseconds(text: str) -> int:
     return int(whole or "0") * 10 ** 9 + int(part[:9].ljust(9, "0"))
 
 
-def tshark(path: str, words: Sequence[str]) -> List[str]:
-    """The lines that tshark prints for a capture."""
+def must_be_capture(path: str) -> None:
+    """Raises Fault unless this file begins as a capture does."""
     if not os.path.isfile(path):
         raise Fault("there is no capture %s" % path)
+    try:
+        with open(path, "rb") as file:
+            begin = file.read(4)
+    except OSError as fault:
+        raise Fault("%s can't be read: %s" % (path, fault.strerror)) from None
+    if not begin.startswith(BEGINNINGS):
+        raise Fault("%s isn't a capture: it begins neither as a pcap file nor as a pcapng file" % path)
+
+
+def tshark(path: str, words: Sequence[str]) -> List[str]:
+    """The lines that tshark prints for a capture."""
+    must_be_capture(path)
     try:
         told = subprocess.run(["tshark", "-n", "-r", path, *PLAIN, *words], stdin=subprocess.DEVNULL,
                               capture_output=True, text=True, check=False)

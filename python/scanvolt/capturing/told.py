@@ -1,4 +1,5 @@
 """What is printed about a comparison."""
+import re
 from typing import List, Optional
 
 from ..vxi11 import CallMessage, Reader, XdrError, calls
@@ -9,6 +10,7 @@ from .session import Session
 ROW = 16        # bytes of a row
 AROUND = 2      # rows that are shown before the one that differs, and after it
 TEXT_MOST = 100         # characters of a message that are shown
+READING, NO_VOLTS = re.compile(rb"[+-][0-9]+[.][0-9]{6}"), b"+0.000000"
 
 
 def counted(count: int, one: str, many: Optional[str] = None) -> str:
@@ -136,7 +138,18 @@ def start_of(comparison: Comparison) -> str:
     """A hint that the start may be wrong."""
     begin = "--start may be wrong" if comparison.told else (
         "the start may be wrong: without --start it is the time of the first packet")
-    return "%s; `make serve` prints it. Starts up to %d ms off were tried" % (begin, comparison.farthest)
+    end = "Starts up to %d ms off were tried" % comparison.farthest if comparison.others else "--other-starts tries others"
+    return "%s; `make serve` prints it. %s" % (begin, end)
+
+
+def lacks_voltages(difference: Difference) -> bool:
+    """Whether a reading is 0 V in the replay, and another one in the capture."""
+    flow = difference.flow
+    reply = reply_at(flow, difference.place) if flow else None
+    if flow is None or reply is None or difference.kind != "differs":
+        return False
+    both = zip(READING.findall(flow.wanted[reply.start:reply.end]), READING.findall(difference.found[reply.start:]))
+    return next((found for wanted, found in both if wanted != found), None) == NO_VOLTS
 
 
 def shown_line(line: str) -> str:

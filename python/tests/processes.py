@@ -1,0 +1,49 @@
+"""Processes, for the tests: programs that are shell scripts, and whether a process is there."""
+import contextlib
+import os
+import pathlib
+import signal
+import tempfile
+import time
+from typing import Iterator
+
+TOP = str(pathlib.Path(__file__).resolve().parent.parent)
+
+
+@contextlib.contextmanager
+def script(text: str) -> Iterator[str]:
+    """A program that is this shell script."""
+    with tempfile.TemporaryDirectory() as folder:
+        path = pathlib.Path(folder, "program")
+        path.write_text("#!/bin/sh\n" + text)
+        path.chmod(0o755)
+        yield str(path)
+
+
+def is_there(number: int) -> bool:
+    """Whether a process exists and isn't a zombie."""
+    try:
+        return pathlib.Path("/proc/%d/stat" % number).read_text().rpartition(")")[2].split()[0] != "Z"
+    except FileNotFoundError:
+        return False
+
+
+def goes(number: int, seconds: float = 10.0) -> bool:
+    """Whether a process ends within this time."""
+    end = time.monotonic() + seconds
+    while is_there(number) and time.monotonic() < end:
+        time.sleep(0.01)
+    return not is_there(number)
+
+
+def stop(number: int) -> None:
+    """Stops a process, and waits until it stands."""
+    os.kill(number, signal.SIGSTOP)
+    while pathlib.Path("/proc/%d/stat" % number).read_text().rpartition(")")[2].split()[0] != "T":
+        time.sleep(0.01)
+
+
+def kill(number: int) -> None:
+    """Kills a process that shouldn't be there any more."""
+    if is_there(number):
+        os.kill(number, signal.SIGKILL)
