@@ -1,0 +1,165 @@
+"""Builds the wheel and the sdist of this package, by Python's standard library alone (PEP 517 and PEP 660).
+
+So `pip install ./python` needs no other package, and no network. The same sources make the same bytes: files are
+sorted, have the date SOURCE_DATE_EPOCH or else 1 January 1980, and no owner. pip runs the functions whose names have
+no underscore in front, in the folder of pyproject.toml.
+"""
+import ast
+import base64
+import gzip
+import hashlib
+import io
+import os
+import pathlib
+import re
+import tarfile
+import time
+import zipfile
+from typing import Dict, List, Optional, Tuple, Union
+
+Settings = Optional[Dict[str, object]]
+Value = Union[str, List[str], Dict[str, str]]
+Files = List[Tuple[str, bytes]]
+PACKAGES = ("scanvolt", "pyvisa_scanvolt")
+OLDEST = 315532800          # 1 January 1980, the first date that a wheel can have
+TAG = "py3-none-any"
+WHEEL = "Wheel-Version: 1.0\nGenerator: scanvolt_build\nRoot-Is-Purelib: true\nTag: %s\n" % TAG
+
+
+def project(text: str) -> Dict[str, Dict[str, Value]]:
+    """The tables of pyproject.toml. Reads only as much of TOML as that file has: one line for each key, and as
+    values texts, lists of texts, and inline tables of texts. Raises ValueError at any other line.
+    """
+    tables: Dict[str, Dict[str, Value]] = {}
+    table: Dict[str, Value] = {}
+    for line in text.splitlines():
+        if re.fullmatch(r"\[[\w.-]+\]", line):
+            table = tables.setdefault(line[1:-1], {})
+        elif line and not line.startswith("#"):
+            key, equals, value = line.partition(" = ")
+            key = ast.literal_eval(key) if key.startswith('"') else key
+            try:
+                table[key] = ast.literal_eval(re.sub(r"(?<=[{ ])(\w+) = ", r'"\1": ', value)
+                                              if value.startswith("{") else value.replace("true", "True"))
+            except (SyntaxError, ValueError):
+                raise ValueError("pyproject.toml has a line that isn't read here: %s" % line) from None
+    return tables
+
+
+def _settings() -> Dict[str, Dict[str, Value]]:
+    return project(pathlib.Path("pyproject.toml").read_text(encoding="utf-8"))
+
+
+def _text(value: Value) -> str:
+    assert isinstance(value, str)
+    return value
+
+
+def _name() -> str:
+    """The name and version, as files have them."""
+    found = _settings()["project"]
+    return "%s-%s" % (_text(found["name"]), _text(found["version"]))
+
+
+def _licence() -> Files:
+    """The licence, which is in an sdist, and in a checkout above this folder."""
+    for path in pathlib.Path("LICENSE"), pathlib.Path("..", "LICENSE"):
+        if path.is_file():
+            return [("LICENSE", path.read_bytes())]
+    return []
+
+
+def _sources() -> Files:
+    """The files of the packages."""
+    paths = [path for package in PACKAGES for path in pathlib.Path(package).rglob("*")
+             if path.suffix == ".py" or path.name == "py.typed"]
+    return [(path.as_posix(), path.read_bytes()) for path in paths]
+
+
+def _metadata() -> bytes:
+    """The file METADATA of a wheel, and PKG-INFO of an sdist."""
+    tables = _settings()
+    found = tables["project"]
+    lines = ["Metadata-Version: 2.1"]
+    for head, key in (("Name", "name"), ("Version", "version"), ("Summary", "description"),
+                      ("Requires-Python", "requires-python")):
+        lines.append("%s: %s" % (head, _text(found[key])))
+    licence = found["license"]
+    assert isinstance(licence, dict)
+    lines.append("License: " + licence["text"])
+    lines += ["License-File: " + name for name, _ in _licence()]
+    lines += ["Requires-Dist: " + one for one in found["dependencies"]]
+    for extra, needed in sorted(tables["project.optional-dependencies"].items()):
+        lines.append("Provides-Extra: " + extra)
+        lines += ["Requires-Dist: %s; extra == '%s'" % (one, extra) for one in needed]
+    lines += ["Description-Content-Type: text/markdown", ""]
+    return "\n".join(lines).encode() + b"\n" + pathlib.Path(_text(found["readme"])).read_bytes()
+
+
+def _entry_points() -> bytes:
+    """The file entry_points.txt: the commands, and what pytest loads."""
+    tables = _settings()
+    groups = {"console_scripts": tables["project.scripts"]}
+    start = "project.entry-points."
+    groups.update((name[len(start):], table) for name, table in tables.items() if name.startswith(start))
+    parts = ["[%s]\n" % group + "".join("%s = %s\n" % (name, _text(what)) for name, what in sorted(table.items()))
+             for group, table in sorted(groups.items())]
+    return "\n".join(parts).encode()
+
+
+def _information() -> Files:
+    """The files of a wheel's .dist-info, except RECORD."""
+    return _licence() + [("METADATA", _metadata()), ("WHEEL", WHEEL.encode()), ("entry_points.txt", _entry_points()),
+                         ("top_level.txt", "".join(name + "\n" for name in sorted(PACKAGES)).encode())]
+
+
+def _epoch() -> int:
+    return max(OLDEST, int(os.environ.get("SOURCE_DATE_EPOCH") or OLDEST))
+
+
+def _row(name: str, data: bytes) -> str:
+    """A line of RECORD."""
+    checksum = base64.urlsafe_b64encode(hashlib.sha256(data).digest()).rstrip(b"=").decode()
+    return "%s,sha256=%s,%d\n" % (name, checksum, len(data))
+
+
+def _wheel(folder: str, files: Files) -> str:
+    """Writes a wheel with these files. Returns its name."""
+    information = _name() + ".dist-info/"
+    files = sorted(files) + [(information + name, data) for name, data in _information()]
+    record = "".join(_row(name, data) for name, data in files) + information + "RECORD,,\n"
+    name = "%s-%s.whl" % (_name(), TAG)
+    with zipfile.ZipFile(os.path.join(folder, name), "w", zipfile.ZIP_DEFLATED) as packed:
+        for member, data in files + [(information + "RECORD", record.encode())]:
+            one = zipfile.ZipInfo(member, time.gmtime(_epoch())[:6])
+            one.compress_type, one.create_system, one.external_attr = zipfile.ZIP_DEFLATED, 3, 0o100644 << 16
+            packed.writestr(one, data)
+    return name
+
+
+def build_wheel(wheel_directory: str, config_settings: Settings = None,
+                metadata_directory: Optional[str] = None) -> str:
+    """Writes the wheel into a folder. Returns its name."""
+    return _wheel(wheel_directory, _sources())
+
+
+def build_editable(wheel_directory: str, config_settings: Settings = None,
+                   metadata_directory: Optional[str] = None) -> str:
+    """Writes a wheel that makes Python load the packages from here, for `pip install --editable`."""
+    return _wheel(wheel_directory, [("scanvolt.pth", os.fsencode(os.getcwd()) + b"\n")])
+
+
+def build_sdist(sdist_directory: str, config_settings: Settings = None) -> str:
+    """Writes the sdist into a folder. Returns its name."""
+    own = pathlib.Path(__file__)
+    files = _sources() + _licence() + [("PKG-INFO", _metadata()), ("backend/" + own.name, own.read_bytes())]
+    files += [(name, pathlib.Path(name).read_bytes()) for name in ("pyproject.toml", "README.md")]
+    packed = io.BytesIO()
+    with tarfile.open(fileobj=packed, mode="w", format=tarfile.USTAR_FORMAT) as archive:
+        for name, data in sorted(files):
+            one = tarfile.TarInfo("%s/%s" % (_name(), name))
+            one.size, one.mtime, one.mode = len(data), _epoch(), 0o644
+            archive.addfile(one, io.BytesIO(data))
+    name = _name() + ".tar.gz"
+    pathlib.Path(sdist_directory, name).write_bytes(gzip.compress(packed.getvalue(), 9, mtime=0))
+    return name
