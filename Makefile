@@ -30,7 +30,7 @@ BIN = $(DESTDIR)$(PREFIX)/bin
 MAN = $(DESTDIR)$(PREFIX)/share/man/man1
 DATA = $(DESTDIR)$(PREFIX)/share/scanvolt
 DOC = $(DESTDIR)$(PREFIX)/share/doc/scanvolt
-DATA_FILES := examples/bench.scenario examples/identity.replay examples/scan.replay
+DATA_FILES := VERSION examples/bench.scenario examples/identity.replay examples/scan.replay
 DOC_FILES := LICENSE CHANGELOG.md docs/INSTRUMENT.md docs/REPLAY.md examples/identity.md examples/scan.md
 PICTURES := $(addprefix docs/,$(shell grep -oh 'pictures/[a-z-]*\.svg' $(DOC_FILES)))
 
@@ -103,7 +103,7 @@ soak: $(PROOF)
 python:
 	@python/check '$(GIVEN)'
 
-# Installs the proved program, its man page, the scenario and scripts of the examples, and the licence.
+# Installs the proved program, its man page, its version, the scenario and scripts of the examples, and the licence.
 install: $(PROOF)
 	@install -d -m 755 '$(BIN)' '$(MAN)' '$(DATA)' '$(DOC)/pictures'
 	@install -m 755 '$(SERVER)' '$(BIN)/scanvolt'

@@ -7,7 +7,9 @@ from typing import Any, Callable, Dict, Iterator, TypeVar
 
 import pytest
 
-from .program import ProgramError, Server
+from . import __version__
+from .about import version_and_kind
+from .program import ProgramError, Server, find_program
 from .virtual import Meter
 
 Made = TypeVar("Made")
@@ -18,6 +20,15 @@ OPTIONS = ("scenario", "patience")
 def pytest_configure(config: pytest.Config) -> None:
     """Registers the marker with pytest."""
     config.addinivalue_line("markers", MARKER)
+
+
+def pytest_report_header() -> str:
+    """The line about this package and its program, in the head of what pytest prints."""
+    try:
+        path = find_program()
+    except ProgramError as fault:
+        return "scanvolt: %s, no program: %s" % (__version__, fault)
+    return "scanvolt: %s, program %s (version %s, kind %s)" % (__version__, path, *version_and_kind(path))
 
 
 def options_of(request: pytest.FixtureRequest) -> Dict[str, Any]:

@@ -11,7 +11,7 @@ import weakref
 import zlib
 from typing import Iterator, List, Optional, Tuple
 
-from .program import ProgramError
+from .program import ProgramError, check_fits
 
 PROBE, SEEN = b"input 255 0\n", b"refused 8\n"
 PATIENCE = 60.0             # seconds that the program may take to answer
@@ -145,6 +145,7 @@ class Replay:
         self.size = 0                               # how many bytes they have
         self.since = 0                              # milliseconds that passed after the last of them
         self.checksum = 0                           # of all that was printed
+        check_fits(path)
         self.program = Program(path)
         self.program.ask(PROBE)
 

@@ -63,10 +63,9 @@ class Ends(unittest.TestCase):
             self.assertRaisesRegex(ProgramError, "with status 3: fault$", Server, None, path)
 
     def test_a_program_that_says_nothing(self) -> None:
-        with script("exec sleep 60") as path, mock.patch.object(replay, "PATIENCE", 0.2):
-            self.assertRaisesRegex(ProgramError, "says nothing for 0.2 s", Meter, path)
-        with script("exec cat") as path, mock.patch.object(replay, "PATIENCE", 0.2):
-            self.assertRaisesRegex(ProgramError, "says nothing for 0.2 s", Meter, path)
+        for text in "exec sleep 60", "exec cat":
+            with script(text) as path, mock.patch.object(replay, "PATIENCE", 0.2), mock.patch.object(replay, "check_fits"):
+                self.assertRaisesRegex(ProgramError, "says nothing for 0.2 s", Meter, path)
 
     def test_a_bad_line(self) -> None:
         meter = Meter()

@@ -4,6 +4,9 @@ from importlib.util import find_spec
 
 import pytest
 
+from scanvolt import __version__
+from scanvolt.program import find_program
+
 TOP = pathlib.Path(__file__).resolve().parent.parent
 PLUGIN = ("-p", "scanvolt.pytest_plugin")
 BOTH = """
@@ -45,6 +48,19 @@ def test_side_by_side(pytester: pytest.Pytester) -> None:
     pytester.makefile("", voltages="0 input 1 2500000\n")
     pytester.makepyfile(BOTH)
     pytester.runpytest_subprocess(*PLUGIN, "-n", "4").assert_outcomes(passed=9)
+
+
+def test_the_head(pytester: pytest.Pytester, monkeypatch: pytest.MonkeyPatch) -> None:
+    """It names the version of the package and the program."""
+    pytester.makepyfile("def test_one(): pass")
+    result = pytester.runpytest_subprocess(*PLUGIN)
+    result.assert_outcomes(passed=1)
+    result.stdout.fnmatch_lines(["scanvolt: %s, program %s (version *, kind *)" % (__version__, find_program())])
+    monkeypatch.setenv("SCANVOLT", "/nonexistent/scanvolt")
+    result = pytester.runpytest_subprocess(*PLUGIN)
+    result.assert_outcomes(passed=1)
+    result.stdout.fnmatch_lines([
+        "scanvolt: %s, no program: SCANVOLT names no program: /nonexistent/scanvolt" % __version__])
 
 
 def test_no_program(pytester: pytest.Pytester, monkeypatch: pytest.MonkeyPatch) -> None:

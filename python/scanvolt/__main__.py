@@ -1,0 +1,35 @@
+"""Prints the version of this package, and of the program that it runs the path, the version and the kind.
+
+The kind is `proved` or `unproved`. Version and kind are `unknown` where no file beside the program tells them.
+Status: 0 the program fits this package, 1 there is none, or it doesn't fit.
+"""
+import argparse
+import sys
+from typing import List, Optional
+
+from . import __version__
+from .about import version_and_kind
+from .program import ProgramError, check_fits, find_program
+
+
+def main(given: Optional[List[str]] = None) -> int:
+    """Runs the command. Returns its status."""
+    argparse.ArgumentParser(prog="python3 -m scanvolt", description=__doc__,
+                            formatter_class=argparse.RawDescriptionHelpFormatter).parse_args(given)
+    print("package %s" % __version__)
+    try:
+        path = find_program()
+    except ProgramError as fault:
+        print("no program: %s" % fault)
+        return 1
+    print("program %s\nversion %s\nkind %s" % (path, *version_and_kind(path)))
+    try:
+        check_fits(path)
+    except ProgramError as fault:
+        print(fault)
+        return 1
+    return 0
+
+
+if __name__ == "__main__":
+    sys.exit(main())
