@@ -21,6 +21,7 @@ MISSING = ("no program scanvolt: set SCANVOLT to its path, put it on PATH, or bu
            "`tools/serve BUILD=1`")
 # A replay of these lines prints this, since the instrument has 128 channels.
 PROBES, ANSWER = b"input 128 0\ninput 255 0\n", b"refused 8\n"
+OF_SCENARIO = ("scanvolt: bad line", "scanvolt: input")     # what it says if it refuses a scenario, or can't read it
 SHOWN_MOST = 200        # characters of what a program printed that are shown
 Name = Union[str, "os.PathLike[str]"]
 
@@ -199,6 +200,8 @@ class Server:
             tied.end()
             if told != "scanvolt: socket":      # with this message, another process took a port first
                 break
+        if told.startswith(OF_SCENARIO):
+            read_scenario(self.scenario)        # raises the exception that explains it
         raise ProgramError("%s doesn't serve: %s" % (self.program, told))
 
     def _command(self, ports: Tuple[int, ...]) -> List[str]:

@@ -48,7 +48,8 @@ def made(make: Callable[[], Made]) -> Made:
     try:
         return make()
     except (ProgramError, OSError, ValueError) as fault:
-        return pytest.fail(str(fault), pytrace=False)
+        told = str(fault)
+    return pytest.fail(told, pytrace=False)         # outside of `except`, where pytest would show `fault` too
 
 
 @pytest.fixture

@@ -5,6 +5,7 @@ import pathlib
 import signal
 import subprocess
 import sys
+import tempfile
 import threading
 import time
 import unittest
@@ -14,6 +15,7 @@ from unittest import mock
 
 from scanvolt import program
 from scanvolt.program import ProgramError, Server, find_program
+from scanvolt.virtual import Meter
 
 from .processes import TOP, goes, is_there, kill, script, stop
 
@@ -153,6 +155,37 @@ class NotReady(unittest.TestCase):
         self.assertRegex(self.told("echo fault >&2; exit 3"), "doesn't serve: fault$")
         self.assertRegex(self.told("exit 3"), "doesn't serve: it ended with status 3$")
         self.assertRegex(self.told("kill -9 $$"), "doesn't serve: it ended by signal 9$")
+
+
+class Scenarios(unittest.TestCase):
+    """A scenario that can't be served is explained as a meter explains it."""
+
+    def setUp(self) -> None:
+        temporary = tempfile.TemporaryDirectory()
+        self.addCleanup(temporary.cleanup)
+        self.path = pathlib.Path(temporary.name, "scenario")
+
+    def test_a_bad_line(self) -> None:
+        self.path.write_text("0 external\n5 input 1 1.5\n")
+        faults = []
+        for kind in Meter, Server:
+            with self.assertRaises(ValueError) as caught:
+                kind(scenario=self.path)
+            self.assertIsNone(caught.exception.__context__)
+            faults.append(str(caught.exception))
+        self.assertEqual(faults[0], faults[1])
+        self.assertRegex(faults[1], "^bad line 2 of the scenario %s: a voltage is .*`1.5`$" % self.path)
+
+    def test_one_that_cannot_be_read(self) -> None:
+        for kind in Meter, Server:
+            with self.assertRaisesRegex(FileNotFoundError, str(self.path)):
+                kind(scenario=self.path)
+
+    def test_a_program_that_alone_refuses_it(self) -> None:
+        """What the program says is told, if the package finds nothing wrong."""
+        self.path.write_text("0 external\n")
+        with script(OTHERWISE % (find_program(), "echo scanvolt: bad line 1 >&2; exit 2")) as path:
+            self.assertRaisesRegex(ProgramError, "doesn't serve: scanvolt: bad line 1$", Server, self.path, path)
 
 
 if __name__ == "__main__":

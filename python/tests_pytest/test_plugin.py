@@ -73,6 +73,8 @@ def test_no_program(pytester: pytest.Pytester, monkeypatch: pytest.MonkeyPatch) 
                                  "SCANVOLT names no program: /nonexistent/scanvolt"])
     result.stdout.no_fnmatch_line("*Traceback*")
     result.stdout.no_fnmatch_line("*plugin.py:*")
+    result.stdout.no_fnmatch_line("*During handling of the above exception*")
+    assert result.outlines.count("SCANVOLT names no program: /nonexistent/scanvolt") == 2
 
 
 def test_bad_options(pytester: pytest.Pytester) -> None:
@@ -94,14 +96,19 @@ def test_bad_options(pytester: pytest.Pytester) -> None:
 
         @pytest.mark.scanvolt(scenario="bad")
         def test_served(scanvolt_server): pass
+
+        @pytest.mark.scanvolt(scenario="none")
+        def test_none_served(scanvolt_server): pass
     """)
     result = pytester.runpytest_subprocess(*PLUGIN)
-    result.assert_outcomes(errors=5)
+    result.assert_outcomes(errors=6)
     result.stdout.fnmatch_lines([
         "bad line 1 of the scenario /*/bad: after the time comes *", "*No such file or directory: '/*/none'",
         "the marker scanvolt has no option voltages, but scenario, patience",
         "the marker scanvolt has no option without a name, but scenario, patience",
-        "* doesn't serve: scanvolt: bad line 1"])
+        "*ERROR at setup of test_served*", "bad line 1 of the scenario /*/bad: after the time comes *",
+        "*ERROR at setup of test_none_served*", "*No such file or directory: '/*/none'"])
+    assert sum("after the time comes" in line for line in result.outlines) == 2
 
 
 def test_a_test_that_is_interrupted(pytester: pytest.Pytester) -> None:
