@@ -5,6 +5,8 @@ import re
 from dataclasses import dataclass
 from typing import List, Optional, Tuple, Union
 
+from .foreign import without_additions
+
 CHANNELS = 128
 MOST_MICROVOLTS = 10 ** 9
 LONGEST_LINE = 65536        # bytes
@@ -71,16 +73,16 @@ def read_scenario(name: Name) -> List[Entry]:
 def checked_scenario(name: Name) -> Tuple[List[Entry], List[Bad]]:
     """The entries of a scenario's file, and its bad lines. Raises OSError if the file can't be read."""
     with open(name, "rb") as file:
-        lines = file.read().split(b"\n")
+        lines, faults = without_additions(file.read(), os.fspath(name))
     entries: List[Entry] = []
-    bad: List[Bad] = []
+    bad = [Bad(*fault) for fault in faults]
     for number, line in enumerate(lines, 1):
         if line:
             try:
                 entries.append(entry_of(line, entries[-1].clock if entries else 0))
             except ValueError as fault:
                 bad.append(Bad(number, line, str(fault)))
-    return entries, bad
+    return entries, sorted(bad, key=lambda one: one.number)
 
 
 def entry_of(line: bytes, last: int = 0) -> Entry:

@@ -8,7 +8,9 @@ import unittest
 from typing import List, Tuple
 from unittest import mock
 
+from scanvolt.program import Server
 from scanvolt.scenario.command import main
+from scanvolt.virtual import Meter
 
 BAD = ("0 input 1 1.5", "0 input 1 1e3", "0 input 1 +5", "0 input 1 -", "0 input 1 ", "0 input 1",
        "0 input 1 1000000001", "0 input 1 -1000000001", "0 input 1 0000000000000000005",
@@ -118,6 +120,55 @@ class Checks(Commands):
             status, told, faults = self.run_words(option, "/nonexistent")
             self.assertEqual((status, told), (2, ""))
             self.assertRegex(faults, "^scanvolt-scenario: /nonexistent can't be read: .*No such file")
+
+
+class OtherEditors(Commands):
+    """Files as editors on Windows write them: scanvolt refuses them, and the package says why."""
+
+    LINES = "it ends in a carriage return, as a line on Windows does%s; `sed -i 's/\\r$//' FILE` removes it"
+    MARK = "the file begins with a byte order mark; save it as UTF-8 without one"
+    WIDE = "the file is UTF-16 text, as some programs on Windows write it; save it as UTF-8 without a byte order mark"
+
+    def told(self, data: bytes) -> List[str]:
+        """What --check prints of a file with these bytes. A meter and a server say the first of it."""
+        with tempfile.NamedTemporaryFile(suffix=".scenario") as file:
+            file.write(data)
+            file.flush()
+            status, printed, faults = self.run_words("--check", file.name)
+            self.assertEqual((status, faults), (1, ""))
+            found = [line.replace(file.name, "FILE") for line in printed.splitlines()]
+            for kind in Meter, Server:
+                with self.assertRaises(ValueError) as caught:
+                    kind(scenario=file.name)
+                reason = str(caught.exception).replace(file.name, "FILE")
+                head, _, text = reason.partition(" of the scenario FILE: ")
+                self.assertEqual(head.replace("bad ", "FILE, "), found[0].partition(": ")[0])
+                self.assertTrue(found[0].endswith(": " + text), reason)
+        return found
+
+    def test_line_ends_of_windows(self) -> None:
+        self.assertEqual(self.told(b"0 external\r\n\r\n5 external\r\n"), [
+            "FILE, line 1: `0 external\\r`: " + self.LINES % ", and so do 2 lines after it"])
+        self.assertEqual(self.told(b"0 external\n5 external\r\n"), [
+            "FILE, line 2: `5 external\\r`: " + self.LINES % ""])
+
+    def test_other_faults_are_told_too(self) -> None:
+        found = self.told(b"0 external\r\n5 input 1 1.5\r\n6 trigger\n")
+        self.assertEqual(found[0], "FILE, line 1: `0 external\\r`: " + self.LINES % ", and so does a line after it")
+        self.assertRegex(found[1], "^FILE, line 2: `5 input 1 1.5`: a voltage is .* not `1.5`$")
+        self.assertRegex(found[2], "^FILE, line 3: `6 trigger`: after the time comes ")
+
+    def test_a_byte_order_mark(self) -> None:
+        self.assertEqual(self.told(b"\xef\xbb\xbf0 external\n5 external\n"), [
+            "FILE, line 1: `\\xef\\xbb\\xbf0 external`: " + self.MARK])
+        found = self.told(b"\xef\xbb\xbf0 external\r\n5 external\r\n")
+        self.assertEqual([line.partition(": ")[2].partition(": ")[2] for line in found], [
+            self.MARK, self.LINES % ", and so does a line after it"])
+
+    def test_wide_text(self) -> None:
+        for name in "utf-16-le", "utf-16-be":
+            found = self.told("\ufeff0 external\r\n5 external\r\n".encode(name))
+            self.assertEqual([line.split(": ", 2)[2] for line in found], [self.WIDE])
 
 
 class Ranges(Commands):
