@@ -22,6 +22,7 @@ MISSING = ("no program scanvolt: set SCANVOLT to its path, put it on PATH, or bu
 # A replay of these lines prints this, since the instrument has 128 channels.
 PROBES, ANSWER = b"input 128 0\ninput 255 0\n", b"refused 8\n"
 OF_SCENARIO = ("scanvolt: bad line", "scanvolt: input")     # what it says if it refuses a scenario, or can't read it
+BAD_WORDS = {"scanvolt: bad words": "scanvolt: bad words; `man scanvolt` has the words that it takes"}
 SHOWN_MOST = 200        # characters of what a program printed that are shown
 Name = Union[str, "os.PathLike[str]"]
 
@@ -223,7 +224,7 @@ class Server:
         if b"\n" in heard.printed:
             return "it printed: %s" % heard.text()
         how = heard.ended()
-        return heard.text() or how
+        return BAD_WORDS.get(heard.text(), heard.text()) or how
 
     def _size(self) -> int:
         """How many bytes the scenario has, as far as that can be known."""

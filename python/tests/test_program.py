@@ -154,6 +154,8 @@ class NotReady(unittest.TestCase):
     def test_a_program_that_ends(self) -> None:
         self.assertRegex(self.told("echo fault >&2; exit 3"), "doesn't serve: fault$")
         self.assertRegex(self.told("exit 3"), "doesn't serve: it ended with status 3$")
+        self.assertRegex(self.told("echo scanvolt: bad words >&2; exit 2"),
+                         "doesn't serve: scanvolt: bad words; `man scanvolt` has the words that it takes$")
         self.assertRegex(self.told("kill -9 $$"), "doesn't serve: it ended by signal 9$")
 
 
