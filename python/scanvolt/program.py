@@ -23,6 +23,7 @@ MISSING = ("no program scanvolt: set SCANVOLT to its path, put it on PATH, or bu
 PROBES, ANSWER = b"input 128 0\ninput 255 0\n", b"refused 8\n"
 OF_SCENARIO = ("scanvolt: bad line", "scanvolt: input")     # what it says if it refuses a scenario, or can't read it
 BAD_WORDS = {"scanvolt: bad words": "scanvolt: bad words; `man scanvolt` has the words that it takes"}
+HEARD_MOST = 65536      # bytes of what a program printed that are kept
 SHOWN_MOST = 200        # characters of what a program printed that are shown
 Name = Union[str, "os.PathLike[str]"]
 
@@ -77,6 +78,12 @@ def started(command: List[str], stdin: int = subprocess.DEVNULL) -> Tied:
         raise ProgramError("the program can't be run: %s: %s" % (command[0], fault.strerror)) from None
 
 
+def in_a_line(data: bytes) -> str:
+    """A text in one line; of a long one, its start."""
+    text = " ".join(data.decode("utf-8", "replace").split())
+    return text if len(text) <= SHOWN_MOST else text[:SHOWN_MOST] + ".."
+
+
 class Heard:
     """What a program printed and wrote to standard error until it was `enough`, it ended, or the time was over."""
 
@@ -104,15 +111,14 @@ class Heard:
         ready = poll.poll(max(0.0, 1000 * (until - time.monotonic())))
         for number, _ in ready:
             piece = os.read(number, 65536)
-            self.told[number] += piece
+            self.told[number] = (self.told[number] + piece)[:HEARD_MOST]
             if not piece:
                 self.open.discard(number)
         return bool(ready)
 
     def text(self) -> str:
         """What it wrote to standard error, or else what it printed, in one line."""
-        told = " ".join((self.told[self.err] or self.printed).decode("utf-8", "replace").split())
-        return told if len(told) <= SHOWN_MOST else told[:SHOWN_MOST] + ".."
+        return in_a_line(self.told[self.err] or self.printed)
 
     def ended(self) -> str:
         """How it ended. If it only closed its output, kills it."""
@@ -129,15 +135,16 @@ def check_fits(path: str) -> None:
     """Raises ProgramError unless the program at this path is a scanvolt that this package can use. Each program is
     asked once, unless its file changes.
     """
+    found = shutil.which(path) or path          # a name is looked for on PATH, as it is when it is run
     try:
-        status = os.stat(path)
+        status = os.stat(found)
     except OSError as fault:
         raise ProgramError("the program can't be run: %s: %s" % (path, fault.strerror)) from None
-    known = (os.path.abspath(path), status.st_mtime_ns, status.st_size)
+    known = (os.path.abspath(found), status.st_mtime_ns, status.st_size)
     if known not in _fitting:
-        fault_found = _unlike(path)
-        if fault_found:
-            raise ProgramError("%s isn't scanvolt 2.0, or doesn't fit this package: %s" % (path, fault_found))
+        how = _unlike(path)
+        if how:
+            raise ProgramError("%s isn't scanvolt 2.0, or doesn't fit this package: %s" % (path, how))
         _fitting.add(known)
 
 
@@ -150,14 +157,15 @@ def _unlike(path: str) -> str:
             tied.process.stdin.close()
         except BrokenPipeError:
             pass
-        heard = Heard(tied.process, PATIENCE, lambda _: False)
+        heard = Heard(tied.process, PATIENCE, lambda printed: not ANSWER.startswith(printed))
         if heard.late:
             return "it says nothing for %g s" % PATIENCE
+        if not ANSWER.startswith(heard.printed):
+            return "to `%s` it answered `%s` and not `%s`" % tuple(map(in_a_line, (PROBES, heard.printed, ANSWER)))
         how = heard.ended()
-        if heard.process.returncode or not heard.printed:
+        if heard.process.returncode or heard.printed != ANSWER:
             return how + (": " + heard.text() if heard.text() else "")
-        return "" if heard.printed == ANSWER else "to `%s` it answered `%s` and not `%s`" % tuple(
-            " ".join(one.decode("utf-8", "replace").split())[:SHOWN_MOST] for one in (PROBES, heard.printed, ANSWER))
+        return ""
 
 
 class Server:

@@ -21,6 +21,7 @@ from .test_install import backend
 OTHERS = (
     ("sed 's/.*/refused 8/'", "to `input 128 0 input 255 0` it answered `refused 8 refused 8` and not `refused 8`"),
     ("exec cat", "to `input 128 0 input 255 0` it answered `input 128 0 input 255 0` and not `refused 8`"),
+    ("exec yes", "to `input 128 0 input 255 0` it answered `%s ..` and not `refused 8`" % " ".join(100 * "y")),
     ("exit 0", "it ended with status 0"),
     ("echo scanvolt: bad words >&2; exit 2", "it ended with status 2: scanvolt: bad words"),
     ("kill -9 $$", "it ended by signal 9"))
@@ -126,6 +127,14 @@ class Fitting(unittest.TestCase):
             os.utime(path, (1, 1))
             Meter(path).close()
             self.assertEqual(pathlib.Path(path + ".runs").read_text().count("\n"), 7)
+
+    def test_a_name_on_the_path(self) -> None:
+        """A program may be given by its name, too."""
+        with script('exec "%s" "$@"' % find_program()) as path:
+            os.rename(path, os.path.join(os.path.dirname(path), "voltmeter"))
+            with mock.patch.dict(os.environ, PATH="%s:%s" % (os.path.dirname(path), os.environ["PATH"])):
+                Meter("voltmeter").close()
+                Server(program="voltmeter").close()
 
     def test_one_that_says_nothing(self) -> None:
         with script("exec sleep 60") as path, mock.patch.object(program, "PATIENCE", 0.2):

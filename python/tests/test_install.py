@@ -144,10 +144,11 @@ scanvolt.pytest_plugin = scanvolt.pytest_plugin
         """It makes the same bytes, though its files have another date."""
         made = os.path.join(self.folder, "made")
         os.mkdir(made)
-        with tarfile.open(built("sdist", self.folder, SOURCE_DATE_EPOCH="1700000000")) as packed:
+        sdist = built("sdist", self.folder, SOURCE_DATE_EPOCH="1700000000")
+        with tarfile.open(sdist) as packed:
             self.assertFalse([name for name in packed.getnames() if "test" in name and "pytest" not in name])
             self.assertEqual({one.mtime for one in packed.getmembers()}, {1700000000})
-            packed.extractall(self.folder)
+        subprocess.run(["tar", "-xzf", sdist, "-C", self.folder], check=True)
         wheel = built("wheel", self.folder)
         again = built("wheel", made, os.path.join(self.folder, wheel.name[:len("scanvolt-2.0.0")]))
         self.assertEqual(again.read_bytes(), wheel.read_bytes())
