@@ -1,11 +1,13 @@
 """A session to an instrument: a connection of its own with one link, as other VISAs make it for TCPIP."""
 import collections
+import contextlib
 from typing import Any, Callable, Deque, List, Optional, Tuple
 
 from pyvisa import constants
 from pyvisa.constants import EventMechanism, EventType, StatusCode
 from pyvisa.constants import ResourceAttribute as Name
 
+from scanvolt.program import ProgramError
 from scanvolt.virtual import Meter, NoAnswer
 from scanvolt.vxi11 import ENDED, TERMINATOR, DeviceError, ServiceRequest
 from scanvolt.vxi11.errors import LOCKED
@@ -157,7 +159,8 @@ class Session:
         already = self.mechanisms & mechanism == 0
         left = self.mechanisms & ~mechanism
         if self.mechanisms and not left and self.connection.is_open:
-            self.link.disable_srq()
+            with contextlib.suppress(ProgramError):     # a program that ended requests nothing
+                self.link.disable_srq()
         self.mechanisms = left
         return StatusCode.success_event_already_disabled if already else StatusCode.success
 

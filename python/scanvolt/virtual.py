@@ -87,7 +87,8 @@ class Requests:
     def close(self) -> None:
         """Closes the interrupt channel, if there is one. Requests that came stay in the queue."""
         if self.connection.has_channel:
-            self.connection.destroy_intr_chan()
+            with contextlib.suppress(ProgramError):     # a program that ended has no channel
+                self.connection.destroy_intr_chan()
 
 
 class Connection(Core):
@@ -115,6 +116,11 @@ class Connection(Core):
         if self.is_open:
             self.meter.drop(self)
 
+    def check_open(self) -> None:
+        """Raises ConnectionError if the connection is closed."""
+        if not self.is_open:
+            raise ConnectionError("the connection is closed")
+
     def start(self, call: Call[Value]) -> Pending[Value]:
         """Sends a call. The instrument takes it after those sent before it are answered."""
         with self.meter.guard:
@@ -129,6 +135,7 @@ class Connection(Core):
 
     def abort(self, link: Link) -> None:
         """Aborts the call that waits on a link, over an abort channel of its own."""
+        self.check_open()
         with self.meter.connect("abort") as channel:
             channel.do(calls.device_abort(link.number))
 
@@ -195,10 +202,15 @@ class Meter:
             return self.connections[number]
 
     def drop(self, connection: Connection) -> None:
-        """Ends a connection: its links end, and its calls that wait get no reply."""
+        """Ends a connection: its links end, and its calls that wait get no reply. If the program ended before,
+        nothing is left to do.
+        """
         with self.guard:
+            if not connection.is_open:
+                return
             self._gone(connection, ConnectionError("the connection was closed"))
-            self._perform(b"close c%d\n" % connection.number)
+            with contextlib.suppress(ProgramError):
+                self._perform(b"close c%d\n" % connection.number)
             self._deliver()
 
     def drop_channel(self, connection: Connection) -> None:
@@ -289,8 +301,7 @@ class Meter:
     def send(self, connection: Connection, pending: Pending[object]) -> None:
         """Sends a call on a connection."""
         with self.guard:
-            if not connection.is_open:
-                raise ConnectionError("the connection is closed")
+            connection.check_open()
             connection.pending.append(pending)
             hexadecimal = pending.call.encode(pending.xid).hex().encode()
             first = len(connection.pending) == 1

@@ -1,5 +1,6 @@
 """The fixtures of the plugin, each used by tests that pytest runs on its own."""
 import pathlib
+import re
 from importlib.util import find_spec
 
 import pytest
@@ -8,6 +9,7 @@ from scanvolt import __version__
 from scanvolt.program import find_program
 
 TOP = pathlib.Path(__file__).resolve().parent.parent
+PIECES = re.findall(r"```python\n(.*?)```", TOP.joinpath("README.md").read_text(), re.DOTALL)
 PLUGIN = ("-p", "scanvolt.pytest_plugin")
 BOTH = """
     import pytest
@@ -41,6 +43,14 @@ def test_both_fixtures(pytester: pytest.Pytester) -> None:
     pytester.makefile("", voltages="0 input 1 2500000\n")
     pytester.makepyfile(BOTH)
     pytester.runpytest_subprocess(*PLUGIN, "--strict-markers").assert_outcomes(passed=9)
+
+
+def test_the_readme(pytester: pytest.Pytester) -> None:
+    """The piece with pytest in README.md, as it stands there, beside the scenario that it names."""
+    piece, = (piece for piece in PIECES if "import pytest" in piece)
+    pytester.path.joinpath("stand.scenario").write_text("0 input 1 1250000\n")
+    pytester.makepyfile(piece)
+    pytester.runpytest_subprocess(*PLUGIN, "--strict-markers").assert_outcomes(passed=2)
 
 
 @pytest.mark.skipif(find_spec("xdist") is None, reason="Debian's python3-pytest-xdist isn't there")

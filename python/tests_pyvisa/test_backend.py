@@ -368,15 +368,6 @@ class Others(WithResource):
         self.assertRaisesRegex(ProgramError, "ended by signal 9", self.resource.read_stb)
         self.error(StatusCode.error_connection_lost, self.resource.read_stb)
 
-    def test_the_readme(self) -> None:
-        """The piece with PyVISA in README.md does what README.md says."""
-        text = pathlib.Path(__file__).resolve().parent.parent.joinpath("README.md").read_text()
-        piece = text.split("```python\n")[3].split("```")[0]
-        self.manager.close()
-        with mock.patch("builtins.print") as printed:
-            exec(compile(piece, "README.md", "exec"), {})
-        printed.assert_called_once_with("+1.250000")
-
     def test_no_program(self) -> None:
         with mock.patch.dict(os.environ, SCANVOLT="/nonexistent"):
             self.assertRaisesRegex(ProgramError, "names no program", self.open, "TCPIP::scanvolt3")

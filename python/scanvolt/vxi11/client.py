@@ -34,6 +34,7 @@ class Channel:
             connected = socket.create_connection((host, port), patience)
             connected.setsockopt(socket.IPPROTO_TCP, socket.TCP_NODELAY, 1)
         self.socket = connected
+        self.is_open = True
         self.xid = 0
         self.records = Records()
         self.turn = threading.Lock()
@@ -45,12 +46,19 @@ class Channel:
         self.close()
 
     def close(self) -> None:
-        """Closes the connection; the instrument destroys its links."""
+        """Closes the connection; the instrument destroys its links. After that, each call raises ConnectionError."""
+        self.is_open = False
         self.socket.close()
+
+    def check_open(self) -> None:
+        """Raises ConnectionError if the connection is closed."""
+        if not self.is_open:
+            raise ConnectionError("the connection is closed")
 
     def do(self, call: Call[Value]) -> Value:
         """Makes a call, and waits for its result."""
         with self.turn:
+            self.check_open()
             self.xid = (self.xid + 1) % 2 ** 32
             try:
                 self.socket.settimeout(self.patience + call.wait / 1000)
@@ -105,11 +113,13 @@ class Client(Channel, Core):
         """Aborts the call that waits on a link. It uses a connection of its own, so it doesn't wait for other
         calls.
         """
+        self.check_open()
         with Channel(self.host, link.abort_port, self.patience) as channel:
             channel.do(calls.device_abort(link.number))
 
     def listen(self, callback: Optional[Callback] = None) -> "ServiceRequests":
         """Makes the interrupt channel. Service requests go to the callback, in a thread, or else into a queue."""
+        self.check_open()
         address = self.socket.getsockname()[0]
         requests = ServiceRequests(address, callback)
         try:

@@ -9,9 +9,11 @@ Value = TypeVar("Value")
 
 
 class Core:
-    """The links and the interrupt channel of a connection. A subclass says how a call is made, and how one is
-    aborted.
+    """The links and the interrupt channel of a connection. A subclass says how a call is made, how one is
+    aborted, and whether the connection is open.
     """
+
+    is_open: bool
 
     def do(self, call: Call[Value]) -> Value:
         """Makes a call, and waits for its result."""

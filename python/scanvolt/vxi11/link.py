@@ -14,7 +14,9 @@ READ_SIZE = 65536       # bytes that one device_read asks for
 
 
 class Carrier(Protocol):
-    """What carries calls: a socket, or a connection in virtual time."""
+    """What carries calls: a socket, or a connection in virtual time. `is_open` is false once it has ended."""
+
+    is_open: bool
 
     def do(self, call: Call[Value]) -> Value:
         """Makes a call of the core channel, and waits for its result."""
@@ -71,7 +73,8 @@ class LinkCalls:
 
 
 class Link:
-    """A link to an instrument. `destroy` ends it, and so does the end of a `with` block.
+    """A link to an instrument. `destroy` ends it, and so does the end of a `with` block. What was raised in the
+    block comes out of it as it was raised.
 
     io_timeout and lock_timeout are in milliseconds, and may be set at any time. If another link has the lock, a
     call waits for it if lock_timeout is above 0 (flag waitlock); else it returns error 11 at once. All methods
@@ -93,11 +96,11 @@ class Link:
 
     def __exit__(self, kind: Optional[Type[BaseException]], *_: object) -> None:
         try:
-            self.destroy()
-        except ConnectionError:                         # the link ended with the connection
-            pass
-        except DeviceError as fault:
-            if kind is None and fault.number != INVALID_LINK:
+            if self.carrier.is_open:                    # else the link ended with the connection
+                self.destroy()
+        except Exception as fault:                      # it doesn't hide what was raised in the block
+            ended = isinstance(fault, DeviceError) and fault.number == INVALID_LINK
+            if kind is None and self.carrier.is_open and not ended:
                 raise
 
     @property
