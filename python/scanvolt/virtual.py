@@ -7,13 +7,12 @@ program computes, and always ends in the same way.
 import collections
 import contextlib
 import functools
-import math
 import queue
 import threading
-import time
-from typing import Callable, Deque, Dict, Generic, Iterator, List, Optional, Type, TypeVar, cast
+from typing import Callable, ContextManager, Deque, Dict, Generic, List, Optional, Type, TypeVar, cast
 
 from . import vxi11
+from .keeping_time import keeping_time
 from .program import Name, ProgramError, find_program
 from .replay import Replay
 from .stimulus import Entry, Volts, input_line, read_scenario
@@ -21,12 +20,13 @@ from .vxi11 import Link, RequestStream, ServiceRequest, calls
 from .vxi11.calls import Call
 from .vxi11.core import Core
 from .vxi11.rpc import Records
+from .vxi11.timeouts import Milliseconds
+from .vxi11.timeouts import milliseconds as checked
 
 Value = TypeVar("Value")
 Itself = TypeVar("Itself", bound="Connection")
 Callback = Callable[[ServiceRequest], object]
 ROLES = ("core", "abort", "portmap")
-CLOCKS = ("time", "monotonic", "perf_counter")      # of Python's module time
 PLACES = 16             # connections that the instrument has room for
 PATIENCE = 600000       # milliseconds of virtual time that a call may wait
 
@@ -52,12 +52,16 @@ class Pending(Generic[Value]):
         """Whether the call was answered, or its connection ended."""
         return self.clock is not None
 
-    def result(self) -> Value:
-        """Advances time until the call is answered. Returns its result, or raises the exception of its error."""
+    def wait(self) -> None:
+        """Advances time until the call is answered, or its connection ended."""
         meter = self.connection.meter
         if not meter.until(lambda: self.done, meter.patience):
             raise NoAnswer("%s waits for more than %d ms of virtual time; see patience of Meter" % (
                 self.call.name, meter.patience))
+
+    def result(self) -> Value:
+        """Advances time until the call is answered. Returns its result, or raises the exception of its error."""
+        self.wait()
         if self.fault is not None:
             raise self.fault
         return self.call.answer(self.body, self.xid)
@@ -80,8 +84,9 @@ class Requests:
         """The next service request of the queue. Advances time until there is one. Raises TimeoutError after
         this many milliseconds.
         """
-        if not self.connection.meter.until(lambda: not self.queue.empty(), milliseconds):
-            raise TimeoutError("no service request within %d ms of virtual time" % milliseconds)
+        most = checked(milliseconds, "wait")
+        if not self.connection.meter.until(lambda: not self.queue.empty(), most):
+            raise TimeoutError("no service request within %d ms of virtual time" % most)
         return self.queue.get_nowait()
 
     def close(self) -> None:
@@ -130,8 +135,12 @@ class Connection(Core):
             return pending
 
     def do(self, call: Call[Value]) -> Value:
-        """Makes a call: advances time until it is answered."""
-        return self.start(call).result()
+        """Makes a call: advances time until it is answered, and then by the meter's call_time."""
+        pending = self.start(call)
+        pending.wait()
+        if pending.fault is None:
+            self.meter.advance(self.meter.call_time)
+        return pending.result()
 
     def abort(self, link: Link) -> None:
         """Aborts the call that waits on a link, over an abort channel of its own."""
@@ -157,17 +166,23 @@ class Meter:
 
     `program` is the path of the program; without it, `find_program` finds one. `scenario` is a file of
     voltages and external triggers, as `scanvolt serve` takes it. `patience` is how many milliseconds of virtual
-    time a call may wait before NoAnswer is raised. Threads may share a meter. Which of them comes first depends
-    on the machine, and a call that waits doesn't wait for what another thread is about to do.
+    time a call may wait before NoAnswer is raised. `call_time` is how many milliseconds each call of a connection or
+    a link takes, besides those that it waits; calls by `start` take none. Both may be set at any time. Threads may
+    share a meter. Which of them comes first depends on the machine, and a call that waits doesn't wait for what
+    another thread is about to do.
     """
 
+    patience = Milliseconds()
+    call_time = Milliseconds()
+
     def __init__(self, program: Optional[Name] = None, scenario: Optional[Name] = None,
-                 patience: int = PATIENCE) -> None:
+                 patience: int = PATIENCE, call_time: int = 0) -> None:
+        self.patience, self.call_time = patience, call_time
         entries = [] if scenario is None else read_scenario(scenario)
         self.ahead: Deque[Entry] = collections.deque(entries)
-        self.patience = patience
         self.clock = 0                  # milliseconds since the instrument was turned on
         self.dials = True               # whether the dialing of an interrupt channel succeeds
+        self.sent = self.handed = 0     # calls that were sent, and service requests that were handed on
         self.connections: Dict[int, Connection] = {}
         self.deliveries: "Deque[Callable[[], object]]" = collections.deque()
         self.guard = threading.RLock()
@@ -239,13 +254,11 @@ class Meter:
 
     def advance(self, milliseconds: int) -> None:
         """Lets this much time pass. Service requests are handed on at their millisecond."""
-        if milliseconds < 0:
-            raise ValueError("time doesn't go back: %d ms" % milliseconds)
-        self.until(lambda: False, milliseconds)
+        self.until(lambda: False, checked(milliseconds, "advance"))
 
     def until(self, holds: Callable[[], bool], most: int) -> bool:
         """Lets time pass until this holds, but at most this many milliseconds. Returns whether it holds then."""
-        end = self.clock + most
+        end = self.clock + checked(most, "until")
         while True:
             with self.guard:
                 if holds():
@@ -254,33 +267,26 @@ class Meter:
                     return False
                 self._pass(end - self.clock)
 
-    @contextlib.contextmanager
-    def keeping_time(self) -> Iterator["Meter"]:
-        """Makes Python's clock the meter's, for the thread that enters this: time.sleep advances the meter, and
-        time.time, time.monotonic and time.perf_counter advance from where they are by the time that passes in the
-        meter. So a driver that sleeps between its polls takes no real time. Only calls written as `time.sleep` do
-        so: a name that was imported from `time` keeps the real clock.
+    def keeping_time(self) -> ContextManager["Meter"]:
+        """Makes Python's time the meter's, for the thread that enters this `with` block; other threads keep real time.
+
+        time.sleep, asyncio.sleep, and waits with a timeout (Event, Condition, Semaphore, queue.Queue) advance the meter; a
+        wait ends early if a callback of a service request ends it. time.time, monotonic and perf_counter, also in
+        nanoseconds, advance from where they are by the time that passes in the meter. So a driver that waits takes
+        no real time.
+
+        What the meter's time can't end raises NeverEnds: a clock that is read ten thousand times in a row while no time
+        passes, and a wait without a timeout, which no service request and no other thread ends.
+
+        Some times stay real: datetime.datetime.now, time.localtime, queue.SimpleQueue, locks, sockets, Thread.join,
+        and names that were imported from `time`, as by `from time import sleep`.
         """
-        thread, begin = threading.get_ident(), self.clock
+        return keeping_time(self)
 
-        def own(real: Callable[..., object], virtual: Callable[..., object]) -> Callable[..., object]:
-            return lambda *given: (virtual if threading.get_ident() == thread else real)(*given)
-
-        def going_on(since: float) -> Callable[[], float]:
-            return lambda: since + (self.clock - begin) / 1000
-
-        virtual: Dict[str, Callable[..., object]] = {name: going_on(getattr(time, name)()) for name in CLOCKS}
-        virtual["sleep"] = self._sleep
-        with contextlib.ExitStack() as stack:
-            for name, clock in virtual.items():
-                real = getattr(time, name)
-                stack.callback(setattr, time, name, real)
-                setattr(time, name, own(real, clock))
-            yield self
-
-    def _sleep(self, seconds: float) -> None:
-        """Lets this much time pass, in whole milliseconds: rounded up, so that a loop that sleeps comes to an end."""
-        self.advance(math.ceil(round(1000 * seconds, 3)))
+    @property
+    def has_channel(self) -> bool:
+        """Whether there is an interrupt channel: if not, nothing happens on this side while time passes."""
+        return any(one.has_channel for one in self.connections.values())
 
     def _pass(self, most: int) -> None:
         """Lets at most this many milliseconds pass, and no more than up to the first at which something
@@ -302,6 +308,7 @@ class Meter:
         """Sends a call on a connection."""
         with self.guard:
             connection.check_open()
+            self.sent += 1
             connection.pending.append(pending)
             hexadecimal = pending.call.encode(pending.xid).hex().encode()
             first = len(connection.pending) == 1
@@ -408,6 +415,7 @@ class Meter:
 
     def _hand(self, connection: Connection, request: ServiceRequest) -> None:
         """Hands on a service request."""
+        self.handed += 1
         if connection.requests.callback is None:
             connection.requests.queue.put(request)
         else:

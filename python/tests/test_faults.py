@@ -140,7 +140,7 @@ class NothingLeft(unittest.TestCase):
         text = ("import signal\nsignal.signal(signal.SIGINT, signal.default_int_handler)\n"
                 "from scanvolt.virtual import Meter\nmeter = Meter()\n"
                 "print(meter.replay.program.process.pid, flush=True)\n") + (
-                    "meter.connect()\nmeter.advance(10 ** 12)\n" if how else "")
+                    "meter.connect()\nmeter.advance(2 ** 32 - 1)\n" if how else "")
         child = subprocess.Popen([sys.executable, "-c", text], stdout=subprocess.PIPE,
                                  stderr=subprocess.DEVNULL, cwd=TOP, text=True)
         assert child.stdout is not None

@@ -1,0 +1,234 @@
+"""Python's clocks and waits by the time of a meter, for the thread that enters `keeping_time`.
+
+All else uses this through `Meter.keeping_time`. While any thread is within such a block, Python's clocks, `time.sleep`,
+`threading.Condition.wait` (which Event, Semaphore and Queue use) and the selectors of asyncio's loops are replaced by
+functions that go by the meter for the threads within, and by real time for all others.
+"""
+import contextlib
+import functools
+import math
+import queue
+import selectors
+import sys
+import threading
+import time
+from types import FrameType
+from typing import TYPE_CHECKING, Any, Callable, Dict, Iterator, List, Optional, Tuple
+
+if TYPE_CHECKING:
+    from .virtual import Meter
+
+CLOCKS = ("time", "monotonic", "perf_counter")  # of Python's module time; each also in nanoseconds, with _ns
+SELECTORS = ("SelectSelector", "PollSelector", "EpollSelector", "DevpollSelector", "KqueueSelector")
+READS_MOST = 10000      # times that a clock may be read in a row, without a call and without time that passes
+POLLS_MOST = 100000     # the same, with calls
+SLICE, SLICES = 0.1, 600    # a wait without a timeout waits so often so many seconds of real time for other threads
+ENDLESS = 2 ** 32       # milliseconds; a longer timeout is none
+HELP = "Let the loop sleep between its polls (time.sleep), or let each call take time: Meter(call_time=1)"
+
+
+class NeverEnds(RuntimeError):
+    """A loop or a wait in `keeping_time` that the meter's time can't end."""
+
+
+def whole(seconds: float) -> int:
+    """Seconds in whole milliseconds: rounded up, so that a loop that sleeps comes to an end."""
+    return max(1, math.ceil(round(1000 * seconds, 3))) if seconds > 0 else 0
+
+
+class Keeper:
+    """What the functions do in a thread within a block: they advance this meter, or read its clock."""
+
+    def __init__(self, meter: "Meter") -> None:
+        self.meter = meter
+        self.begin = meter.clock
+        self.since: Dict[str, int] = {name: getattr(time, name + "_ns")() for name in CLOCKS}
+        self.is_real = False        # whether waits are real now
+        self.seen = (meter.clock, meter.sent)
+        self.reads = self.polls = 0
+
+    def read(self, name: str) -> int:
+        """The clock of this name, in nanoseconds. Raises NeverEnds if it is read too often while no time passes."""
+        self.idle()
+        return self.since[name] + (self.meter.clock - self.begin) * 10 ** 6
+
+    def idle(self) -> None:
+        """Counts something that a loop does while no time passes. Raises NeverEnds if that is too often."""
+        clock, sent = self.meter.clock, self.meter.sent
+        if clock != self.seen[0]:
+            self.reads = self.polls = 0
+        elif sent != self.seen[1]:
+            self.reads = 0
+        self.seen = clock, sent
+        self.reads += 1
+        self.polls += 1
+        if self.reads > READS_MOST or self.polls > POLLS_MOST:
+            count, self.reads, self.polls = max(self.reads, self.polls) - 1, 0, 0
+            raise NeverEnds("the clock was read %d times at %d ms of the meter's clock, and no time passed: time "
+                            "passes only in calls that wait. %s" % (count, clock, HELP))
+
+    def sleep(self, seconds: float) -> None:
+        """Lets this much time pass."""
+        if seconds < 0:
+            raise ValueError("sleep length must be non-negative")
+        if seconds == 0:
+            self.idle()
+        self.meter.advance(whole(seconds))
+
+    def start(self, real: Callable[..., object], thread: threading.Thread) -> None:
+        """Starts a thread, and waits really until it runs."""
+        before, self.is_real = self.is_real, True
+        try:
+            real(thread)
+        finally:
+            self.is_real = before
+
+    def wait(self, real: Callable[..., object], condition: Any, timeout: Optional[float] = None) -> object:
+        """Lets time pass until the condition is notified, or its timeout is over. Returns whether it was notified."""
+        if self.is_real or not condition._is_owned():
+            return real(condition, timeout)
+        with released(condition) as waiter:
+            if timeout is None or whole(timeout) >= ENDLESS:
+                return self._endless(lambda: not waiter.locked(), lambda: waiter.acquire(timeout=SLICE))
+            if timeout <= 0:
+                self.idle()
+            return self.meter.until(lambda: not waiter.locked(), whole(timeout))
+
+    def select(self, real: Callable[..., List[object]], selector: Any, timeout: Optional[float] = None) -> List[object]:
+        """Lets time pass until a file of a loop is ready, a service request was handed on, or the timeout is over."""
+        if not is_of_loop(selector):
+            return real(selector, timeout)
+        found, handed = real(selector, 0), self.meter.handed
+
+        def ready() -> bool:
+            found.extend(real(selector, 0))
+            return bool(found) or self.meter.handed != handed
+
+        def ready_really() -> bool:
+            found.extend(real(selector, SLICE))
+            return bool(found)
+
+        if found:
+            return found
+        if timeout is None:
+            self._endless(ready, ready_really, len(selector.get_map()) > 1)     # a loop has one file of its own
+        else:
+            self.meter.until(ready, whole(timeout))
+        return found
+
+    def _endless(self, holds: Callable[[], bool], really: Callable[[], bool], has_files: bool = False) -> bool:
+        """Waits without a timeout: lets time pass if a service request may end the wait, and then waits for what
+        else may end it, in real time. `really` does so for a short while. Returns true, or raises NeverEnds.
+        """
+        if self.meter.has_channel and self.meter.until(holds, self.meter.patience):
+            return True
+        for _ in range(SLICES):
+            if holds():
+                return True
+            if not (has_files or others()):
+                break
+            if really():
+                return True
+        raise NeverEnds("a wait without a timeout at %d ms of the meter's clock: nothing ends it, neither in the "
+                        "meter's time nor in another thread. Give it a timeout" % self.meter.clock)
+
+
+@contextlib.contextmanager
+def released(condition: Any) -> "Iterator[threading.Lock]":
+    """Does what Condition.wait does around its waiting: frees the condition's lock, and takes it again at the end.
+    The lock that this yields is free as soon as the condition was notified.
+    """
+    waiter = threading.Lock()
+    waiter.acquire()
+    condition._waiters.append(waiter)
+    saved = condition._release_save()
+    try:
+        yield waiter
+    finally:
+        condition._acquire_restore(saved)
+        with contextlib.suppress(ValueError):       # notify removed it
+            condition._waiters.remove(waiter)
+
+
+def others() -> bool:
+    """Whether another thread runs that may end a wait of this one: one that doesn't wait for the end of this one."""
+    own, frames = threading.current_thread(), sys._current_frames()
+    return any(one is not own and not joins(frames.get(one.ident or 0), own) for one in threading.enumerate())
+
+
+def joins(frame: Optional[FrameType], thread: threading.Thread) -> bool:
+    """Whether a frame is in Thread.join, of this thread."""
+    return (frame is not None and frame.f_code.co_filename == threading.__file__
+            and frame.f_code.co_name in ("join", "_wait_for_tstate_lock") and frame.f_locals.get("self") is thread)
+
+
+def is_of_loop(selector: object) -> bool:
+    """Whether the selector is that of the asyncio loop that runs in this thread."""
+    asyncio = sys.modules.get("asyncio")
+    loop = None if asyncio is None else asyncio._get_running_loop()
+    return loop is not None and getattr(loop, "_selector", None) is selector
+
+
+def reads(name: str, in_seconds: bool = True) -> Callable[..., float]:
+    """What reads a clock, in seconds or in nanoseconds."""
+    def read(keeper: Keeper, _real: object) -> float:
+        nanoseconds = keeper.read(name)
+        return nanoseconds / 10 ** 9 if in_seconds else nanoseconds
+    return read
+
+
+def replaced() -> Iterator[Tuple[object, str, Callable[..., object]]]:
+    """What is replaced: where, by which name, and what does it for the threads within a block."""
+    for name in CLOCKS:
+        yield time, name, reads(name)
+        yield time, name + "_ns", reads(name, False)
+    yield time, "sleep", lambda keeper, _real, seconds: keeper.sleep(seconds)
+    yield threading.Condition, "wait", Keeper.wait
+    yield threading.Thread, "start", Keeper.start
+    yield threading, "_time", reads("monotonic")     # these modules imported time.monotonic by another name
+    yield queue, "time", reads("monotonic")
+    kinds = [vars(selectors)[name] for name in SELECTORS if name in vars(selectors)]
+    for kind in {next(one for one in kind.__mro__ if "select" in vars(one)) for kind in kinds}:
+        yield kind, "select", Keeper.select
+
+
+keepers: Dict[int, List[Keeper]] = {}       # of each thread that is within blocks; the last is of the innermost
+guard = threading.Lock()
+put_back = contextlib.ExitStack()
+
+
+def choosing(real: Callable[..., object], virtual: Callable[..., object]) -> Callable[..., object]:
+    """A function that is virtual for the threads within a block."""
+    @functools.wraps(real)
+    def chosen(*given: object, **named: object) -> object:
+        own = keepers.get(threading.get_ident())
+        return virtual(own[-1], real, *given, **named) if own else real(*given, **named)
+    return chosen
+
+
+def replace() -> None:
+    """Replaces the functions."""
+    for where, name, virtual in replaced():
+        real = getattr(where, name, None)
+        if real is not None:
+            put_back.callback(setattr, where, name, real)
+            setattr(where, name, choosing(real, virtual))
+
+
+@contextlib.contextmanager
+def keeping_time(meter: "Meter") -> Iterator["Meter"]:
+    """Within this block, the time of the thread that enters it is the meter's: see Meter.keeping_time."""
+    thread, keeper = threading.get_ident(), Keeper(meter)
+    with guard:
+        if not keepers:
+            replace()
+        keepers.setdefault(thread, []).append(keeper)
+    try:
+        yield meter
+    finally:
+        with guard:
+            keepers[thread].remove(keeper)
+            if not keepers[thread]:
+                del keepers[thread]
+            if not keepers:
+                put_back.close()
