@@ -7,6 +7,7 @@ from pyvisa.constants import StatusCode
 
 from .statuses import Refusal
 
+__tracebackhide__ = True        # pytest shows the line that calls the package, and not these frames
 LONGEST = 0xFFFFFFFF        # VI_TMO_INFINITE
 SPEC_VERSION = 0x00500800   # 5.8
 IMPL_VERSION = 0x00200000   # 2.0

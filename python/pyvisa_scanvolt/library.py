@@ -13,6 +13,7 @@ from . import attributes
 from .session import Session
 from .statuses import FAULTS, Refusal, status_of
 
+__tracebackhide__ = True        # pytest shows the line that calls the package, and not these frames
 Value = TypeVar("Value")
 HOST = re.compile(r"scanvolt[0-9a-z_.-]*", re.IGNORECASE)
 FIRST = "TCPIP0::scanvolt::inst0::INSTR"        # is always listed

@@ -15,6 +15,7 @@ from scanvolt.vxi11.errors import LOCKED
 from . import attributes
 from .statuses import Refusal
 
+__tracebackhide__ = True        # pytest shows the line that calls the package, and not these frames
 Handler = Callable[[int, EventType, int, Any], object]
 QUEUE, HANDLER, SUSPENDED = EventMechanism.queue, EventMechanism.handler, EventMechanism.suspend_handler
 LOCAL = (constants.RENLineOperation.deassert, constants.RENLineOperation.deassert_gtl,

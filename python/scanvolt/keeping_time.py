@@ -18,6 +18,7 @@ from typing import TYPE_CHECKING, Any, Callable, Dict, Iterator, List, Optional,
 if TYPE_CHECKING:
     from .virtual import Meter
 
+__tracebackhide__ = True        # pytest shows the line that calls the package, and not these frames
 CLOCKS = ("time", "monotonic", "perf_counter")  # of Python's module time; each also in nanoseconds, with _ns
 SELECTORS = ("SelectSelector", "PollSelector", "EpollSelector", "DevpollSelector", "KqueueSelector")
 READS_MOST = 10000      # times that a clock may be read in a row, without a call and without time that passes

@@ -13,6 +13,7 @@ from typing import Iterator, List, Optional, Tuple
 
 from .program import ProgramError, check_fits
 
+__tracebackhide__ = True        # pytest shows the line that calls the package, and not these frames
 PROBE, SEEN = b"input 255 0\n", b"refused 8\n"
 PATIENCE = 60.0             # seconds that the program may take to answer
 PIECE = 30000               # bytes of lines that are written at once; a pipe holds 65,536

@@ -7,6 +7,7 @@ from typing import List, Optional, Tuple, Union
 
 from .foreign import without_additions
 
+__tracebackhide__ = True        # pytest shows the line that calls the package, and not these frames
 CHANNELS = 128
 MOST_MICROVOLTS = 10 ** 9
 LONGEST_LINE = 65536        # bytes

@@ -16,13 +16,14 @@ from .keeping_time import keeping_time
 from .program import Name, ProgramError, find_program
 from .replay import Replay
 from .stimulus import Entry, Volts, input_line, read_scenario
-from .vxi11 import Link, RequestStream, ServiceRequest, calls
+from .vxi11 import DeviceError, Link, RequestStream, ServiceRequest, calls
 from .vxi11.calls import Call
 from .vxi11.core import Core
 from .vxi11.rpc import Records
 from .vxi11.timeouts import Milliseconds
 from .vxi11.timeouts import milliseconds as checked
 
+__tracebackhide__ = True        # pytest shows the line that calls the package, and not these frames
 Value = TypeVar("Value")
 Itself = TypeVar("Itself", bound="Connection")
 Callback = Callable[[ServiceRequest], object]
@@ -47,6 +48,12 @@ class Pending(Generic[Value]):
         self.body = b""
         self.fault: Optional[Exception] = None
 
+    def __repr__(self) -> str:
+        told = "not answered" if self.clock is None else "answered at %d ms" % self.clock
+        if self.fault is not None:
+            told = "ended at %d ms: %s" % (self.clock or 0, self.fault)
+        return "<Pending %s, %s>" % (self.call, told)
+
     @property
     def done(self) -> bool:
         """Whether the call was answered, or its connection ended."""
@@ -64,7 +71,12 @@ class Pending(Generic[Value]):
         self.wait()
         if self.fault is not None:
             raise self.fault
-        return self.call.answer(self.body, self.xid)
+        try:
+            return self.call.answer(self.body, self.xid)
+        except DeviceError as fault:
+            assert self.clock is not None and self.turned is not None
+            fault.waited, fault.clock = self.clock - self.turned, self.clock
+            raise
 
     def end(self, clock: int, body: bytes = b"", fault: Optional[Exception] = None) -> None:
         """Ends the call: it was answered, or can't be any more."""
@@ -109,6 +121,12 @@ class Connection(Core):
         self.records = Records()
         self.pending: "Deque[Pending[object]]" = collections.deque()
         self.requests = Requests(self)
+
+    def __repr__(self) -> str:
+        return "<Connection %d, %s%s>" % (self.number, self.role, "" if self.is_open else ", closed")
+
+    def __str__(self) -> str:
+        return "connection %d" % self.number
 
     def __enter__(self: Itself) -> Itself:
         return self
@@ -190,6 +208,17 @@ class Meter:
         with self.guard:
             self._play()
 
+    def __repr__(self) -> str:
+        if not self.is_open:
+            return "<Meter, closed at %d ms>" % self.clock
+        count = len(self.connections)
+        return "<Meter at %d ms, %d connection%s>" % (self.clock, count, "" if count == 1 else "s")
+
+    @property
+    def is_open(self) -> bool:
+        """Whether the program runs: it wasn't ended on this side, nor found to have ended."""
+        return self.replay.program.close.alive
+
     def __enter__(self) -> "Meter":
         return self
 
@@ -270,10 +299,10 @@ class Meter:
     def keeping_time(self) -> ContextManager["Meter"]:
         """Makes Python's time the meter's, for the thread that enters this `with` block; other threads keep real time.
 
-        time.sleep, asyncio.sleep, and waits with a timeout (Event, Condition, Semaphore, queue.Queue) advance the meter; a
-        wait ends early if a callback of a service request ends it. time.time, monotonic and perf_counter, also in
-        nanoseconds, advance from where they are by the time that passes in the meter. So a driver that waits takes
-        no real time.
+        time.sleep, asyncio.sleep, and waits with a timeout (Event, Condition, Semaphore, queue.Queue) advance the
+        meter; a wait ends early if a callback of a service request ends it. time.time, monotonic and perf_counter,
+        also in nanoseconds, advance from where they are by the time that passes in the meter. So a driver that
+        waits takes no real time.
 
         What the meter's time can't end raises NeverEnds: a clock that is read ten thousand times in a row while no time
         passes, and a wait without a timeout, which no service request and no other thread ends.

@@ -73,6 +73,50 @@ def test_the_head(pytester: pytest.Pytester, monkeypatch: pytest.MonkeyPatch) ->
         "scanvolt: %s, no program: SCANVOLT names no program: /nonexistent/scanvolt" % __version__])
 
 
+def test_what_a_failure_shows(pytester: pytest.Pytester) -> None:
+    """The last line shown is the test's, with the error, and no frame of the package."""
+    pytester.makepyfile("""
+        from scanvolt.vxi11 import Client
+
+        def test_timeout(meter):
+            link = meter.connect().create_link(io_timeout=2000)
+            link.query("TRIG:SOUR EXT;:INIT;*OPC?")
+
+        def test_milliseconds(meter):
+            meter.connect().create_link().io_timeout = 0.5
+
+        def test_voltage(meter):
+            meter.set_input(1, "volts")
+
+        def test_client(scanvolt_server):
+            client = Client(port=scanvolt_server.core)
+            client.close()
+            client.create_link()
+
+        def test_time(meter):
+            import time
+            with meter.keeping_time():
+                while True:
+                    time.monotonic()
+
+        def test_died(meter):
+            meter.replay.program.process.kill()
+            meter.advance(1)
+    """)
+    result = pytester.runpytest_subprocess(*PLUGIN)
+    result.assert_outcomes(failed=6)
+    result.stdout.fnmatch_lines([
+        ">       link.query(*", "E       *DeviceError: device_read on link 1: I/O timeout (15), after 2000 ms, at 2000 *",
+        ">       meter.connect().create_link().io_timeout = 0.5", "E       TypeError: io_timeout wants milliseconds*",
+        ">       meter.set_input*", "E       ValueError: no voltage: 'volts'",
+        ">       client.create_link()", "E       ConnectionError: the connection is closed: 127.0.0.1:*",
+        ">               time.monotonic()*", "E               scanvolt.keeping_time.NeverEnds: *",
+        ">       meter.advance(1)", "E       scanvolt.program.ProgramError: the program ended by signal 9"])
+    places = [line.partition(":")[0] for line in result.outlines if re.match(r"\S+\.py:\d+:", line)]
+    assert places == ["test_what_a_failure_shows.py"] * 6
+    result.stdout.no_fnmatch_line("*During handling*")
+
+
 def test_no_program(pytester: pytest.Pytester, monkeypatch: pytest.MonkeyPatch) -> None:
     """One line says what is missing."""
     monkeypatch.setenv("SCANVOLT", "/nonexistent/scanvolt")

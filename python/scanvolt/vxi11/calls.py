@@ -1,15 +1,17 @@
 """The calls of VXI-11 (revision 1.0, B.6), and GETPORT, SET and UNSET of the port mapper (RFC 1833, section 3).
 
 Each function returns a Call: its program, version, procedure and arguments, and how its result is read.
-Timeouts are in milliseconds. `wait` is how long a call may take by its own timeouts, in milliseconds.
+Timeouts are whole milliseconds (timeouts.py). `wait` is how long a call may take by its own timeouts.
 """
 from dataclasses import dataclass
-from typing import Callable, Generic, Optional, TypeVar
+from typing import Callable, Generic, Optional, Tuple, TypeVar
 
-from .errors import DeviceError
+from .errors import IO_TIMEOUT, LOCKED, DeviceError
 from .rpc import BadReply, encode_call, read_reply
+from .timeouts import milliseconds
 from .xdr import Reader, XdrError, opaque, words
 
+__tracebackhide__ = True        # pytest shows the line that calls the package, and not these frames
 CORE, ABORT, INTERRUPT, PORT_MAPPER = 0x0607AF, 0x0607B0, 0x0607B1, 100000
 VERSIONS = {CORE: 1, ABORT: 1, INTERRUPT: 1, PORT_MAPPER: 2}
 
@@ -67,6 +69,13 @@ class Call(Generic[Value]):
         """The call as a record."""
         return encode_call(xid, self.program, self.version, self.procedure, self.arguments)
 
+    def __str__(self) -> str:
+        return self.name
+
+    def timeout(self, number: int) -> Optional[int]:
+        """The timeout after which the call ends with this error. None if it isn't an error of a timeout."""
+        return self.wait if number in (LOCKED, IO_TIMEOUT) else None
+
     def answer(self, body: bytes, xid: int) -> Value:
         """The result in a reply, given the record's bytes. Raises DeviceError for an error, and the RpcError of
         a call that was refused.
@@ -76,6 +85,24 @@ class Call(Generic[Value]):
             return self.read(result)
         except XdrError as fault:
             raise BadReply("the result of %s can't be read: %s" % (self.name, fault)) from None
+        except DeviceError as fault:
+            fault.call, fault.timeout = str(self), self.timeout(fault.number)
+            raise
+
+
+@dataclass(frozen=True)
+class LinkCall(Call[Value]):
+    """A call of a link, with its timeouts."""
+
+    link: int = 0
+    io_timeout: int = 0
+    lock_timeout: int = 0
+
+    def __str__(self) -> str:
+        return "%s on link %d" % (self.name, self.link)
+
+    def timeout(self, number: int) -> Optional[int]:
+        return {LOCKED: self.lock_timeout, IO_TIMEOUT: self.io_timeout}.get(number)
 
 
 @dataclass(frozen=True)
@@ -163,6 +190,11 @@ def _flags(lock_timeout: int) -> int:
     return WAITLOCK if lock_timeout > 0 else 0
 
 
+def _checked_timeouts(io_timeout: int, lock_timeout: int) -> Tuple[int, int]:
+    """The timeouts of a call, if they may be such."""
+    return milliseconds(io_timeout, "io_timeout"), milliseconds(lock_timeout, "lock_timeout")
+
+
 def null(program: int = CORE) -> Call[None]:
     """Does nothing, and is answered."""
     return Call(program, NULL, b"", _nothing)
@@ -171,6 +203,7 @@ def null(program: int = CORE) -> Call[None]:
 def create_link(device: str = "inst0", lock: bool = False, lock_timeout: int = 0,
                 client: int = 0) -> Call[Made]:
     """Makes a link. With `lock` the link has the lock, for which the call waits up to lock_timeout."""
+    lock_timeout = milliseconds(lock_timeout, "lock_timeout")
     arguments = words(client, lock, lock_timeout) + opaque(device.encode("latin-1"))
     return Call(CORE, CREATE_LINK, arguments, _made, lock_timeout if lock else 0)
 
@@ -178,86 +211,91 @@ def create_link(device: str = "inst0", lock: bool = False, lock_timeout: int = 0
 def device_write(link: int, data: bytes, io_timeout: int, lock_timeout: int = 0,
                  end: bool = True) -> Call[int]:
     """Writes bytes, with or without END. The result is how many were taken."""
+    io_timeout, lock_timeout = _checked_timeouts(io_timeout, lock_timeout)
     flags = _flags(lock_timeout) | (END if end else 0)
     arguments = words(link, io_timeout, lock_timeout, flags) + opaque(data)
-    return Call(CORE, DEVICE_WRITE, arguments, _size, io_timeout + lock_timeout)
+    return LinkCall(CORE, DEVICE_WRITE, arguments, _size, io_timeout + lock_timeout, link, io_timeout, lock_timeout)
 
 
 def device_read(link: int, size: int, io_timeout: int, lock_timeout: int = 0,
                 termination: Optional[int] = None) -> Call[Piece]:
     """Reads at most `size` bytes, up to END, or up to a termination character (0 to 255) if one is given."""
+    io_timeout, lock_timeout = _checked_timeouts(io_timeout, lock_timeout)
     flags = _flags(lock_timeout) | (0 if termination is None else TERMCHRSET)
     arguments = words(link, size, io_timeout, lock_timeout, flags, termination or 0)
-    return Call(CORE, DEVICE_READ, arguments, _piece, io_timeout + lock_timeout)
+    return LinkCall(CORE, DEVICE_READ, arguments, _piece, io_timeout + lock_timeout, link, io_timeout, lock_timeout)
 
 
-def _generic(link: int, io_timeout: int, lock_timeout: int) -> bytes:
-    return words(link, _flags(lock_timeout), lock_timeout, io_timeout)
+def _generic(procedure: int, read: Callable[[bytes], Value], link: int, io_timeout: int,
+             lock_timeout: int) -> Call[Value]:
+    io_timeout, lock_timeout = _checked_timeouts(io_timeout, lock_timeout)
+    arguments = words(link, _flags(lock_timeout), lock_timeout, io_timeout)
+    return LinkCall(CORE, procedure, arguments, read, io_timeout + lock_timeout, link, io_timeout, lock_timeout)
 
 
 def device_readstb(link: int, io_timeout: int, lock_timeout: int = 0) -> Call[int]:
     """Reads the status byte, 0 to 255. That clears its bit 6."""
-    arguments = _generic(link, io_timeout, lock_timeout)
-    return Call(CORE, DEVICE_READSTB, arguments, _status, io_timeout + lock_timeout)
-
-
-def _simple(procedure: int, link: int, io_timeout: int, lock_timeout: int) -> Call[None]:
-    arguments = _generic(link, io_timeout, lock_timeout)
-    return Call(CORE, procedure, arguments, _error, io_timeout + lock_timeout)
+    return _generic(DEVICE_READSTB, _status, link, io_timeout, lock_timeout)
 
 
 def device_trigger(link: int, io_timeout: int, lock_timeout: int = 0) -> Call[None]:
     """Triggers the instrument."""
-    return _simple(DEVICE_TRIGGER, link, io_timeout, lock_timeout)
+    return _generic(DEVICE_TRIGGER, _error, link, io_timeout, lock_timeout)
 
 
 def device_clear(link: int, io_timeout: int, lock_timeout: int = 0) -> Call[None]:
     """Clears the device: drops the text that came and the response."""
-    return _simple(DEVICE_CLEAR, link, io_timeout, lock_timeout)
+    return _generic(DEVICE_CLEAR, _error, link, io_timeout, lock_timeout)
 
 
 def device_remote(link: int, io_timeout: int, lock_timeout: int = 0) -> Call[None]:
     """Selects remote control with local lockout."""
-    return _simple(DEVICE_REMOTE, link, io_timeout, lock_timeout)
+    return _generic(DEVICE_REMOTE, _error, link, io_timeout, lock_timeout)
 
 
 def device_local(link: int, io_timeout: int, lock_timeout: int = 0) -> Call[None]:
     """Selects local operation."""
-    return _simple(DEVICE_LOCAL, link, io_timeout, lock_timeout)
+    return _generic(DEVICE_LOCAL, _error, link, io_timeout, lock_timeout)
 
 
 def device_lock(link: int, lock_timeout: int = 0) -> Call[None]:
     """Takes the lock, for which it waits up to lock_timeout."""
-    return Call(CORE, DEVICE_LOCK, words(link, _flags(lock_timeout), lock_timeout), _error, lock_timeout)
+    lock_timeout = milliseconds(lock_timeout, "lock_timeout")
+    arguments = words(link, _flags(lock_timeout), lock_timeout)
+    return LinkCall(CORE, DEVICE_LOCK, arguments, _error, lock_timeout, link, 0, lock_timeout)
 
 
 def device_unlock(link: int) -> Call[None]:
     """Frees the lock."""
-    return Call(CORE, DEVICE_UNLOCK, words(link), _error)
+    return LinkCall(CORE, DEVICE_UNLOCK, words(link), _error, 0, link)
 
 
 def device_enable_srq(link: int, handle: Optional[bytes]) -> Call[None]:
     """Turns on service requests, with this handle of at most 40 bytes; None turns them off."""
     if handle is not None and len(handle) > SRQ_MOST:
         raise ValueError("a handle of %d bytes, at most %d may be" % (len(handle), SRQ_MOST))
-    return Call(CORE, DEVICE_ENABLE_SRQ, words(link, handle is not None) + opaque(handle or b""), _error)
+    arguments = words(link, handle is not None) + opaque(handle or b"")
+    return LinkCall(CORE, DEVICE_ENABLE_SRQ, arguments, _error, 0, link)
 
 
 def device_docmd(link: int, command: int, data: bytes, io_timeout: int, lock_timeout: int = 0,
                  item_size: int = 1, network_order: bool = True) -> Call[bytes]:
     """Executes a command that the standard leaves to the device. The result is the data that it returns."""
+    io_timeout, lock_timeout = _checked_timeouts(io_timeout, lock_timeout)
     arguments = words(link, _flags(lock_timeout), io_timeout, lock_timeout, command, network_order, item_size)
-    return Call(CORE, DEVICE_DOCMD, arguments + opaque(data), _data, io_timeout + lock_timeout)
+    return LinkCall(CORE, DEVICE_DOCMD, arguments + opaque(data), _data, io_timeout + lock_timeout, link, io_timeout,
+                    lock_timeout)
 
 
 def destroy_link(link: int) -> Call[None]:
     """Ends a link."""
-    return Call(CORE, DESTROY_LINK, words(link), _error)
+    return LinkCall(CORE, DESTROY_LINK, words(link), _error, 0, link)
 
 
 def create_intr_chan(address: int, port: int, program: int = INTERRUPT, version: int = 1,
                      family: int = BY_TCP, wait: int = 0) -> Call[None]:
     """Has the instrument connect to this address and port. `wait` is how long that may take, in milliseconds."""
+    wait = milliseconds(wait, "wait")
     return Call(CORE, CREATE_INTR_CHAN, words(address, port, program, version, family), _error, wait)
 
 
@@ -268,7 +306,7 @@ def destroy_intr_chan() -> Call[None]:
 
 def device_abort(link: int) -> Call[None]:
     """Aborts the call that waits on this link, which then ends with error 23. This goes over the abort channel."""
-    return Call(ABORT, DEVICE_ABORT, words(link), _error)
+    return LinkCall(ABORT, DEVICE_ABORT, words(link), _error, 0, link)
 
 
 def getport(program: int, version: int, protocol: int = TCP) -> Call[int]:

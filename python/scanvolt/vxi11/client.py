@@ -3,19 +3,25 @@ import queue
 import socket
 import sys
 import threading
+from time import monotonic          # of this machine, also within a meter's keeping_time
 from typing import Callable, Optional, TypeVar
 
 from . import calls
 from .calls import Call
 from .core import Core
+from .errors import DeviceError
 from .link import Link
 from .requests import RequestStream, ServiceRequest
 from .rpc import Records
+from .timeouts import milliseconds as checked
 
+__tracebackhide__ = True        # pytest shows the line that calls the package, and not these frames
 Value = TypeVar("Value")
 Itself = TypeVar("Itself", bound="Channel")
 PATIENCE = 10.0         # seconds that a reply may take, beyond the timeouts of its call
 Callback = Callable[[ServiceRequest], object]
+ELSEWHERE = ("no port mapper is there. If it has another port, give that: Client(port_mapper=4111), say. Or give the "
+             "core channel's port: Client(port=4096), say")
 
 
 class Channel:
@@ -30,14 +36,18 @@ class Channel:
                  connected: Optional[socket.socket] = None) -> None:
         self.host = host
         self.patience = patience
-        if connected is None:
-            connected = socket.create_connection((host, port), patience)
-            connected.setsockopt(socket.IPPROTO_TCP, socket.TCP_NODELAY, 1)
-        self.socket = connected
+        self.name = "%s:%d" % (host, port) if connected is None else str(connected.getpeername())
+        self.socket = _connected(host, port, patience) if connected is None else connected
         self.is_open = True
         self.xid = 0
         self.records = Records()
         self.turn = threading.Lock()
+
+    def __repr__(self) -> str:
+        return "<%s of %s%s>" % (type(self).__name__, self.name, "" if self.is_open else ", closed")
+
+    def __str__(self) -> str:
+        return self.name
 
     def __enter__(self: Itself) -> Itself:
         return self
@@ -53,45 +63,78 @@ class Channel:
     def check_open(self) -> None:
         """Raises ConnectionError if the connection is closed."""
         if not self.is_open:
-            raise ConnectionError("the connection is closed")
+            raise ConnectionError("the connection is closed: %s" % self.name)
 
     def do(self, call: Call[Value]) -> Value:
         """Makes a call, and waits for its result."""
         with self.turn:
             self.check_open()
             self.xid = (self.xid + 1) % 2 ** 32
+            began = monotonic()
+            body = self._reply(call)
             try:
-                self.socket.settimeout(self.patience + call.wait / 1000)
-                self.socket.sendall(call.encode(self.xid))
-                body = self._record(call)
-            except BaseException:
-                self.close()
+                return call.answer(body, self.xid)
+            except DeviceError as fault:
+                fault.waited = 1000 * (monotonic() - began)
                 raise
-            return call.answer(body, self.xid)
+
+    def _reply(self, call: Call[Value]) -> bytes:
+        """Sends a call. Returns the record of its reply. If that fails or is interrupted, the connection is closed."""
+        patience = self.patience + call.wait / 1000
+        try:
+            self.socket.settimeout(patience)
+            self.socket.sendall(call.encode(self.xid))
+            return self._record(call)
+        except socket.timeout:
+            self.close()
+            raise ConnectionError("no reply to %s within %g s: %s" % (call.name, patience, self.name)) from None
+        except OSError as fault:
+            self.close()
+            raise _named(fault, "%s within %s: %s" % (fault.strerror, call.name, self.name)) from None
+        except BaseException:
+            self.close()
+            raise
 
     def _record(self, call: Call[Value]) -> bytes:
         """The next record that comes."""
         while True:
-            try:
-                data = self.socket.recv(65536)
-            except socket.timeout:
-                raise ConnectionError("no reply to %s within %g s" % (
-                    call.name, self.patience + call.wait / 1000)) from None
+            data = self.socket.recv(65536)
             if not data:
-                raise ConnectionError("the connection ended within %s" % call.name)
+                raise ConnectionError("the connection ended within %s: %s" % (call.name, self.name))
             found = self.records.push(data)
             if found:
                 return found[0].body
+
+
+def _named(fault: OSError, text: str) -> OSError:
+    """The same error of the system, with this text. One that has its own text stays as it is."""
+    return fault if fault.errno is None else type(fault)(fault.errno, text)
+
+
+def _connected(host: str, port: int, patience: float) -> socket.socket:
+    """A socket that is connected to this port."""
+    try:
+        connected = socket.create_connection((host, port), patience)
+    except socket.timeout:
+        raise TimeoutError("no connection within %g s: %s:%d" % (patience, host, port)) from None
+    except OSError as fault:
+        raise _named(fault, "%s: %s:%d" % (fault.strerror, host, port)) from None
+    connected.setsockopt(socket.IPPROTO_TCP, socket.TCP_NODELAY, 1)
+    return connected
 
 
 def port_of(host: str, program: int, version: int, port: int = 111, patience: float = PATIENCE) -> int:
     """Asks the port mapper of a host for the TCP port of a program. Raises ConnectionError if none is
     registered.
     """
-    with Channel(host, port, patience) as mapper:
+    try:
+        mapper = Channel(host, port, patience)
+    except ConnectionRefusedError as fault:
+        raise _named(fault, "%s; %s" % (fault.strerror, ELSEWHERE)) from None
+    with mapper:
         found = mapper.do(calls.getport(program, version))
     if found == 0:
-        raise ConnectionError("the port mapper of %s knows no port of program %#x" % (host, program))
+        raise ConnectionError("the port mapper knows no port of program %#x: %s:%d" % (program, host, port))
     return found
 
 
@@ -151,12 +194,13 @@ class ServiceRequests:
         self.thread = threading.Thread(target=self._serve, daemon=True, name="service requests")
         self.thread.start()
 
-    def wait(self, milliseconds: float) -> ServiceRequest:
+    def wait(self, milliseconds: int) -> ServiceRequest:
         """The next service request. Raises TimeoutError if none comes within this many milliseconds."""
+        most = checked(milliseconds, "wait")
         try:
-            return self.queue.get(timeout=milliseconds / 1000)
+            return self.queue.get(timeout=most / 1000)
         except queue.Empty:
-            raise TimeoutError("no service request within %g ms" % milliseconds) from None
+            raise TimeoutError("no service request within %d ms" % most) from None
 
     def close(self) -> None:
         """Stops listening; requests that came stay in the queue."""

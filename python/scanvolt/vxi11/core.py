@@ -4,7 +4,9 @@ from typing import TypeVar
 from . import calls
 from .calls import Call
 from .link import IO_TIMEOUT, Link
+from .timeouts import milliseconds
 
+__tracebackhide__ = True        # pytest shows the line that calls the package, and not these frames
 Value = TypeVar("Value")
 
 
@@ -26,6 +28,7 @@ class Core:
     def create_link(self, device: str = "inst0", lock: bool = False, lock_timeout: int = 0,
                     io_timeout: int = IO_TIMEOUT) -> Link:
         """Makes a link; with `lock` the link has the lock. The link keeps these timeouts, in milliseconds."""
+        io_timeout = milliseconds(io_timeout, "io_timeout")
         made = self.do(calls.create_link(device, lock, lock_timeout))
         return Link(self, made, io_timeout, lock_timeout)
 

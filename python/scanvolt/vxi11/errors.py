@@ -1,4 +1,5 @@
 """The errors of VXI-11 (revision 1.0, table B.2)."""
+from typing import Optional
 
 NAMES = {
     1: "syntax error", 3: "device not accessible", 4: "invalid link identifier", 5: "parameter error",
@@ -10,15 +11,32 @@ NAMES = {
 SYNTAX_ERROR, NOT_ACCESSIBLE, INVALID_LINK, PARAMETER_ERROR, NOT_ESTABLISHED, NOT_SUPPORTED = 1, 3, 4, 5, 6, 8
 OUT_OF_RESOURCES, LOCKED, NO_LOCK, IO_TIMEOUT, IO_ERROR, INVALID_ADDRESS, ABORTED = 9, 11, 12, 15, 17, 21, 23
 ALREADY_ESTABLISHED = 29
+EARLY = 5       # milliseconds by which a timeout may seem to be early, by this machine's clock
 
 
 class DeviceError(Exception):
-    """An error that the instrument returned: its number, and its name in the standard."""
+    """An error that the instrument returned: its number, and its name in the standard.
+
+    `call` is the call and its link, in words. If the error is that of a timeout, `timeout` is the timeout. `waited`
+    is for how long the call waited, and `clock` when it was answered, by the clock of a meter in virtual time; all
+    are in milliseconds. What isn't known is None.
+    """
 
     def __init__(self, number: int, name: str = "") -> None:
         self.number = number
         self.name = name or NAMES.get(number, "reserved error")
+        self.call: Optional[str] = None
+        self.timeout: Optional[int] = None
+        self.waited: Optional[float] = None
+        self.clock: Optional[int] = None
         super().__init__(number, self.name)
 
     def __str__(self) -> str:
-        return "%s (VXI-11 error %d)" % (self.name, self.number)
+        if self.call is None:
+            return "%s (VXI-11 error %d)" % (self.name, self.number)
+        told = "%s: %s (%d)" % (self.call, self.name, self.number)
+        if self.timeout is not None:
+            whole = self.waited is None or self.waited >= self.timeout - EARLY
+            told += ", after %d ms" % self.timeout if whole else ", after %d of %d ms" % (
+                self.waited or 0, self.timeout)
+        return told + ("" if self.clock is None else ", at %d ms of the meter's clock" % self.clock)

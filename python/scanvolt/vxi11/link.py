@@ -6,7 +6,9 @@ from . import calls
 from .calls import Call, Made, Piece
 from .errors import INVALID_LINK, DeviceError
 from .rpc import BadReply
+from .timeouts import Milliseconds
 
+__tracebackhide__ = True        # pytest shows the line that calls the package, and not these frames
 Value = TypeVar("Value")
 Itself = TypeVar("Itself", bound="Link")
 IO_TIMEOUT = 10000      # milliseconds
@@ -56,8 +58,8 @@ class LinkCalls:
     def local(self) -> Call[None]:
         return calls.device_local(self.link, self.io_timeout, self.lock_timeout)
 
-    def lock(self) -> Call[None]:
-        return calls.device_lock(self.link, self.lock_timeout)
+    def lock(self, timeout: Optional[int] = None) -> Call[None]:
+        return calls.device_lock(self.link, self.lock_timeout if timeout is None else timeout)
 
     def unlock(self) -> Call[None]:
         return calls.device_unlock(self.link)
@@ -76,11 +78,14 @@ class Link:
     """A link to an instrument. `destroy` ends it, and so does the end of a `with` block. What was raised in the
     block comes out of it as it was raised.
 
-    io_timeout and lock_timeout are in milliseconds, and may be set at any time. If another link has the lock, a
+    io_timeout and lock_timeout are whole milliseconds, and may be set at any time. If another link has the lock, a
     call waits for it if lock_timeout is above 0 (flag waitlock); else it returns error 11 at once. All methods
     raise DeviceError for an error that the instrument returns, RpcError for a call that it refuses, and
     ConnectionError if the connection ends.
     """
+
+    io_timeout = Milliseconds()
+    lock_timeout = Milliseconds()
 
     def __init__(self, carrier: Carrier, made: Made, io_timeout: int = IO_TIMEOUT,
                  lock_timeout: int = 0) -> None:
@@ -90,6 +95,11 @@ class Link:
         self.most = made.most               # bytes that one device_write may have
         self.io_timeout = io_timeout
         self.lock_timeout = lock_timeout
+        self.is_destroyed = False
+
+    def __repr__(self) -> str:
+        ended = self.is_destroyed or not self.carrier.is_open
+        return "<Link %d of %s%s>" % (self.number, self.carrier, ", closed" if ended else "")
 
     def __enter__(self: Itself) -> Itself:
         return self
@@ -165,7 +175,7 @@ class Link:
 
     def lock(self, timeout: Optional[int] = None) -> None:
         """Takes the lock. Waits for it up to `timeout` milliseconds, or lock_timeout if that isn't given."""
-        self.carrier.do(calls.device_lock(self.number, self.lock_timeout if timeout is None else timeout))
+        self.carrier.do(self.calls.lock(timeout))
 
     def unlock(self) -> None:
         """Frees the lock."""
@@ -190,3 +200,4 @@ class Link:
     def destroy(self) -> None:
         """Ends the link, and with it its lock and its service requests."""
         self.carrier.do(self.calls.destroy())
+        self.is_destroyed = True

@@ -4,6 +4,7 @@ from typing import List, Optional
 
 from .xdr import Reader, XdrError, words
 
+__tracebackhide__ = True        # pytest shows the line that calls the package, and not these frames
 CALL, REPLY = 0, 1              # types of a message
 ACCEPTED, DENIED = 0, 1         # states of a reply: whether its call was accepted
 SUCCESS = 0                     # states of an accepted call: it was executed

@@ -1,11 +1,14 @@
 """Timeouts and other counts of milliseconds: which may be one."""
 import operator
 
+__tracebackhide__ = True        # pytest shows the line that calls the package, and not these frames
 LONGEST = 2 ** 32 - 1       # a timeout is a word of four bytes
 
 
 def milliseconds(count: int, name: str) -> int:
-    """The count, if it is a whole number from 0 to LONGEST. Raises TypeError or ValueError, which says what `name` wants."""
+    """The count, if it is a whole number from 0 to LONGEST. If not, raises TypeError or ValueError, which says what
+    `name` wants.
+    """
     wanted = "%s wants milliseconds, a whole number from 0 to %d, and not %r" % (name, LONGEST, count)
     try:
         whole = operator.index(count)
