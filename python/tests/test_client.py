@@ -132,6 +132,23 @@ class Sessions(Served):
         self.error(4, Link(self.client, calls.Made(9999, self.server.abort, 0)).abort)
         self.link.clear()
 
+    def test_what_a_client_that_died_leaves(self) -> None:
+        """The next client's first `*IDN?` fails. If it clears the device first, it doesn't."""
+        for left, end in (("*ID", False), ("TRIG:SOUR EXT;:INIT;*OPC?", True)):
+            for clears in (False, True):
+                with self.subTest(left, clears=clears):
+                    dying = self.enterClient()
+                    dying.create_link().write(left, end)
+                    dying.socket.close()
+                    link = self.enterClient().create_link(io_timeout=100)
+                    if clears:
+                        link.clear()
+                        self.assertEqual(link.query("*IDN?"), "SCANVOLT,SV32,0,1.0")
+                    else:
+                        self.error(15, lambda: link.query("*IDN?"))
+                    link.clear()
+                    link.write("ABOR;:TRIG:SOUR IMM;*CLS")
+
     def test_service_requests(self) -> None:
         requests = self.client.listen()
         self.link.enable_srq(b"meter 1")

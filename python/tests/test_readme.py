@@ -8,6 +8,8 @@ import unittest
 from unittest import mock
 
 from scanvolt.program import Server
+from scanvolt.virtual import Meter
+from scanvolt.vxi11 import Client, DeviceError
 
 TEXT = pathlib.Path(__file__).resolve().parent.parent.joinpath("README.md").read_text()
 PIECES = re.findall(r"```python\n(.*?)```", TEXT, re.DOTALL)
@@ -22,16 +24,30 @@ class Readme(unittest.TestCase):
         self.assertEqual(len(PIECES), len(TYPED))
         for piece, words in zip(PIECES, TYPED):
             self.assertIn(words, piece)
-        marks = re.findall(r"^[ >]*(?:```|~~~)(.*)$", TEXT, re.MULTILINE)[::2]
-        self.assertEqual([mark for mark in marks if mark], ["python"] * len(TYPED))
-        for piece in re.findall(r"```\n(.*?)```", TEXT, re.DOTALL):
-            self.assertNotIn("import", piece)
+        fenced = re.findall(r"^[ >]*```(.*?)\n(.*?)```", TEXT, re.DOTALL | re.MULTILINE)
+        self.assertEqual([mark for mark, piece in fenced if mark or "import" in piece], ["python"] * len(TYPED))
 
     def test_virtual_time(self) -> None:
         exec(compile(PIECES[0], "README.md", "exec"), {})
 
+    def test_a_call_that_waits(self) -> None:
+        """The call that the table names waits for the lock, and is then granted."""
+        call = re.search(r"`connection.start\(call\)` \| starts a call such as `(.*?)`", TEXT)
+        assert call is not None
+        with Meter() as meter, meter.connect() as connection, connection.create_link() as link:
+            other = meter.connect().create_link(lock=True)
+            started = connection.start(eval(call[1], {"link": link}))
+            meter.advance(4999)
+            self.assertFalse(started.done)
+            other.unlock()
+            self.assertEqual((started.result(), started.clock), (None, 4999))
+            self.assertRaises(DeviceError, other.lock)
+
     def test_sockets(self) -> None:
+        """Also after a client that died while a unit of its message waited."""
         with Server() as server, mock.patch("builtins.print") as printed:
+            with Client(port=server.core) as died:
+                died.create_link().write("TRIG:SOUR EXT;:INIT;*OPC?")
             exec(compile(PIECES[1].replace("4111", str(server.port_mapper)), "README.md", "exec"), {})
         printed.assert_called_once_with(b"meter 1", 68)
 

@@ -12,6 +12,7 @@ import pyvisa
 from pyvisa.constants import (AccessModes, BufferOperation, EventMechanism, EventType, Lock, RENLineOperation,
                               ResourceAttribute, StatusCode)
 
+from pyvisa_scanvolt import meter_of
 from pyvisa_scanvolt.library import UNSUPPORTED
 from scanvolt.program import ProgramError
 from scanvolt.virtual import Meter, NoAnswer
@@ -73,6 +74,16 @@ class Names(WithResource):
         other.write("*IDN?")
         self.assertEqual(self.resource.read(), "SCANVOLT,SV32,0,1.0")
         self.assertIs(self.meter_of(other), self.meter)
+
+    def test_meter_of(self) -> None:
+        other = self.open("TCPIP::scanvolt2")
+        self.assertIs(meter_of(self.resource), self.meter)
+        self.assertIs(meter_of(other), self.meter_of(other))
+        self.assertIsNot(meter_of(other), self.meter)
+        wrong: Any
+        for wrong in ("TCPIP::scanvolt::INSTR", None, mock.Mock(spec=pyvisa.resources.Resource)):
+            with self.assertRaisesRegex(TypeError, "no resource of this backend, .*@scanvolt"):
+                meter_of(wrong)
 
     def test_other_names(self) -> None:
         for name, status in (("TCPIP::192.168.0.1::INSTR", StatusCode.error_resource_not_found),
