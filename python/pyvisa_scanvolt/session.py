@@ -62,7 +62,7 @@ class Session:
 
     def _timed(self) -> None:
         """Sets the link's timeout to the session's."""
-        self.link.io_timeout = self.get(Name.timeout_value)
+        self.link.io_timeout = int(self.get(Name.timeout_value))
 
     def write(self, data: bytes) -> int:
         """Writes bytes, with END if that is enabled."""

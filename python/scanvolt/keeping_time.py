@@ -22,7 +22,7 @@ __tracebackhide__ = True        # pytest shows the line that calls the package, 
 CLOCKS = ("time", "monotonic", "perf_counter")  # of Python's module time; each also in nanoseconds, with _ns
 SELECTORS = ("SelectSelector", "PollSelector", "EpollSelector", "DevpollSelector", "KqueueSelector")
 READS_MOST = 10000      # times that a clock may be read in a row, without a call and without time that passes
-POLLS_MOST = 100000     # the same, with calls
+POLLS_MOST = 25000      # the same, with calls
 SLICE, SLICES = 0.1, 600    # a wait without a timeout waits so often so many seconds of real time for other threads
 ENDLESS = 2 ** 32       # milliseconds; a longer timeout is none
 HELP = "Let the loop sleep between its polls (time.sleep), or let each call take time: Meter(call_time=1)"

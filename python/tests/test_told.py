@@ -108,6 +108,8 @@ class OverSockets(Told):
             with Client(port=server.core) as one, one.create_link() as link, Channel("127.0.0.1", server.core) as other:
                 self.assertEqual((repr(one), repr(link), repr(other)), (
                     "<Client of %s>" % name, "<Link 1 of %s>" % name, "<Channel of %s>" % name))
+                with Channel("", 0, connected=socket.create_connection(("127.0.0.1", server.core))) as given:
+                    self.assertEqual(repr(given), "<Channel of %s>" % name)
             self.assertEqual((repr(one), repr(link), repr(other)), (
                 "<Client of %s, closed>" % name, "<Link 1 of %s, closed>" % name, "<Channel of %s, closed>" % name))
             with self.assertRaisesRegex(ConnectionError, "the connection is closed: %s$" % name):

@@ -36,7 +36,8 @@ class Channel:
                  connected: Optional[socket.socket] = None) -> None:
         self.host = host
         self.patience = patience
-        self.name = "%s:%d" % (host, port) if connected is None else str(connected.getpeername())
+        peer = (host, port) if connected is None else connected.getpeername()
+        self.name = "%s:%d" % peer[:2] if isinstance(peer, tuple) else str(peer)
         self.socket = _connected(host, port, patience) if connected is None else connected
         self.is_open = True
         self.xid = 0
