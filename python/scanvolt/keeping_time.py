@@ -24,6 +24,7 @@ SELECTORS = ("SelectSelector", "PollSelector", "EpollSelector", "DevpollSelector
 READS_MOST = 10000      # times that a clock may be read in a row, without a call and without time that passes
 POLLS_MOST = 25000      # the same, with calls
 SLICE, SLICES = 0.1, 600    # a wait without a timeout waits so often so many seconds of real time for other threads
+GRID = 10 ** 9 // 512   # nanoseconds; a clock begins at a multiple, exact as a float, so that runs round alike
 ENDLESS = 2 ** 32       # milliseconds; a longer timeout is none
 HELP = "Let the loop sleep between its polls (time.sleep), or let each call take time: Meter(call_time=1)"
 
@@ -43,7 +44,8 @@ class Keeper:
     def __init__(self, meter: "Meter") -> None:
         self.meter = meter
         self.begin = meter.clock
-        self.since: Dict[str, int] = {name: getattr(time, name + "_ns")() for name in CLOCKS}
+        grid = 1 if threading.get_ident() in keepers else GRID
+        self.since: Dict[str, int] = {name: -(-getattr(time, name + "_ns")() // grid) * grid for name in CLOCKS}
         self.is_real = False        # whether waits are real now
         self.seen = (meter.clock, meter.sent)
         self.reads = self.polls = 0

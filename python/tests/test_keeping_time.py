@@ -185,6 +185,19 @@ class Waits(WithMeter):
         thread.join()
 
 
+    def test_each_run_is_the_same(self) -> None:
+        """A loop up to a deadline takes the same time, whatever the machine's clock is at its start."""
+        found = set()
+        for start in range(70001234567891, 130001234567891, 3001234567891):
+            with mock.patch("time.monotonic_ns", return_value=start), self.meter.keeping_time():
+                began, end = self.meter.clock, time.monotonic() + 0.02
+                self.assertLess(time.monotonic() - start / 1e9, 0.002)
+                while time.monotonic() < end:
+                    time.sleep(0.001)
+            found.add(self.meter.clock - began)
+        self.assertEqual(found, {20})
+
+
 class Loops(WithMeter):
     """Loops of asyncio."""
 
