@@ -3,7 +3,7 @@
 use std::alloc::Global;
 use std::fs;
 use std::io::{Error, ErrorKind};
-use sv_net::{Net, ProgramFault, Serve, Watch};
+use sv_net::{Net, ProgramFault, Serve, System, Watch};
 use sv_replay::{Entry, RunFault, read_scenario};
 use sv_serve::Driver;
 use sv_server::{Config, Server};
@@ -62,7 +62,8 @@ fn run(
     println!(rt; "ready {} {} {}", words.core, words.abort, words.portmap).map_err(
         |_| ProgramFault::Run(RunFault::Output),
     )?;
-    sv_net::serve(rt, watch, driver, words.sweeps).map_err(|_| ProgramFault::Socket)
+    let mut machine = System::begin(rt, watch).map_err(|_| ProgramFault::Socket)?;
+    sv_net::serve(&mut machine, driver, words.sweeps).map_err(|_| ProgramFault::Socket)
 }
 
 /// Serves sockets on three ports of 127.0.0.1. Prints `ready` and the ports when it listens on

@@ -87,9 +87,10 @@ Once IsSo history trace = (later earlier : List PlainEvent) × (history ≡ late
 
 -- The history's events from the wire are exactly those that the wire's answers cause, in the same order. Every byte that is read enters
 -- its connection's stream, and every byte that the wire takes is one that the history sends: in the same order, and no byte is lost,
--- invented or doubled. Each write passes all bytes that wait on its port. A connection is closed right after it failed; otherwise it is
--- only closed if it was at fault and no bytes waited on it. The socket of an interrupt channel is only closed in two cases: right after
--- an answer that ends the channel (`ends_port`), or while the channel isn't open.
+-- invented or doubled. Each write passes exactly the bytes that waited on its port at a moment since the wire's answer before it. A
+-- connection is closed right after it failed; otherwise it is only closed if it was at fault and no bytes waited on it. The socket of an
+-- interrupt channel is only closed in two cases: right after an answer that ends the channel (`ends_port`), or while the channel isn't
+-- open.
 pub record IsCarried (config : Config) (history : List PlainEvent) (trace : List Heard) : Type 0 where
   pub events : filter is_outer history ≡ flat_map event_of trace
   pub streams : (c : ℕ) → Answered (λ log. stream (of c log)) config history (since (Conn c) (read (Conn c)) trace)

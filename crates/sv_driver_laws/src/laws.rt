@@ -9,16 +9,17 @@ use sv_serve::Wire;
 /// In any number of sweeps, every byte that is read from the wire enters the stream of its
 /// connection, and every byte that the wire takes is one that the server sends: in the same order,
 /// and no byte is lost or doubled. The events that the server gets from the wire are exactly those
-/// that the wire's answers cause. As time passes, exactly the entries of the scenario that are due
-/// are applied.
+/// that the wire's answers cause; a seventeenth connection is dropped at once, and is no event. As
+/// time passes, exactly the entries of the scenario that are due are applied.
 pub fn carried<W: Wire>()
     ensures { Carried W.hears }
 {}
 
 /// After all reads of a sweep, the next call of each connection is taken, if there is a call to
 /// take and the output has room for the longest reply. If memory for this call is refused, the call
-/// is answered with error 9. The bytes that then wait to be sent are passed to the wire in the same
-/// sweep.
+/// is answered with error 9. The bytes that then wait on the connection are passed to the wire in
+/// the same sweep. The law says nothing of interrupt channels, of connecting to their peers, or of
+/// how many turns a connection has.
 pub fn served<W: Wire>()
     ensures { Served W.hears }
 {}

@@ -1,13 +1,13 @@
 -- Waits, one after the other.
 use Rattle.std.proofs.Common.{◌≡◌, ℕ, Bool, true, false, List, [], ◌∷◌, Some, refl, sym, inl, arith}
-use Rattle.std.specs.Prelude.{Option, Result, Ok, Err, IfOk}
+use Rattle.std.specs.Prelude.{Option, Result, Ok, Err, IfOk, OnErr}
 use Rattle.std.specs.Duration.{as_nanos}
 use Rattle.std.specs.declared.time.Duration.{Duration}
 use Rattle.sv_serve.specs.Heard.{Heard}
 use Rattle.sv_serve.specs.DriverView.{DriverState}
 use Rattle.sv_net.specs.Sleep.{MaySleep}
 use Rattle.sv_net.specs.Serving.{Doing, MadeSweep, Waited, Told, is_fresh, is_told}
-use Rattle.sv_net.specs.Inside.Pausing.{is_quiet, Running, Pauses}
+use Rattle.sv_net.specs.Inside.Pausing.{is_quiet, Running, Pauses, Fails}
 
 told_where_quiet : {W : Type 0} (doings : List (Doing W)) → is_quiet doings ≡ true → is_told doings ≡ true
 told_where_quiet [] quiet = refl
@@ -48,7 +48,7 @@ module _ {W M : Type 0} (hears : W → Heard → W → Type 0) (answers : M → 
       last = r.last;
       ended = refl;
       so = refl;
-      serves = (r.serves, rw (r.made, sym remain, r.last, r.ended) may, r.so);
+      serves = (r.serves, (rw (r.made, sym remain, r.last, r.ended) may, r.so));
       waits = (old, r.waits, waited);
     };
   }
@@ -69,7 +69,7 @@ module _ {W M : Type 0} (hears : W → Heard → W → Type 0) (answers : M → 
       last = r.last;
       ended = refl;
       so = r.so;
-      serves = (r.serves, rw (r.last, r.ended) (inl (omega (arith, none))), r.so);
+      serves = (r.serves, (rw (r.last, r.ended) (inl (omega (arith, none))), r.so));
       waits = (old, r.waits, waited);
     };
   }
@@ -107,3 +107,44 @@ and_then one other = record {
 pub if_ok : {A E : Type 0} {P Q : A → Type 0} (result : Result A E) → IfOk result P → ((a : A) → P a → Q a) → IfOk result Q
 if_ok (Ok a) p more = more a p
 if_ok (Err e) p more = p
+
+-- the first wait fails
+pub fails_at_once : {W M : Type 0} {hears : W → Heard → W → Type 0} {answers : M → Doing W → M → Type 0}
+    {fails : M → Option Duration → M → Type 0}
+    {driver : DriverState W} {left swept began : ℕ} {old now : M} (limit : Option Duration) → MaySleep left swept began limit driver
+    → fails old limit now → Fails hears answers fails driver is_told left swept began old now
+fails_at_once {began = began} {old = old} limit may failed =
+    record { goes = λ sweeps many start first remain r. (began, old, limit, may, failed, r) }
+
+-- a poll fails
+pub poll_fails : {W M : Type 0} {hears : W → Heard → W → Type 0} {answers : M → Doing W → M → Type 0}
+    {fails : M → Option Duration → M → Type 0}
+    {driver : DriverState W} {left swept began : ℕ} {old now : M} (limit : Duration) → as_nanos limit ≡ 0
+    → fails old (Some limit) now → Fails hears answers fails driver is_told left swept began old now
+poll_fails limit none failed = fails_at_once (Some limit) (inl (omega (arith, none))) failed
+
+pub fails_from_quiet : {W M : Type 0} {hears : W → Heard → W → Type 0} {answers : M → Doing W → M → Type 0}
+    {fails : M → Option Duration → M → Type 0} {driver : DriverState W} {left swept began : ℕ} {old now : M}
+    → Fails hears answers fails driver is_told left swept began old now → Fails hears answers fails driver is_quiet left swept began old now
+fails_from_quiet {hears = hears} {answers = answers} {driver = driver} failing =
+    record {
+      goes = λ sweeps many start first remain r. failing.goes sweeps many start first remain (also hears answers driver told_where_quiet r);
+    }
+
+-- waits that don't fail, before those of which one fails
+pub then_fails : {W M : Type 0} {hears : W → Heard → W → Type 0} {answers : M → Doing W → M → Type 0}
+    {fails : M → Option Duration → M → Type 0}
+    {driver : DriverState W} {was between : List (Doing W) → Bool} {left swept began at : ℕ} {old mid now : M}
+    → Pauses hears answers driver was between left swept began at old mid
+    → Fails hears answers fails driver between left swept at mid now → Fails hears answers fails driver was left swept began old now
+then_fails one other = record {
+  goes = λ sweeps many start first remain r. other.goes sweeps many start first remain (one.goes sweeps many start first remain r);
+}
+
+pub if_err : {A E : Type 0} {P Q : Type 0} (result : Result A E) → OnErr result P → (P → Q) → OnErr result Q
+if_err (Ok a) p more = tt
+if_err (Err e) p more = more p
+
+pub on_err : {A E P : Type 0} (result : Result A E) → P → OnErr result P
+on_err (Ok a) p = tt
+on_err (Err e) p = p

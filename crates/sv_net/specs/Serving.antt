@@ -1,5 +1,5 @@
 -- What a loop of sweeps does: it makes sweeps, and waits between them. A list of a loop's actions has the newest action first.
-use Rattle.std.specs.Prelude.{◌≡◌, ℕ, ◌-◌, ◌/◌, ◌<◌, min, Bool, true, false, List, [], ◌∷◌, length, Option, Some, None}
+use Rattle.std.specs.Prelude.{◌≡◌, ℕ, ◌-◌, ◌/◌, ◌<◌, ◌≤◌, min, Bool, true, false, List, [], ◌∷◌, length, Option, Some, None}
 use Rattle.std.specs.declared.time.Duration.{Duration}
 use Rattle.sv_logs.specs.Since.{last_given}
 use Rattle.sv_serve.specs.Sweep.{Swept, Sweeps}
@@ -45,18 +45,22 @@ is_fresh = elim [ MadeSweep ∷ doings ↦ false | Told wire ∷ doings ↦ fals
 abbrev pub is_told : {W : Type 0} → List (Doing W) → Bool
 is_told = last_given (elim [ Waited limit true ended ↦ Some false | Told wire ↦ Some true | _ ↦ None ]) true
 
+-- After these actions, a loop that is to make `sweeps` sweeps may wait with this limit: the wait isn't longer than is allowed for the
+-- number of sweeps that remain, and all earlier reports were passed to the sockets.
+abbrev pub MayWait : {W : Type 0} → ℕ → List (Doing W) → Option Duration → DriverState W → Type 0
+MayWait sweeps doings limit now =
+    MaySleep (sweeps - length (handed_in doings)) (swept_at doings) (time_of doings) limit now × (is_told doings ≡ true)
+
 -- These actions of a loop lead from the driver's state `start` to its state `now`. The loop is to make `sweeps` sweeps. Each sweep lets
 -- the milliseconds since the previous sweep pass. If at least one millisecond passes, the reports of the last wait are passed to the
--- sockets only after the sweep. No wait is longer than is allowed for the number of sweeps that remain. Each wait begins after all earlier
--- reports were passed to the sockets.
+-- sockets only after the sweep. Each wait is allowed (`MayWait`).
 abbrev pub Serves : {W : Type 0} → ℕ → (W → Heard → W → Type 0) → List (Doing W) → DriverState W → DriverState W → Type 0
 Serves sweeps hears [] start now = now ≡ start
 Serves sweeps hears (MadeSweep ∷ doings) start now = let ticks = ticks_between (swept_at doings) (time_of doings) in
     (between : DriverState _) × Serves sweeps hears doings start between × Steps (Sweeps hears ticks) between now × (0 < ticks → is_fresh
     doings ≡ true)
 Serves sweeps hears (Waited limit reported ended ∷ doings) start now =
-    Serves sweeps hears doings start now × MaySleep (sweeps - length (handed_in doings)) (swept_at doings) (time_of doings) limit now
-    × (is_told doings ≡ true)
+    Serves sweeps hears doings start now × MayWait sweeps doings limit now
 Serves sweeps hears (Told wire ∷ doings) start now = Serves sweeps hears doings start now × (wire ≡ now.wire)
 
 -- The machine made the waits among these actions, in the order and with the results that the actions record. The machine also passed the
@@ -66,8 +70,22 @@ Waits answers [] start now = now ≡ start
 Waits answers (MadeSweep ∷ doings) start now = Waits answers doings start now
 Waits answers (doing ∷ doings) start now = (between : _) × Waits answers doings start between × answers between doing now
 
--- A loop leads from the driver's state `old` to its state `new`. The loop is to make `sweeps` sweeps, and `IsCount` holds of the number of
--- sweeps that it made. These sweeps alone, without the waits but with the same milliseconds, also lead from `old` to `new`.
-abbrev pub Served : {W : Type 0} → ℕ → (W → Heard → W → Type 0) → (ℕ → Type 0) → DriverState W → DriverState W → Type 0
-Served sweeps hears IsCount old new = (doings : List (Doing _)) × IsCount (length (handed_in doings)) × Serves sweeps hears doings old new
+-- These actions of a loop lead from the driver's state `old` to its state `new`, and from the machine's state `first` to its state `now`.
+-- The sweeps alone, without the waits but with the same milliseconds, also lead from `old` to `new`.
+abbrev pub Loops : {W M : Type 0} → ℕ → (W → Heard → W → Type 0) → (M → Doing W → M → Type 0) → List (Doing W)
+    → DriverState W → DriverState W → M → M → Type 0
+Loops sweeps hears answers doings old new first now = Serves sweeps hears doings old new × Waits answers doings first now
     × Swept hears (handed_in doings) old new
+
+-- A loop made all its `sweeps` sweeps, and then a last wait, if it was to make any sweep.
+abbrev pub Served : {W M : Type 0} → ℕ → (W → Heard → W → Type 0) → (M → Doing W → M → Type 0) → DriverState W → DriverState W
+    → M → M → Type 0
+Served sweeps hears answers old new first now = (doings : List (Doing _)) × (length (handed_in doings) ≡ sweeps) × (is_fresh doings ≡ true)
+    × Loops sweeps hears answers doings old new first now
+
+-- A loop made some of its `sweeps` sweeps, until a wait failed. How this wait changed the machine is said by `fails`.
+abbrev pub Stopped : {W M : Type 0} → ℕ → (W → Heard → W → Type 0) → (M → Doing W → M → Type 0)
+    → (M → Option Duration → M → Type 0) → DriverState W → DriverState W → M → M → Type 0
+Stopped sweeps hears answers fails old new first now = (doings : List (Doing _)) × (limit : Option Duration) × (between : _)
+    × (0 < length (handed_in doings)) × (length (handed_in doings) ≤ sweeps) × Loops sweeps hears answers doings old new first between
+    × MayWait sweeps doings limit new × fails between limit now

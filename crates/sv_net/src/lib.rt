@@ -19,6 +19,7 @@ mod words;
 mod work;
 
 pub use fault::ProgramFault;
+pub use machine::{Machine, System};
 pub use net::Net;
 pub use serving::serve;
 pub use stream::Stream;

@@ -1,29 +1,29 @@
 //! The loop of sweeps.
 
-ghost use Rattle.std.specs.Prelude.{◌≡◌, ◌≤◌, ℕ, OnOk, OnErr, IfOk};
+ghost use Rattle.std.specs.Prelude.{◌≡◌, OnOk, OnErr, IfOk};
 ghost use Rattle.sv_net.specs.Sockets.{Hears};
-ghost use Rattle.sv_net.specs.Serving.{Waited, is_fresh, is_told, Served};
-ghost use Rattle.sv_net.specs.Inside.Pausing.{is_quiet, Rounds, Pauses, Ran};
+ghost use Rattle.sv_net.specs.Serving.{Waited, is_fresh, is_told, Served, Stopped};
+ghost use Rattle.sv_net.specs.Inside.Pausing.{is_quiet, Rounds, Pauses, Fails};
 
-use crate::machine::{Machine, System};
+use crate::machine::Machine;
 use crate::net::Net;
 use crate::sleep_time::sleep_time;
 use crate::stream::Stream;
-use crate::watch::Watch;
 use crate::work::has_work;
 use std::alloc::Allocator;
 use std::io;
 use std::net::Net as Network;
-use std::time::{Clock, Duration};
+use std::time::Duration;
 use sv_pace::Pace;
 use sv_serve::Driver;
 
 /// The most polls without sleeping that are allowed between two sweeps.
 const LOOKS: u32 = 1_000;
 
-/// Makes this number of sweeps. Between two sweeps, waits until the system reports something about
+/// Makes this number of sweeps. Between two sweeps, waits until the machine reports something about
 /// a socket, or something is due. Each sweep lets as many milliseconds pass for the server as
-/// milliseconds of the clock have begun since the previous sweep, but at most 1,000.
+/// milliseconds of the machine's clock have begun since the previous sweep, but at most 1,000. The
+/// machine's time has to be 0 when `serve` is called: it is a new machine.
 ///
 /// If no report comes, the wait ends at the next whole millisecond. But if nothing becomes due
 /// within 100 milliseconds, it ends after 100 milliseconds at the latest. If nothing will ever be
@@ -32,32 +32,16 @@ const LOOKS: u32 = 1_000;
 /// read after each wait: thus deadlines are met even while many peers send calls without a pause.
 ///
 /// # Errors
-/// If the system's clock can't be read, or a wait fails.
-pub fn serve<N: Network + Drop, A: Allocator, S: Stream>(
-    clock: &impl Clock,
-    watch: &mut Watch<A>,
-    driver: &mut Driver<Net<N, A, S>, A>,
-    sweeps: u32,
-) -> io::Result<()>
-    ensures ok { OnOk result (Served sweeps (Hears S.remaining S.contents) (λ made. made ≡ sweeps)
-        driver.old driver.new) }
-    ensures err { OnErr result (Served sweeps (Hears S.remaining S.contents) (λ made. made ≤ sweeps)
-        driver.old driver.new) }
-{
-    let mut machine = System::begin(clock, watch)?;
-    run(&mut machine, driver, sweeps)
-}
-
-/// Makes `sweeps` sweeps. `machine` tells the time, and waits after each sweep.
-fn run<M: Machine<S>, N: Network + Drop, A: Allocator, S: Stream>(
+/// If a wait of the machine fails. Then the sweeps before this wait were made.
+pub fn serve<M: Machine<S>, N: Network + Drop, A: Allocator, S: Stream>(
     machine: &mut M,
     driver: &mut Driver<Net<N, A, S>, A>,
     sweeps: u32,
 ) -> io::Result<()>
-    ensures ok { OnOk result (Ran (Hears S.remaining S.contents) M.answers sweeps
+    ensures ok { OnOk result (Served sweeps (Hears S.remaining S.contents) M.answers
         driver.old driver.new machine.old machine.new) }
-    ensures err { OnErr result (Served sweeps (Hears S.remaining S.contents) (λ made. made ≤ sweeps)
-        driver.old driver.new) }
+    ensures err { OnErr result (Stopped sweeps (Hears S.remaining S.contents) M.answers M.fails
+        driver.old driver.new machine.old machine.new) }
 {
     let mut pace = Pace::new();
     let mut now = 0;
@@ -97,6 +81,7 @@ fn wait<M: Machine<S>, S: Stream>(
 ) -> io::Result<(bool, u64)>
     ensures answers { IfOk result (λ ended.
         M.answers machine.old (Waited limit ended.0 ended.1) machine.new) }
+    ensures fails { OnErr result (M.fails machine.old limit machine.new) }
     ensures swept { pace.new.swept ≡ pace.old.swept }
 {
     let (reported, now) = machine.wait(limit)?;
@@ -119,6 +104,8 @@ fn pause<M: Machine<S>, N: Network + Drop, A: Allocator, S: Stream>(
 ) -> io::Result<u64>
     ensures pauses { IfOk result (λ ended. Pauses (Hears S.remaining S.contents) M.answers
         driver.now is_told is_fresh left pace.old.swept began ended machine.old machine.new) }
+    ensures fails { OnErr result (Fails (Hears S.remaining S.contents) M.answers M.fails
+        driver.now is_told left pace.old.swept began machine.old machine.new) }
     ensures swept { pace.new.swept ≡ pace.old.swept }
 {
     let spinning = pace.is_spinning(began);
@@ -145,6 +132,8 @@ fn spin<M: Machine<S>, N: Network + Drop, A: Allocator, S: Stream>(
 ) -> io::Result<u64>
     ensures pauses { IfOk result (λ ended. Pauses (Hears S.remaining S.contents) M.answers
         driver.now is_quiet is_fresh left pace.old.swept began ended machine.old machine.new) }
+    ensures fails { OnErr result (Fails (Hears S.remaining S.contents) M.answers M.fails
+        driver.now is_quiet left pace.old.swept began machine.old machine.new) }
     ensures swept { pace.new.swept ≡ pace.old.swept }
 {
     let mut now = began;
@@ -174,6 +163,8 @@ fn sleep<M: Machine<S>, N: Network + Drop, A: Allocator, S: Stream>(
 ) -> io::Result<u64>
     ensures pauses { IfOk result (λ ended. Pauses (Hears S.remaining S.contents) M.answers
         driver.now is_told is_fresh left pace.old.swept now ended machine.old machine.new) }
+    ensures fails { OnErr result (Fails (Hears S.remaining S.contents) M.answers M.fails
+        driver.now is_told left pace.old.swept now machine.old machine.new) }
     ensures swept { pace.new.swept ≡ pace.old.swept }
 {
     let limit = sleep_time(driver, pace, now, left);

@@ -1,7 +1,9 @@
 -- What the parts of a loop of sweeps do.
-use Rattle.std.specs.Prelude.{◌≡◌, ℕ, ◌+◌, ◌-◌, Bool, true, false, List, ◌∷◌, length}
+use Rattle.std.specs.Prelude.{◌≡◌, ℕ, ◌+◌, ◌-◌, Bool, true, false, List, ◌∷◌, length, Option}
+use Rattle.std.specs.declared.time.Duration.{Duration}
 use Rattle.sv_serve.specs.Heard.{Heard}
 use Rattle.sv_serve.specs.DriverView.{DriverState}
+use Rattle.sv_net.specs.Sleep.{MaySleep}
 use Rattle.sv_net.specs.Serving.{Doing, Waited, time_of, swept_at, ticks_between, handed_in, is_fresh, is_told, Serves, Waits}
 
 -- whether the loop's last action was a wait in which nothing was reported, and all earlier reports were passed to the sockets
@@ -36,7 +38,12 @@ pub record Pauses {W M : Type 0} (hears : W → Heard → W → Type 0) (answers
       → Running hears answers was sweeps many swept began start driver first old
       → Running hears answers is_so sweeps many swept time start driver first now
 
--- A loop made all its `sweeps` sweeps, no matter when. Its last action was a wait, or it has done nothing yet.
-abbrev pub Ran : {W M : Type 0} → (W → Heard → W → Type 0) → (M → Doing W → M → Type 0) → ℕ → DriverState W → DriverState W → M → M → Type 0
-Ran hears answers sweeps old new first now =
-    (swept : ℕ) × (time : ℕ) × Running hears answers is_fresh sweeps sweeps swept time old new first now
+-- The loop waits, until a wait fails; `left` sweeps remain. Before the waits the time was `began`, and the condition `was` held of the
+-- loop's actions.
+pub record Fails {W M : Type 0} (hears : W → Heard → W → Type 0) (answers : M → Doing W → M → Type 0)
+    (fails : M → Option Duration → M → Type 0)
+    (driver : DriverState W) (was : List (Doing W) → Bool) (left swept began : ℕ) (old now : M) : Type 0 where
+  pub goes : (sweeps many : ℕ) (start : DriverState W) (first : M) → left ≡ sweeps - many
+      → Running hears answers was sweeps many swept began start driver first old
+      → (time : ℕ) × (between : M) × (limit : Option Duration) × MaySleep left swept time limit driver × fails between limit now
+      × Running hears answers is_told sweeps many swept time start driver first between

@@ -68,7 +68,8 @@ impl<A: Allocator> Device<A> {
         self.enable_srq(conn, enable, lid, handle)
     }
 
-    /// Enables or disables service requests of a link that the connection owns.
+    /// Enables or disables service requests of a link that the connection owns. A handle above 40
+    /// bytes gets the error for a wrong parameter, but `read_args` doesn't read a call with one.
     fn enable_srq(&mut self, conn: Conn, enable: bool, lid: u32, handle: &[u8]) -> CallOutcome
         ensures ends { (config : Configured) (acts : List DeviceAct) → IsDevice self.old config acts
             → owns conn.number (Some lid) acts ≡ true

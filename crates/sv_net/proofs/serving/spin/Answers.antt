@@ -1,5 +1,5 @@
 use Rattle.std.proofs.Common.{refl, ◌∙◌}
-use Rattle.sv_net.proofs.Pausing.{one_look, in_vain, no_wait, from_quiet, to_fresh, and_then, if_ok}
+use Rattle.sv_net.proofs.Pausing.{one_look, in_vain, no_wait, from_quiet, to_fresh, and_then, if_ok, poll_fails, fails_from_quiet, then_fails, if_err, on_err}
 use Rattle.sv_net.proofs.serving.spin.Goals as goal
 
 pub loop-looks-init : goal.loop-looks-init
@@ -24,3 +24,13 @@ loop-looks-preserved g c = record {
 
 pub returns-clause-pauses : goal.returns-clause-pauses
 returns-clause-pauses g c = to_fresh c.loop-looks.invariant.pauses
+
+pub returns-then-not-is_spinning-clause-fails : goal.returns-then-not-is_spinning-clause-fails
+returns-then-not-is_spinning-clause-fails g c =
+    let slept = rw (c.end.ensures.times.0, c.loop-looks.invariant.swept) at c.sleep.ensures.fails in
+    if_err c.sleep.result slept (λ failing. then_fails c.loop-looks.invariant.pauses (fails_from_quiet failing))
+
+pub returns-in_err-reported-clause-fails : goal.returns-in_err-reported-clause-fails
+returns-in_err-reported-clause-fails g c =
+    let failing = fails_from_quiet (poll_fails _ refl c.in_err-reported.ensures.fails) in
+    on_err c.from_residual.result (then_fails c.loop-looks.invariant.pauses failing)

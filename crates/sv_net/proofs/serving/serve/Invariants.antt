@@ -1,7 +1,7 @@
 use Rattle.sv_net.specs.Sockets.{Hears}
 use Rattle.sv_net.specs.Serving.{is_fresh}
 use Rattle.sv_net.specs.Inside.Pausing.{Running}
-use Rattle.sv_net.proofs.serving.run.Given as goal
+use Rattle.sv_net.proofs.serving.serve.Given as goal
 
 abbrev pub invariant-loop-made : goal.invariant-loop-made
 invariant-loop-made g l =
