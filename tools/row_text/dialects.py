@@ -97,7 +97,7 @@ class Sockets(Reading):
     BYTES = "%s < %s"
     PRINTS = {"reply": "%s %s", "request": "%s %s"}
     # What a peer does other than send a call.
-    VERBS = "core abort portmap listens accepts closes before ends silent drains > <".split()
+    VERBS = "core abort portmap calls refused listens accepts closes before ends silent drains > <".split()
     PEER = re.compile(r"([a-z]) (\S+).*")
     POURS = re.compile(r"([a-z] pours \d+) (.*)")
 

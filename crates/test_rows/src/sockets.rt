@@ -2,8 +2,9 @@
 //! 127.0.0.1, and peers in the same process. Prints what the peers get.
 //!
 //! The server makes some sweeps between two checks of whether bytes have come to a peer. The output
-//! doesn't depend on the speed of the machine, since only lower bounds of times are checked. If
-//! nothing comes to a peer for ten seconds, the program ends with a fault.
+//! doesn't depend on the speed of the machine: rows have lower bounds of times, and one upper bound
+//! that is ten times the time. If nothing comes to a peer for ten seconds, the program ends with a
+//! fault.
 //!
 //! The ports are 24196 to 24199; nothing listens on 24195. A row has these lines. A letter such as
 //! `a` or `i` names a peer:
@@ -12,14 +13,16 @@
 //! |---|---|
 //! | `0 input 1 250000` | an entry of the scenario; an empty line ends the entries |
 //! | `a core` | the peer connects to the core channel; `abort` and `portmap` are the other ports |
+//! | `a calls ADDRESS:PORT` | the peer tries to connect to this address |
+//! | `a refused` | prints whether this attempt was refused |
 //! | `a < 8000..` | the peer sends these bytes, which may have blanks between them |
 //! | `a > N` | waits until N bytes have come to the peer, and prints them |
 //! | `a before b` | prints whether peer a gets its next bytes no later than peer b |
 //! | `a ends` | prints whether the peer's stream ends |
 //! | `a silent` | prints whether for a while nothing comes to the peer, not even an end |
 //! | `a closes` | the peer closes its stream |
-//! | `i listens PORT` | the peer listens on a port of 127.0.0.1 |
-//! | `i accepts` | the peer accepts a connection on that port; the connection is then its stream |
+//! | `i listens ADDRESS:PORT` | the peer listens there |
+//! | `i accepts` | the peer accepts a connection there; the connection is then its stream |
 //! | `a pours N 8000..` | the peer sends these calls N times, or until the sockets are full |
 //! | `a drains N SIZE` | sends unsent calls; prints whether N replies of SIZE bytes come in order |
 //! | `start` | a time measurement starts |

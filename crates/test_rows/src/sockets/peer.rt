@@ -3,15 +3,10 @@
 use mio::net::{TcpListener, TcpStream};
 use std::alloc::Global;
 use std::io::{self, ErrorKind, Read, Write};
-use std::net::{Ipv4Addr, SocketAddr, SocketAddrV4};
+use std::net::SocketAddr;
 
 /// The most bytes that a peer reads at once.
 const PIECE: usize = 65_536;
-
-/// The address of a port of 127.0.0.1.
-fn local(port: u16) -> SocketAddr {
-    SocketAddr::V4(SocketAddrV4::new(Ipv4Addr::LOCALHOST, port))
-}
 
 /// Whether a read or a write failed only because it would block.
 fn would_wait(kind: ErrorKind) -> bool {
@@ -34,6 +29,8 @@ pub(crate) struct Peer {
     pub(crate) came: Vec<u8>,
     /// Whether the peer's stream has ended.
     pub(crate) ended: bool,
+    /// Whether the peer tried to connect and was refused; then its stream has ended too.
+    pub(crate) refused: bool,
     buffer: Vec<u8>,
 }
 
@@ -47,21 +44,22 @@ impl Peer {
             unsent: Vec::new(alloc),
             came: Vec::new(alloc),
             ended: false,
+            refused: false,
             buffer: vec![in alloc; 0; PIECE]?,
         })
     }
 
-    /// Makes a peer, and connects it to a port of the server.
-    pub(crate) fn connect(rt: HostRuntime, name: char, port: u16) -> io::Result<Peer> {
+    /// Makes a peer, and begins to connect it to this address and port.
+    pub(crate) fn connect(rt: HostRuntime, name: char, addr: SocketAddr) -> io::Result<Peer> {
         let mut peer = Peer::new(rt.alloc(), name)?;
-        peer.stream = Some(TcpStream::connect(&rt, local(port))?);
+        peer.stream = Some(TcpStream::connect(&rt, addr)?);
         Ok(peer)
     }
 
-    /// Makes a peer that listens on a port.
-    pub(crate) fn listen(rt: HostRuntime, name: char, port: u16) -> io::Result<Peer> {
+    /// Makes a peer that listens on this address and port.
+    pub(crate) fn listen(rt: HostRuntime, name: char, addr: SocketAddr) -> io::Result<Peer> {
         let mut peer = Peer::new(rt.alloc(), name)?;
-        peer.listener = Some(TcpListener::bind(&rt, local(port))?);
+        peer.listener = Some(TcpListener::bind(&rt, addr)?);
         Ok(peer)
     }
 
@@ -104,10 +102,16 @@ impl Peer {
         }
     }
 
-    /// Handles a failed read or write: a reset counts as the end of the stream, like a close.
+    /// Handles a failed read or write: a reset counts as the end of the stream, like a close, and
+    /// so does a refused attempt to connect.
     fn fault(&mut self, error: io::Error) -> io::Result<usize> {
         match error.kind() {
             ErrorKind::ConnectionReset | ErrorKind::BrokenPipe => {
+                self.ended = true;
+                Ok(0)
+            }
+            ErrorKind::ConnectionRefused => {
+                self.refused = true;
                 self.ended = true;
                 Ok(0)
             }

@@ -7,9 +7,12 @@ use crate::sockets::stage::{PORTS, Stage};
 use crate::words::{bad, bytes_of, cut, value_of};
 use std::alloc::Global;
 use std::io::{self, BufWriter, Write};
+use std::net::{Ipv4Addr, SocketAddr, SocketAddrV4};
 
 /// How many sweeps the server makes for a line `a silent`, while nothing may come to peer a.
 const SILENCE: u32 = 20;
+/// How many sweeps the server makes for a line `a refused`, before the peer looks.
+const REFUSAL: u32 = 2;
 /// How many bytes of the first reply are printed when a peer drains many replies.
 const SHOWN: usize = 64;
 
@@ -86,9 +89,10 @@ fn do_as<W: Write + Drop>(
 ) -> io::Result<()> {
     let (verb, text) = cut(line);
     match verb {
-        "core" => connect(stage, name, PORTS[0]),
-        "abort" => connect(stage, name, PORTS[1]),
-        "portmap" => connect(stage, name, PORTS[2]),
+        "core" => connect(stage, name, local(PORTS[0])),
+        "abort" => connect(stage, name, local(PORTS[1])),
+        "portmap" => connect(stage, name, local(PORTS[2])),
+        "calls" => connect(stage, name, value_of(text)?),
         "listens" => listen(stage, name, text),
         "accepts" => stage.accept(name),
         "closes" => Ok(stage.peer(name)?.close()),
@@ -97,13 +101,18 @@ fn do_as<W: Write + Drop>(
     }
 }
 
-/// Makes a peer that connects to a port.
-fn connect(stage: &mut Stage, name: char, port: u16) -> io::Result<()> {
-    let peer = Peer::connect(stage.rt, name, port)?;
+/// The address of a port of 127.0.0.1.
+fn local(port: u16) -> SocketAddr {
+    SocketAddr::V4(SocketAddrV4::new(Ipv4Addr::LOCALHOST, port))
+}
+
+/// Makes a peer that connects to an address and port.
+fn connect(stage: &mut Stage, name: char, addr: SocketAddr) -> io::Result<()> {
+    let peer = Peer::connect(stage.rt, name, addr)?;
     Ok(stage.peers.push(peer)?)
 }
 
-/// Makes a peer that listens on a port.
+/// Makes a peer that listens on an address and port.
 fn listen(stage: &mut Stage, name: char, text: &str) -> io::Result<()> {
     let peer = Peer::listen(stage.rt, name, value_of(text)?)?;
     Ok(stage.peers.push(peer)?)
@@ -131,6 +140,7 @@ fn show_of<W: Write + Drop>(
         "drains" => return drain(stage, name, text, writer),
         "before" => return compare(stage, (name, letter(text)?), writer),
         "ends" => ends(stage, name)?,
+        "refused" => is_refused(stage, name)?,
         "silent" => is_silent(stage, name)?,
         "pours" => pours(stage, name, text)?,
         _ => return Err(bad()),
@@ -170,6 +180,14 @@ fn ends(stage: &mut Stage, name: char) -> io::Result<bool> {
     stage.wait_for(name, 1)?;
     let peer = stage.peer(name)?;
     Ok(peer.ended && peer.came.is_empty())
+}
+
+/// Whether a peer that tried to connect was refused.
+fn is_refused(stage: &mut Stage, name: char) -> io::Result<bool> {
+    stage.serve(REFUSAL)?;
+    let peer = stage.peer(name)?;
+    peer.hear()?;
+    Ok(peer.refused)
 }
 
 /// Whether nothing comes to a peer during the next 20 sweeps, not even the end of its stream.

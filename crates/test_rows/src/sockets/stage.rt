@@ -5,7 +5,7 @@ use crate::words::bad;
 use std::alloc::Global;
 use std::io::{self, Error, ErrorKind};
 use std::time::{Clock, Duration, Instant};
-use sv_net::{Net, Watch, serve};
+use sv_net::{Net, System, Watch, serve};
 use sv_replay::{Entry, read_scenario};
 use sv_serve::Driver;
 use sv_server::{Config, Port, Server};
@@ -99,7 +99,8 @@ impl Stage {
 
     /// Makes this number of sweeps.
     pub(crate) fn serve(&mut self, sweeps: u32) -> io::Result<()> {
-        serve(&self.rt, &mut self.watch, &mut self.driver, sweeps)
+        let mut machine = System::begin(&self.rt, &mut self.watch)?;
+        serve(&mut machine, &mut self.driver, sweeps)
     }
 
     /// Whether bytes wait in the server to be sent on at least one of the sixteen connections.
