@@ -2,9 +2,9 @@
 //! 127.0.0.1, and peers in the same process. Prints what the peers get.
 //!
 //! The server makes some sweeps between two checks of whether bytes have come to a peer. The output
-//! doesn't depend on the speed of the machine: rows have lower bounds of times, and one upper bound
-//! that is ten times the time. If nothing comes to a peer for ten seconds, the program ends with a
-//! fault.
+//! hardly depends on the speed of the machine: rows have lower bounds of times, and two have upper
+//! bounds, hundreds of milliseconds later. If nothing comes to a peer for ten seconds, the program
+//! ends with a fault.
 //!
 //! The ports are 24196 to 24199; nothing listens on 24195. A row has these lines. A letter such as
 //! `a` or `i` names a peer:
@@ -28,6 +28,7 @@
 //! | `start` | a time measurement starts |
 //! | `passed MILLISECONDS` | prints whether this time has passed since `start` |
 //! | `sleep SWEEPS` | the server makes this many sweeps |
+//! | `sweeps N` | from now on, the server makes N sweeps between two checks; else it makes 2 |
 
 mod peer;
 mod pouring;

@@ -76,6 +76,10 @@ fn step<W: Write + Drop>(
             writeln!(writer, "{line}: {}", word(so))
         }
         "sleep" => stage.serve(value_of(behind)?),
+        "sweeps" => {
+            stage.sweeps = value_of(behind)?;
+            Ok(())
+        }
         _ => do_as(stage, letter(first)?, behind, writer),
     }
 }

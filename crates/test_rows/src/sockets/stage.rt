@@ -18,7 +18,8 @@ const PATIENCE: u64 = 10;
 const TRIES: u32 = 2_000;
 /// The most times that the program looks for bytes or a connection during one wait.
 const LOOKS: u32 = 10_000_000;
-/// How many sweeps the server makes between two checks of whether bytes have come to a peer.
+/// How many sweeps the server makes between two checks of whether bytes have come to a peer, if the
+/// row doesn't say. The time after the last of these sweeps doesn't pass for the server.
 const SWEEPS: u32 = 2;
 /// For a row that compares which of two peers gets its bytes first: how many sweeps the server
 /// makes between two checks.
@@ -68,6 +69,8 @@ pub(crate) struct Stage {
     watch: Watch<Global>,
     driver: Played,
     pub(crate) peers: Vec<Peer>,
+    /// How many sweeps the server makes between two checks of whether bytes have come to a peer.
+    pub(crate) sweeps: u32,
     /// When the measurement of time started.
     start: Instant,
 }
@@ -85,6 +88,7 @@ impl Stage {
             watch,
             driver: driver_over(rt.alloc(), net, scenario)?,
             peers: Vec::new(rt.alloc()),
+            sweeps: SWEEPS,
             start,
         })
     }
@@ -153,7 +157,7 @@ impl Stage {
             if now > came {
                 (begun, came) = (Instant::now(&self.rt)?, now);
             }
-            self.serve_on(begun, SWEEPS)?;
+            self.serve_on(begun, self.sweeps)?;
         }
         Err(late())
     }
