@@ -36,15 +36,19 @@ def _tie(source: int, group: int) -> None:
     fcntl.fcntl(source, fcntl.F_SETFL, fcntl.fcntl(source, fcntl.F_GETFL) | os.O_ASYNC)
 
 
-def _end(process: "subprocess.Popen[bytes]", end: int, owner: int) -> None:
-    """Ends a program by SIGTERM, or else by SIGKILL, and what it started. A fork of its owner leaves it alone."""
+def _end(process: "subprocess.Popen[bytes]", end: int, owner: int, grace: float) -> None:
+    """Ends a program by SIGTERM, or after that time by SIGKILL, and what it started. A fork of its owner leaves it
+    alone.
+    """
     if os.getpid() != owner:
         return
-    process.terminate()
     try:
-        process.wait(GRACE)
+        if grace > 0:
+            process.terminate()
+            process.wait(grace)
     except subprocess.TimeoutExpired:
-        process.kill()
+        pass
+    process.kill()
     _ends.discard(end)
     os.close(end)
     process.wait()
@@ -55,10 +59,11 @@ def _end(process: "subprocess.Popen[bytes]", end: int, owner: int) -> None:
 
 class Tied:
     """A running program in a session of its own. It ends with its `with` block, by `end()`, when this object is
-    collected, and when this process ends. Raises OSError if it can't be run.
+    collected, and when this process ends. `grace` is how many seconds it has to end by itself; if 0, it is killed at
+    once. Raises OSError if it can't be run.
     """
 
-    def __init__(self, command: Sequence[str], stdin: Optional[int] = subprocess.DEVNULL) -> None:
+    def __init__(self, command: Sequence[str], stdin: Optional[int] = subprocess.DEVNULL, grace: float = GRACE) -> None:
         source, target = os.pipe()
         _ends.add(target)
         try:
@@ -70,7 +75,7 @@ class Tied:
             os.close(target)
             raise
         else:
-            self.end = weakref.finalize(self, _end, self.process, target, os.getpid())
+            self.end = weakref.finalize(self, _end, self.process, target, os.getpid(), grace)
             _tie(source, self.process.pid)
         finally:
             os.close(source)

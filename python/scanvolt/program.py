@@ -8,7 +8,7 @@ import subprocess
 import time
 from typing import Callable, Dict, Iterable, List, Optional, Set, Tuple, Type, TypeVar, Union
 
-from .lifeline import Tied
+from .lifeline import GRACE, Tied
 from .stimulus import read_scenario
 
 Itself = TypeVar("Itself", bound="Server")
@@ -70,10 +70,10 @@ def free_ports(count: int) -> List[int]:
     return ports
 
 
-def started(command: List[str], stdin: int = subprocess.DEVNULL) -> Tied:
-    """Starts a program. Raises ProgramError if it can't be run."""
+def started(command: List[str], stdin: int = subprocess.DEVNULL, grace: float = GRACE) -> Tied:
+    """Starts a program, which has this many seconds to end. Raises ProgramError if it can't be run."""
     try:
-        return Tied(command, stdin)
+        return Tied(command, stdin, grace)
     except OSError as fault:
         raise ProgramError("the program can't be run: %s: %s" % (command[0], fault.strerror)) from None
 
@@ -150,7 +150,7 @@ def check_fits(path: str) -> None:
 
 def _unlike(path: str) -> str:
     """How a program answers otherwise than this package expects; empty if it doesn't."""
-    with started([path, "replay"], subprocess.PIPE) as tied:
+    with started([path, "replay"], subprocess.PIPE, 0) as tied:
         assert tied.process.stdin is not None
         try:
             tied.process.stdin.write(PROBES)

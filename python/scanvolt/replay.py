@@ -7,11 +7,10 @@ been printed: the program flushes its output before it reads on (docs/REPLAY.md)
 import os
 import select
 import subprocess
-import weakref
 import zlib
 from typing import Iterator, List, Optional, Tuple
 
-from .program import ProgramError, check_fits
+from .program import ProgramError, check_fits, started
 
 __tracebackhide__ = True        # pytest shows the line that calls the package, and not these frames
 PROBE, SEEN = b"input 255 0\n", b"refused 8\n"
@@ -40,29 +39,14 @@ def pieces(text: bytes) -> Iterator[bytes]:
         start = end
 
 
-def _end(process: "subprocess.Popen[bytes]", owner: int) -> None:
-    """Ends a program, whatever it does. A fork of the process that started it leaves the program alone."""
-    if os.getpid() != owner:
-        return
-    process.kill()
-    for pipe in (process.stdin, process.stdout, process.stderr):
-        if pipe is not None:
-            pipe.close()
-    process.wait()
-
-
 class Program:
-    """A running program. It ends when it is closed, when this object is collected, and when Python ends, even by a signal."""
+    """A running program. It ends when it is closed, when this object is collected, and when Python ends, even by SIGKILL."""
 
     def __init__(self, path: str) -> None:
         self.path = path
-        try:
-            self.process = subprocess.Popen([path, "replay"], stdin=subprocess.PIPE, stdout=subprocess.PIPE,
-                                            stderr=subprocess.PIPE, bufsize=0, start_new_session=True)
-        except OSError as fault:
-            raise ProgramError("the program can't be run: %s: %s" % (path, fault.strerror)) from None
+        self.tied = started([path, "replay"], subprocess.PIPE, 0)
+        self.process, self.close = self.tied.process, self.tied.end
         assert self.process.stdin is not None and self.process.stdout is not None
-        self.close = weakref.finalize(self, _end, self.process, os.getpid())
         self.source, self.target = self.process.stdout.fileno(), self.process.stdin.fileno()
         os.set_blocking(self.target, False)
         self.printed, self.room = select.poll(), select.poll()

@@ -15,7 +15,7 @@ from scanvolt import program, replay
 from scanvolt.program import ProgramError, Server, find_program
 from scanvolt.virtual import Meter
 
-from .processes import TOP, is_there, script
+from .processes import TOP, goes, is_there, kill, script, stop
 
 
 class Missing(unittest.TestCase):
@@ -135,7 +135,18 @@ class NothingLeft(unittest.TestCase):
             with self.subTest(how):
                 self.leaves(how)
 
-    def leaves(self, how: "signal.Signals | None") -> None:
+    def test_a_program_that_is_stopped(self) -> None:
+        """It ends with the process that started it, even if that is killed, and it closes without waiting."""
+        self.leaves(signal.SIGKILL, stopped=True)
+        meter = Meter()
+        number = meter.replay.program.process.pid
+        stop(number)
+        began = time.monotonic()
+        meter.close()
+        self.assertLess(time.monotonic() - began, 0.8)
+        self.assertFalse(is_there(number))
+
+    def leaves(self, how: "signal.Signals | None", stopped: bool = False) -> None:
         # If these tests were started in the background, Ctrl-C may still be ignored.
         text = ("import signal\nsignal.signal(signal.SIGINT, signal.default_int_handler)\n"
                 "from scanvolt.virtual import Meter\nmeter = Meter()\n"
@@ -147,16 +158,16 @@ class NothingLeft(unittest.TestCase):
         number = int(child.stdout.readline())
         if how is not None:
             self.assertTrue(is_there(number))
+            if stopped:
+                stop(number)
             child.send_signal(how)
         try:
             child.communicate(timeout=20)
+            self.assertTrue(goes(number))
         finally:
             child.kill()
             child.communicate()
-        end = time.monotonic() + 20
-        while is_there(number) and time.monotonic() < end:
-            time.sleep(0.01)
-        self.assertFalse(is_there(number))
+            kill(number)
 
 
 if __name__ == "__main__":
