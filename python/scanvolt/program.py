@@ -8,6 +8,7 @@ import subprocess
 import time
 from typing import Callable, Dict, Iterable, List, Optional, Set, Tuple, Type, TypeVar, Union
 
+from . import __version__
 from .lifeline import GRACE, Tied
 from .stimulus import read_scenario
 
@@ -144,7 +145,8 @@ def check_fits(path: str) -> None:
     if known not in _fitting:
         how = _unlike(path)
         if how:
-            raise ProgramError("%s isn't scanvolt 2.0, or doesn't fit this package: %s" % (path, how))
+            release = ".".join(__version__.split(".")[:2])
+            raise ProgramError("%s isn't scanvolt %s, or doesn't fit this package: %s" % (path, release, how))
         _fitting.add(known)
 
 

@@ -96,7 +96,7 @@ class Printed(unittest.TestCase):
     def test_another_program(self) -> None:
         status, text = self.run_with(self.put("true", "#!/bin/sh\n"))
         self.assertEqual(status, 1)
-        self.assertRegex(text, "isn't scanvolt 2.0, or doesn't fit this package: it ended with status 0\n$")
+        self.assertRegex(text, "isn't scanvolt [0-9.]*, or doesn't fit this package: it ended with status 0\n$")
 
     def test_other_words(self) -> None:
         self.assertEqual(self.run_with("/nonexistent", "serve")[0], 2)
@@ -110,12 +110,12 @@ class Fitting(unittest.TestCase):
 
     def test_others(self) -> None:
         for text, reason in OTHERS:
-            with self.subTest(text), script(text) as path:
+            with self.subTest(text), script(text) as path, mock.patch.object(program, "__version__", "7.8.9"):
                 for kind in Meter, Server:
                     with self.assertRaises(ProgramError) as caught:
                         kind(program=path)
                     self.assertEqual(str(caught.exception), (
-                        "%s isn't scanvolt 2.0, or doesn't fit this package: %s" % (path, reason)))
+                        "%s isn't scanvolt 7.8, or doesn't fit this package: %s" % (path, reason)))
 
     def test_each_is_asked_once(self) -> None:
         """A second meter starts one process. If the file changes, the program is asked again."""
