@@ -2,6 +2,7 @@
 import codecs
 from typing import List, Tuple
 
+__tracebackhide__ = True        # pytest shows the line that calls the package, and not these frames
 Fault = Tuple[int, bytes, str]          # the number of a line, the line, and what is wrong with it
 MARK = "the file begins with a byte order mark; save it as UTF-8 without one"
 WIDE = "the file is UTF-16 text, as some programs on Windows write it; save it as UTF-8 without a byte order mark"

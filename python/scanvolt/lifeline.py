@@ -14,6 +14,7 @@ import subprocess
 import weakref
 from typing import Optional, Sequence, Set, Type, TypeVar
 
+__tracebackhide__ = True        # pytest shows the line that calls the package, and not these frames
 Itself = TypeVar("Itself", bound="Tied")
 GRACE = 1.0             # seconds that a program has to end after SIGTERM
 _ends: Set[int] = set()     # the write ends that are open

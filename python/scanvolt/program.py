@@ -12,6 +12,7 @@ from . import __version__
 from .lifeline import GRACE, Tied
 from .stimulus import read_scenario
 
+__tracebackhide__ = True        # pytest shows the line that calls the package, and not these frames
 Itself = TypeVar("Itself", bound="Server")
 BUILT = ("crates/scanvolt/out/scanvolt", "out/unproved/scanvolt")     # in a checkout
 SWEEPS = 10 ** 8        # a server that nobody ends ends after this many sweeps, which take an hour at least

@@ -2,6 +2,7 @@
 
 Each test that uses one of them has an instrument of its own, which has just been turned on. A marker names its
 scenario, by a path relative to the folder of the test's file: `@pytest.mark.scanvolt(scenario="stand.scenario")`.
+`patience` and `call_time` there are those of Meter.
 """
 from typing import Any, Callable, Dict, Iterator, TypeVar
 
@@ -12,9 +13,11 @@ from .about import version_and_kind
 from .program import ProgramError, Server, find_program
 from .virtual import Meter
 
+__tracebackhide__ = True        # pytest shows the line that calls the package, and not these frames
 Made = TypeVar("Made")
-MARKER = "scanvolt(scenario=FILE, patience=MILLISECONDS): the instrument of `meter` and `scanvolt_server`"
-OPTIONS = ("scenario", "patience")
+MARKER = ("scanvolt(scenario=FILE, patience=MILLISECONDS, call_time=MILLISECONDS): the instrument of `meter`; "
+          "`scanvolt_server` takes the scenario")
+OPTIONS = ("scenario", "patience", "call_time")
 
 
 def pytest_configure(config: pytest.Config) -> None:
@@ -47,7 +50,7 @@ def made(make: Callable[[], Made]) -> Made:
     """Makes an instrument. If that fails, the test fails with one line that says why."""
     try:
         return make()
-    except (ProgramError, OSError, ValueError) as fault:
+    except (ProgramError, OSError, TypeError, ValueError) as fault:
         told = str(fault)
     return pytest.fail(told, pytrace=False)         # outside of `except`, where pytest would show `fault` too
 

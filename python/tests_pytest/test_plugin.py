@@ -131,6 +131,63 @@ def test_no_program(pytester: pytest.Pytester, monkeypatch: pytest.MonkeyPatch) 
     assert result.outlines.count("SCANVOLT names no program: /nonexistent/scanvolt") == 2
 
 
+def test_no_program_for_a_test_s_own_meter(pytester: pytest.Pytester, monkeypatch: pytest.MonkeyPatch) -> None:
+    """Only the test's line is shown, with what is missing or wrong."""
+    monkeypatch.setenv("SCANVOLT", "/nonexistent/scanvolt")
+    pytester.makefile("", bad="0 trigger\n")
+    pytester.makefile("", empty="").chmod(0o755)
+    pytester.makepyfile("""
+        from scanvolt.program import Server
+        from scanvolt.virtual import Meter
+
+        def test_meter(): Meter()
+        def test_server(): Server()
+        def test_another_program(): Meter(program="/bin/true")
+        def test_another_server(): Server(program="/bin/true")
+        def test_no_file(): Meter(program="/nonexistent")
+        def test_no_program(): Meter(program="./empty")
+        def test_scenario(): Meter(scenario="bad")
+    """)
+    result = pytester.runpytest_subprocess(*PLUGIN)
+    result.assert_outcomes(failed=7)
+    result.stdout.fnmatch_lines([
+        ">*Meter()", "E*ProgramError: SCANVOLT names no program: /nonexistent/scanvolt", ">*Server()",
+        "E*ProgramError: SCANVOLT names no program: /nonexistent/scanvolt", ">*Meter(program=*",
+        "E*ProgramError: /bin/true isn't scanvolt *", ">*Server(program=*", "E*ProgramError: /bin/true isn't scanvolt *",
+        ">*Meter(program=*", "E*ProgramError: the program can't be run: /nonexistent: No such file or directory",
+        ">*Meter(program=*", "E*ProgramError: the program can't be run: ./empty: Exec format error", ">*Meter(scenario=*",
+        "E*ValueError: bad line 1 of the scenario bad: *"])
+    places = [line.partition(":")[0] for line in result.outlines if re.match(r"\S+\.py:\d+:", line)]
+    assert places == ["test_no_program_for_a_test_s_own_meter.py"] * 7
+    result.stdout.no_fnmatch_line("*During handling*")
+
+
+def test_options_of_a_meter(pytester: pytest.Pytester) -> None:
+    """The marker's patience and call_time are those of Meter."""
+    pytester.makepyfile("""
+        import pytest
+
+        @pytest.mark.scanvolt(patience=1234, call_time=2)
+        def test_both(meter):
+            link = meter.connect().create_link()
+            assert (meter.clock, meter.patience, meter.call_time) == (2, 1234, 2)
+
+        @pytest.mark.scanvolt(call_time=2)
+        def test_served(scanvolt_server): pass
+
+        @pytest.mark.scanvolt(call_time=0.5)
+        def test_half(meter): pass
+
+        @pytest.mark.scanvolt(patience=-1)
+        def test_negative(meter): pass
+    """)
+    result = pytester.runpytest_subprocess(*PLUGIN)
+    result.assert_outcomes(passed=2, errors=2)
+    result.stdout.fnmatch_lines(["call_time wants milliseconds, a whole number * and not 0.5",
+                                 "patience wants milliseconds, a whole number * and not -1"])
+    result.stdout.no_fnmatch_line("*.py:[0-9]*")
+
+
 def test_bad_options(pytester: pytest.Pytester) -> None:
     pytester.makefile("", bad="0 trigger\n")
     pytester.makepyfile("""
@@ -158,8 +215,8 @@ def test_bad_options(pytester: pytest.Pytester) -> None:
     result.assert_outcomes(errors=6)
     result.stdout.fnmatch_lines([
         "bad line 1 of the scenario /*/bad: after the time comes *", "*No such file or directory: '/*/none'",
-        "the marker scanvolt has no option voltages, but scenario, patience",
-        "the marker scanvolt has no option without a name, but scenario, patience",
+        "the marker scanvolt has no option voltages, but scenario, patience, call_time",
+        "the marker scanvolt has no option without a name, but scenario, patience, call_time",
         "*ERROR at setup of test_served*", "bad line 1 of the scenario /*/bad: after the time comes *",
         "*ERROR at setup of test_none_served*", "*No such file or directory: '/*/none'"])
     assert sum("after the time comes" in line for line in result.outlines) == 2

@@ -1,6 +1,7 @@
 """The errors of VXI-11 (revision 1.0, table B.2)."""
 from typing import Optional
 
+__tracebackhide__ = True        # pytest shows the line that calls the package, and not these frames
 NAMES = {
     1: "syntax error", 3: "device not accessible", 4: "invalid link identifier", 5: "parameter error",
     6: "channel not established", 8: "operation not supported", 9: "out of resources",

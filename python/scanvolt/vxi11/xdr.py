@@ -1,6 +1,8 @@
 """External data representation (RFC 4506), as far as VXI-11 needs it: words, booleans, opaque data."""
 import struct
 
+__tracebackhide__ = True        # pytest shows the line that calls the package, and not these frames
+
 
 class XdrError(ValueError):
     """The bytes aren't a value of the type that is read."""
