@@ -3,6 +3,11 @@
 All else uses this through `Meter.keeping_time`. While any thread is within such a block, Python's clocks, `time.sleep`,
 `threading.Condition.wait` (which Event, Semaphore and Queue use) and the selectors of asyncio's loops are replaced by
 functions that go by the meter for the threads within, and by real time for all others.
+
+Some parts that this uses are private to Python, and are alike in Python 3.9 to 3.13: of a Condition `_waiters`,
+`_is_owned`, `_release_save` and `_acquire_restore`; `threading._time` and `queue.time`, by which these modules call
+time.monotonic. A Python that lacks one is refused as a block begins. Of a loop it uses `_selector`, and of a frame in
+threading the names `join` and `_wait_for_tstate_lock`; it does without them, too. `sys._current_frames` is documented.
 """
 import contextlib
 import functools
@@ -21,6 +26,7 @@ if TYPE_CHECKING:
 __tracebackhide__ = True        # pytest shows the line that calls the package, and not these frames
 CLOCKS = ("time", "monotonic", "perf_counter")  # of Python's module time; each also in nanoseconds, with _ns
 SELECTORS = ("SelectSelector", "PollSelector", "EpollSelector", "DevpollSelector", "KqueueSelector")
+KINDS = tuple(vars(selectors)[name] for name in SELECTORS if name in vars(selectors))
 READS_MOST = 10000      # times that a clock may be read in a row, without a call and without time that passes
 POLLS_MOST = 25000      # the same, with calls
 SLICE, SLICES = 0.1, 600    # a wait without a timeout waits so often so many seconds of real time for other threads
@@ -99,9 +105,10 @@ class Keeper:
 
     def select(self, real: Callable[..., List[object]], selector: Any, timeout: Optional[float] = None) -> List[object]:
         """Lets time pass until a file of a loop is ready, a service request was handed on, or the timeout is over."""
-        if not is_of_loop(selector):
+        loop = loop_of(selector)
+        if loop is None:
             return real(selector, timeout)
-        found, handed = real(selector, 0), self.meter.handed
+        found, handed = real(selector, timeout if timeout and shuts_executor(loop) else 0), self.meter.handed
 
         def ready() -> bool:
             found.extend(real(selector, 0))
@@ -165,11 +172,37 @@ def joins(frame: Optional[FrameType], thread: threading.Thread) -> bool:
             and frame.f_code.co_name in ("join", "_wait_for_tstate_lock") and frame.f_locals.get("self") is thread)
 
 
-def is_of_loop(selector: object) -> bool:
-    """Whether the selector is that of the asyncio loop that runs in this thread."""
+def loop_of(selector: object) -> Any:
+    """The asyncio loop that runs in this thread, if this is its selector. If the loop wraps its selectors, any that is
+    used outside of tasks is taken for one; else None.
+    """
     asyncio = sys.modules.get("asyncio")
-    loop = None if asyncio is None else asyncio._get_running_loop()
-    return loop is not None and getattr(loop, "_selector", None) is selector
+    if asyncio is None:
+        return None
+    try:
+        loop = asyncio.get_running_loop()
+    except RuntimeError:
+        return None
+    own = getattr(loop, "_selector", None)
+    wraps = not isinstance(own, KINDS) and asyncio.current_task(loop) is None
+    return loop if own is selector or wraps else None
+
+
+def shuts_executor(loop: Any) -> bool:
+    """Whether a loop waits for the threads of its executor, as asyncio.run does at its end. They have real time."""
+    coroutines = [task.get_coro() for task in sys.modules["asyncio"].all_tasks(loop)]
+    return any(getattr(one, "__name__", "") == "shutdown_default_executor" for one in coroutines)
+
+
+def check_python() -> None:
+    """Raises RuntimeError if this Python lacks a part that is used here."""
+    of_condition = "_waiters", "_is_owned", "_release_save", "_acquire_restore"
+    for where, name, parts in ((threading, "threading", ("_time",)), (queue, "queue", ("time",)),
+                               (threading.Condition(threading.Lock()), "threading.Condition", of_condition)):
+        for part in parts:
+            if not hasattr(where, part):
+                raise RuntimeError("keeping_time doesn't know Python %d.%d: its %s has no %s. Use Python 3.9 to 3.13, "
+                                   "or a later release of scanvolt" % (*sys.version_info[:2], name, part))
 
 
 def reads(name: str, in_seconds: bool = True) -> Callable[..., float]:
@@ -190,8 +223,7 @@ def replaced() -> Iterator[Tuple[object, str, Callable[..., object]]]:
     yield threading.Thread, "start", Keeper.start
     yield threading, "_time", reads("monotonic")     # these modules imported time.monotonic by another name
     yield queue, "time", reads("monotonic")
-    kinds = [vars(selectors)[name] for name in SELECTORS if name in vars(selectors)]
-    for kind in {next(one for one in kind.__mro__ if "select" in vars(one)) for kind in kinds}:
+    for kind in {next(one for one in kind.__mro__ if "select" in vars(one)) for kind in KINDS}:
         yield kind, "select", Keeper.select
 
 
@@ -211,11 +243,11 @@ def choosing(real: Callable[..., object], virtual: Callable[..., object]) -> Cal
 
 def replace() -> None:
     """Replaces the functions."""
+    check_python()
     for where, name, virtual in replaced():
-        real = getattr(where, name, None)
-        if real is not None:
-            put_back.callback(setattr, where, name, real)
-            setattr(where, name, choosing(real, virtual))
+        real = getattr(where, name)
+        put_back.callback(setattr, where, name, real)
+        setattr(where, name, choosing(real, virtual))
 
 
 @contextlib.contextmanager

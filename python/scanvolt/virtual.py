@@ -305,7 +305,8 @@ class Meter:
         waits takes no real time.
 
         What the meter's time can't end raises NeverEnds: a clock that is read ten thousand times in a row while no time
-        passes, and a wait without a timeout, which no service request and no other thread ends.
+        passes, and a wait without a timeout, which no service request and no other thread ends. A wait with a timeout
+        for what another thread does in real time ends too early, since the meter's time passes at once.
 
         Some times stay real: datetime.datetime.now, time.localtime, queue.SimpleQueue, locks, sockets, Thread.join,
         and names that were imported from `time`, as by `from time import sleep`.

@@ -2,10 +2,11 @@
 import asyncio
 import queue
 import selectors
+import sys
 import threading
 import time
 import unittest
-from typing import Callable, Dict, List, Optional, TypeVar
+from typing import Callable, Dict, List, Optional, TypeVar, cast
 from unittest import mock
 
 from scanvolt import keeping_time
@@ -233,6 +234,24 @@ class Loops(WithMeter):
             self.takes(3, lambda: asyncio.run(body(timeout)))
             self.link.readstb()
 
+    def test_a_loop_that_wraps_its_selector(self) -> None:
+        """As some do that serve a window's events, too."""
+        class Wrapper:
+            def __init__(self) -> None:
+                self.inner = selectors.DefaultSelector()
+
+            def __getattr__(self, name: str) -> object:
+                return getattr(self.inner, name)
+
+        def body() -> None:
+            loop = asyncio.SelectorEventLoop(cast(selectors.BaseSelector, Wrapper()))
+            try:
+                loop.run_until_complete(asyncio.sleep(2))
+            finally:
+                loop.close()
+
+        self.takes(2000, body)
+
     def test_a_block_within_a_coroutine(self) -> None:
         async def body() -> int:
             with self.meter.keeping_time():
@@ -246,7 +265,10 @@ class Loops(WithMeter):
             while True:
                 await asyncio.sleep(0)
 
-        self.assertRaises(NeverEnds, self.within, lambda: asyncio.run(asyncio.Event().wait()))
+        async def wait() -> None:
+            await asyncio.Event().wait()
+
+        self.assertRaises(NeverEnds, self.within, lambda: asyncio.run(wait()))
         self.assertRaises(NeverEnds, self.within, lambda: asyncio.run(spin()))
 
     def test_an_executor(self) -> None:
@@ -254,7 +276,17 @@ class Loops(WithMeter):
         async def body() -> object:
             return await asyncio.get_running_loop().run_in_executor(None, threading.Event().wait, 0.1)
 
-        self.assertIs(self.within(lambda: asyncio.run(body())), False)
+        self.assertIs(self.takes(0, lambda: asyncio.run(body())), False)
+
+    def test_the_end_of_an_executor(self) -> None:
+        """A loop waits for its threads in real time: asyncio.run does so at its end, with a timeout."""
+        async def body() -> bool:
+            loop = asyncio.get_running_loop()
+            loop.run_in_executor(None, time.sleep, 0.3)
+            end = loop.create_task(loop.shutdown_default_executor())
+            return end in (await asyncio.wait({end}, timeout=10))[0]
+
+        self.assertTrue(self.takes(0, lambda: asyncio.run(body())))
 
 
 class NoHang(WithMeter):
@@ -329,6 +361,19 @@ class NoHang(WithMeter):
         self.meter.patience = 5000
         self.assertRaises(NeverEnds, self.within, waits[0])
         self.assertEqual(self.meter.clock, 5000)
+
+
+class Unknown(WithMeter):
+    """A Python whose modules lack what the block uses: it raises, and changes nothing."""
+
+    def test_modules(self) -> None:
+        for where, name in ((threading, "_time"), (queue, "time"), (threading.Condition, "_is_owned")):
+            with self.subTest(name), mock.patch.object(where, name):
+                delattr(where, name)
+                with self.assertRaisesRegex(RuntimeError, "no %s" % name), self.meter.keeping_time():
+                    pass
+                with self.assertRaisesRegex(RuntimeError, "Python %d.%d" % sys.version_info[:2]), self.meter.keeping_time():
+                    pass
 
 
 class PutBack(WithMeter):
