@@ -30,6 +30,7 @@ KINDS = tuple(vars(selectors)[name] for name in SELECTORS if name in vars(select
 READS_MOST = 10000      # times that a clock may be read in a row, without a call and without time that passes
 POLLS_MOST = 25000      # the same, with calls
 SLICE, SLICES = 0.1, 600    # a wait without a timeout waits so often so many seconds of real time for other threads
+STRIDE = 1000           # milliseconds after which a loop looks for its files: Ctrl-C writes to one, and raises nothing
 GRID = 10 ** 9 // 512   # nanoseconds; a clock begins at a multiple, exact as a float, so that runs round alike
 ENDLESS = 2 ** 32       # milliseconds; a longer timeout is none
 HELP = "Let the loop sleep between its polls (time.sleep), or let each call take time: Meter(call_time=1)"
@@ -123,7 +124,9 @@ class Keeper:
         if timeout is None:
             self._endless(ready, ready_really, len(selector.get_map()) > 1)     # a loop has one file of its own
         else:
-            self.meter.until(ready, whole(timeout))
+            rest = whole(timeout)
+            while not self.meter.until(ready, min(rest, STRIDE)) and rest > STRIDE:
+                rest -= STRIDE
         return found
 
     def _endless(self, holds: Callable[[], bool], really: Callable[[], bool], has_files: bool = False) -> bool:

@@ -1,9 +1,10 @@
-"""Processes, for the tests: programs that are shell scripts, and whether a process is there."""
+"""Processes, for the tests: programs that are shell scripts, whether a process is there, and signals."""
 import contextlib
 import os
 import pathlib
 import signal
 import tempfile
+import threading
 import time
 from typing import Iterator
 
@@ -47,3 +48,16 @@ def kill(number: int) -> None:
     """Kills a process that shouldn't be there any more."""
     if is_there(number):
         os.kill(number, signal.SIGKILL)
+
+
+@contextlib.contextmanager
+def ctrl_c() -> Iterator[None]:
+    """Ctrl-C comes while the block runs."""
+    before = signal.signal(signal.SIGINT, signal.default_int_handler)
+    timer = threading.Timer(0.2, signal.pthread_kill, (threading.get_ident(), signal.SIGINT))
+    timer.start()
+    try:
+        yield
+    finally:
+        timer.join()
+        signal.signal(signal.SIGINT, before)

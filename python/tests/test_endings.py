@@ -2,7 +2,6 @@
 says so.
 """
 import contextlib
-import signal
 import socket
 import struct
 import threading
@@ -12,6 +11,8 @@ from typing import Callable, ContextManager, Iterator, Tuple, cast
 from scanvolt.program import ProgramError, Server
 from scanvolt.virtual import Connection, Meter, NoAnswer
 from scanvolt.vxi11 import Channel, Client, Link, calls, encode_reply, words
+
+from .processes import ctrl_c
 
 LINK = encode_reply(1, words(0, 1, 4097, 4096))
 WAITING = "TRIG:SOUR EXT;:INIT;*OPC?"      # the response never comes
@@ -35,19 +36,6 @@ def peer(resets: bool = False) -> Iterator[int]:
         thread.start()
         yield listener.getsockname()[1]
         thread.join()
-
-
-@contextlib.contextmanager
-def ctrl_c() -> Iterator[None]:
-    """Ctrl-C comes while the block runs."""
-    before = signal.signal(signal.SIGINT, signal.default_int_handler)
-    timer = threading.Timer(0.2, signal.pthread_kill, (threading.get_ident(), signal.SIGINT))
-    timer.start()
-    try:
-        yield
-    finally:
-        timer.join()
-        signal.signal(signal.SIGINT, before)
 
 
 class OverSockets(unittest.TestCase):

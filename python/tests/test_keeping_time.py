@@ -14,6 +14,8 @@ from scanvolt.keeping_time import NeverEnds
 from scanvolt.virtual import Connection, Meter
 from scanvolt.vxi11 import Link, ServiceRequest
 
+from .processes import ctrl_c
+
 Value = TypeVar("Value")
 CLOCKS: "tuple[Callable[[], float], ...]" = (
     lambda: time.time(), lambda: time.monotonic(), lambda: time.perf_counter(),
@@ -251,6 +253,12 @@ class Loops(WithMeter):
                 loop.close()
 
         self.takes(2000, body)
+
+    def test_ctrl_c(self) -> None:
+        """It ends a long wait soon, though asyncio.run lets it raise nothing meanwhile."""
+        with ctrl_c(), self.assertRaises(KeyboardInterrupt), self.meter.keeping_time():
+            asyncio.run(asyncio.sleep(100))
+        self.assertLess(self.meter.clock, 90000)
 
     def test_a_block_within_a_coroutine(self) -> None:
         async def body() -> int:
