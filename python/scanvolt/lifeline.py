@@ -39,20 +39,21 @@ def _tie(source: int, group: int) -> None:
 
 def _end(process: "subprocess.Popen[bytes]", end: int, owner: int, grace: float) -> None:
     """Ends a program by SIGTERM, or after that time by SIGKILL, and what it started. A fork of its owner leaves it
-    alone.
+    alone, and only closes its pipes.
     """
-    if os.getpid() != owner:
-        return
-    try:
-        if grace > 0:
-            process.terminate()
-            process.wait(grace)
-    except subprocess.TimeoutExpired:
-        pass
-    process.kill()
-    _ends.discard(end)
-    os.close(end)
-    process.wait()
+    if os.getpid() == owner:
+        try:
+            if grace > 0:
+                process.terminate()
+                process.wait(grace)
+        except subprocess.TimeoutExpired:
+            pass
+        process.kill()
+        _ends.discard(end)
+        os.close(end)
+        process.wait()
+    else:
+        process.returncode = 0          # Popen would warn that it still runs
     for pipe in (process.stdin, process.stdout, process.stderr):
         if pipe is not None:
             pipe.close()

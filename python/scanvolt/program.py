@@ -19,7 +19,7 @@ SWEEPS = 10 ** 8        # a server that nobody ends ends after this many sweeps,
 TRIES = 5               # tries to start a server: another process may take a free port before the server listens on it
 PATIENCE = 30.0         # seconds that a program may take to answer, or to be ready
 READING = 10 ** 5       # bytes of a scenario for which a program with run-time checks may take one more second
-MISSING = ("no program scanvolt: set SCANVOLT to its path, put it on PATH, or build it in a checkout by "
+MISSING = ("scanvolt isn't found: set SCANVOLT to its path, put it on PATH, or build it in a checkout by "
            "`tools/serve BUILD=1`")
 # A replay of these lines prints this, since the instrument has 128 channels.
 PROBES, ANSWER = b"input 128 0\ninput 255 0\n", b"refused 8\n"

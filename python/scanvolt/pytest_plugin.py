@@ -41,7 +41,7 @@ def options_of(request: pytest.FixtureRequest) -> Dict[str, Any]:
     unknown = sorted(set(options) - set(OPTIONS)) if marker is None or not marker.args else ["without a name"]
     if unknown:
         pytest.fail("the marker scanvolt has no option %s, but %s" % (unknown[0], ", ".join(OPTIONS)), False)
-    if "scenario" in options:
+    if options.get("scenario") is not None:
         options["scenario"] = request.path.parent / options["scenario"]
     return options
 

@@ -14,6 +14,7 @@ from .program import ProgramError, check_fits, started
 
 __tracebackhide__ = True        # pytest shows the line that calls the package, and not these frames
 PROBE, SEEN = b"input 255 0\n", b"refused 8\n"
+FORKED = "this process was forked from the one that made the meter; make a meter in each process that uses one"
 PATIENCE = 60.0             # seconds that the program may take to answer
 PIECE = 30000               # bytes of lines that are written at once; a pipe holds 65,536
 LONGEST_TICK = 1000000      # milliseconds of one line
@@ -43,7 +44,7 @@ class Program:
     """A running program. It ends when it is closed, when this object is collected, and when Python ends, even by SIGKILL."""
 
     def __init__(self, path: str) -> None:
-        self.path = path
+        self.path, self.owner = path, os.getpid()
         self.tied = started([path, "replay"], subprocess.PIPE, 0)
         self.process, self.close = self.tied.process, self.tied.end
         assert self.process.stdin is not None and self.process.stdout is not None
@@ -58,6 +59,8 @@ class Program:
         """Writes lines, `probes` of which are probes, the last line too. Returns what they print, up to the
         answer to the last probe.
         """
+        if os.getpid() != self.owner:
+            raise ProgramError(FORKED)
         if not self.close.alive:
             raise ProgramError("the program was ended before")
         try:

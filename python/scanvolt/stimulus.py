@@ -1,11 +1,13 @@
 """What happens to an instrument, and when: reads a scenario, as `scanvolt serve` takes it (docs/INSTRUMENT.md)."""
 import decimal
+import operator
 import os
 import re
 from dataclasses import dataclass
 from typing import List, Optional, Tuple, Union
 
 from .foreign import without_additions
+from .vxi11.whole import whole
 
 __tracebackhide__ = True        # pytest shows the line that calls the package, and not these frames
 CHANNELS = 128
@@ -39,26 +41,37 @@ class Bad:
 def microvolts(volts: Volts) -> int:
     """Volts in whole microvolts, from -1000 V to 1000 V.
 
-    A float is rounded to the nearest microvolt. Any other number has to be a whole number of microvolts.
-    Raises ValueError if `volts` isn't such a number.
+    A float, or a number of NumPy that is like one, is rounded to the nearest microvolt. Any other number has to be a
+    whole number of microvolts. Raises ValueError if `volts` isn't such a number.
     """
     try:
-        exact = decimal.Decimal(repr(volts) if isinstance(volts, float) else volts) * 10 ** 6
+        plain = _plain(volts)
+        exact = decimal.Decimal(repr(plain) if isinstance(plain, float) else plain) * 10 ** 6
         whole = exact.to_integral_value(decimal.ROUND_HALF_UP)
-    except (decimal.InvalidOperation, TypeError):
+    except (decimal.InvalidOperation, TypeError, ValueError):
         raise ValueError("no voltage: %r" % (volts,)) from None
     if not exact.is_finite() or abs(exact) > MOST_MICROVOLTS:
         raise ValueError("a voltage of -1000 to 1000 V is wanted: %r" % (volts,))
-    if whole != exact and not isinstance(volts, float):
+    if whole != exact and not isinstance(plain, float):
         raise ValueError("a voltage has whole microvolts: %r" % (volts,))
     return int(whole)
 
 
+def _plain(volts: Volts) -> Union[decimal.Decimal, int, float, str]:
+    """A number as Python's own: those of NumPy are written otherwise, or aren't known to Decimal."""
+    if isinstance(volts, (str, decimal.Decimal)):
+        return volts
+    if hasattr(volts, "__index__"):
+        return operator.index(volts)
+    if not hasattr(volts, "__float__"):     # bytes, of which `float` would read a number
+        raise TypeError
+    return float(volts)
+
+
 def input_line(channel: int, volts: Volts) -> bytes:
     """The line that sets the voltage of a channel, 1 to 128."""
-    if not 1 <= channel <= CHANNELS:
-        raise ValueError("a channel of 1 to %d is wanted: %r" % (CHANNELS, channel))
-    return b"input %d %d\n" % (channel, microvolts(volts))
+    number = whole(channel, 1, CHANNELS, "an input wants a channel")
+    return b"input %d %d\n" % (number, microvolts(volts))
 
 
 def read_scenario(name: Name) -> List[Entry]:

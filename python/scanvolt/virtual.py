@@ -19,6 +19,7 @@ from .stimulus import Entry, Volts, input_line, read_scenario
 from .vxi11 import DeviceError, Link, RequestStream, ServiceRequest, calls
 from .vxi11.calls import Call
 from .vxi11.core import Core
+from .vxi11.requests import Callback, checked_callback
 from .vxi11.rpc import Records
 from .vxi11.timeouts import Milliseconds
 from .vxi11.timeouts import milliseconds as checked
@@ -26,7 +27,6 @@ from .vxi11.timeouts import milliseconds as checked
 __tracebackhide__ = True        # pytest shows the line that calls the package, and not these frames
 Value = TypeVar("Value")
 Itself = TypeVar("Itself", bound="Connection")
-Callback = Callable[[ServiceRequest], object]
 ROLES = ("core", "abort", "portmap")
 PLACES = 16             # connections that the instrument has room for
 PATIENCE = 600000       # milliseconds of virtual time that a call may wait
@@ -146,6 +146,8 @@ class Connection(Core):
 
     def start(self, call: Call[Value]) -> Pending[Value]:
         """Sends a call. The instrument takes it after those sent before it are answered."""
+        if not isinstance(call, Call):
+            raise TypeError("start wants a call, such as link.calls.readstb(), and not %r" % (call,))
         with self.meter.guard:
             self.xid = (self.xid + 1) % 2 ** 32
             pending = Pending(self, call, self.xid)
@@ -175,7 +177,7 @@ class Connection(Core):
 
     def on_service_request(self, callback: Optional[Callback]) -> None:
         """From now on service requests go to this callback, or into the queue if it is None."""
-        self.requests.callback = callback
+        self.requests.callback = checked_callback(callback)
 
 
 class Meter:
@@ -204,6 +206,7 @@ class Meter:
         self.connections: Dict[int, Connection] = {}
         self.deliveries: "Deque[Callable[[], object]]" = collections.deque()
         self.guard = threading.RLock()
+        self.ended: Optional[Exception] = None      # why the meter is off
         self.replay = Replay(find_program() if program is None else str(program))
         with self.guard:
             self._play()
@@ -228,7 +231,7 @@ class Meter:
     def close(self) -> None:
         """Turns the instrument off: its connections and its program end."""
         with self.guard:
-            self._end(ConnectionError("the meter is closed"))
+            self._end(ConnectionError("the meter is closed: its `with` block ended, or `close` was called"))
 
     def connect(self, role: str = "core") -> Connection:
         """Opens a connection to the core channel (core), the abort channel (abort) or the port mapper (portmap).
@@ -338,9 +341,9 @@ class Meter:
         """Sends a call on a connection."""
         with self.guard:
             connection.check_open()
+            hexadecimal = pending.call.encode(pending.xid).hex().encode()
             self.sent += 1
             connection.pending.append(pending)
-            hexadecimal = pending.call.encode(pending.xid).hex().encode()
             first = len(connection.pending) == 1
             lines = b"bytes %d %s\n" % (connection.number, hexadecimal)
             if 4 in self._perform(lines + (self._turn(connection) if first else b"")):
@@ -350,13 +353,17 @@ class Meter:
 
     def _asked(self, question: Callable[[], Value]) -> Value:
         """Asks the program. If that fails or is interrupted, the meter is closed."""
+        if isinstance(self.ended, ProgramError):
+            raise ProgramError("the program was ended before: %s" % self.ended)
+        if self.ended is not None:
+            raise ConnectionError(str(self.ended))
         try:
             return question()
         except ProgramError as fault:
             self._end(fault)
             raise
         except BaseException:
-            self._end(ConnectionError("the meter was interrupted"))
+            self._end(ConnectionError("the meter is closed, since a call was interrupted"))
             raise
 
     def _is_quiet(self) -> bool:
@@ -430,7 +437,8 @@ class Meter:
                 connection.has_channel = False
 
     def _end(self, reason: Exception) -> None:
-        """Ends the program, and all connections."""
+        """Ends the program, and all connections. The first reason is kept."""
+        self.ended = self.ended or reason
         self.replay.close()
         for connection in list(self.connections.values()):
             self._gone(connection, reason)

@@ -30,7 +30,7 @@ class Missing(unittest.TestCase):
     def test_nothing_found(self) -> None:
         nowhere = mock.patch.dict(os.environ, {"SCANVOLT": "", "PATH": ""})
         with nowhere, mock.patch.object(program, "BUILT", ()):
-            self.assertRaisesRegex(ProgramError, "^no program scanvolt: set SCANVOLT .*BUILD=1`$", Meter)
+            self.assertRaisesRegex(ProgramError, "^scanvolt isn't found: set SCANVOLT .*BUILD=1`$", Meter)
 
     def test_the_path_and_a_checkout(self) -> None:
         with tempfile.TemporaryDirectory() as folder:
@@ -107,7 +107,7 @@ class Ends(unittest.TestCase):
         meter.close()
         meter.close()
         self.assertRaises(ConnectionError, link.readstb)
-        self.assertRaises(ProgramError, meter.advance, 1)
+        self.assertRaises(ConnectionError, meter.advance, 1)
         connection.close()
 
 

@@ -172,7 +172,7 @@ def test_options_of_a_meter(pytester: pytest.Pytester) -> None:
             link = meter.connect().create_link()
             assert (meter.clock, meter.patience, meter.call_time) == (2, 1234, 2)
 
-        @pytest.mark.scanvolt(call_time=2)
+        @pytest.mark.scanvolt(call_time=2, scenario=None)
         def test_served(scanvolt_server): pass
 
         @pytest.mark.scanvolt(call_time=0.5)

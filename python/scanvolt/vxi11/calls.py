@@ -7,12 +7,14 @@ from dataclasses import dataclass
 from typing import Callable, Generic, Optional, Tuple, TypeVar
 
 from .errors import IO_TIMEOUT, LOCKED, DeviceError
-from .rpc import BadReply, encode_call, read_reply
+from .rpc import BadReply, ProgramUnavailable, encode_call, read_reply
 from .timeouts import milliseconds
+from .whole import WORD, whole
 from .xdr import Reader, XdrError, opaque, words
 
 __tracebackhide__ = True        # pytest shows the line that calls the package, and not these frames
 CORE, ABORT, INTERRUPT, PORT_MAPPER = 0x0607AF, 0x0607B0, 0x0607B1, 100000
+CHANNELS = {CORE: "the core channel", ABORT: "the abort channel", PORT_MAPPER: "the port mapper"}
 VERSIONS = {CORE: 1, ABORT: 1, INTERRUPT: 1, PORT_MAPPER: 2}
 
 CREATE_LINK, DEVICE_WRITE, DEVICE_READ, DEVICE_READSTB, DEVICE_TRIGGER, DEVICE_CLEAR = 10, 11, 12, 13, 14, 15
@@ -80,7 +82,11 @@ class Call(Generic[Value]):
         """The result in a reply, given the record's bytes. Raises DeviceError for an error, and the RpcError of
         a call that was refused.
         """
-        result = read_reply(body, xid)
+        try:
+            result = read_reply(body, xid)
+        except ProgramUnavailable as fault:
+            raise ProgramUnavailable("%s: %s at this port. Is it that of %s?" % (
+                self.name, fault, CHANNELS.get(self.program, "another program"))) from None
         try:
             return self.read(result)
         except XdrError as fault:
@@ -204,6 +210,8 @@ def create_link(device: str = "inst0", lock: bool = False, lock_timeout: int = 0
                 client: int = 0) -> Call[Made]:
     """Makes a link. With `lock` the link has the lock, for which the call waits up to lock_timeout."""
     lock_timeout = milliseconds(lock_timeout, "lock_timeout")
+    if not isinstance(device, str):
+        raise TypeError("the name of a device is text, such as 'inst0', and not %r" % (device,))
     arguments = words(client, lock, lock_timeout) + opaque(device.encode("latin-1"))
     return Call(CORE, CREATE_LINK, arguments, _made, lock_timeout if lock else 0)
 
@@ -221,6 +229,9 @@ def device_read(link: int, size: int, io_timeout: int, lock_timeout: int = 0,
                 termination: Optional[int] = None) -> Call[Piece]:
     """Reads at most `size` bytes, up to END, or up to a termination character (0 to 255) if one is given."""
     io_timeout, lock_timeout = _checked_timeouts(io_timeout, lock_timeout)
+    size = whole(size, 0, WORD, "a read wants a number of bytes")
+    if termination is not None:
+        termination = whole(termination, 0, 255, "a read wants a termination character")
     flags = _flags(lock_timeout) | (0 if termination is None else TERMCHRSET)
     arguments = words(link, size, io_timeout, lock_timeout, flags, termination or 0)
     return LinkCall(CORE, DEVICE_READ, arguments, _piece, io_timeout + lock_timeout, link, io_timeout, lock_timeout)
@@ -272,6 +283,8 @@ def device_unlock(link: int) -> Call[None]:
 
 def device_enable_srq(link: int, handle: Optional[bytes]) -> Call[None]:
     """Turns on service requests, with this handle of at most 40 bytes; None turns them off."""
+    if not isinstance(handle, (bytes, bytearray, type(None))):
+        raise TypeError("a handle is bytes, such as b'meter 1', and not %r" % (handle,))
     if handle is not None and len(handle) > SRQ_MOST:
         raise ValueError("a handle of %d bytes, at most %d may be" % (len(handle), SRQ_MOST))
     arguments = words(link, handle is not None) + opaque(handle or b"")

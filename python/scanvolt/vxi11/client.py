@@ -4,22 +4,22 @@ import socket
 import sys
 import threading
 from time import monotonic          # of this machine, also within a meter's keeping_time
-from typing import Callable, Optional, TypeVar
+from typing import Optional, TypeVar
 
 from . import calls
 from .calls import Call
 from .core import Core
 from .errors import DeviceError
 from .link import Link
-from .requests import RequestStream, ServiceRequest
+from .requests import Callback, RequestStream, ServiceRequest, checked_callback
 from .rpc import Records
 from .timeouts import milliseconds as checked
+from .whole import whole
 
 __tracebackhide__ = True        # pytest shows the line that calls the package, and not these frames
 Value = TypeVar("Value")
 Itself = TypeVar("Itself", bound="Channel")
 PATIENCE = 10.0         # seconds that a reply may take, beyond the timeouts of its call
-Callback = Callable[[ServiceRequest], object]
 ELSEWHERE = ("no port mapper is there. If it has another port, give that: Client(port_mapper=4111), say. Or give the "
              "core channel's port: Client(port=4096), say")
 
@@ -36,9 +36,9 @@ class Channel:
                  connected: Optional[socket.socket] = None) -> None:
         self.host = host
         self.patience = patience
+        self.socket = _connected(host, port, patience) if connected is None else connected
         peer = (host, port) if connected is None else connected.getpeername()
         self.name = "%s:%d" % peer[:2] if isinstance(peer, tuple) else str(peer)
-        self.socket = _connected(host, port, patience) if connected is None else connected
         self.is_open = True
         self.xid = 0
         self.records = Records()
@@ -114,6 +114,7 @@ def _named(fault: OSError, text: str) -> OSError:
 
 def _connected(host: str, port: int, patience: float) -> socket.socket:
     """A socket that is connected to this port."""
+    port = whole(port, 1, 65535, "a connection wants a port")
     try:
         connected = socket.create_connection((host, port), patience)
     except socket.timeout:
@@ -164,6 +165,7 @@ class Client(Channel, Core):
     def listen(self, callback: Optional[Callback] = None) -> "ServiceRequests":
         """Makes the interrupt channel. Service requests go to the callback, in a thread, or else into a queue."""
         self.check_open()
+        callback = checked_callback(callback)
         address = self.socket.getsockname()[0]
         requests = ServiceRequests(address, callback)
         try:

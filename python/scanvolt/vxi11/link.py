@@ -7,6 +7,7 @@ from .calls import Call, Made, Piece
 from .errors import INVALID_LINK, DeviceError
 from .rpc import BadReply
 from .timeouts import Milliseconds
+from .whole import WORD, whole
 
 __tracebackhide__ = True        # pytest shows the line that calls the package, and not these frames
 Value = TypeVar("Value")
@@ -122,6 +123,8 @@ class Link:
         """Writes a message, in as many calls as needed. If `end` is true, END comes with the last byte. Returns
         the message's length in bytes.
         """
+        if not isinstance(message, (str, bytes, bytearray, memoryview)):
+            raise TypeError("a message is text or bytes, and not %r" % (message,))
         data = message.encode("latin-1") if isinstance(message, str) else bytes(message)
         place = 0
         while True:
@@ -139,6 +142,8 @@ class Link:
 
     def read(self, size: Optional[int] = None, termination: Optional[int] = None) -> bytes:
         """Makes reads up to END, up to the termination character, or up to `size` bytes, whichever comes first."""
+        if size is not None:
+            size = whole(size, 0, WORD, "a read wants a number of bytes")
         data = b""
         while True:
             asked = READ_SIZE if size is None else size - len(data)

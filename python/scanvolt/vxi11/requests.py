@@ -1,6 +1,6 @@
 """Service requests: what an interrupt channel carries (B.6, device_intr_srq)."""
 from dataclasses import dataclass
-from typing import List, Optional
+from typing import Callable, List, Optional
 
 from .calls import DEVICE_INTR_SRQ, read_service_request
 from .rpc import CallMessage, Records, read_call
@@ -18,6 +18,9 @@ class ServiceRequest:
     clock: Optional[int] = None
 
 
+Callback = Callable[[ServiceRequest], object]
+
+
 class RequestStream:
     """The service requests of an interrupt channel whose bytes come in pieces. Skips records that are other
     calls.
@@ -30,6 +33,13 @@ class RequestStream:
         """Takes a piece. Returns the service requests that are complete now."""
         found = [_request(one.body, clock) for one in self.records.push(data)]
         return [one for one in found if one is not None]
+
+
+def checked_callback(callback: Optional[Callback]) -> Optional[Callback]:
+    """The callback of service requests, if it may be one: a function, or None."""
+    if callback is not None and not callable(callback):
+        raise TypeError("a callback of service requests is a function, and not %r" % (callback,))
+    return callback
 
 
 def _request(body: bytes, clock: Optional[int]) -> Optional[ServiceRequest]:

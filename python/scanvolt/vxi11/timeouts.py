@@ -1,24 +1,15 @@
 """Timeouts and other counts of milliseconds: which may be one."""
-import operator
+from .whole import WORD, whole
 
 __tracebackhide__ = True        # pytest shows the line that calls the package, and not these frames
-LONGEST = 2 ** 32 - 1       # a timeout is a word of four bytes
+LONGEST = WORD      # a timeout is a word of four bytes
 
 
 def milliseconds(count: int, name: str) -> int:
     """The count, if it is a whole number from 0 to LONGEST. If not, raises TypeError or ValueError, which says what
     `name` wants.
     """
-    wanted = "%s wants milliseconds, a whole number from 0 to %d, and not %r" % (name, LONGEST, count)
-    try:
-        whole = operator.index(count)
-    except TypeError:
-        raise TypeError(wanted) from None
-    if isinstance(count, bool):
-        raise TypeError(wanted)
-    if not 0 <= whole <= LONGEST:
-        raise ValueError(wanted)
-    return whole
+    return whole(count, 0, LONGEST, "%s wants milliseconds" % name)
 
 
 class Milliseconds:
