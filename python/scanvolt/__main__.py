@@ -22,7 +22,7 @@ def main(given: Optional[List[str]] = None) -> int:
     except ProgramError as fault:
         print("no program: %s" % fault)
         return 1
-    print("program %s\nversion %s\nkind %s" % (path, *version_and_kind(path)))
+    print("program %s\nversion %s\nkind %s" % (path, *version_and_kind(path)), flush=True)
     try:
         check_fits(path)
     except ProgramError as fault:

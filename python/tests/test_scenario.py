@@ -3,6 +3,10 @@ messages about faults.
 """
 import contextlib
 import io
+import os
+import signal
+import subprocess
+import sys
 import tempfile
 import unittest
 from typing import List, Tuple
@@ -11,6 +15,8 @@ from unittest import mock
 from scanvolt.program import Server
 from scanvolt.scenario.command import main
 from scanvolt.virtual import Meter
+
+from .processes import TOP
 
 BAD = ("0 input 1 1.5", "0 input 1 1e3", "0 input 1 +5", "0 input 1 -", "0 input 1 ", "0 input 1",
        "0 input 1 1000000001", "0 input 1 -1000000001", "0 input 1 0000000000000000005",
@@ -42,6 +48,19 @@ class Commands(unittest.TestCase):
 
 class Scenarios(Commands):
     """What the command writes and draws."""
+
+    def test_a_reader_that_ends(self) -> None:
+        """`scanvolt-scenario --help | head` and the like end by SIGPIPE, and say nothing."""
+        with tempfile.NamedTemporaryFile() as file:
+            file.write(b"nonsense\n")
+            file.flush()
+            for words in ["--help"], ["--check", file.name], ["1=5"]:
+                source, target = os.pipe()
+                os.close(source)
+                with self.subTest(words), open(target, "wb") as output:
+                    done = subprocess.run([sys.executable, "-m", "scanvolt.scenario", *words], cwd=TOP, stdout=output,
+                                          stderr=subprocess.PIPE, text=True)
+                    self.assertEqual((done.returncode, done.stderr), (-signal.SIGPIPE, ""))
 
     def test_lines_of_one_moment_have_a_picture(self) -> None:
         status, text, faults = self.run_on("0 input 1 1250000\n0 input 2 -300000\n", "--picture")

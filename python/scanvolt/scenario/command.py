@@ -134,7 +134,8 @@ def made(given: Dict[str, str], shapes: Dict[int, Tuple[str, int]]) -> Tuple[Pla
 
 
 def main(arguments: Optional[List[str]] = None) -> int:
-    """Runs the command. Returns its status."""
+    """Runs the command. Returns its status. If the reader of the output ends, so does this process (SIGPIPE)."""
+    signal.signal(signal.SIGPIPE, signal.SIG_DFL)
     try:
         given, shapes = words_of(sys.argv[1:] if arguments is None else arguments)
         if "-h" in given or "--help" in given:
@@ -146,6 +147,5 @@ def main(arguments: Optional[List[str]] = None) -> int:
     except Wrong as error:
         print("%s: %s" % (NAME, error), file=sys.stderr)
         return 2
-    signal.signal(signal.SIGPIPE, signal.SIG_DFL)
     print("\n".join(picture(plan, triggers, length) if "--picture" in given else lines(plan, triggers)))
     return 0
