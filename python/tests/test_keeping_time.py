@@ -2,6 +2,7 @@
 import asyncio
 import queue
 import selectors
+import signal
 import sys
 import threading
 import time
@@ -255,10 +256,14 @@ class Loops(WithMeter):
         self.takes(2000, body)
 
     def test_ctrl_c(self) -> None:
-        """It ends a long wait soon, though asyncio.run lets it raise nothing meanwhile."""
+        """It ends a long wait soon, though asyncio.run lets it raise nothing meanwhile. A second one raises."""
+        second = threading.Timer(9, signal.pthread_kill, (threading.get_ident(), signal.SIGINT))
+        self.addCleanup(second.join)
+        self.addCleanup(second.cancel)
+        second.start()
         with ctrl_c(), self.assertRaises(KeyboardInterrupt), self.meter.keeping_time():
-            asyncio.run(asyncio.sleep(100))
-        self.assertLess(self.meter.clock, 90000)
+            asyncio.run(asyncio.sleep(10 ** 6))
+        self.assertFalse(second.finished.is_set())
 
     def test_a_block_within_a_coroutine(self) -> None:
         async def body() -> int:
@@ -380,7 +385,8 @@ class Unknown(WithMeter):
                 delattr(where, name)
                 with self.assertRaisesRegex(RuntimeError, "no %s" % name), self.meter.keeping_time():
                     pass
-                with self.assertRaisesRegex(RuntimeError, "Python %d.%d" % sys.version_info[:2]), self.meter.keeping_time():
+                told = "Python %d.%d: " % sys.version_info[:2]
+                with self.assertRaisesRegex(RuntimeError, told), self.meter.keeping_time():
                     pass
 
 
