@@ -1,8 +1,11 @@
 -- What any number of sweeps carries.
-use Rattle.std.proofs.Common.{◌≡◌, ℕ, ◌≤◌, Bool, true, false, List, [], ◌∷◌, ◌++◌, filter, flat_map, nat_lt, None, refl, sym, ap, subst, ◌∙◌}
+use Rattle.std.proofs.Common.{◌≡◌, ℕ, ◌≤◌, Bool, true, false, List, [], ◌∷◌, ◌++◌, filter, flat_map, nat_lt, ◌⊎◌, inl, inr, Option, None, refl, sym, ap, subst, ◌∙◌}
 use Rattle.std.specs.Prelude.{not, ◌||◌}
+use Rattle.std.proofs.lemmas.List.{append_cancel_right}
 use Rattle.sv_links.specs.Channels.{ChannelAct, is_channel_open, bytes_taken as channel_taken, calls}
 use Rattle.sv_history.specs.declared.event.Config.{Config}
+use Rattle.sv_history.specs.declared.event.Dial.{Dial}
+use Rattle.sv_replay.specs.declared.entry.Entry.{Entry}
 use Rattle.sv_history.specs.Interrupts.{has_channel}
 use Rattle.sv_history.specs.Requests.{HearsOf}
 use Rattle.sv_history.proofs.Telling.{has_channel_told}
@@ -18,16 +21,20 @@ use Rattle.sv_server.specs.Server.State.{StandsFor}
 use Rattle.sv_driver_laws.specs.Timed.{handed_ticks}
 use Rattle.sv_driver_laws.proofs.Timing.{Played, begins, behind}
 use Rattle.sv_serve.specs.Heard.{Heard, Through}
-use Rattle.sv_serve.specs.DriverView.{DriverState, driver_view}
+use Rattle.sv_serve.specs.DriverView.{DriverState, DriverView, driver_view}
 use Rattle.sv_driver_laws.specs.Served.{event_of, is_outer}
+use Rattle.sv_driver_laws.specs.Determined.{SameUntil, Determined}
 use Rattle.sv_driver_laws.specs.Carried.{ClosesAtOnce, IsCarried, InSweeps, Carried}
-use Rattle.sv_serve.specs.Sweep.{Swept}
+use Rattle.sv_serve.specs.Sweep.{Swept, Sweeps}
 use Rattle.sv_driver_laws.proofs.Ports.{Holds, Both, Keeping, came, went, left_bytes}
 use Rattle.sv_driver_laws.proofs.Reasons.{HasReasons, told_more, once_join}
 use Rattle.sv_driver_laws.proofs.Handing.{HandsOver}
 use Rattle.sv_driver_laws.proofs.LettingGo.{LetsGoRightly}
 use Rattle.sv_driver_laws.proofs.Keeps.{through_join}
-use Rattle.sv_driver_laws.proofs.Serving.{sweep_once, serves}
+use Rattle.sv_driver_laws.proofs.Serving.{SweptOnce, sweep_once, serves}
+use Rattle.sv_driver_laws.proofs.Recorded.{Records, onto, lift_sweep}
+use Rattle.sv_driver_laws.proofs.Alike.{View, Forks, through_records}
+use Rattle.sv_driver_laws.proofs.AlikeSweeps.{Runs, runs_alike}
 
 keeping_none : (c : ℕ) (log : List Act) (channel_log : List ChannelAct) → log ≡ [] → HearsOf (device_acts log) channel_log
     → Both c (of c log) channel_log []
@@ -50,6 +57,7 @@ record Over {W : Type 0} (hears : W → Heard → W → Type 0) (config : Config
   pub parts : InSweeps hears config start passed now swept history trace
   pub time : config.clock ≤ last_clock → start.ticks ≡ 0 → IsScenario 0 start.ahead
       → Played config start.ahead (handed_ticks passed) (driver_view now history)
+  pub runs : Runs config passed (onto (driver_view start []) []) (onto (driver_view now history) trace)
 
 open_by : (far opened : Bool) → (far || not opened) ≡ false → opened ≡ true
 open_by true opened e = absurd cc
@@ -84,6 +92,29 @@ is_carried hears config passed start now swept all =
       lets_go = all.lets;
     }
 
+-- a sweep, as one over the trace
+record Traced {W : Type 0} (hears : W → Heard → W → Type 0) (config : Config) (ticks : ℕ) (x y : DriverView W) (trace : List Heard)
+    : Type 0 where
+  pub later : List Heard
+  pub sweeps : Sweeps Records ticks config (onto x trace) (onto y later)
+  pub swept : SweptOnce Records config (onto x trace) (onto y later)
+  pub is : later ≡ swept.k.piece ++ trace
+  pub through : Through hears swept.k.piece x.wire y.wire
+
+traced : {W : Type 0} (hears : W → Heard → W → Type 0) (config : Config) (ticks : ℕ) (x y : DriverView W) (trace : List Heard)
+    → Sweeps hears ticks config x y → Traced hears config ticks x y trace
+traced hears config ticks x y trace h =
+    let (later, (piece, is, through), sweeps) = lift_sweep hears ticks config x y trace h in
+    let swept = sweep_once Records config ticks (onto x trace) (onto y later) sweeps in
+    let all : later ≡ swept.k.piece ++ trace = through_records swept.k.piece trace later swept.k.through in
+    record {
+      later = later;
+      sweeps = sweeps;
+      swept = swept;
+      is = all;
+      through = subst (λ l. Through hears l x.wire y.wire) (append_cancel_right piece swept.k.piece trace (sym is ∙ all)) through;
+    }
+
 over : {W : Type 0} (hears : W → Heard → W → Type 0) (config : Config) (passed : List ℕ) (start now : DriverState W)
     → StandsFor start.server config [] → (swept : Swept hears passed start now) → Over hears config passed start now swept
 over hears config [] start now stands is = record {
@@ -99,15 +130,17 @@ over hears config [] start now stands is = record {
   lets = tt;
   parts = (refl, refl);
   time = λ clock zero rising. subst (λ d. Played config start.ahead 0 (driver_view d [])) (sym is) (begins config start clock zero rising);
+  runs = ap (λ d. onto (driver_view d []) []) is;
 }
 over hears config (ticks ∷ passed) start now stands (between, swept, goes) =
     let was = over hears config passed start between stands swept in
     let now_so = goes config was.history was.stands in
-    let s = sweep_once hears config ticks (driver_view between was.history) (driver_view now now_so.0) now_so.2 in
+    let t = traced hears config ticks (driver_view between was.history) (driver_view now now_so.0) was.trace now_so.2 in
+    let s = t.swept in
     record {
       trace = s.k.piece ++ was.trace;
       history = now_so.0;
-      through = through_join hears was.trace s.k.piece start.wire between.wire now.wire was.through s.k.through;
+      through = through_join hears was.trace s.k.piece start.wire between.wire now.wire was.through t.through;
       stands = now_so.1;
       told = ap (filter is_outer) s.k.grown ∙ told_more s.k.events was.history s.k.piece was.trace s.k.told was.told;
       keeping = s.k.keeps was.trace was.keeping;
@@ -127,10 +160,11 @@ over hears config (ticks ∷ passed) start now stands (between, swept, goes) =
         (
           was.stands,
           subst (λ h. StandsFor now.server config h) s.k.grown now_so.1,
-          s.k.through,
+          t.through,
           s.k.told,
           λ c lt. serves config c was.history s.k.events s.k.piece now_so.1.log
               (subst (λ h. IsLogOf config h now_so.1.log) s.k.grown now_so.1.is_log) (s.offered c lt),
+          s.whole now_so.1.log now_so.1.is_log,
         ),
         λ clock zero rising. (behind hears config start.ahead passed ticks (driver_view between was.history)
             (driver_view now now_so.0) now_so.2
@@ -139,9 +173,43 @@ over hears config (ticks ∷ passed) start now stands (between, swept, goes) =
       time = λ clock zero rising. (behind hears config start.ahead passed ticks (driver_view between was.history)
           (driver_view now now_so.0) now_so.2
           (was.time clock zero rising)).0;
+      runs = (
+        onto (driver_view between was.history) was.trace,
+        was.runs,
+        subst (λ l. Sweeps Records ticks config (onto (driver_view between was.history) was.trace) (onto
+            (driver_view now now_so.0) l)) t.is t.sweeps,
+      );
     }
 
 pub carried : {W : Type 0} (hears : W → Heard → W → Type 0) → Carried hears
 carried hears config passed start now stands swept =
     let all = over hears config passed start now stands swept in
     (all.trace, all.history, all.through, all.stands, is_carried hears config passed start now swept all, all.parts)
+
+-- two runs, up to what differs first
+same_until : (one two : View) → (one ≡ two) ⊎ Forks one two → SameUntil one.wire one.history two.wire two.history
+same_until one two (inl same) = inl (ap (λ v. v.wire) same, ap (λ v. v.history) same)
+same_until one two (inr forks) = inr forks
+
+abbrev start_at : List (Option Dial) → List Entry → ℕ → View
+start_at called ahead ticks = record { wire = []; history = []; called = called; ahead = ahead; ticks = ticks }
+
+pub determined : {W V : Type 0} (hears : W → Heard → W → Type 0) (hearing : V → Heard → V → Type 0) → Determined hears hearing
+determined hears hearing config passed start now begin end stands begun called ahead ticks swept sweeps =
+    let one = over hears config passed start now stands swept in
+    let two = over hearing config passed begin end begun sweeps in
+    let same : onto (driver_view start []) [] ≡ onto (driver_view begin []) [] =
+    ap (λ (c : List (Option Dial)). start_at c start.ahead start.ticks) called
+    ∙ ap (λ (l : List Entry). start_at begin.called l start.ticks) ahead
+    ∙ ap (λ (n : ℕ). start_at begin.called begin.ahead n) ticks in
+    let end_one = onto (driver_view now one.history) one.trace in
+    let end_two = onto (driver_view end two.history) two.trace in (
+      one.trace,
+      two.trace,
+      one.history,
+      two.history,
+      (one.through, one.stands, is_carried hears config passed start now swept one, one.parts),
+      (two.through, two.stands, is_carried hearing config passed begin end sweeps two, two.parts),
+      same_until end_one end_two (runs_alike config passed (onto (driver_view begin []) []) end_one end_two refl
+          (subst (λ (v : View). Runs config passed v end_one) same one.runs) two.runs),
+    )

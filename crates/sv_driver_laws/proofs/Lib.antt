@@ -7,7 +7,13 @@ mod Peers
 mod Carrying
 mod CarriedOn
 mod GoingOn
+mod Parts
+mod Whole
 mod Turned
+mod Recorded
+mod Alike
+mod AlikeSweeps
+mod Answered
 mod Serving
 mod Idling
 mod Timing

@@ -73,7 +73,7 @@ step_dialed c dial heard log channel_log wanted still unread untaken opens trace
     (step_opened c one.0 heard trace d (of d log) channel_log (still d) (unread d) (untaken (Conn d)) (opens d) (untaken (Intr d)) h)
 
 -- whoever is wanted is called for a call that waits
-pub dialed_keeps : {W : Type 0} (hears : W → Heard → W → Type 0) (May : Subject
+abbrev pub dialed_keeps : {W : Type 0} (hears : W → Heard → W → Type 0) (May : Subject
     → Type 0) (config : Config) (c : ℕ) (may : May OfNone) (ok : Bool) (heard : Heard)
     (mine : about heard ≡ OfNone) (newer : List Heard) (all_may : AllMay May newer) (before between after : DriverView W) (log : List Act)
     → IsLogOf config before.history log → Through hears (newer ++ heard ∷ []) before.wire between.wire
@@ -115,7 +115,7 @@ dialed_keeps hears May config c may ok heard mine newer all_may before between a
       step = step channel_log.0;
     })
 
-pub rings : {W : Type 0} (hears : W → Heard → W → Type 0) (May : Subject
+abbrev pub rings : {W : Type 0} (hears : W → Heard → W → Type 0) (May : Subject
     → Type 0) (config : Config) (c : ℕ) (may : May OfNone) (dial : Dial) (answer : Answer ⊤) (wire : W)
     (before between after : DriverView W) (log : List Act) → IsLogOf config before.history log → Some dial ≡ dial_of c log
     → hears before.wire (WasDialed c dial answer) wire → between ≡ record before { wire = wire }
@@ -145,7 +145,7 @@ rings hears May config c may dial Failed wire before between after log was wante
     (λ channel_log. step_else (Dialed c false) (WasDialed c dial Failed) log channel_log (λ d. refl) refl (λ port. refl) (λ d. refl)
     (λ port. refl)) applied
 
-pub picks : {W : Type 0} (hears : W → Heard → W → Type 0) (May : Subject
+abbrev pub picks : {W : Type 0} (hears : W → Heard → W → Type 0) (May : Subject
     → Type 0) (config : Config) (c : ℕ) (may : May OfNone) (dial : Dial) (answer : Answer ⊤) (wire : W)
     (before between after : DriverView W) (log : List Act) → IsLogOf config before.history log → Some dial ≡ dial_of c log
     → hears before.wire (PeerAnswered c answer) wire → between ≡ record before { wire = wire }
@@ -171,7 +171,7 @@ picks hears May config c may dial Failed wire before between after log was wante
     (λ channel_log. step_else (Dialed c false) (PeerAnswered c Failed) log channel_log (λ d. refl) refl (λ port. refl) (λ d. refl)
     (λ port. refl)) applied
 
-pub calls_for : {W : Type 0} (hears : W → Heard → W → Type 0) (May : Subject
+abbrev pub calls_for : {W : Type 0} (hears : W → Heard → W → Type 0) (May : Subject
     → Type 0) (config : Config) (c : ℕ) (may : May OfNone) (wanted called : Option Dial)
     (before after : DriverView W) (log : List Act) → IsLogOf config before.history log → wanted ≡ dial_of c log
     → CallsFor hears c wanted called config before after → Keeps hears May config before after

@@ -71,7 +71,7 @@ HoldsOn c channel_log gone = is_channel_open c channel_log ≡ true
     → (gone ++ drop (channel_taken c channel_log) (concat (calls c channel_log)) ≡ concat (calls c channel_log))
     × (channel_taken c channel_log ≤ length (concat (calls c channel_log)))
 
-concat_join : (xs ys : List (List ℕ)) → concat (xs ++ ys) ≡ concat xs ++ concat ys
+pub concat_join : (xs ys : List (List ℕ)) → concat (xs ++ ys) ≡ concat xs ++ concat ys
 concat_join xs ys = concat_is (xs ++ ys) ∙ flat_map-append (λ (x : List ℕ). x) xs ys
     ∙ ap (λ (l : List ℕ). l ++ flat_map (λ (x : List ℕ). x) ys) (sym (concat_is xs)) ∙ ap (λ (l : List ℕ). concat xs ++ l) (sym
     (concat_is ys))

@@ -1,3 +1,4 @@
 pub mod Timed
 pub mod Served
 pub mod Carried
+pub mod Determined

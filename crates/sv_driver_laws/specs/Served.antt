@@ -1,15 +1,20 @@
 -- The answers of a wire as events, and what a sweep does for each connection. Traces (lists of the wire's answers) and histories have the
 -- newest item first.
-use Rattle.std.specs.Prelude.{◌≡◌, ◌⊎◌, ℕ, ◌<◌, not, Bool, true, false, List, [], ◌∷◌, ◌++◌, filter, flat_map, Some, Err}
+use Rattle.std.specs.Prelude.{◌≡◌, ◌⊎◌, ℕ, ◌<◌, ◌≤◌, ◌==◌, not, Bool, true, false, List, [], ◌∷◌, ◌++◌, length, filter, flat_map, Some, None, Err, ⊤}
 use Rattle.std.specs.List.{AllByRecursion}
+use Rattle.sv_links.specs.Channels.{ChannelAct}
 use Rattle.sv_history.specs.declared.event.Config.{Config}
+use Rattle.sv_history.specs.declared.event.Dial.{Dial}
+use Rattle.sv_history.specs.declared.event.Port.{Port}
 use Rattle.sv_history.specs.declared.event.Port.TheVariants.{Conn, Intr}
-use Rattle.sv_history.specs.Event.{PlainEvent, Open, Bytes, Turn, Refuse, Took, Close, Dialed}
-use Rattle.sv_history.specs.Act.{Act, of}
-use Rattle.sv_history.specs.Connection.{waiting, is_idle, free}
+use Rattle.sv_history.specs.Event.{PlainEvent, Open, Bytes, Turn, Refuse, Took, Close, Dialed, port_number}
+use Rattle.sv_history.specs.Act.{Act, of, device_acts}
+use Rattle.sv_history.specs.Connection.{waiting, waiting_on, is_idle, free}
+use Rattle.sv_history.specs.Interrupts.{dial_of}
+use Rattle.sv_history.specs.Requests.{HearsOf}
 use Rattle.sv_history.specs.Limits.{longest_reply}
 use Rattle.sv_history.specs.declared.event.Refused.TheVariants.{NoMemory}
-use Rattle.sv_history.specs.History.{IsLogOf, Answers}
+use Rattle.sv_history.specs.History.{is_port_shut, IsLogOf, Answers}
 use Rattle.sv_server.specs.Server.State.{StandsFor}
 use Rattle.sv_serve.specs.declared.wire.Answer.{Answer}
 use Rattle.sv_serve.specs.declared.wire.Answer.TheVariants.{Got, Failed}
@@ -58,13 +63,63 @@ Serves config c history events piece = (first turn behind : List PlainEvent) × 
     × IsLogOf config (first ++ history) before × IsLogOf config (turn ++ (first ++ history)) after
     × Takes config c before turn × Offers c after piece
 
+-- whether an event takes the next call of a connection
+abbrev pub takes_call : ℕ → PlainEvent → Bool
+takes_call c (Turn d) = d == c
+takes_call c (Refuse d) = d == c
+takes_call c _ = false
+
+-- whether an event takes the next call of some connection
+abbrev pub is_taking : PlainEvent → Bool
+is_taking (Turn d) = true
+is_taking (Refuse d) = true
+is_taking _ = false
+
+-- whether an event is a Took or a Close
+abbrev pub is_sending : PlainEvent → Bool
+is_sending (Took port n) = true
+is_sending (Close port) = true
+is_sending _ = false
+
+-- The wire is asked to connect the interrupt channel of a connection to this peer; or, if a peer was dialed before, whether it answered.
+abbrev pub IsDialed : ℕ → Dial → List Heard → Type 0
+IsDialed c dial piece = (answer : Answer ⊤) × (newer older : List Heard)
+    × ((piece ≡ newer ++ (WasDialed c dial answer ∷ older)) ⊎ (piece ≡ newer ++ (PeerAnswered c answer ∷ older)))
+
+-- After the sweep has taken its calls, and before any of its time passes, there is a moment at which the interrupt channel of a connection
+-- either needn't be connected, or is: the wire is asked for it in the same sweep.
+abbrev pub DialsFor : Config → ℕ → List PlainEvent → List PlainEvent → List Heard → Type 0
+DialsFor config c history events piece = (earlier later : List PlainEvent) × (log : List Act) × (events ≡ later ++ earlier)
+    × AllByRecursion (λ event. is_taking event ≡ false) later × (filter is_timed earlier ≡ []) × IsLogOf config (earlier ++ history) log
+    × ((dial_of c log ≡ None) ⊎ ((dial : Dial) × (dial_of c log ≡ Some dial) × IsDialed c dial piece))
+
+-- These bytes are passed to the wire in one write to the port. The write can have further bytes after these bytes.
+abbrev pub IsWritten : Port → List ℕ → List Heard → Type 0
+IsWritten port bytes piece = (more : List ℕ) × (answer : Answer ℕ) × (newer older : List Heard)
+    × (piece ≡ newer ++ (WasWritten port (bytes ++ more) answer ∷ older))
+
+-- After all calls of the sweep are taken and all of its time has passed, there is a moment from which on the sweep only writes and closes.
+-- The bytes that wait at this moment on a port, a connection or an interrupt channel, are passed to the wire in the same sweep; unless the
+-- port is an interrupt channel that isn't open any more at the end of the sweep.
+abbrev pub SendsAll : Config → List PlainEvent → List PlainEvent → List Heard → Type 0
+SendsAll config history events piece = (earlier later : List PlainEvent) × (log end : List Act) × (channel_log : List ChannelAct)
+    × (events ≡ later ++ earlier) × AllByRecursion (λ event. is_sending event ≡ true) later × IsLogOf config (earlier ++ history) log
+    × HearsOf (device_acts log) channel_log × IsLogOf config (events ++ history) end × ((port : Port) → port_number port < 16
+    → (waiting_on channel_log port log ≡ []) ⊎ IsWritten port (waiting_on channel_log port log) piece
+    ⊎ ((port ≡ Intr (port_number port)) × (is_port_shut port end ≡ true)))
+
+-- A sweep takes at most one call of each connection; its interrupt channels are connected, and all that waits is written.
+abbrev pub IsWhole : Config → List PlainEvent → List PlainEvent → List Heard → Type 0
+IsWhole config history events piece = ((c : ℕ) → length (filter (takes_call c) events) ≤ 1)
+    × ((c : ℕ) → c < 16 → DialsFor config c history events piece) × SendsAll config history events piece
+
 -- A sweep has these events and these answers of the wire. Its events from the wire are exactly those that the answers cause, and the
--- sweep serves each connection.
+-- sweep serves each connection, and is whole (`IsWhole`).
 abbrev pub IsServed : {W : Type 0} → (W → Heard → W → Type 0) → Config → DriverState W → DriverState W → List PlainEvent → List PlainEvent
     → List Heard → Type 0
 IsServed hears config old new history events piece = StandsFor old.server config history × StandsFor new.server config (events ++ history)
     × Through hears piece old.wire new.wire × (filter is_outer events ≡ flat_map event_of piece)
-    × ((c : ℕ) → c < 16 → Serves config c history events piece)
+    × ((c : ℕ) → c < 16 → Serves config c history events piece) × IsWhole config history events piece
 
 -- For every sweep, whatever happened before it, there are events and answers of the wire for which `IsServed` holds.
 abbrev pub Served : {W : Type 0} → (W → Heard → W → Type 0) → Type 0

@@ -2,6 +2,7 @@
 //! that does nothing.
 
 ghost use Rattle.sv_driver_laws.specs.Carried.{Carried};
+ghost use Rattle.sv_driver_laws.specs.Determined.{Determined, ByAnswers};
 ghost use Rattle.sv_driver_laws.specs.Served.{Served};
 
 use sv_serve::Wire;
@@ -22,4 +23,15 @@ pub fn carried<W: Wire>()
 /// how many turns a connection has.
 pub fn served<W: Wire>()
     ensures { Served W.hears }
+{}
+
+/// Two drivers whose servers are new, with the same configuration and the same scenario, make as
+/// many sweeps, over any two wires, and the same milliseconds pass in each sweep. They ask their
+/// wires the same, write the same bytes, and give their servers the same events, until the wires
+/// answer the same question differently, or memory for a call is refused to one of them alone. So
+/// if the wires give the same answers in the same order, and memory is never refused, both runs
+/// are the same.
+pub fn determined<W: Wire, V: Wire>()
+    ensures until { Determined W.hears V.hears }
+    ensures by_answers { ByAnswers }
 {}

@@ -95,6 +95,12 @@ closed_others c d last acts ne rising = all_numbers (λ n. is_of c (owner n acts
     (λ y h. other_owner c d (owner y.lid acts) ne
     (owner_is_of d (owner y.lid acts) (sym (has-owner d y.lid (live acts) last rising) ∙ h))) (all_has (links_in d acts)))
 
+pub closed_own : (c last : ℕ) (acts : List LinkAct) → IsRising (live acts) last
+    → AllByRecursion (λ n. owner n acts ≡ Some c) (links_of c acts)
+closed_own c last acts rising = all_numbers (λ n. owner n acts ≡ Some c) (links_in c acts)
+    (all_then (λ y. has y.lid (links_in c acts) ≡ true) (λ y. owner y.lid acts ≡ Some c) (links_in c acts)
+    (λ y h. owner_is_of c (owner y.lid acts) (sym (has-owner c y.lid (live acts) last rising) ∙ h)) (all_has (links_in c acts)))
+
 -- what isn't the connection's stays so
 still_other : (c n lid : ℕ) (acts : List LinkAct) → is_of c (owner n acts) ≡ false → is_of c (owner n (Destroyed lid ∷ acts)) ≡ false
 still_other c n lid acts h = elim (cases_Bool (eqb lid n)) [

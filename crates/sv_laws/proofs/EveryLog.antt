@@ -8,3 +8,4 @@ pub mod Steps
 pub mod Due
 pub mod EachAct
 pub mod BusyWaits
+pub mod Keeps

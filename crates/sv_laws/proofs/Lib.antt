@@ -20,3 +20,17 @@ pub mod NothingLost
 pub mod OnlyRequests
 pub mod CanBeRefused
 pub mod TicksTaken
+pub mod InOrder
+mod Place
+mod Sound
+mod SoundEvents
+mod Gone
+mod InTime
+mod Conformance
+mod Passing
+mod Overtaking
+mod AnsweredInTime
+mod Patience
+mod Alone
+mod Taking
+mod NoneRefused

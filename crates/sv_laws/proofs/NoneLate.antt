@@ -29,7 +29,7 @@ there_waits : (h : Option ℕ) (w r : Bool) (named : Option ℕ) (found : Option
 there_waits h w r named (Some wait) e = (wait, refl)
 there_waits h w r named None e = absurd cc
 
-going_waits : (acts : List DeviceAct) (d : ℕ) → CanResume acts d → (wait : Wait) × (waits d (wait_acts acts) ≡ Some wait)
+pub going_waits : (acts : List DeviceAct) (d : ℕ) → CanResume acts d → (wait : Wait) × (waits d (wait_acts acts) ≡ Some wait)
 going_waits acts d such = there_waits (holder (link_acts acts)) (not (has_ended (exchange_acts acts)))
     (is_answerable (instrument_acts acts)) (link d (wait_acts acts)) (waits d (wait_acts acts)) such
 
@@ -41,7 +41,7 @@ going_by : (acts : List DeviceAct) → AllSuit acts → (found : Option ℕ) →
 going_by acts all None h = λ d such. not_both (goes acts d) such (h d (going_below acts all d such))
 going_by acts all (Some c) h = (h.0, λ d such. h.1 d (going_below acts all d such) such)
 
-oldest_going : (acts : List DeviceAct) → AllSuit acts → (found : Option ℕ) × IsOldest (wait_acts acts) (CanResume acts) found
+pub oldest_going : (acts : List DeviceAct) → AllSuit acts → (found : Option ℕ) × IsOldest (wait_acts acts) (CanResume acts) found
 oldest_going acts all =
     let first = least (wait_acts acts) (goes acts) 16 in (first.0, going_by acts all first.0 first.1)
 

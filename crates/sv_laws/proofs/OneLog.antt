@@ -16,7 +16,7 @@ use Rattle.sv_laws.specs.Laws.{OneLog}
 use Rattle.sv_history.proofs.OneStep.{next_once}
 
 -- the steps that are due lead to one log
-one_end : (n m : ℕ) (config : Config) (log a b : List Act) → SettlesIn n config log a → SettlesIn m config log b → a ≡ b
+pub one_end : (n m : ℕ) (config : Config) (log a b : List Act) → SettlesIn n config log a → SettlesIn m config log b → a ≡ b
 one_end zero zero config log a b x y = x.1 ∙ sym y.1
 one_end zero (suc m) config log a b x y = absurd (x.0 y.0 y.1)
 one_end (suc n) zero config log a b x y = absurd (y.0 x.0 x.1)

@@ -86,7 +86,7 @@ next_bytes acts call all next =
     taken_bytes s.sent (records_ended acts) call (bytes_front (flat_map bytes_of s.sent) s.rest fits)
     (ap (λ (l : List (List ℕ)). slice_get l (records_ended acts)) s.records_are ∙ found)
 
-call_bytes : (acts : List ConnAct) (call : List ℕ) → AllCame acts → pending_call acts ≡ Some call → IsBytes call
+pub call_bytes : (acts : List ConnAct) (call : List ℕ) → AllCame acts → pending_call acts ≡ Some call → IsBytes call
 call_bytes (CallTaken taken ∷ acts) call all busy =
     subst IsBytes (some_bytes taken call busy) (next_bytes acts taken all.1 all.0.1)
 call_bytes (Piece bytes ∷ acts) call all busy = call_bytes acts call all.1 busy

@@ -107,7 +107,7 @@ in_turn config polled c call request log next asks =
     (subst (Stands call (of c log)) (sym own)
     (stands_request config polled c call (of c log) request (device_acts log) (xid_next (of c log) call request next asks))))
 
-asks_some : (acts : List ConnAct) (call : List ℕ) → is_open acts ≡ true → next_call acts ≡ Some call
+pub asks_some : (acts : List ConnAct) (call : List ℕ) → is_open acts ≡ true → next_call acts ≡ Some call
     → (request : Request) × (next_request acts ≡ Some request)
 asks_some acts call opened next = by (open_role acts) (next_call acts) opened next
   where

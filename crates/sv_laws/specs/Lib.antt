@@ -2,3 +2,10 @@ pub mod Adding
 pub mod Isolation
 pub mod Cuts
 pub mod Laws
+pub mod InOrder
+pub mod LockFair
+pub mod Gone
+pub mod InTime
+pub mod Conformance
+pub mod QueryAlone
+pub mod Taking

@@ -1,8 +1,15 @@
 //! The laws of the specification. Each is the contract of a function that does nothing.
 
+ghost use Rattle.sv_laws.specs.Taking.{Taking, NoneRefused};
 ghost use Rattle.sv_laws.specs.Laws.{OneLog, TimeOnlyCounts, NoneLate, NothingLost, EachAnswered, RepliesMatch, TurnAnswered};
 ghost use Rattle.sv_laws.specs.Isolation.{Isolation};
 ghost use Rattle.sv_laws.specs.Cuts.{RecordsCut, WritesCut};
+ghost use Rattle.sv_laws.specs.Conformance.{PollEndsRequest, StatusByteLeaves, ClearClears, ResetLeaves, StandardReadOnce, PresetLeaves, ErrorsInOrder};
+ghost use Rattle.sv_laws.specs.Gone.{ShutIsGone, CloseShuts};
+ghost use Rattle.sv_laws.specs.InOrder.{InOrder};
+ghost use Rattle.sv_laws.specs.InTime.{InTime, AnsweredInTime};
+ghost use Rattle.sv_laws.specs.LockFair.{WaitsWhileHeld, NoneOvertakes, OldestPasses, OldestGets};
+ghost use Rattle.sv_laws.specs.QueryAlone.{QueryAlone, QueryLocked, NoQueryError, HeldAlone, HeldLocked};
 
 /// A history has at most one log.
 pub fn one_log()
@@ -40,6 +47,14 @@ pub fn none_late()
     ensures { NoneLate }
 {}
 
+/// Which bytes peers take, and when, doesn't change what the server sends, as long as no event is
+/// refused and no call on an interrupt channel is left out for want of room. And where no more
+/// bytes wait, no event is refused that wasn't refused before.
+pub fn taking()
+    ensures same { Taking }
+    ensures none_refused { NoneRefused }
+{}
+
 /// Six kinds of events are never refused if the server's queries allow them: an Open of a free
 /// number, Bytes that fit the room, a Took of bytes that wait, a Close of an open port, a Dialed
 /// while a create_intr_chan waits for its peer, and an Input with a valid channel and voltage; nor
@@ -65,4 +80,64 @@ pub fn replies_match()
 /// connection at fault.
 pub fn turn_answered()
     ensures { TurnAnswered }
+{}
+
+/// Replies come in the order of the calls: the k-th reply on a connection has the xid of the k-th
+/// record that came on it (RFC 5531, section 9).
+pub fn in_order()
+    ensures { InOrder }
+{}
+
+/// The lock goes to the calls in the order in which they were suspended (VXI-11 revision 1.0,
+/// section B.4.4). While a call waits for the lock, another link holds it, and a new call that
+/// needs the lock doesn't overtake. A suspended call that passes is the oldest, and so is one that
+/// gets the lock.
+pub fn lock_fair()
+    ensures held { WaitsWhileHeld }
+    ensures overtakes { NoneOvertakes }
+    ensures passes { OldestPasses }
+    ensures gets { OldestGets }
+{}
+
+/// A connection that isn't open, such as one that was closed, has no live link, no suspended call,
+/// no open interrupt channel and no link with service requests enabled; and no link that it made
+/// holds the lock (VXI-11 revision 1.0, sections B.4.4 and B.6).
+pub fn gone()
+    ensures gone { ShutIsGone }
+    ensures shut { CloseShuts }
+{}
+
+/// A call is answered before it has waited longer than its timeouts allow: the lock timeout, and
+/// then the I/O timeout (VXI-11 revision 1.0, section B.4.4). Only a create_intr_chan has no
+/// timeout, and waits for its peer.
+pub fn in_time()
+    ensures young { InTime }
+    ensures answered { AnsweredInTime }
+{}
+
+/// Common commands and queries change what IEEE 488.2 and SCPI-1999 say, and leave the rest: a
+/// poll, `*STB?`, `*CLS`, `*RST`, `*ESR?`, STATus:PRESet, and SYSTem:ERRor?.
+pub fn conformance()
+    ensures poll { PollEndsRequest }
+    ensures status_byte { StatusByteLeaves }
+    ensures clear { ClearClears }
+    ensures reset { ResetLeaves }
+    ensures standard { StandardReadOnce }
+    ensures preset { PresetLeaves }
+    ensures errors { ErrorsInOrder }
+{}
+
+/// A connection that writes one query, and reads the response to its end before it writes again,
+/// gets exactly the query's answer (IEEE 488.2, 6.1 and 6.3; VXI-11 revision 1.0, section B.6,
+/// device_write and device_read). There are three premises: message exchange is at rest before the
+/// write; no other link holds the lock; and until the read is answered no other call is executed.
+/// The third premise isn't needed if the connection's link holds the lock: then other connections
+/// may do anything. A query that waits for the end of the measurement is answered then. A
+/// connection that goes on like this, also with commands, never gets a query error.
+pub fn query_alone()
+    ensures asked { QueryAlone }
+    ensures locked { QueryLocked }
+    ensures rounds { NoQueryError }
+    ensures held { HeldAlone }
+    ensures held_locked { HeldLocked }
 {}

@@ -36,11 +36,11 @@ use Rattle.sv_logs.proofs.Since.{both_true}
 
 -- ---- where only the instrument's exchange, its queue and its status changed
 
-record Calm (acts base : List DeviceAct) : Type 0 where
-  links : link_acts acts ≡ link_acts base
-  calls : wait_acts acts ≡ wait_acts base
-  clock : ticks acts ≡ ticks base
-  scans : scan_acts (instrument_acts acts) ≡ scan_acts (instrument_acts base)
+pub record Calm (acts base : List DeviceAct) : Type 0 where
+  pub links : link_acts acts ≡ link_acts base
+  pub calls : wait_acts acts ≡ wait_acts base
+  pub clock : ticks acts ≡ ticks base
+  pub scans : scan_acts (instrument_acts acts) ≡ scan_acts (instrument_acts base)
 
 -- What was settled: nothing is due, no read or write waits, and a poll would give this.
 pub record Resting (config : Config) (log : List Act) : Type 0 where
@@ -49,7 +49,7 @@ pub record Resting (config : Config) (log : List Act) : Type 0 where
   pub polled : ℕ
   pub said : IsPolled polled (device_acts log)
 
-there_same : (holds named : Option ℕ) (wait : Option Wait) (writes reads also likewise : Bool) → wait ≢ Some ForInput
+pub there_same : (holds named : Option ℕ) (wait : Option Wait) (writes reads also likewise : Bool) → wait ≢ Some ForInput
     → wait ≢ Some ForResponse → is_there holds writes reads named wait ≡ is_there holds also likewise named wait
 there_same holds named (Some ForInput) writes reads also likewise input response = absurd (input refl)
 there_same holds named (Some ForResponse) writes reads also likewise input response = absurd (response refl)
@@ -104,14 +104,14 @@ no_time config log base new rest v (c, wait, oldest, for, is) = rest.times (gave
 )
 
 -- then only a step of the instrument is due, if any
-calm_step : (config : Config) (log base new : List Act) → Resting config base → Calm (device_acts log) (device_acts base)
+pub calm_step : (config : Config) (log base new : List Act) → Resting config base → Calm (device_acts log) (device_acts base)
     → IsNext config log new → InstrumentDoes IsStep log new
 calm_step config log base new rest v (inl fires) = absurd (no_fire config log base new rest.rests v fires)
 calm_step config log base new rest v (inr (none, inl resumes)) = absurd (no_resume config log base new rest v resumes)
 calm_step config log base new rest v (inr (none, inr (still, inl step))) = step
 calm_step config log base new rest v (inr (none, inr (still, inr (idle, times)))) = absurd (no_time config log base new rest.rests v times)
 
-calm_next : (config : Config) (log base new : List Act) → Resting config base → Calm (device_acts log) (device_acts base)
+pub calm_next : (config : Config) (log base new : List Act) → Resting config base → Calm (device_acts log) (device_acts base)
     → InstrumentDoes IsStep log new → IsNext config log new
 calm_next config log base new rest v step =
     inr (
@@ -137,7 +137,7 @@ released_adds awaited.One log = answered_more (Exchanged UnitDone) _ log
 released_adds awaited.Readings log = answered_more (Exchanged UnitDone) _ log
 
 -- would be released if the instrument were idle
-held_waits : (config : Config) (base : List Act) (what : Awaited) → Rested config base
+pub held_waits : (config : Config) (base : List Act) (what : Awaited) → Rested config base
     → held_unit (instrument_acts (device_acts base)) ≡ Some what
     → is_idle (instrument_acts (device_acts base)) ≡ true → ⊥
 held_waits config base what rest holds idle =

@@ -11,11 +11,11 @@ use Rattle.sv_laws.proofs.Cuts.SameExchange.{text_cut}
 -- ---- messages
 
 -- how long a part is
-abbrev size_at : List (List ℕ) → ℕ → ℕ
+abbrev pub size_at : List (List ℕ) → ℕ → ℕ
 size_at parts k = length (slice_index_or parts k [])
 
 -- No part is longer than that at the same place.
-abbrev Within : List (List ℕ) → List (List ℕ) → Type 0
+abbrev pub Within : List (List ℕ) → List (List ℕ) → Type 0
 Within parts others = (k : ℕ) → size_at parts k ≤ size_at others k
 
 within_line : (parts others : List (List ℕ)) → Within parts others → Within ([] ∷ parts) ([] ∷ others)
@@ -31,7 +31,7 @@ within_byte b (part ∷ parts) [] within (suc k) = within (suc k)
 within_byte b (part ∷ parts) (other ∷ others) within zero = let le = within 0 in omega (arith, le)
 within_byte b (part ∷ parts) (other ∷ others) within (suc k) = within (suc k)
 
-none_longer : (old new : List Symbol) → Within (messages old) (messages (old ++ new))
+pub none_longer : (old new : List Symbol) → Within (messages old) (messages (old ++ new))
 none_longer [] new zero = omega arith
 none_longer [] new (suc k) = omega arith
 none_longer (End ∷ old) new k = within_line (messages old) (messages (old ++ new)) (none_longer old new) k
@@ -47,7 +47,7 @@ none_longer (Byte b ∷ old) new k = at (b == 10) (none_longer old new) k
 abbrev NoLine : List ℕ → Type 0
 NoLine bytes = AllByRecursion (λ b. b ≢ 10) bytes
 
-onto_many : (b : ℕ) (parts : List (List ℕ)) → 0 < length parts → (length (onto b parts) ≡ length parts)
+pub onto_many : (b : ℕ) (parts : List (List ℕ)) → 0 < length parts → (length (onto b parts) ≡ length parts)
 onto_many b [] some = absurd (omega (arith, some))
 onto_many b (part ∷ parts) some = refl
 
@@ -55,7 +55,7 @@ onto_some : (b : ℕ) (parts : List (List ℕ)) → 0 < length (onto b parts)
 onto_some b [] = omega arith
 onto_some b (part ∷ parts) = omega arith
 
-messages_some : (symbols : List Symbol) → 0 < length (messages symbols)
+pub messages_some : (symbols : List Symbol) → 0 < length (messages symbols)
 messages_some [] = omega arith
 messages_some (End ∷ symbols) = omega arith
 messages_some (Byte b ∷ symbols) = at (b == 10)

@@ -3,7 +3,7 @@ use Rattle.std.proofs.Common.{◌≡◌, ℕ, ◌+◌, Bool, true, false, List, 
 use Rattle.std.specs.Prelude.{◌↔◌}
 use Rattle.sv_links.specs.Links.{LinkAct}
 use Rattle.sv_links.specs.Waiting.{WaitAct}
-use Rattle.sv_links.specs.Channels.{ChannelAct}
+use Rattle.sv_links.specs.Channels.{ChannelAct, peer}
 use Rattle.sv_exchange.specs.Exchange.{Accepted, has_ended, response}
 use Rattle.sv_layers.specs.Act.{Act as InstrumentAct, Exchanged, exchange_acts}
 use Rattle.sv_layers.specs.StatusByte.{IsRaised}
@@ -11,6 +11,7 @@ use Rattle.sv_instrument.specs.Step.{is_answerable}
 use Rattle.sv_history.specs.Act.{DeviceAct, Linked, Waited, Channel, Applied, Ticked, link_acts, wait_acts, channel_acts, instrument_acts, ticks}
 use Rattle.sv_history.specs.PolledStatus.{IsPolled}
 use Rattle.sv_history.specs.Requests.{HearsOf, request_told}
+use Rattle.sv_history.proofs.Telling.{peer_more}
 use Rattle.sv_laws.proofs.SameOutcomes.{SameGround}
 use Rattle.sv_laws.proofs.Cuts.SameExchange.{ended_same, response_same}
 use Rattle.sv_laws.proofs.Cuts.SameStatus.{SameStatus, raised_same, never_raised, polled_same}
@@ -19,19 +20,31 @@ use Rattle.sv_laws.proofs.Cuts.SameInstrument.{SameInstrument, instrument_same, 
 pub record SameDevice (acts other : List DeviceAct) : Type 0 where
   pub links : link_acts acts ≡ link_acts other
   pub waits : wait_acts acts ≡ wait_acts other
-  pub channels : channel_acts acts ≡ channel_acts other
+  pub channels : (c : ℕ) → peer c (channel_acts acts) ≡ peer c (channel_acts other)
   pub instrument : SameInstrument (instrument_acts acts) (instrument_acts other)
   pub clock : ticks acts ≡ ticks other
 
 -- one log
 pub device_same : (acts : List DeviceAct) → SameDevice acts acts
-device_same acts = assumption (instrument_same (instrument_acts acts))
+device_same acts = record {
+  links = refl;
+  waits = refl;
+  channels = λ c. refl;
+  instrument = instrument_same (instrument_acts acts);
+  clock = refl;
+}
 
 -- the same act
 pub device_act : (act : DeviceAct) (acts other : List DeviceAct) → SameDevice acts other → SameDevice (act ∷ acts) (act ∷ other)
 device_act (Linked act) acts other v = assumption (ap (λ (l : List LinkAct). act ∷ l) v.links)
 device_act (Waited act) acts other v = assumption (ap (λ (l : List WaitAct). act ∷ l) v.waits)
-device_act (Channel act) acts other v = assumption (ap (λ (l : List ChannelAct). act ∷ l) v.channels)
+device_act (Channel act) acts other v = record {
+  links = v.links;
+  waits = v.waits;
+  channels = λ c. peer_more c act (channel_acts acts) (channel_acts other) (v.channels c);
+  instrument = v.instrument;
+  clock = v.clock;
+}
 device_act (Applied act) acts other v = assumption (instrument_act act (instrument_acts acts) (instrument_acts other) v.instrument)
 device_act Ticked acts other v = assumption (ap (λ (n : ℕ). n + 1) v.clock)
 
@@ -113,9 +126,15 @@ alike_ground c acts other v = record {
   scanned = v.instrument.status.scanned;
   owned = λ n. rw v.links refl;
   held = rw v.links refl;
-  opened = rw v.channels refl;
+  opened = v.channels c;
   clock = v.clock;
 }
 
 pub device_back : (acts other : List DeviceAct) → SameDevice acts other → SameDevice other acts
-device_back acts other v = search (sym, instrument_back)
+device_back acts other v = record {
+  links = sym v.links;
+  waits = sym v.waits;
+  channels = λ c. sym (v.channels c);
+  instrument = instrument_back (instrument_acts acts) (instrument_acts other) v.instrument;
+  clock = sym v.clock;
+}

@@ -124,7 +124,7 @@ value_same (name.Rise register) log other v = ap decimal (v.rises register)
 value_same (name.Fall register) log other v = ap decimal (v.falls register)
 value_same _ log other v = rw v.scanned refl
 
-says_same : (asked : Question) (log other : List Act) → SameStatus log other → (bytes : List ℕ) → Says asked log bytes
+pub says_same : (asked : Question) (log other : List Act) → SameStatus log other → (bytes : List ℕ) → Says asked log bytes
     → Says asked other bytes
 says_same question.StandardEvents log other v bytes h = word_same _ _ bytes v.stands h
 says_same question.StatusByte log other v bytes h = word_same _ _ bytes (λ k. master_same k log other v) h
@@ -136,18 +136,18 @@ says_same question.Readings log other v bytes h = rw v.scanned at h
 says_same (question.Value what) log other v bytes h = h ∙ value_same what log other v
 says_same _ log other v bytes h = h
 
-question_fault_same : (asked : Question) (log other : List Act) → SameStatus log other
+pub question_fault_same : (asked : Question) (log other : List Act) → SameStatus log other
     → question_fault asked log ≡ question_fault asked other
 question_fault_same question.Readings log other v = rw v.scanned refl
 question_fault_same asked log other v = refl
 
-abbrev taken_acts : Question → List Act
+abbrev pub taken_acts : Question → List Act
 taken_acts question.StandardEvents = StandardRead ∷ []
 taken_acts question.Error = EntryTaken ∷ []
 taken_acts (question.Events name) = EventRead name ∷ []
 taken_acts asked = []
 
-taken_is : (asked : Question) (log : List Act) → after_query asked log ≡ taken_acts asked ++ log
+pub taken_is : (asked : Question) (log : List Act) → after_query asked log ≡ taken_acts asked ++ log
 taken_is question.StandardEvents log = refl
 taken_is question.Error log = refl
 taken_is (question.Events name) log = refl

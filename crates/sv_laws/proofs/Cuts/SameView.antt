@@ -35,7 +35,7 @@ pub connection_back : (acts others : List ConnAct) → SameConnection acts other
 connection_back acts others v = record { shown = search sym; streams = sym v.streams }
 
 -- the same act
-same_act : (act : ConnAct) (acts others : List ConnAct) → SameConnection acts others → SameConnection (act ∷ acts) (act ∷ others)
+pub same_act : (act : ConnAct) (acts others : List ConnAct) → SameConnection acts others → SameConnection (act ∷ acts) (act ∷ others)
 same_act (Piece bytes) acts others v = assumption (read_alike (stream acts) (stream others) bytes v.streams)
 same_act Faulted acts others v = assumption (ap suc v.count)
 same_act (Replied bytes) acts others v = assumption (ap suc v.count, ap (λ (l : List ℕ). l ++ bytes) v.replies)

@@ -88,7 +88,7 @@ WriteCase c lid flags bytes acts outcome =
 some_error : (error : ErrorCode) (n : ℕ) → error_number error ≡ suc n → error_number error ≢ 0
 some_error error n is none = omega (arith, is, none)
 
-accepts_write : (flags : ℕ) (bytes : List ℕ) (acts : List DeviceAct) → nat_lt max_message (length bytes) ≡ false
+pub accepts_write : (flags : ℕ) (bytes : List ℕ) (acts : List DeviceAct) → nat_lt max_message (length bytes) ≡ false
     → has_ended (exchange_acts acts) ≡ false → device_write flags bytes acts
     ≡ answer_with (Applied (Exchanged (Accepted bytes (bit_at flags 3 == 1))) ∷ []) (Size NoError (length bytes))
 accepts_write flags bytes acts short free = rw (short, free) refl

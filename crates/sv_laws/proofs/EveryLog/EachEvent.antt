@@ -152,7 +152,7 @@ done_waits c arguments [] acts h = refl
 done_waits c arguments (Waited act ∷ adds) acts h = absurd h.0
 done_waits c arguments (_ ∷ adds) acts h = done_waits c arguments adds acts h.1
 
-replies_role : (xid : ℕ) (result : Option Outcome) (own : List ConnAct) → open_role (replies xid result ++ own) ≡ open_role own
+pub replies_role : (xid : ℕ) (result : Option Outcome) (own : List ConnAct) → open_role (replies xid result ++ own) ≡ open_role own
 replies_role xid (Some result) own = refl
 replies_role xid None own = refl
 
@@ -334,7 +334,7 @@ fit_refuse c log fit = refuse_keeps Fit c (next_call (of c log)) (refusable (of 
     fit_on_free c (Replied _) (On c (CallTaken bytes) ∷ log) (fit_taken c bytes log fit none) refl none)
 
 -- a connection opens
-shut_before : (far : Bool) (role : Option Role)
+pub shut_before : (far : Bool) (role : Option Role)
     → cond far (Some NoConn) (cond (is_some role) (Some ConnInUse) None) ≡ None → role ≡ None
 shut_before true role e = absurd cc
 shut_before false (Some role) e = absurd cc

@@ -73,7 +73,7 @@ wait_link (_ ∷ acts) all d n h = wait_link acts all.1 d n h
 
 -- ---- a call that waits is of one of sixteen connections
 
-mapped : (wait now : Wait) (found : Option Wait) → option_map (λ before. wait) found ≡ Some now → (was : Wait) × (found ≡ Some was)
+pub mapped : (wait now : Wait) (found : Option Wait) → option_map (λ before. wait) found ≡ Some now → (was : Wait) × (found ≡ Some was)
 mapped wait now None e = absurd cc
 mapped wait now (Some was) e = (was, refl)
 

@@ -1,0 +1,221 @@
+-- A query that waits for the end of the measurement: the phases in which it is, and what each step makes of them.
+use Rattle.std.proofs.Common.{◌≡◌, ◌≢◌, ℕ, Bool, true, false, List, [], ◌∷◌, ◌++◌, length, Option, Some, None, refl, sym, ap, subst, ◌∙◌, inl, inr, ◌⊎◌, append_assoc, arith}
+use Rattle.std.specs.Prelude.{◌==◌}
+use Rattle.std.specs.List.{AllByRecursion}
+use Rattle.std.proofs.lemmas.Bool.{cases_Bool, cases_lt, ne_eqb, eqb-true, cases_eq}
+use Rattle.sv_vxi.specs.declared.error_code.ErrorCode.{ErrorCode}
+use Rattle.sv_links.specs.declared.waiting.Wait.TheVariants.{Response as ForResponse}
+use Rattle.sv_links.specs.Links.{LinkAct, holder}
+use Rattle.sv_links.specs.Waiting.{WaitAct, Left as LeftCall, waits, deadline, IsAble}
+use Rattle.sv_links.specs.Channels.{ChannelAct}
+use Rattle.sv_scan.specs.declared.acts.ScanAct.{ScanAct}
+use Rattle.sv_exchange.specs.Limits.{max_read}
+use Rattle.sv_layers.specs.declared.change.Awaited.{Awaited}
+use Rattle.sv_layers.specs.Act.{Act as InstrumentAct, Scanned, exchange_acts}
+use Rattle.sv_instrument.specs.HeldUnit.{held_unit}
+use Rattle.sv_history.specs.Act.{Act, ConnAct, Piece, BytesTaken, Channel, Applied, Ticked, On, OnDevice, of, device_acts, link_acts, wait_acts, instrument_acts}
+use Rattle.sv_history.specs.Connection.{pending_call}
+use Rattle.sv_history.specs.CoreCall.{CoreCall}
+use Rattle.sv_history.specs.Request.{core_call_in}
+use Rattle.sv_history.specs.Effect.{acts_of}
+use Rattle.sv_history.specs.Resuming.{failure_effect}
+use Rattle.sv_history.proofs.Projections.{others_effect}
+use Rattle.sv_laws.specs.Adding.{all_replies}
+use Rattle.sv_laws.specs.QueryAlone.{reported, EndsAt, OneRead, UnitEnd}
+
+-- ---- the connection
+
+-- whether the read was taken; or the reply to it
+pub data Status : Type 0 where
+  At : (taken : Bool) → Status
+  Told : (reply : List ℕ) → Status
+
+-- Before the read no call of the connection is suspended; then the read waits for the response; then it was answered.
+abbrev pub Mine : (c limit : ℕ) → CoreCall → List ℕ → Status → List ConnAct → List WaitAct → Type 0
+Mine c limit call replies (At false) own calls = (waits c calls ≡ None) × (all_replies own ≡ replies)
+Mine c limit call replies (At true) own calls = (waits c calls ≡ Some ForResponse) × (deadline c calls ≡ Some limit)
+    × (core_call_in (pending_call own) ≡ Some call) × (all_replies own ≡ replies)
+Mine c limit call replies (Told reply) own calls = (waits c calls ≡ None) × (all_replies own ≡ replies ++ reply)
+
+-- No call of another connection can resume, whatever message exchange does.
+abbrev pub Others : ℕ → List LinkAct → List WaitAct → Type 0
+Others c links calls = (d : ℕ) → d ≢ c → (writes reads : Bool) → IsAble (holder links) writes reads calls d → ⊥
+
+-- a later log
+abbrev pub ending_more : (what : Awaited) (base adds acts new : List InstrumentAct) → new ≡ adds ++ acts → UnitEnd what base acts
+    → UnitEnd what base new
+ending_more what base adds acts new is e = record {
+  done = e.done;
+  newer = e.newer;
+  more = adds ++ e.more;
+  within = is ∙ ap (λ (l : List InstrumentAct). adds ++ l) e.within ∙ sym (append_assoc adds e.more e.done);
+  since = e.since;
+  held = e.held;
+  idle = e.idle;
+}
+
+no_line_or : (answer : List ℕ) → AllByRecursion (λ b. b ≢ 10) answer ⊎ (AllByRecursion (λ b. b ≢ 10) answer → ⊥)
+no_line_or [] = inl tt
+no_line_or (b ∷ answer) = elim (cases_eq b 10) [
+  | inl same ↦ inr (λ none. none.0 same)
+  | inr other ↦ elim (no_line_or answer) [ inl none ↦ inl (other, none) | inr some ↦ inr (λ none. some none.1) ]
+]
+
+ends_or : (term : Option ℕ) (answer : List ℕ) → EndsAt term answer ⊎ (EndsAt term answer → ⊥)
+ends_or None answer = inl tt
+ends_or (Some term) answer = elim (cases_eq term 10) [
+  | inl same ↦ elim (no_line_or answer) [ inl none ↦ inl (same, none) | inr some ↦ inr (λ ends. some ends.1) ]
+  | inr other ↦ inr (λ ends. other ends.0)
+]
+
+-- whether one read can return an answer
+pub one_read_or : (term : Option ℕ) (most : ℕ) (answer : List ℕ) → OneRead term most answer ⊎ (OneRead term most answer → ⊥)
+one_read_or term most answer = elim (cases_lt (length answer) most) [
+  | inl one ↦ elim (cases_lt (length answer) max_read) [
+    | inl other ↦ elim (ends_or term answer) [ inl ends ↦ inl (one, other, ends) | inr none ↦ inr (λ fits. none fits.2) ]
+    | inr past ↦ inr (λ fits. let far = fits.1 in omega (arith, far, past))
+  ]
+  | inr past ↦ inr (λ fits. let far = fits.0 in omega (arith, far, past))
+]
+
+-- ---- logs that are alike but for the scanner
+
+abbrev pub inside : List Act → List InstrumentAct
+inside log = instrument_acts (device_acts log)
+
+pub record Alike (c limit : ℕ) (call : CoreCall) (replies : List ℕ) (links : List LinkAct) (log new : List Act) : Type 0 where
+  pub adds : List InstrumentAct
+  pub is : inside new ≡ adds ++ inside log
+  pub exchange : exchange_acts (inside new) ≡ exchange_acts (inside log)
+  pub held : held_unit (inside new) ≡ held_unit (inside log)
+  pub codes : reported (inside new) ≡ reported (inside log)
+  pub linked : link_acts (device_acts new) ≡ link_acts (device_acts log)
+  pub others : Others c links (wait_acts (device_acts log)) → Others c links (wait_acts (device_acts new))
+  pub mine : (s : Status) → Mine c limit call replies s (of c log) (wait_acts (device_acts log))
+      → Mine c limit call replies s (of c new) (wait_acts (device_acts new))
+
+module _ (c limit : ℕ) (call : CoreCall) (replies : List ℕ) (links : List LinkAct) where
+  pub alike_scanned : (act : ScanAct) (log : List Act) → Alike c limit call replies links log (OnDevice (Applied (Scanned act)) ∷ log)
+  alike_scanned act log = record {
+    adds = Scanned act ∷ [];
+    is = refl;
+    exchange = refl;
+    held = refl;
+    codes = refl;
+    linked = refl;
+    others = λ o. o;
+    mine = λ s m. m;
+  }
+
+  pub alike_ticked : (log : List Act) → Alike c limit call replies links log (OnDevice Ticked ∷ log)
+  alike_ticked log = record {
+    adds = [];
+    is = refl;
+    exchange = refl;
+    held = refl;
+    codes = refl;
+    linked = refl;
+    others = λ o. o;
+    mine = λ s
+        m. m;
+  }
+
+  pub alike_channel : (act : ChannelAct) (log : List Act) → Alike c limit call replies links log (OnDevice (Channel act) ∷ log)
+  alike_channel act log = record {
+    adds = [];
+    is = refl;
+    exchange = refl;
+    held = refl;
+    codes = refl;
+    linked = refl;
+    others = λ o. o;
+    mine
+        = λ s m. m;
+  }
+
+  mine_piece : (bytes : List ℕ) (s : Status) (own : List ConnAct) (calls : List WaitAct) → Mine c limit call replies s own calls
+      → Mine c limit call replies s (Piece bytes ∷ own) calls
+  mine_piece bytes (At true) own calls m = m
+  mine_piece bytes (At false) own calls m = m
+  mine_piece bytes (Told reply) own calls m = m
+
+  mine_taken : (count : ℕ) (s : Status) (own : List ConnAct) (calls : List WaitAct) → Mine c limit call replies s own calls
+      → Mine c limit call replies s (BytesTaken count ∷ own) calls
+  mine_taken count (At true) own calls m = m
+  mine_taken count (At false) own calls m = m
+  mine_taken count (Told reply) own calls m = m
+
+  on_mine : (d : ℕ) (act : ConnAct) (log : List Act) → (d ≡ c → (s : Status) (own : List ConnAct) (calls : List WaitAct)
+      → Mine c limit call replies s own calls → Mine c limit call replies s (act ∷ own) calls)
+      → (s : Status) → Mine c limit call replies s (of c log) (wait_acts (device_acts log))
+      → Mine c limit call replies s (of c (On d act ∷ log)) (wait_acts (device_acts log))
+  on_mine d act log keeps s m = elim (cases_Bool (d == c)) [
+    | inl e ↦ rw e (keeps (eqb-true d c e) s (of c log) (wait_acts (device_acts log)) m)
+    | inr e ↦ rw e m
+  ]
+
+  alike_on : (d : ℕ) (act : ConnAct) (log : List Act) → (d ≡ c → (s : Status) (own : List ConnAct) (calls : List WaitAct)
+      → Mine c limit call replies s own calls → Mine c limit call replies s (act ∷ own) calls)
+      → Alike c limit call replies links log (On d act ∷ log)
+  alike_on d act log keeps = record {
+    adds = [];
+    is = refl;
+    exchange = refl;
+    held = refl;
+    codes = refl;
+    linked = refl;
+    others = λ o. o;
+    mine = on_mine d act log keeps;
+  }
+
+  pub alike_piece : (d : ℕ) (bytes : List ℕ) (log : List Act) → Alike c limit call replies links log (On d (Piece bytes) ∷ log)
+  alike_piece d bytes log = alike_on d (Piece bytes) log (λ e. mine_piece bytes)
+
+  pub alike_taken : (d count : ℕ) (log : List Act) → Alike c limit call replies links log (On d (BytesTaken count) ∷ log)
+  alike_taken d count log = alike_on d (BytesTaken count) log (λ e. mine_taken count)
+
+  pub alike_other : (d : ℕ) (act : ConnAct) (log : List Act) → d ≢ c → Alike c limit call replies links log (On d act ∷ log)
+  alike_other d act log ne = alike_on d act log (λ e. absurd (ne e))
+
+  -- a call of another connection times out
+  pub left_able : (d e : ℕ) (writes reads : Bool) (calls : List WaitAct) → IsAble (holder links) writes reads (LeftCall d ∷ calls) e
+      → IsAble (holder links) writes reads calls e
+  left_able d e writes reads calls h = elim (cases_Bool (d == e)) [
+    | inl same ↦ absurd (let z : false ≡ true = rw same at h in cc)
+    | inr same ↦ rw same at h
+  ]
+
+  mine_left : (d : ℕ) (s : Status) (own : List ConnAct) (calls : List WaitAct) → d ≢ c → Mine c limit call replies s own calls
+      → Mine c limit call replies s own (LeftCall d ∷ calls)
+  mine_left d (At true) own calls ne m = (rw (ne_eqb d c ne) m.0, m.1, m.2, m.3)
+  mine_left d (At false) own calls ne m = (rw (ne_eqb d c ne) m.0, m.1)
+  mine_left d (Told reply) own calls ne m = (rw (ne_eqb d c ne) m.0, m.1)
+
+  pub alike_failed : (error : ErrorCode) (d : ℕ) (core : Option CoreCall) (log : List Act) → d ≢ c
+      → Alike c limit call replies links log (acts_of d (failure_effect error d core) ++ log)
+  alike_failed error d core log ne = by core (others_effect d c (failure_effect error d core) log (λ e. ne (sym e)))
+    where
+      by : (core : Option CoreCall) → of c (acts_of d (failure_effect error d core) ++ log) ≡ of c log
+          → Alike c limit call replies links log (acts_of d (failure_effect error d core) ++ log)
+      by (Some found) same = record {
+        adds = [];
+        is = refl;
+        exchange = refl;
+        held = refl;
+        codes = refl;
+        linked = refl;
+        others = λ o e far writes reads able. o e far writes reads (left_able d e writes reads (wait_acts (device_acts log)) able);
+        mine = λ s m. subst (λ (l : List ConnAct). Mine c limit call replies s l (LeftCall d ∷ wait_acts (device_acts log))) (sym same)
+            (mine_left d s (of c log) (wait_acts (device_acts log)) ne m);
+      }
+      by None same = record {
+        adds = [];
+        is = refl;
+        exchange = refl;
+        held = refl;
+        codes = refl;
+        linked = refl;
+        others = λ o e far writes reads able. o e far writes reads (left_able d e writes reads (wait_acts (device_acts log)) able);
+        mine = λ s m. subst (λ (l : List ConnAct). Mine c limit call replies s l (LeftCall d ∷ wait_acts (device_acts log))) (sym same)
+            (mine_left d s (of c log) (wait_acts (device_acts log)) ne m);
+      }

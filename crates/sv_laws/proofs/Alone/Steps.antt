@@ -1,0 +1,167 @@
+-- The steps behind a write of one query: its unit is done and answered, and its message is finished.
+use Rattle.std.proofs.Common.{◌≡◌, ℕ, zero, suc, true, false, List, [], ◌∷◌, ◌++◌, None, refl, sym, ap, subst, ◌∙◌, inl, inr, arith}
+use Rattle.std.specs.Prelude.{map, ◌↔◌, ⊤}
+use Rattle.sv_logs.proofs.Since.{since_empty, since_over, then_same}
+use Rattle.sv_exchange.specs.Exchange.{Finished, due, NothingDue, FinishDue}
+use Rattle.sv_layers.specs.Act.{Act as InstrumentAct, Exchanged, EntryTaken, EventRead, exchange_acts, scan_acts, queue_acts}
+use Rattle.sv_layers.specs.Standard as standard
+use Rattle.sv_instrument.specs.HeldUnit.{held_unit}
+use Rattle.sv_instrument.specs.Step.{IsStep}
+use Rattle.sv_instrument.proofs.NextStep.{step_of}
+use Rattle.sv_instrument.proofs.NextStep.{nothing_due as none_due}
+use Rattle.sv_history.specs.declared.event.Config.{Config}
+use Rattle.sv_history.specs.Act.{Act, Applied, OnDevice, of, device_acts, link_acts, wait_acts, instrument_acts, ticks}
+use Rattle.sv_history.specs.Settling.{IsNext, IsSettled, SettlesIn}
+use Rattle.sv_history.proofs.Projections.{device_shared, link_acts-happened, wait_acts-happened, ticks-happened, instrument_acts-happened}
+use Rattle.sv_laws.specs.QueryAlone.{reported}
+use Rattle.sv_laws.proofs.Cuts.FirstPart.{Calm, Resting, calm_step, calm_next}
+use Rattle.sv_laws.proofs.Alone.Texts.{Over, empty_due, finished_empty, over_rests, nothing_due}
+
+-- ---- standard events
+
+-- The act reports no error, and is none of the standard events.
+abbrev pub IsPlain : InstrumentAct → Type 0
+IsPlain (Exchanged act) = ⊤
+IsPlain EntryTaken = ⊤
+IsPlain (EventRead name) = ⊤
+IsPlain _ = ⊥
+
+pending_over : (act : InstrumentAct) (log : List InstrumentAct) → IsPlain act → standard.Waits log → standard.IsPending (act ∷ log)
+pending_over (Exchanged act) [] plain s = absurd ((since_empty standard.IsAsked standard.IsPending).0 s).0
+pending_over EntryTaken [] plain s = absurd ((since_empty standard.IsAsked standard.IsPending).0 s).0
+pending_over (EventRead name) [] plain s = absurd ((since_empty standard.IsAsked standard.IsPending).0 s).0
+pending_over (Exchanged act) (older ∷ log) plain s = ((s.kept 0 (omega arith)).0, refl)
+pending_over EntryTaken (older ∷ log) plain s = ((s.kept 0 (omega arith)).0, refl)
+pending_over (EventRead name) (older ∷ log) plain s = ((s.kept 0 (omega arith)).0, refl)
+pending_over _ log plain s = absurd plain
+
+never_asked : (act : InstrumentAct) (log : List InstrumentAct) → IsPlain act → standard.IsAsked (act ∷ log) → ⊥
+never_asked (Exchanged act) log plain h = h
+never_asked EntryTaken log plain h = h
+never_asked (EventRead name) log plain h = h
+never_asked _ log plain h = absurd plain
+
+never_completes : (act : InstrumentAct) (log : List InstrumentAct) → IsPlain act → standard.Completes (act ∷ log) → ⊥
+never_completes act log plain h = elim h.1 [
+  | inl asked ↦ never_asked act log plain asked
+  | inr waits ↦ absurd (let z : true ≡ false = sym h.0 ∙ (pending_over act log plain waits.0).0 in cc)
+]
+
+never_occurs : (k : ℕ) (act : InstrumentAct) (log : List InstrumentAct) → IsPlain act → standard.Occurs k (act ∷ log) → ⊥
+never_occurs k (Exchanged act) log plain h = never_completes (Exchanged act) log plain h.1
+never_occurs k EntryTaken log plain h = never_completes EntryTaken log plain h.1
+never_occurs k (EventRead name) log plain h = never_completes (EventRead name) log plain h.1
+never_occurs k _ log plain h = absurd plain
+
+kept_over : (act : InstrumentAct) (log : List InstrumentAct) → IsPlain act → standard.NotCleared (act ∷ log)
+kept_over (Exchanged act) log plain = tt
+kept_over EntryTaken log plain = tt
+kept_over (EventRead name) log plain = tt
+kept_over _ log plain = absurd plain
+
+-- such an act leaves them
+pub stands_over : (k : ℕ) (act : InstrumentAct) (log : List InstrumentAct) → IsPlain act
+    → standard.Stands k (act ∷ log) ↔ standard.Stands k log
+stands_over k act log plain = since_over (standard.Occurs k) standard.NotCleared act log (never_occurs k act log plain)
+    (λ s. kept_over act log plain)
+
+-- ---- a step
+
+-- The instrument's log is this, and besides the instrument's only the log of one connection changed since a log.
+pub record Stage (base log : List Act) (acts : List InstrumentAct) : Type 0 where
+  pub calm : Calm (device_acts log) (device_acts base)
+  pub is : instrument_acts (device_acts log) ≡ acts
+
+abbrev pub happened : List InstrumentAct → List Act → List Act
+happened adds log = map OnDevice (map Applied adds) ++ log
+
+pub stage_next : (base log : List Act) (adds acts : List InstrumentAct) → Stage base log acts → scan_acts (adds ++ acts) ≡ scan_acts acts
+    → Stage base (happened adds log) (adds ++ acts)
+stage_next base log adds acts s scans =
+    let there : device_acts (happened adds log) ≡ map Applied adds ++ device_acts log = device_shared (map Applied adds) log in
+    let now : instrument_acts (device_acts (happened adds log)) ≡ adds ++ acts =
+    ap instrument_acts there ∙ instrument_acts-happened adds (device_acts log) ∙ ap (λ (l : List InstrumentAct). adds ++ l) s.is in
+    record {
+      calm = record {
+        links = ap link_acts there ∙ link_acts-happened adds (device_acts log) ∙ s.calm.links;
+        calls = ap wait_acts there ∙ wait_acts-happened adds (device_acts log) ∙ s.calm.calls;
+        clock = ap ticks there ∙ ticks-happened adds (device_acts log) ∙ s.calm.clock;
+        scans = ap scan_acts now ∙ scans ∙ ap scan_acts (sym s.is) ∙ s.calm.scans;
+      };
+      is = now;
+    }
+
+pub step_next : (config : Config) (base log : List Act) (adds acts : List InstrumentAct) → Resting config base → Stage base log acts
+    → IsStep acts (adds ++ acts) → IsNext config log (happened adds log)
+step_next config base log adds acts rest s step = calm_next config log base (happened adds log) rest s.calm
+    (adds, subst (λ (l : List InstrumentAct). IsStep l (adds ++ l)) (sym s.is) step, refl)
+
+pub stage_settled : (config : Config) (base log : List Act) (acts : List InstrumentAct) → Resting config base → Stage base log acts
+    → held_unit acts ≡ None → due (exchange_acts acts) ≡ NothingDue → IsSettled config log
+stage_settled config base log acts rest s held none = λ new next.
+    let step = calm_step config log base new rest s.calm next in
+    none_due acts (step.0 ++ acts) (sym held) (sym none)
+    (subst (λ (l : List InstrumentAct). IsStep l (step.0 ++ l)) s.is step.1)
+
+pub finish_step : (acts : List InstrumentAct) → held_unit acts ≡ None → due (exchange_acts acts) ≡ FinishDue
+    → IsStep acts (Exchanged Finished ∷ acts)
+finish_step acts held finish = step_of acts (Exchanged Finished ∷ acts) None FinishDue (sym held) (sym finish) refl
+
+-- ---- all that is left is finished
+
+-- The log settles in one with this response, and with no more text. The standard events and the acts of the error queue are the same.
+pub record Ends (c : ℕ) (config : Config) (base log : List Act) (acts : List InstrumentAct) (bytes : List ℕ) : Type 0 where
+  pub end : List Act
+  pub last : List InstrumentAct
+  pub steps : ℕ
+  pub settles : SettlesIn steps config log end
+  pub stage : Stage base end last
+  pub over : Over 0 bytes (exchange_acts last)
+  pub held : held_unit last ≡ None
+  pub mine : of c end ≡ of c log
+  pub queue : queue_acts last ≡ queue_acts acts
+  pub codes : reported last ≡ reported acts
+  pub stands : (k : ℕ) → standard.Stands k last ↔ standard.Stands k acts
+
+pub finish_all : (c lines : ℕ) (config : Config) (base log : List Act) (acts : List InstrumentAct) (bytes : List ℕ) → Resting config base
+    → Stage base log acts → Over lines bytes (exchange_acts acts) → held_unit acts ≡ None → Ends c config base log acts bytes
+finish_all c zero config base log acts bytes rest s over held = record {
+  end = log;
+  last = acts;
+  steps = 0;
+  settles = (
+    stage_settled config base log acts rest s held (nothing_due (exchange_acts acts)
+        (over_rests bytes (exchange_acts acts) over)),
+    refl,
+  );
+  stage = s;
+  over = over;
+  held = held;
+  mine = refl;
+  queue = refl;
+  codes = refl;
+  stands = λ k. ((λ h. h), (λ h. h));
+}
+finish_all c (suc lines) config base log acts bytes rest s over held =
+    let adds : List InstrumentAct = Exchanged Finished ∷ [] in
+    let now = happened adds log in
+    let more = finish_all c lines config base now (adds ++ acts) bytes rest (stage_next base log adds acts s refl)
+    (finished_empty lines bytes (exchange_acts acts) over) held in
+    record {
+      end = more.end;
+      last = more.last;
+      steps = suc more.steps;
+      settles = (
+        now,
+        step_next config base log adds acts rest s
+            (finish_step acts held (empty_due lines bytes (exchange_acts acts) over)),
+        more.settles,
+      );
+      stage = more.stage;
+      over = more.over;
+      held = more.held;
+      mine = more.mine;
+      queue = more.queue;
+      codes = more.codes;
+      stands = λ k. then_same (more.stands k) (stands_over k (Exchanged Finished) acts tt);
+    }

@@ -1,0 +1,191 @@
+-- Behind a write with END of one query, the query's answer is the response.
+use Rattle.std.proofs.Common.{◌≡◌, ◌≢◌, ℕ, suc, ◌<◌, ◌≤◌, true, List, [], ◌∷◌, ◌++◌, length, Option, None, Ok, refl, sym, ap, subst, ◌∙◌, arith}
+use Rattle.std.specs.Prelude.{map, replicate, take, reverse, ◌↔◌}
+use Rattle.sv_errors.specs.declared.code.Code.{Code}
+use Rattle.sv_header.specs.declared.command.Question.{Question}
+use Rattle.sv_header.specs.declared.command.Question.TheVariants as question
+use Rattle.sv_exchange.specs.Exchange.{ExchangeAct, Accepted, UnitDone, Answered, Finished, units, units_done, current, message, answers, fits_response, response, due, UnitDue, FinishDue}
+use Rattle.sv_exchange.specs.Limits.{max_message, max_response}
+use Rattle.sv_layers.specs.Act.{Act as InstrumentAct, Exchanged, EntryTaken, EventRead, exchange_acts, scan_acts, queue_acts}
+use Rattle.sv_layers.specs.Standard.{Stands}
+use Rattle.sv_logs.proofs.Since.{then_same}
+use Rattle.sv_instrument.specs.declared.command.order.Order.TheVariants as order
+use Rattle.sv_instrument.specs.HeldUnit.{held_unit}
+use Rattle.sv_instrument.specs.Path.{Leaves, units_begun, one_if_held, IsPath}
+use Rattle.sv_instrument.specs.QueryResponse.{Says}
+use Rattle.sv_instrument.specs.CommandEffect.{done, after_answering, after_query, question_fault, Replies}
+use Rattle.sv_instrument.specs.Step.{IsStep}
+use Rattle.sv_instrument.proofs.NextStep.{step_of}
+use Rattle.sv_history.specs.declared.event.Config.{Config}
+use Rattle.sv_history.specs.Act.{Act, Applied, of}
+use Rattle.sv_history.specs.Settling.{SettlesIn}
+use Rattle.sv_history.proofs.Projections.{of_shared}
+use Rattle.sv_laws.specs.QueryAlone.{IsQuery, reported}
+use Rattle.sv_laws.proofs.Cuts.SameStatus.{status_same, status_accepted, status_back}
+use Rattle.sv_laws.proofs.Cuts.SameInstrument.{says_same, question_fault_same, taken_acts, taken_is}
+use Rattle.sv_laws.proofs.Cuts.FirstPart.{Resting}
+use Rattle.sv_laws.proofs.Alone.Texts.{Left, Over, answered, text_comes, unit_due, fits_alone, finish_due, finished_one, first_short}
+use Rattle.sv_laws.proofs.Alone.Steps.{stands_over, Stage, happened, stage_next, step_next, finish_step, finish_all}
+
+-- ---- what a query takes
+
+taken_exchange : (asked : Question) (log : List InstrumentAct) → exchange_acts (taken_acts asked ++ log) ≡ exchange_acts log
+taken_exchange question.StandardEvents log = refl
+taken_exchange question.Error log = refl
+taken_exchange (question.Events name) log = refl
+taken_exchange _ log = refl
+
+taken_scan : (asked : Question) (log : List InstrumentAct) → scan_acts (taken_acts asked ++ log) ≡ scan_acts log
+taken_scan question.StandardEvents log = refl
+taken_scan question.Error log = refl
+taken_scan (question.Events name) log = refl
+taken_scan _ log = refl
+
+taken_queue : (asked : Question) (log : List InstrumentAct) → asked ≢ question.Error
+    → queue_acts (taken_acts asked ++ log) ≡ queue_acts log
+taken_queue question.StandardEvents log other = refl
+taken_queue question.Error log other = absurd (other refl)
+taken_queue (question.Events name) log other = refl
+taken_queue _ log other = refl
+
+taken_codes : (asked : Question) (log : List InstrumentAct) → reported (taken_acts asked ++ log) ≡ reported log
+taken_codes question.StandardEvents log = refl
+taken_codes question.Error log = refl
+taken_codes (question.Events name) log = refl
+taken_codes _ log = refl
+
+taken_stands : (asked : Question) (log : List InstrumentAct) → asked ≢ question.StandardEvents → (k : ℕ)
+    → Stands k (taken_acts asked ++ log) ↔ Stands k log
+taken_stands question.StandardEvents log other k = absurd (other refl)
+taken_stands question.Error log other k = stands_over k EntryTaken log tt
+taken_stands (question.Events name) log other k = stands_over k (EventRead name) log tt
+taken_stands _ log other k = ((λ h. h), (λ h. h))
+
+-- ---- the unit
+
+abbrev pub accepted : List ℕ → List InstrumentAct → List InstrumentAct
+accepted sent acts = Exchanged (Accepted sent true) ∷ acts
+
+abbrev pub answer_acts : Question → List ℕ → List InstrumentAct
+answer_acts asked answer = Exchanged (Answered answer) ∷ Exchanged UnitDone ∷ taken_acts asked
+
+-- Message exchange is at rest, and the query can be answered so.
+pub record Ready (asked : Question) (sent answer : List ℕ) (acts : List InstrumentAct) : Type 0 where
+  pub left : Left ([] ∷ []) (exchange_acts acts)
+  pub held : held_unit acts ≡ None
+  pub none : response (exchange_acts acts) ≡ []
+  pub query : IsQuery (order.Ask asked) sent
+  pub can : question_fault asked acts ≡ None
+  pub says : Says asked acts answer
+  pub short : length sent ≤ max_message
+  pub fits : length answer < max_response
+
+pub at_root : (acts : List InstrumentAct) → units_done (current (exchange_acts acts)) ≡ 0 → held_unit acts ≡ None → IsPath acts []
+at_root acts none held =
+    let now : one_if_held (held_unit acts) ≡ 0 = ap one_if_held held in
+    let begun : units_begun acts ≡ 0 = omega (arith, none, now) in
+    subst (λ (n : ℕ). Leaves (reverse (take n (units (message (exchange_acts acts))))) []) (sym begun) refl
+
+replies_to : (asked : Question) (answer : List ℕ) (acts : List InstrumentAct) (fault : Option Code) → fault ≡ None → Says asked acts answer
+    → fits_response (answers (UnitDone ∷ exchange_acts acts)) answer ≡ true
+    → Replies fault asked acts (answer_acts asked answer ++ acts)
+replies_to asked answer acts fault none says fits =
+    let left : after_answering answer (done (after_query asked acts)) ≡ after_answering answer (done (taken_acts asked ++ acts)) =
+    ap (λ (l : List InstrumentAct). after_answering answer (done l)) (taken_is asked acts) in
+    let room : fits_response (answers (UnitDone ∷ exchange_acts (taken_acts asked ++ acts))) answer ≡ true =
+    ap (λ (l : List ExchangeAct). fits_response (answers (UnitDone ∷ l)) answer) (taken_exchange asked acts) ∙ fits in
+    let is : answer_acts asked answer ++ acts ≡ after_answering answer (done (taken_acts asked ++ acts)) = rw room refl in
+    subst (λ (f : Option Code). Replies f asked acts (answer_acts asked answer ++ acts)) (sym none) (answer, says, is ∙ sym left)
+
+-- the text that came
+text_left : (asked : Question) (sent answer : List ℕ) (acts : List InstrumentAct) (r : Ready asked sent answer acts)
+    → Left (r.query.message ∷ [] ∷ replicate r.query.lines []) (exchange_acts (accepted sent acts))
+text_left asked sent answer acts r = text_comes sent ([] ∷ replicate r.query.lines []) r.query.message (exchange_acts acts) r.left
+    r.query.cut
+
+message_short : (asked : Question) (sent answer : List ℕ) (acts : List InstrumentAct) (r : Ready asked sent answer acts)
+    → length r.query.message ≤ max_message
+message_short asked sent answer acts r =
+    let least = first_short sent r.query.message ([] ∷ replicate r.query.lines []) r.query.cut in
+    let most = r.short in omega (arith, least, most)
+
+unit_step : (asked : Question) (sent answer : List ℕ) (acts : List InstrumentAct) → Ready asked sent answer acts
+    → IsStep (accepted sent acts) (answer_acts asked answer ++ accepted sent acts)
+unit_step asked sent answer acts r =
+    let now = accepted sent acts in
+    let same = status_back now acts (status_accepted sent true acts acts (status_same acts)) in
+    let left = text_left asked sent answer acts r in
+    let fault : question_fault asked now ≡ None = sym (question_fault_same asked acts now same) ∙ r.can in
+    step_of now (answer_acts asked answer ++ now) None (UnitDue r.query.unit) (sym r.held)
+    (sym (unit_due r.query.message [] r.query.unit (replicate r.query.lines []) (exchange_acts now) left
+    (message_short asked sent answer acts r) r.query.one r.none)) (
+      [],
+      r.query.path,
+      Ok (order.Ask asked),
+      at_root now left.done r.held,
+      r.query.reads,
+      replies_to asked answer now (question_fault asked now) fault (says_same asked acts now same answer r.says)
+          (fits_alone answer (r.query.message ∷ [] ∷ replicate r.query.lines []) (exchange_acts now) left r.fits),
+    )
+
+-- ---- all steps
+
+-- The log settles in one in which the answer is the response.
+pub record Responds (c : ℕ) (config : Config) (asked : Question) (answer : List ℕ) (base log : List Act) (acts : List InstrumentAct) :
+    Type 0 where
+  pub end : List Act
+  pub last : List InstrumentAct
+  pub steps : ℕ
+  pub settles : SettlesIn steps config log end
+  pub stage : Stage base end last
+  pub over : Over 0 (answer ++ 10 ∷ []) (exchange_acts last)
+  pub held : held_unit last ≡ None
+  pub mine : of c end ≡ of c log
+  pub codes : reported last ≡ reported acts
+  pub queue : asked ≢ question.Error → queue_acts last ≡ queue_acts acts
+  pub stands : asked ≢ question.StandardEvents → (k : ℕ) → Stands k last ↔ Stands k acts
+
+pub responds : (c : ℕ) (config : Config) (asked : Question) (sent answer : List ℕ) (base log : List Act) (acts : List InstrumentAct)
+    → Resting config base → Ready asked sent answer acts → Stage base log (accepted sent acts)
+    → Responds c config asked answer base log acts
+responds c config asked sent answer base log acts rest r s =
+    let now = accepted sent acts in
+    let adds = answer_acts asked answer in
+    let over : List InstrumentAct = Exchanged Finished ∷ [] in
+    let left = text_left asked sent answer acts r in
+    let same : exchange_acts (adds ++ now) ≡ answered answer (exchange_acts now) =
+    ap (λ (l : List ExchangeAct). answered answer l) (taken_exchange asked now) in
+    let finish : due (exchange_acts (adds ++ now)) ≡ FinishDue =
+    ap due same ∙ finish_due r.query.message [] r.query.unit answer (replicate r.query.lines []) (exchange_acts now) left
+    (message_short asked sent answer acts r) r.query.one in
+    let first = stage_next base log adds now s (taken_scan asked now) in
+    let second = stage_next base (happened adds log) over (adds ++ now) first refl in
+    let done_now : Over r.query.lines (answer ++ 10 ∷ []) (exchange_acts (over ++ (adds ++ now))) =
+    subst (λ (l : List ExchangeAct). Over r.query.lines (answer ++ 10 ∷ []) (Finished ∷ l)) (sym same)
+    (finished_one r.query.lines r.query.message answer (exchange_acts now) left) in
+    let more = finish_all c r.query.lines config base (happened over (happened adds log)) (over ++ (adds ++ now)) (answer ++ 10 ∷ []) rest
+    second done_now refl in
+    record {
+      end = more.end;
+      last = more.last;
+      steps = suc (suc more.steps);
+      settles = (
+        happened adds log,
+        step_next config base log adds now rest s (unit_step asked sent answer acts r),
+        (
+          happened over (happened adds log),
+          step_next config base (happened adds log) over (adds ++ now) rest first (finish_step (adds ++ now) refl finish),
+          more.settles,
+        ),
+      );
+      stage = more.stage;
+      over = more.over;
+      held = more.held;
+      mine = more.mine ∙ of_shared c (map Applied adds) log;
+      codes = more.codes ∙ taken_codes asked now;
+      queue = λ other. more.queue ∙ taken_queue asked now other;
+      stands = λ other k. then_same (more.stands k) (then_same (stands_over k (Exchanged Finished) (adds ++ now) tt)
+          (then_same (stands_over k (Exchanged (Answered answer)) (Exchanged UnitDone ∷ taken_acts asked ++ now) tt)
+          (then_same (stands_over k (Exchanged UnitDone) (taken_acts asked ++ now) tt)
+          (then_same (taken_stands asked now other k) (stands_over k (Exchanged (Accepted sent true)) acts tt)))));
+    }

@@ -1,0 +1,217 @@
+-- What each act of the device keeps in every log, and what follows: which link holds the lock, and which links the suspended calls name.
+use Rattle.std.proofs.Common.{◌≡◌, ◌≢◌, ℕ, Bool, true, false, eqb, List, [], ◌∷◌, ◌++◌, Option, Some, None, refl, sym, ap, subst, ◌∙◌, inl, inr, ◌⊎◌, eq-eqb}
+use Rattle.std.specs.Prelude.{map, not, ◌&&◌, ◌||◌, ⊤, option_map}
+use Rattle.std.proofs.lemmas.Bool.{cases_Bool, cases_eq, eqb-true, ne_eqb}
+use Rattle.sv_logs.proofs.Each.{Each}
+use Rattle.sv_logs.proofs.Since.{both_true}
+use Rattle.sv_links.specs.declared.links.Link.{Link}
+use Rattle.sv_links.specs.declared.waiting.Wait.{Wait}
+use Rattle.sv_links.specs.declared.waiting.Wait.TheVariants.{Lock}
+use Rattle.sv_links.specs.Links.{LinkAct, Made, Destroyed, Locked, Unlocked, links_made, live, owner, is_locked, holder, is_this, is_locked_out}
+use Rattle.sv_links.specs.Table.{IsKept}
+use Rattle.sv_links.specs.Waiting.{Entered, Again, Left, waits, link}
+use Rattle.sv_links.proofs.Locks.{holder_is, lock-free, lock-again, freed, lock-destroyed}
+use Rattle.sv_history.specs.Act.{DeviceAct, Linked, Waited, link_acts, wait_acts}
+use Rattle.sv_laws.specs.LockFair.{WaitsForLock, IsFirst, MayGet}
+use Rattle.sv_laws.proofs.Facts.{some_same, some_none, not_both}
+use Rattle.sv_laws.proofs.LinksAlike.{owner_made, owner_destroyed_other}
+use Rattle.sv_laws.proofs.EveryLog.Fit.{AllSuit}
+use Rattle.sv_laws.proofs.EveryLog.Known.{rises, mapped}
+
+-- No suspended call names this link.
+abbrev pub NamesNone : ℕ → List DeviceAct → Type 0
+NamesNone lid acts = (d : ℕ) (wait : Wait) → waits d (wait_acts acts) ≡ Some wait → link d (wait_acts acts) ≡ Some lid → ⊥
+
+-- A link lives, and no call of its connection waits.
+abbrev pub IsFree : ℕ → List DeviceAct → Type 0
+IsFree lid acts = (d : ℕ) × (owner lid (link_acts acts) ≡ Some d) × (waits d (wait_acts acts) ≡ None)
+
+-- A link is destroyed that no suspended call names; a link gets the lock that may get it; a call begins to wait for the lock while another
+-- link holds it; and a call that stops to wait for the lock while it is free is the oldest.
+abbrev pub Keeps : List DeviceAct → DeviceAct → Type 0
+Keeps acts (Linked (Destroyed lid)) = NamesNone lid acts
+Keeps acts (Linked (Locked lid)) = IsFree lid acts × MayGet lid acts
+Keeps acts (Waited (Entered conn named wait last)) = wait ≡ Lock → is_locked_out (holder (link_acts acts)) named ≡ true
+Keeps acts (Waited (Again conn wait last)) = (wait ≢ Lock) × (holder (link_acts acts) ≡ None) × IsFirst conn acts
+Keeps acts (Waited (Left conn)) = WaitsForLock acts conn → holder (link_acts acts) ≡ None → IsFirst conn acts
+Keeps acts _ = ⊤
+
+abbrev pub AllKeep : List DeviceAct → Type 0
+AllKeep [] = ⊤
+AllKeep (act ∷ acts) = Keeps acts act × AllKeep acts
+
+pub keep_more : (adds acts : List DeviceAct) → Each Keeps adds acts → AllKeep acts → AllKeep (adds ++ acts)
+keep_more [] acts h all = all
+keep_more (act ∷ adds) acts h all = (h.0, keep_more adds acts h.1 all)
+
+pub keep_before : (newer older : List DeviceAct) → AllKeep (newer ++ older) → AllKeep older
+keep_before [] older all = all
+keep_before (act ∷ newer) older all = keep_before newer older all.1
+
+-- ---- one link alone is locked, and it is the holder
+
+-- This link alone is locked; `None`: none is.
+abbrev HeldBy : List LinkAct → Option ℕ → Type 0
+HeldBy acts o = (n : ℕ) → is_locked n acts ≡ is_this n o
+
+kept_all : (links : List Link) → IsKept (map (λ (x : Link). Some x) links) links
+kept_all [] = refl
+kept_all (x ∷ links) = ([], links, refl, kept_all links)
+
+holder_by : (acts : List DeviceAct) → AllSuit acts → (o : Option ℕ) → HeldBy (link_acts acts) o → holder (link_acts acts) ≡ o
+holder_by acts all o held = holder_is
+    (record { made = links_made (link_acts acts); slots = map (λ (x : Link). Some x) (live (link_acts acts)); holder = o; spare = 0 })
+    (link_acts acts)
+    (record { made = refl; kept = kept_all (live (link_acts acts)); rising = rises acts all; lock = held })
+
+-- a link that may have the lock gets it
+locked_by : (lid : ℕ) (acts : List LinkAct) (o : Option ℕ) → HeldBy acts o → (o ≡ Some lid) ⊎ (o ≡ None)
+    → HeldBy (Locked lid ∷ acts) (Some lid)
+locked_by lid acts o held (inl same) =
+    lock-again lid acts (λ n. held n ∙ ap (is_this n) same)
+locked_by lid acts o held (inr none) = lock-free lid acts (λ n. held n ∙ ap (is_this n) none)
+
+may_by : (lid : ℕ) (acts : List DeviceAct) (o : Option ℕ) → holder (link_acts acts) ≡ o → MayGet lid acts → (o ≡ Some lid) ⊎ (o ≡ None)
+may_by lid acts o is (inl same) = inl (sym is ∙ same)
+may_by lid acts o is (inr (none, more)) = inr (sym is ∙ none)
+
+held_by : (acts : List DeviceAct) → AllSuit acts → AllKeep acts → (o : Option ℕ) × HeldBy (link_acts acts) o
+held_by [] all keep = (None, λ n. refl)
+held_by (Linked (Made lid conn) ∷ acts) all keep = held_by acts all.1 keep.1
+held_by (Linked (Destroyed lid) ∷ acts) all keep =
+    let was = held_by acts all.1 keep.1 in (freed lid was.0, lock-destroyed lid was.0 (link_acts acts) was.1)
+held_by (Linked (Unlocked lid) ∷ acts) all keep =
+    let was = held_by acts all.1 keep.1 in (freed lid was.0, lock-destroyed lid was.0 (link_acts acts) was.1)
+held_by (Linked (Locked lid) ∷ acts) all keep =
+    let was = held_by acts all.1 keep.1 in
+    (Some lid, locked_by lid (link_acts acts) was.0 was.1 (may_by lid acts was.0 (holder_by acts all.1 was.0 was.1) keep.0.1))
+held_by (_ ∷ acts) all keep = held_by acts all.1 keep.1
+
+pub held_is : (acts : List DeviceAct) → AllSuit acts → AllKeep acts → HeldBy (link_acts acts) (holder (link_acts acts))
+held_is acts all keep =
+    let by = held_by acts all keep in
+    subst (HeldBy (link_acts acts)) (sym (holder_by acts all by.0 by.1)) by.1
+
+-- ---- the holder lives
+
+or_by : (a b : Bool) → (a || b) ≡ true → (a ≡ true) ⊎ (b ≡ true)
+or_by true b e = inl refl
+or_by false b e = inr e
+
+not_by : (a b : ℕ) → not (eqb a b) ≡ true → a ≢ b
+not_by a b e same = absurd (let z : not true ≡ true = rw (eq-eqb a b same) at e in cc)
+
+locked_lives : (acts : List DeviceAct) → AllKeep acts → (n : ℕ) → is_locked n (link_acts acts) ≡ true
+    → (d : ℕ) × (owner n (link_acts acts) ≡ Some d)
+locked_lives [] keep n e = absurd cc
+locked_lives (Linked (Made lid conn) ∷ acts) keep n e =
+    let was = locked_lives acts keep.1 n e in (was.0, owner_made n was.0 lid conn (link_acts acts) was.1)
+locked_lives (Linked (Destroyed lid) ∷ acts) keep n e =
+    let both = (both_true (not (eqb lid n)) (is_locked n (link_acts acts))).0 e in
+    let was = locked_lives acts keep.1 n both.1 in
+    (was.0, owner_destroyed_other n lid (link_acts acts) (not_by lid n both.0) ∙ was.1)
+locked_lives (Linked (Unlocked lid) ∷ acts) keep n e =
+    locked_lives acts keep.1 n ((both_true (not (eqb lid n)) (is_locked n (link_acts acts))).0 e).1
+locked_lives (Linked (Locked lid) ∷ acts) keep n e = elim (or_by (eqb lid n) (is_locked n (link_acts acts)) e) [
+  | inl same ↦ (keep.0.0.0, ap (λ (m : ℕ). owner m (link_acts acts)) (sym (eqb-true lid n same)) ∙ keep.0.0.1)
+  | inr more ↦ locked_lives acts keep.1 n more
+]
+locked_lives (_ ∷ acts) keep n e = locked_lives acts keep.1 n e
+
+pub holder_lives : (acts : List DeviceAct) → AllSuit acts → AllKeep acts → (n : ℕ) → holder (link_acts acts) ≡ Some n
+    → (d : ℕ) × (owner n (link_acts acts) ≡ Some d)
+holder_lives acts all keep n is =
+    locked_lives acts keep n (held_is acts all keep n ∙ ap (is_this n) is ∙ eq-eqb n n refl)
+
+-- ---- the link that a suspended call names lives, and is its connection's
+
+pub named_lives : (acts : List DeviceAct) → AllSuit acts → AllKeep acts → (d : ℕ) (wait : Wait) (n : ℕ)
+    → waits d (wait_acts acts) ≡ Some wait → link d (wait_acts acts) ≡ Some n → owner n (link_acts acts) ≡ Some d
+named_lives [] all keep d wait n w h = absurd cc
+named_lives (Linked (Made lid conn) ∷ acts) all keep d wait n w h =
+    owner_made n d lid conn (link_acts acts) (named_lives acts all.1 keep.1 d wait n w h)
+named_lives (Linked (Destroyed lid) ∷ acts) all keep d wait n w h = elim (cases_eq lid n) [
+  | inl e ↦ absurd (keep.0 d wait w (h ∙ ap (λ (m : ℕ). Some m) (sym e)))
+  | inr ne ↦ owner_destroyed_other n lid (link_acts acts) ne ∙ named_lives acts all.1 keep.1 d wait n w h
+]
+named_lives (Waited (Entered conn named for last) ∷ acts) all keep d wait n w h = elim (cases_Bool (eqb conn d)) [
+  | inl e ↦ all.0.1 n (rw e at h) ∙ ap (λ (m : ℕ). Some m) (eqb-true conn d e)
+  | inr e ↦ named_lives acts all.1 keep.1 d wait n (rw e at w) (rw e at h)
+]
+named_lives (Waited (Again conn for last) ∷ acts) all keep d wait n w h = elim (cases_Bool (eqb conn d)) [
+  | inl e ↦
+      let was = mapped for wait (waits d (wait_acts acts)) (rw e at w) in
+      named_lives acts all.1 keep.1 d was.0 n was.1 h
+  | inr e ↦ named_lives acts all.1 keep.1 d wait n (rw e at w) h
+]
+named_lives (Waited (Left conn) ∷ acts) all keep d wait n w h = elim (cases_Bool (eqb conn d)) [
+  | inl e ↦ absurd (let z : None ≡ Some wait = rw e at w in cc)
+  | inr e ↦ named_lives acts all.1 keep.1 d wait n (rw e at w) h
+]
+named_lives (_ ∷ acts) all keep d wait n w h = named_lives acts all.1 keep.1 d wait n w h
+
+-- ---- a call that waits for the lock doesn't name a locked link
+
+and_off : (a b : Bool) → b ≡ false → (a && b) ≡ false
+and_off true b e = e
+and_off false b e = refl
+
+out_by : (n : ℕ) (o : Option ℕ) → is_locked_out o (Some n) ≡ true → is_this n o ≡ false
+out_by n (Some h) e = elim (cases_eq h n) [
+  | inl same ↦ absurd (let z : not true ≡ true = rw (eq-eqb n h (sym same)) at e in cc)
+  | inr ne ↦ ne_eqb h n ne
+]
+out_by n None e = absurd cc
+
+mapped_lock : (for : Wait) (found : Option Wait) → for ≢ Lock → option_map (λ (before : Wait). for) found ≡ Some Lock → ⊥
+mapped_lock for (Some was) ne e = ne (some_same for Lock e)
+mapped_lock for None ne e = cc
+
+locked_out : (acts : List DeviceAct) → AllSuit acts → AllKeep acts → (d n : ℕ) → WaitsForLock acts d → link d (wait_acts acts) ≡ Some n
+    → is_locked n (link_acts acts) ≡ false
+locked_out [] all keep d n w h = absurd cc
+locked_out (Linked (Made lid conn) ∷ acts) all keep d n w h = locked_out acts all.1 keep.1 d n w h
+locked_out (Linked (Destroyed lid) ∷ acts) all keep d n w h = and_off (not (eqb lid n)) _ (locked_out acts all.1 keep.1 d n w h)
+locked_out (Linked (Unlocked lid) ∷ acts) all keep d n w h = and_off (not (eqb lid n)) _ (locked_out acts all.1 keep.1 d n w h)
+locked_out (Linked (Locked lid) ∷ acts) all keep d n w h =
+    let owns = named_lives acts all.1 keep.1 d Lock n w h in
+    let ne : lid ≢ n = λ e.
+    let same : keep.0.0.0 ≡ d = some_same keep.0.0.0 d (sym keep.0.0.1 ∙ ap (λ (m : ℕ). owner m (link_acts acts)) e ∙ owns) in
+    some_none _ Lock keep.0.0.2 (ap (λ (m : ℕ). waits m (wait_acts acts)) same ∙ w) in
+    rw (ne_eqb lid n ne) (locked_out acts all.1 keep.1 d n w h)
+locked_out (Waited (Entered conn named for last) ∷ acts) all keep d n w h = elim (cases_Bool (eqb conn d)) [
+  | inl e ↦
+      let is : for ≡ Lock = some_same for Lock (rw e at w) in
+      let same : named ≡ Some n = rw e at h in
+      held_is acts all.1 keep.1 n
+      ∙ out_by n (holder (link_acts acts)) (ap (is_locked_out (holder (link_acts acts))) (sym same) ∙ keep.0 is)
+  | inr e ↦ locked_out acts all.1 keep.1 d n (rw e at w) (rw e at h)
+]
+locked_out (Waited (Again conn for last) ∷ acts) all keep d n w h = elim (cases_Bool (eqb conn d)) [
+  | inl e ↦ absurd (mapped_lock for (waits d (wait_acts acts)) keep.0.0 (rw e at w))
+  | inr e ↦ locked_out acts all.1 keep.1 d n (rw e at w) h
+]
+locked_out (Waited (Left conn) ∷ acts) all keep d n w h = elim (cases_Bool (eqb conn d)) [
+  | inl e ↦ absurd (let z : None ≡ Some Lock = rw e at w in cc)
+  | inr e ↦ locked_out acts all.1 keep.1 d n (rw e at w) h
+]
+locked_out (_ ∷ acts) all keep d n w h = locked_out acts all.1 keep.1 d n w h
+
+-- so it can have the lock only while it is free
+pub out_or_this : (h : ℕ) (named : Option ℕ) → is_locked_out (Some h) named ≡ false → named ≡ Some h
+out_or_this h (Some n) e = elim (cases_eq n h) [
+  | inl same ↦ ap (λ (m : ℕ). Some m) same
+  | inr ne ↦ absurd (let z : not false ≡ false = rw (ne_eqb n h ne) at e in cc)
+]
+out_or_this h None e = absurd cc
+
+pub lock_is_free : (acts : List DeviceAct) → AllSuit acts → AllKeep acts → (d : ℕ) → WaitsForLock acts d
+    → is_locked_out (holder (link_acts acts)) (link d (wait_acts acts)) ≡ false → holder (link_acts acts) ≡ None
+lock_is_free acts all keep d w e = by (holder (link_acts acts)) refl e
+  where
+    by : (o : Option ℕ) → holder (link_acts acts) ≡ o → is_locked_out o (link d (wait_acts acts)) ≡ false → holder (link_acts acts) ≡ None
+    by None is e = is
+    by (Some h) is e =
+        let named = out_or_this h (link d (wait_acts acts)) e in
+        not_both (is_locked h (link_acts acts)) (held_is acts all keep h ∙ ap (is_this h) is ∙ eq-eqb h h refl)
+        (locked_out acts all keep d h w named)

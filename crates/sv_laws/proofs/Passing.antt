@@ -1,0 +1,361 @@
+-- A call stops to wait for the lock if it is the oldest and the lock is free, if its connection closes, or with an error.
+use Rattle.std.proofs.Common.{◌≡◌, ◌≢◌, ℕ, ◌<◌, nat_lt, Bool, true, false, List, [], ◌∷◌, ◌++◌, Option, Some, None, refl, sym, ap, subst, ◌∙◌, inl, inr, ◌⊎◌, append_assoc}
+use Rattle.std.specs.Prelude.{map, not, ⊤}
+use Rattle.std.proofs.lemmas.Bool.{eqb-true}
+use Rattle.sv_logs.proofs.Each.{Each}
+use Rattle.sv_vxi.specs.declared.error_code.ErrorCode.{ErrorCode}
+use Rattle.sv_vxi.specs.declared.error_code.ErrorCode.TheVariants.{NoError, Abort}
+use Rattle.sv_vxi.specs.Arguments.{Arguments}
+use Rattle.sv_links.specs.declared.request.Peer.{Peer}
+use Rattle.sv_links.specs.declared.waiting.Wait.{Wait}
+use Rattle.sv_links.specs.declared.waiting.Wait.TheVariants.{Lock, Input as ForInput, Response, Dial}
+use Rattle.sv_links.specs.Links.{LinkAct, closing, holder}
+use Rattle.sv_links.specs.Waiting.{WaitAct, Entered, Again, Left, waits}
+use Rattle.sv_links.specs.Channels.{ChannelClosed, ChannelTaken}
+use Rattle.sv_scan.specs.declared.acts.ScanAct.TheVariants.{Input as InputTo}
+use Rattle.sv_layers.specs.Act.{Act as InstrumentAct, Scanned}
+use Rattle.sv_instrument.specs.Stimulus.{external_acts, tick_acts}
+use Rattle.sv_history.specs.declared.event.Config.{Config}
+use Rattle.sv_history.specs.declared.event.Port.TheVariants.{Conn, Intr}
+use Rattle.sv_history.specs.Event.{PlainEvent, Open, Bytes, Turn, Refuse, Took, Close, Dialed, Input, External, Tick}
+use Rattle.sv_history.specs.Act.{Act, ConnAct, DeviceAct, Opened, Piece, CallTaken, Replied, BytesTaken, PortClosed, Linked, Waited, Channel, Applied, Ticked, On, OnDevice, of, device_acts, link_acts, wait_acts, instrument_acts}
+use Rattle.sv_history.specs.Connection.{is_open, next_call, pending_call}
+use Rattle.sv_history.specs.CallOutcome.{only}
+use Rattle.sv_history.specs.CoreCall.{CoreCall, failure}
+use Rattle.sv_history.specs.CoreChannel.{own_call}
+use Rattle.sv_history.specs.Effect.{Effect, acts_of, result_reply, call_effect}
+use Rattle.sv_history.specs.Request.{Request, CoreRequest, core_call_in, next_request}
+use Rattle.sv_history.specs.Interrupts.{is_dial, connect_outcome}
+use Rattle.sv_history.specs.Admission.{Stop, Fails, Awaits, stop_of, admission}
+use Rattle.sv_history.specs.Execution.{request_effect, aborts}
+use Rattle.sv_history.specs.Refusing.{refusable, refused_reply}
+use Rattle.sv_history.specs.Resuming.{effect_of, leaving, next_wait, resume_outcome, resume_effect, failure_effect, late}
+use Rattle.sv_history.specs.Settling.{IsNext}
+use Rattle.sv_history.specs.History.{abort_acts, turn_acts, own_acts, refusal, IsLogOf}
+use Rattle.sv_history.proofs.Dialing.{peer_by, dialed_to, dialed_is}
+use Rattle.sv_history.proofs.Projections.{of_mine}
+use Rattle.sv_laws.specs.LockFair.{WaitsForLock, IsFirst, FailsNext, OldestPasses, ends_wait}
+use Rattle.sv_laws.proofs.Facts.{some_same, some_none}
+use Rattle.sv_laws.proofs.Gone.{dials}
+use Rattle.sv_laws.proofs.Place.{EventsKeep, EachStepKeeps, each_place}
+use Rattle.sv_laws.proofs.EveryLog.Done.{IsDone, each_done}
+use Rattle.sv_laws.proofs.EveryLog.Taken.{within}
+use Rattle.sv_laws.proofs.EveryLog.Fit.{Fit}
+use Rattle.sv_laws.proofs.EveryLog.EachEvent.{turn_parts, refuse_keeps, close_adds, fit_request}
+use Rattle.sv_laws.proofs.EveryLog.Keeps.{Keeps}
+use Rattle.sv_laws.proofs.Sound.{Sound, free_of}
+use Rattle.sv_laws.proofs.SoundEvents.{sound_event, sound_step, sound_none, place_of}
+
+-- ---- where a call leaves
+
+-- An act is a reply with an error to the call of this connection.
+abbrev IsFailure : ℕ → Act → List Act → Type 0
+IsFailure c (On d (Replied reply)) older = (d ≡ c) × (call : CoreCall) × (error : ErrorCode)
+    × (reply ≡ result_reply call.xid (failure call.arguments error)) × (core_call_in (pending_call (of c older)) ≡ Some call)
+    × (error ≢ NoError)
+IsFailure c act older = ⊥
+
+-- A call that leaves while it waits for the lock, and a link holds it.
+abbrev IsKept : ℕ → List Act → Type 0
+IsKept c older = WaitsForLock (device_acts older) c × (lid : ℕ) × (holder (link_acts (device_acts older)) ≡ Some lid)
+
+-- Behind it comes a reply with an error, unless its connection is closed.
+abbrev EndsAt : Act → List Act → Type 0
+EndsAt act (OnDevice (Waited (Left c)) ∷ older) = IsKept c older → (is_open (of c older) ≡ false) ⊎ IsFailure c act older
+EndsAt act _ = ⊤
+
+-- The newest act isn't that of such a call, unless its connection is closed.
+abbrev IsQuietAt : List Act → Act → Type 0
+IsQuietAt older (OnDevice (Waited (Left c))) = IsKept c older → is_open (of c older) ≡ false
+IsQuietAt older act = ⊤
+
+abbrev AllEnd : List Act → Type 0
+AllEnd [] = ⊤
+AllEnd (act ∷ log) = EndsAt act log × AllEnd log
+
+abbrev HeadQuiet : List Act → Type 0
+HeadQuiet [] = ⊤
+HeadQuiet (act ∷ log) = IsQuietAt log act
+
+abbrev IsEnded : List Act → Type 0
+IsEnded log = HeadQuiet log × AllEnd log
+
+ends_any : (act : Act) (log : List Act) → HeadQuiet log → EndsAt act log
+ends_any act [] quiet = tt
+ends_any act (OnDevice (Waited (Left c)) ∷ older) quiet = λ kept. inl (quiet kept)
+ends_any act (_ ∷ older) quiet = tt
+
+ended_more : (acts log : List Act) → Each IsQuietAt acts log → IsEnded log → IsEnded (acts ++ log)
+ended_more [] log h so = so
+ended_more (act ∷ acts) log h so =
+    let was = ended_more acts log h.1 so in (h.0, (ends_any act (acts ++ log) was.0, was.1))
+
+-- ---- acts of an effect
+
+quiet_on : (c : ℕ) (own : List ConnAct) (rest log : List Act) → Each IsQuietAt rest log → Each IsQuietAt (map (On c) own ++ rest) log
+quiet_on c [] rest log h = h
+quiet_on c (act ∷ own) rest log h = (tt, quiet_on c own rest log h)
+
+quiet_done : (c : ℕ) (arguments : Arguments) (adds acts : List DeviceAct) (rest : List DeviceAct) (log : List Act)
+    → Each (IsDone c arguments) adds acts → Each IsQuietAt (map OnDevice rest) log → Each IsQuietAt (map OnDevice (adds ++ rest)) log
+quiet_done c arguments [] acts rest log h k = k
+quiet_done c arguments (Waited act ∷ adds) acts rest log h k = absurd h.0
+quiet_done c arguments (_ ∷ adds) acts rest log h k = (tt, quiet_done c arguments adds acts rest log h.1 k)
+
+quiet_happened : (adds : List InstrumentAct) (log : List Act) → Each IsQuietAt (map OnDevice (map Applied adds)) log
+quiet_happened [] log = tt
+quiet_happened (act ∷ adds) log = (tt, quiet_happened adds log)
+
+quiet_links : (c : ℕ) (links : List LinkAct) (log : List Act) → IsQuietAt log (OnDevice (Waited (Left c)))
+    → Each IsQuietAt (map OnDevice (map Linked links ++ Waited (Left c) ∷ [])) log
+quiet_links c [] log h = (h, tt)
+quiet_links c (act ∷ links) log h = (tt, quiet_links c links log h)
+
+ended_effect : (c : ℕ) (effect : Effect) (log : List Act) → Each IsQuietAt (map OnDevice effect.adds) log → IsEnded log
+    → IsEnded (acts_of c effect ++ log)
+ended_effect c effect log h so = ended_more (acts_of c effect) log (quiet_on c effect.own (map OnDevice effect.adds) log h) so
+
+-- ---- a suspended call ends, or waits anew
+
+free_quiet : (c : ℕ) (log : List Act)
+    → (WaitsForLock (device_acts log) c → holder (link_acts (device_acts log)) ≡ None) → IsQuietAt log (OnDevice (Waited (Left c)))
+free_quiet c log free kept = some_none (holder (link_acts (device_acts log))) kept.1 (free kept.0) kept.2
+
+-- one with an error
+ended_failed : (error : ErrorCode) (c : ℕ) (log : List Act) → error ≢ NoError → Fit log → IsEnded log
+    → IsEnded (acts_of c (failure_effect error c (core_call_in (pending_call (of c log)))) ++ log)
+ended_failed error c log is_error fit so = by (core_call_in (pending_call (of c log))) refl
+  where
+    by : (call : Option CoreCall) → core_call_in (pending_call (of c log)) ≡ call
+        → IsEnded (acts_of c (failure_effect error c call) ++ log)
+    by (Some call) e = (
+      tt,
+      (
+        (λ kept. inr (refl, call, error, refl, e, is_error)),
+        (ends_any (OnDevice (Waited (Left c))) log so.0, so.1),
+      ),
+    )
+    by None e = ended_effect c (failure_effect error c None) log (
+      (λ kept.
+          let known = (fit.held c Lock kept.0).1 in
+          some_none (core_call_in (pending_call (of c log))) known.0 e known.1),
+      tt,
+    ) so
+
+ended_continued : (config : Config) (polled c : ℕ) (call : CoreCall) (next : Option (Wait × ℕ)) (log : List Act)
+    → (WaitsForLock (device_acts log) c → holder (link_acts (device_acts log)) ≡ None) → IsEnded log
+    → IsEnded (acts_of c (call_effect call.xid (resume_outcome config polled c call.arguments next (device_acts log))) ++ log)
+ended_continued config polled c call (Some next) log free so =
+    ended_effect c (call_effect call.xid (resume_outcome config polled c call.arguments (Some next) (device_acts log))) log (tt, tt) so
+ended_continued config polled c call None log free so =
+    let before = Waited (Left c) ∷ device_acts log in
+    let outcome = own_call config polled c call.arguments before in
+    ended_effect c (call_effect call.xid (leaving c outcome)) log
+    (quiet_done c call.arguments outcome.adds before (Waited (Left c) ∷ []) log (each_done config polled c call.arguments before)
+    (free_quiet c log free, tt)) so
+
+ended_resumed : (config : Config) (polled c : ℕ) (wait : Wait) (call : Option CoreCall) (log : List Act)
+    → (WaitsForLock (device_acts log) c → holder (link_acts (device_acts log)) ≡ None) → IsEnded log
+    → IsEnded (acts_of c (resume_effect config polled c wait call (device_acts log)) ++ log)
+ended_resumed config polled c wait (Some call) log free so =
+    ended_continued config polled c call (next_wait wait call.arguments (device_acts log)) log free so
+ended_resumed config polled c wait None log free so =
+    ended_effect c (resume_effect config polled c wait None (device_acts log)) log (free_quiet c log free, tt) so
+
+-- ---- with what is known of the device
+
+record Passing (log : List Act) : Type 0 where
+  sound : Sound log
+  ended : IsEnded log
+
+late_error : (wait : Wait) → late wait ≢ NoError
+late_error Lock e = cc
+late_error ForInput e = cc
+late_error Response e = cc
+late_error Dial e = cc
+
+abort_error : Abort ≢ NoError
+abort_error e = cc
+
+passing_step : (config : Config) → EachStepKeeps config Passing
+passing_step config log new fit so next = record { sound = sound_step config log new fit so.sound next; ended = by next }
+  where
+    by : IsNext config log new → IsEnded new
+    by (inl (adds, such, is)) =
+        subst IsEnded (sym is) (ended_more (map OnDevice (map Applied adds)) log (quiet_happened adds log) so.ended)
+    by (inr (none, inl (c, wait, polled, oldest, for, said, is))) = subst IsEnded (sym is)
+        (ended_resumed config polled c wait (core_call_in (pending_call (of c log))) log
+        (λ w. free_of (device_acts log) fit.suits so.sound.keeps c oldest.0 w) so.ended)
+    by (inr (none, inr (still, inl (adds, such, is)))) =
+        subst IsEnded (sym is) (ended_more (map OnDevice (map Applied adds)) log (quiet_happened adds log) so.ended)
+    by (inr (none, inr (still, inr (idle, (c, wait, oldest, for, is))))) =
+        subst IsEnded (sym is) (ended_failed (late wait) c log (late_error wait) fit so.ended)
+
+-- ---- events
+
+ended_on : (c : ℕ) (act : ConnAct) (log : List Act) → IsEnded log → IsEnded (On c act ∷ log)
+ended_on c act log so = ended_more (On c act ∷ []) log (tt, tt) so
+
+ended_admitted : (config : Config) (polled c : ℕ) (call : CoreCall) (stop : Option Stop) (log : List Act) → IsEnded log
+    → IsEnded (acts_of c (call_effect call.xid (admission config polled c call.arguments stop (device_acts log))) ++ log)
+ended_admitted config polled c call None log so =
+    let outcome = own_call config polled c call.arguments (device_acts log) in
+    ended_more (acts_of c (call_effect call.xid outcome)) log
+    (quiet_on c (call_effect call.xid outcome).own (map OnDevice outcome.adds) log
+    (quiet_alone c call.arguments outcome.adds (device_acts log) log (each_done config polled c call.arguments (device_acts log)))) so
+  where
+    quiet_alone : (c : ℕ) (arguments : Arguments) (adds acts : List DeviceAct) (log : List Act) → Each (IsDone c arguments) adds acts
+        → Each IsQuietAt (map OnDevice adds) log
+    quiet_alone c arguments [] acts log h = tt
+    quiet_alone c arguments (Waited act ∷ adds) acts log h = absurd h.0
+    quiet_alone c arguments (_ ∷ adds) acts log h = (tt, quiet_alone c arguments adds acts log h.1)
+ended_admitted config polled c call (Some (Fails error)) log so =
+    ended_effect c (call_effect call.xid (only (failure call.arguments error))) log tt so
+ended_admitted config polled c call (Some (Awaits wait until)) log so =
+    ended_effect c (call_effect call.xid (admission config polled c call.arguments (Some (Awaits wait until)) (device_acts log))) log
+    (tt, tt)
+    so
+
+ended_request : (config : Config) (polled c : ℕ) (request : Request) (log : List Act) → IsEnded log
+    → IsEnded (acts_of c (request_effect config polled c request (device_acts log)) ++ log)
+ended_request config polled c (CoreRequest call) log so =
+    ended_admitted config polled c call (stop_of c call.arguments (device_acts log)) log so
+ended_request config polled c request log so =
+    ended_effect c (request_effect config polled c request (device_acts log)) log tt so
+
+ended_aborted : (found : Option ℕ) (log : List Act) → Fit log → IsEnded log → IsEnded (abort_acts found log ++ log)
+ended_aborted (Some d) log fit so = ended_failed Abort d log abort_error fit so
+ended_aborted None log fit so = so
+
+ended_turn : (config : Config) (polled c : ℕ) (found : Option (List ℕ)) (asked : Option Request) (log : List Act) → Fit log
+    → c < 16 → IsEnded log → next_call (of c log) ≡ found → next_request (of c log) ≡ asked
+    → IsEnded (turn_acts config polled c found asked log ++ log)
+ended_turn config polled c (Some bytes) (Some request) log fit lt so next asks =
+    let effect = request_effect config polled c request (device_acts log) in
+    let taken = acts_of c effect ++ On c (CallTaken bytes) ∷ log in
+    subst IsEnded (sym (turn_parts c bytes effect (aborts request (device_acts log)) log))
+    (ended_aborted (aborts request (device_acts log)) taken (fit_request config polled c bytes request log fit lt next asks)
+    (ended_request config polled c request (On c (CallTaken bytes) ∷ log) (ended_on c (CallTaken bytes) log so)))
+ended_turn config polled c _ _ log fit lt so next asks = so
+
+-- a peer was connected or not
+ended_dialed : (c : ℕ) (ok : Bool) (call : CoreCall) (peer : Option Peer) (log : List Act) → IsQuietAt log (OnDevice (Waited (Left c)))
+    → IsEnded log → IsEnded (acts_of c (call_effect call.xid (leaving c (dialed_to c ok call.arguments peer))) ++ log)
+ended_dialed c true call (Some peer) log quiet so =
+    ended_effect c (call_effect call.xid (leaving c (dialed_to c true call.arguments (Some peer)))) log (tt, (quiet, tt)) so
+ended_dialed c false call (Some peer) log quiet so =
+    ended_effect c (call_effect call.xid (leaving c (dialed_to c false call.arguments (Some peer)))) log (quiet, tt) so
+ended_dialed c ok call None log quiet so =
+    ended_effect c (call_effect call.xid (leaving c (dialed_to c ok call.arguments None))) log (quiet, tt) so
+
+dial_not : (found : Option Wait) → is_dial found ≡ true → found ≡ Some Lock → ⊥
+dial_not (Some wait) dial is =
+    let same : wait ≡ Lock = some_same wait Lock is in
+    let z : false ≡ true = rw same at dial in cc
+dial_not None dial is = cc
+
+ended_close : (c : ℕ) (log : List Act) → IsEnded log → IsEnded (map OnDevice (close_adds c (device_acts log)) ++ On c PortClosed ∷ log)
+ended_close c log so =
+    let base = On c PortClosed ∷ log in
+    let shut : is_open (of c base) ≡ false = ap is_open (of_mine c PortClosed log) in
+    ended_more (map OnDevice (close_adds c (device_acts log))) base
+    (tt, quiet_links c (closing c (link_acts (device_acts log))) base (λ kept. shut)) (ended_on c PortClosed log so)
+
+passing_event : (config : Config) → EventsKeep config Passing
+passing_event config history event polled channel_log log was free fit so =
+    record { sound = sound_event config history event polled channel_log log was free fit so.sound; ended = by event free }
+  where
+    by : (event : PlainEvent) → refusal config channel_log event log ≡ None → IsEnded (own_acts config polled event log ++ log)
+    by (Open c role) free = ended_on c (Opened role) log so.ended
+    by (Bytes c piece) free = ended_on c (Piece piece) log so.ended
+    by (Turn c) free = ended_turn config polled c (next_call (of c log)) (next_request (of c log)) log fit (within c log _ free) so.ended
+        refl refl
+    by (Refuse c) free = refuse_keeps IsEnded c (next_call (of c log)) (refusable (of c log)) log so.ended
+        (λ bytes call next can. ended_on c (Replied (refused_reply call)) (On c (CallTaken bytes) ∷ log)
+        (ended_on c (CallTaken bytes) log so.ended))
+    by (Took (Conn c) count) free = ended_on c (BytesTaken count) log so.ended
+    by (Took (Intr c) count) free = ended_more (OnDevice (Channel (ChannelTaken c count)) ∷ []) log (tt, tt) so.ended
+    by (Close (Conn c)) free =
+        subst IsEnded (sym (append_assoc (map OnDevice (close_adds c (device_acts log))) (On c PortClosed ∷ []) log))
+        (ended_close c log so.ended)
+    by (Close (Intr c)) free = ended_more (OnDevice (Channel (ChannelClosed c)) ∷ []) log (tt, tt) so.ended
+    by (Dialed c ok) free =
+        let dial = dials (nat_lt 15 c) (not (is_open (of c log))) _ free in
+        let quiet : IsQuietAt log (OnDevice (Waited (Left c))) =
+        λ kept. absurd (dial_not (waits c (wait_acts (device_acts log))) dial kept.0) in
+        called c ok (core_call_in (pending_call (of c log))) quiet
+      where
+        called : (c : ℕ) (ok : Bool) (call : Option CoreCall) → IsQuietAt log (OnDevice (Waited (Left c)))
+            → IsEnded (acts_of c (effect_of c (λ arguments. leaving c (connect_outcome c ok arguments)) call) ++ log)
+        called c ok (Some call) quiet =
+            rw (dialed_is c ok call.arguments) (ended_dialed c ok call (peer_by call.arguments) log quiet so.ended)
+        called c ok None quiet =
+            ended_effect c (effect_of c (λ arguments. leaving c (connect_outcome c ok arguments)) None) log (quiet, tt) so.ended
+    by (Input channel microvolts) free =
+        ended_more (map OnDevice (map Applied (Scanned (InputTo channel microvolts) ∷ []))) log (tt, tt) so.ended
+    by External free =
+        let adds = external_acts (instrument_acts (device_acts log)) in
+        ended_more (map OnDevice (map Applied adds)) log (quiet_happened adds log) so.ended
+    by Tick free =
+        let adds = tick_acts (instrument_acts (device_acts log)) in
+        subst IsEnded (sym (append_assoc (map OnDevice (map Applied adds)) (OnDevice Ticked ∷ []) log))
+        (ended_more (map OnDevice (map Applied adds)) (OnDevice Ticked ∷ log) (quiet_happened adds (OnDevice Ticked ∷ log))
+        (ended_more (OnDevice Ticked ∷ []) log (tt, tt) so.ended))
+
+passing_log : (config : Config) (history : List PlainEvent) (log : List Act) → IsLogOf config history log → Passing log
+passing_log config = each_place config Passing (record { sound = sound_none; ended = (tt, tt) }) (passing_event config)
+    (passing_step config)
+
+-- ---- the law
+
+fails_at : (c : ℕ) (act : Act) (older : List Act) → IsFailure c act older → FailsNext c (act ∷ []) older
+fails_at c (On d (Replied reply)) older (same, call, error, is, known, ne) = ([], call, error, rw (same, is) refl, known, ne)
+fails_at c _ older h = absurd h
+
+ends_behind : (act : Act) (newer older : List Act) (c : ℕ) → AllEnd ((act ∷ newer) ++ OnDevice (Waited (Left c)) ∷ older) → IsKept c older
+    → (is_open (of c older) ≡ false) ⊎ FailsNext c (act ∷ newer) older
+ends_behind act [] older c all kept = elim (all.0 kept) [ inl shut ↦ inl shut | inr fails ↦ inr (fails_at c act older fails) ]
+ends_behind act (other ∷ newer) older c all kept = elim (ends_behind other newer older c all.1 kept) [
+  | inl shut ↦ inl shut
+  | inr (more, call, error, is, known, ne) ↦ inr (act ∷ more, call, error, ap (λ (l : List Act). act ∷ l) is, known, ne)
+]
+
+ends_at : (newer older : List Act) (c : ℕ) → IsEnded (newer ++ OnDevice (Waited (Left c)) ∷ older) → IsKept c older
+    → (is_open (of c older) ≡ false) ⊎ FailsNext c newer older
+ends_at [] older c so kept = inl (so.0 kept)
+ends_at (act ∷ newer) older c so kept = ends_behind act newer older c so.1 kept
+
+device_join : (newer older : List Act) (act : DeviceAct)
+    → device_acts (newer ++ OnDevice act ∷ older) ≡ device_acts newer ++ act ∷ device_acts older
+device_join [] older act = refl
+device_join (On c other ∷ newer) older act = device_join newer older act
+device_join (OnDevice other ∷ newer) older act = ap (λ (l : List DeviceAct). other ∷ l) (device_join newer older act)
+
+-- The lock is free and the call is the oldest; or its connection is closed; or it fails.
+abbrev Passes : ℕ → List Act → List Act → Type 0
+Passes c newer older = ((holder (link_acts (device_acts older)) ≡ None) × IsFirst c (device_acts older))
+    ⊎ (is_open (of c older) ≡ false) ⊎ FailsNext c newer older
+
+passes_left : (c : ℕ) (newer older : List Act) (o : Option ℕ) → holder (link_acts (device_acts older)) ≡ o
+    → Keeps (device_acts older) (Waited (Left c)) → IsEnded (newer ++ OnDevice (Waited (Left c)) ∷ older)
+    → WaitsForLock (device_acts older) c → Passes c newer older
+passes_left c newer older None is keep so w = inl (is, keep w is)
+passes_left c newer older (Some lid) is keep so w = inr (ends_at newer older c so (w, lid, is))
+
+passes_by : (c : ℕ) (act : WaitAct) (newer older : List Act) → Keeps (device_acts older) (Waited act)
+    → IsEnded (newer ++ OnDevice (Waited act) ∷ older) → ends_wait c act ≡ true → WaitsForLock (device_acts older) c → Passes c newer older
+passes_by c (Entered conn named wait last) newer older keep so e w = absurd cc
+passes_by c (Again conn wait last) newer older keep so e w =
+    inl (keep.1, subst (λ (n : ℕ). IsFirst n (device_acts older)) (eqb-true conn c e) keep.2)
+passes_by c (Left conn) newer older keep so e w =
+    let same = eqb-true conn c e in
+    subst (λ (n : ℕ). Passes n newer older) same
+    (passes_left conn newer older (holder (link_acts (device_acts older))) refl keep so
+    (ap (λ (n : ℕ). waits n (wait_acts (device_acts older))) same ∙ w))
+
+pub oldest_passes : OldestPasses
+oldest_passes config history log newer older act c was is e w =
+    passes_by c act newer older
+    (place_of config history log (device_acts newer) (device_acts older) (Waited act) was
+    (ap device_acts is ∙ device_join newer older (Waited act)))
+    (subst IsEnded is (passing_log config history log was).ended) e w

@@ -1,0 +1,157 @@
+-- How long calls wait at most, by their arguments: where they begin to wait, and behind the lock.
+use Rattle.std.proofs.Common.{◌≡◌, ℕ, ◌+◌, ◌≤◌, Bool, true, false, cond, List, Option, Some, None, refl, subst, inl, inr, ◌⊎◌, arith}
+use Rattle.std.specs.Prelude.{not, is_some, ◌&&◌, option_map, ℤ}
+use Rattle.sv_vxi.specs.declared.error_code.ErrorCode.TheVariants.{InvalidLink, ParameterError, NotAccessible, NotSupported, OutOfResources, InvalidAddress, AlreadyEstablished}
+use Rattle.sv_vxi.specs.declared.error_code.ErrorCode.TheVariants.{Locked as DeviceLocked}
+use Rattle.sv_vxi.specs.declared.arguments.LockWait.{LockWait}
+use Rattle.sv_vxi.specs.Arguments.{LinkCall, DeviceWrite, DeviceRead, Arguments, CreateLink, OnLink, CreateIntrChan, DestroyIntrChan, lock_wait}
+use Rattle.sv_links.specs.declared.waiting.Wait.{Wait}
+use Rattle.sv_links.specs.declared.waiting.Wait.TheVariants.{Lock, Input as ForInput, Response, Dial}
+use Rattle.sv_links.specs.Links.{holder, is_locked_out}
+use Rattle.sv_exchange.specs.Exchange.{has_ended}
+use Rattle.sv_instrument.specs.Step.{is_answerable}
+use Rattle.sv_history.specs.Act.{DeviceAct, link_acts, instrument_acts, exchange_acts}
+use Rattle.sv_history.specs.CoreCall.{lid_of, is_too_long}
+use Rattle.sv_history.specs.CoreChannel.{owns}
+use Rattle.sv_history.specs.Admission.{Stop, Fails, Awaits, lock_stop, device_wait, stop_of}
+use Rattle.sv_history.specs.Resuming.{next_wait}
+use Rattle.sv_laws.specs.InTime.{lock_patience, lock_time, patience, waits_for_peer}
+use Rattle.sv_laws.proofs.Facts.{some_same}
+
+-- how long a call can have waited in all, when this wait ends
+abbrev pub bound : Wait → Arguments → ℕ
+bound Lock arguments = lock_time arguments
+bound _ arguments = patience arguments
+
+pub bound_most : (wait : Wait) (arguments : Arguments) → bound wait arguments ≤ patience arguments
+bound_most Lock (CreateLink client_id lock_device lock_timeout device) = omega arith
+bound_most Lock (OnLink lid call) = omega arith
+bound_most Lock _ = omega arith
+bound_most _ arguments = omega arith
+
+-- ---- behind the lock
+
+-- what a call waits for behind the lock, it waits for as long as its I/O timeout says
+abbrev pub IsThen : Wait → Arguments → Wait × ℕ → Type 0
+IsThen wait arguments next = (wait ≡ Lock) × (waits_for_peer arguments ≡ false) × (next.1 + lock_time arguments ≤ bound next.0 arguments)
+
+then_write : (b : Bool) (timeout most : ℕ) (arguments : Arguments) (next : Wait × ℕ) → cond b (Some (ForInput, timeout)) None ≡ Some next
+    → timeout + most ≤ patience arguments → next.1 + most ≤ bound next.0 arguments
+then_write true timeout most arguments next e le =
+    subst (λ (n : Wait × ℕ). n.1 + most ≤ bound n.0 arguments) (some_same (ForInput, timeout) next e) le
+then_write false timeout most arguments next e le = absurd cc
+
+then_read : (b : Bool) (timeout most : ℕ) (arguments : Arguments) (next : Wait × ℕ) → cond b None (Some (Response, timeout)) ≡ Some next
+    → timeout + most ≤ patience arguments → next.1 + most ≤ bound next.0 arguments
+then_read false timeout most arguments next e le =
+    subst (λ (n : Wait × ℕ). n.1 + most ≤ bound n.0 arguments) (some_same (Response, timeout) next e) le
+then_read true timeout most arguments next e le = absurd cc
+
+pub then_is : (wait : Wait) (arguments : Arguments) (acts : List DeviceAct) (next : Wait × ℕ) → next_wait wait arguments acts ≡ Some next
+    → IsThen wait arguments next
+then_is Lock (OnLink lid (DeviceWrite timeout lock_timeout flags bytes)) acts next e =
+    let call = DeviceWrite timeout lock_timeout flags bytes in (
+      refl,
+      refl,
+      then_write (has_ended (exchange_acts acts)) timeout (lock_patience (lock_wait call)) (OnLink lid call) next e
+          (omega arith),
+    )
+then_is Lock (OnLink lid (DeviceRead request_size timeout lock_timeout flags term_char)) acts next e =
+    let call = DeviceRead request_size timeout lock_timeout flags term_char in (
+      refl,
+      refl,
+      then_read (is_answerable (instrument_acts acts)) timeout (lock_patience (lock_wait call)) (OnLink lid call) next e
+          (omega arith),
+    )
+then_is Lock _ acts next e = absurd cc
+then_is ForInput arguments acts next e = absurd cc
+then_is Response arguments acts next e = absurd cc
+then_is Dial arguments acts next e = absurd cc
+
+-- ---- a call begins to wait
+
+-- A call that begins to wait waits for a peer, or no longer than its timeout.
+abbrev pub Begins : Wait → Option ℕ → Arguments → Type 0
+Begins wait until arguments = (waits_for_peer arguments ≡ true)
+    ⊎ ((timeout : ℕ) × (until ≡ Some timeout) × (timeout ≤ bound wait arguments))
+
+begins_same : (wait other : Wait) (until also : Option ℕ) (arguments : Arguments) → Begins wait until arguments
+    → Some (Awaits wait until) ≡ Some (Awaits other also) → Begins other also arguments
+begins_same wait other until also arguments begins e =
+    let same : Awaits wait until ≡ Awaits other also = some_same (Awaits wait until) (Awaits other also) e in
+    let w : wait ≡ other = cc in
+    let u : until ≡ also = cc in
+    subst (λ (v : Wait). Begins v also arguments) w (subst (λ (v : Option ℕ). Begins wait v arguments) u begins)
+
+device_begins : (lid : ℤ) (call : LinkCall) (acts : List DeviceAct) (wait : Wait) (until : Option ℕ)
+    → option_map (λ (w : Wait × ℕ). Awaits w.0 (Some w.1)) (device_wait call acts) ≡ Some (Awaits wait until)
+    → Begins wait until (OnLink lid call)
+device_begins lid (DeviceWrite timeout lock_timeout flags bytes) acts wait until e = by (has_ended (exchange_acts acts)) e
+  where
+    by : (b : Bool) → option_map (λ (w : Wait × ℕ). Awaits w.0 (Some w.1)) (cond b (Some (ForInput, timeout)) None)
+        ≡ Some (Awaits wait until)
+        → Begins wait until (OnLink lid (DeviceWrite timeout lock_timeout flags bytes))
+    by true e = begins_same ForInput wait (Some timeout) until (OnLink lid (DeviceWrite timeout lock_timeout flags bytes))
+        (inr (timeout, refl, omega arith)) e
+    by false e = absurd cc
+device_begins lid (DeviceRead request_size timeout lock_timeout flags term_char) acts wait until e = by
+    (is_answerable (instrument_acts acts)) e
+  where
+    by : (b : Bool) → option_map (λ (w : Wait × ℕ). Awaits w.0 (Some w.1)) (cond b None (Some (Response, timeout)))
+        ≡ Some (Awaits wait until)
+        → Begins wait until (OnLink lid (DeviceRead request_size timeout lock_timeout flags term_char))
+    by false e = begins_same Response wait (Some timeout) until (OnLink lid (DeviceRead request_size timeout lock_timeout flags term_char))
+        (inr (timeout, refl, omega arith)) e
+    by true e = absurd cc
+device_begins lid _ acts wait until e = absurd cc
+
+lock_begins : (lid : ℤ) (call : LinkCall) (found : Option LockWait) (wait : Wait) (until : Option ℕ) → lock_wait call ≡ found
+    → option_map lock_stop found ≡ Some (Awaits wait until) → Begins wait until (OnLink lid call)
+lock_begins lid call (Some one) wait until is e = by one.waits refl e
+  where
+    by : (b : Bool) → one.waits ≡ b → Some (cond b (Awaits Lock (Some one.timeout)) (Fails DeviceLocked)) ≡ Some (Awaits wait until)
+        → Begins wait until (OnLink lid call)
+    by true w e = begins_same Lock wait (Some one.timeout) until (OnLink lid call)
+        (inr (one.timeout, refl, rw (is, w) (omega arith))) e
+    by false w e = absurd cc
+lock_begins lid call None wait until is e = absurd cc
+
+call_begins : (own long out : Bool) (lock other : Option Stop) (wait : Wait) (until : Option ℕ) (arguments : Arguments)
+    → (lock ≡ Some (Awaits wait until) → Begins wait until arguments) → (other ≡ Some (Awaits wait until) → Begins wait until arguments)
+    → cond (not own) (Some (Fails InvalidLink)) (cond long (Some (Fails ParameterError)) (cond out lock other)) ≡ Some (Awaits wait until)
+    → Begins wait until arguments
+call_begins false long out lock other wait until arguments f g e = absurd cc
+call_begins true true out lock other wait until arguments f g e = absurd cc
+call_begins true false true lock other wait until arguments f g e = f e
+call_begins true false false lock other wait until arguments f g e = g e
+
+link_begins : (named more asks locked : Bool) (client_id : ℤ) (timeout : ℕ) (device : List ℕ) (wait : Wait) (until : Option ℕ)
+    → cond (not named) (Some (Fails NotAccessible)) (cond (not more) (Some (Fails OutOfResources))
+    (cond (asks && locked) (Some (Awaits Lock (Some timeout))) None)) ≡ Some (Awaits wait until)
+    → Begins wait until (CreateLink client_id asks timeout device)
+link_begins false more asks locked client_id timeout device wait until e = absurd cc
+link_begins true false asks locked client_id timeout device wait until e = absurd cc
+link_begins true true true true client_id timeout device wait until e =
+    begins_same Lock wait (Some timeout) until (CreateLink client_id true timeout device) (inr (timeout, refl, omega arith)) e
+link_begins true true true false client_id timeout device wait until e = absurd cc
+link_begins true true false locked client_id timeout device wait until e = absurd cc
+
+channel_begins : (there family peer : Bool) (wait : Wait) (until : Option ℕ) (arguments : Arguments) → waits_for_peer arguments ≡ true
+    → Some (cond there (Fails AlreadyEstablished) (cond (not family) (Fails NotSupported) (cond (not peer) (Fails InvalidAddress)
+    (Awaits Dial None)))) ≡ Some (Awaits wait until) → Begins wait until arguments
+channel_begins true family peer wait until arguments is e = absurd cc
+channel_begins false false peer wait until arguments is e = absurd cc
+channel_begins false true false wait until arguments is e = absurd cc
+channel_begins false true true wait until arguments is e = inl is
+
+pub begins : (c : ℕ) (arguments : Arguments) (acts : List DeviceAct) (wait : Wait) (until : Option ℕ)
+    → stop_of c arguments acts ≡ Some (Awaits wait until) → Begins wait until arguments
+begins c (CreateLink client_id lock_device lock_timeout device) acts wait until e =
+    link_begins _ _ lock_device (is_locked_out (holder (link_acts acts)) None) client_id lock_timeout device wait until e
+begins c (OnLink lid call) acts wait until e =
+    call_begins (owns c (lid_of (Some lid)) acts) (is_too_long call)
+    (is_some (lock_wait call) && is_locked_out (holder (link_acts acts)) (lid_of (Some lid))) (option_map lock_stop (lock_wait call)) _
+    wait until (OnLink lid call) (lock_begins lid call (lock_wait call) wait until refl) (device_begins lid call acts wait until) e
+begins c (CreateIntrChan host_addr host_port prog_num prog_vers prog_family) acts wait until e = channel_begins _ _ _ wait until
+    (CreateIntrChan host_addr host_port prog_num prog_vers prog_family) refl e
+begins c DestroyIntrChan acts wait until e = absurd cc
