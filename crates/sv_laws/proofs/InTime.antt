@@ -3,7 +3,7 @@ use Rattle.std.proofs.Common.{◌≡◌, ◌≢◌, ℕ, ◌+◌, ◌<◌, ◌�
 use Rattle.std.specs.Prelude.{map, ⊤}
 use Rattle.std.proofs.lemmas.Bool.{cases_eq, ne_eqb, cases_lt}
 use Rattle.sv_logs.proofs.Each.{Each}
-use Rattle.sv_vxi.specs.Arguments.{Arguments, link}
+use Rattle.sv_vxi.specs.Arguments.{Arguments, CreateIntrChan, link}
 use Rattle.sv_vxi.specs.Results.{Outcome}
 use Rattle.sv_links.specs.declared.request.Peer.{Peer}
 use Rattle.sv_links.specs.declared.waiting.Wait.{Wait}
@@ -47,16 +47,18 @@ use Rattle.sv_laws.proofs.EveryLog.EachEvent.{StepsKeep, step_keeps, turn_keeps,
 
 -- ---- until when a call waits
 
--- The call waits for a peer; or the wait has a deadline that hasn't passed, and at this deadline the call is no older than it may be.
-abbrev Within : ℕ → ℕ → Wait → Option ℕ → Arguments → Type 0
+-- The call waits for a peer; or the wait has a deadline that hasn't passed, and at this deadline the call is no older than it may be. If it
+-- waits for the lock, it is as old as its lock timeout says then.
+abbrev pub Within : ℕ → ℕ → Wait → Option ℕ → Arguments → Type 0
 Within old clock wait until arguments = (waits_for_peer arguments ≡ true)
-    ⊎ ((last : ℕ) × (until ≡ Some last) × (last + old ≤ clock + bound wait arguments) × (clock ≤ last))
+    ⊎ ((last : ℕ) × (until ≡ Some last) × (last + old ≤ clock + bound wait arguments) × (clock ≤ last)
+    × (wait ≡ Lock → clock + lock_time arguments ≤ last + old))
 
-abbrev Timely : ℕ → ℕ → ℕ → List ConnAct → List WaitAct → Type 0
+abbrev pub Timely : ℕ → ℕ → ℕ → List ConnAct → List WaitAct → Type 0
 Timely old clock c own acts = (wait : Wait) (call : CoreCall) → waits c acts ≡ Some wait → core_call_in (pending_call own) ≡ Some call
     → Within old clock wait (until_of c acts) call.arguments
 
-abbrev AllTimely : Config → List Act → Type 0
+abbrev pub AllTimely : Config → List Act → Type 0
 AllTimely config log =
     (c : ℕ) → Timely (age c log) (config.clock + ticks (device_acts log)) c (of c log) (wait_acts (device_acts log))
 
@@ -105,7 +107,7 @@ ticks_adds [] acts h = refl
 ticks_adds (Ticked ∷ adds) acts h = absurd h
 ticks_adds (_ ∷ adds) acts h = ticks_adds adds acts h
 
-replies_no_calls : (xid : ℕ) (result : Option Outcome) → NoCalls (replies xid result)
+pub replies_no_calls : (xid : ℕ) (result : Option Outcome) → NoCalls (replies xid result)
 replies_no_calls xid (Some result) = tt
 replies_no_calls xid None = tt
 
@@ -191,7 +193,7 @@ timely_ended config c does log all ends = by (core_call_in (pending_call (of c l
 lock_old : (old clock : ℕ) (until : Option ℕ) (arguments : Arguments) → waits_for_peer arguments ≡ false
     → Within old clock Lock until arguments → old ≤ lock_time arguments
 lock_old old clock until arguments other (inl peer) = not_both (waits_for_peer arguments) peer other
-lock_old old clock until arguments other (inr (last, is, le, after)) = omega (arith, le, after)
+lock_old old clock until arguments other (inr (last, is, le, after, most)) = omega (arith, le, after)
 
 again_until : (c : ℕ) (wait : Wait) (last : Option ℕ) (acts : List WaitAct) → until_of c (Again c wait last ∷ acts) ≡ last
 again_until c wait last acts = rw (eq-eqb c c refl) refl
@@ -215,7 +217,7 @@ timely_continued config polled c wait call (Some next) log all for known e =
     (subst (λ (w : Wait). Within (age c log) clock w (until_of c (wait_acts acts)) call.arguments) then_so.0 was) in
     let le = then_so.2 in
     let now : Within (age c log) clock next.0 (until_of c (Again c next.0 last ∷ wait_acts acts)) call.arguments =
-    inr (clock + next.1, again_until c next.0 last (wait_acts acts), omega (arith, old, le), omega arith) in
+    inr (clock + next.1, again_until c next.0 last (wait_acts acts), omega (arith, old, le), omega arith, λ lock. absurd (then_so.3 lock)) in
     timely_effect config c (call_effect call.xid (resume_outcome config polled c call.arguments (Some next) acts)) log all tt tt
     (λ d ne. same_other c d (Again c next.0 last) (wait_acts acts) refl ne)
     (λ other found is busy.
@@ -231,7 +233,7 @@ timely_continued config polled c wait call None log all for known e =
     timely_left config c call.xid outcome log all (no_ticks_done c call.arguments outcome.adds before done)
     (done_waits c call.arguments outcome.adds before done)
 
-timely_steps : (config : Config) → StepsKeep config (AllTimely config)
+pub timely_steps : (config : Config) → StepsKeep config (AllTimely config)
 timely_steps config = record {
   happened = timely_happened config;
   resumed = λ polled c wait log for all. timely_ended config c (λ arguments. resume_outcome config polled c arguments
@@ -271,11 +273,12 @@ entered_until c named wait last acts = rw (eq-eqb c c refl) refl
 begun : (config : Config) (old : ℕ) (acts : List DeviceAct) (wait : Wait) (until : Option ℕ) (arguments : Arguments) → old ≡ 0
     → Begins wait until arguments → Within old (config.clock + ticks acts) wait (deadline config until acts) arguments
 begun config old acts wait until arguments zero (inl dial) = inl dial
-begun config old acts wait until arguments zero (inr (timeout, is, le)) = inr (
+begun config old acts wait until arguments zero (inr (timeout, is, le, most)) = inr (
   config.clock + ticks acts + timeout,
   ap (λ (u : Option ℕ). deadline config u acts) is,
   omega (arith, zero, le),
   omega arith,
+  (λ lock. let more = most lock in omega (arith, zero, more)),
 )
 
 timely_admitted : (config : Config) (polled c : ℕ) (bytes : List ℕ) (call : CoreCall) (stop : Option Stop) (log : List Act)
@@ -375,8 +378,8 @@ timely_dialed config c ok call None log all = timely_left config c call.xid (dia
 later : (old clock : ℕ) (wait : Wait) (until : Option ℕ) (arguments : Arguments) → ((last : ℕ) → until ≡ Some last → last ≤ clock → ⊥)
     → Within old clock wait until arguments → Within (old + 1) (clock + 1) wait until arguments
 later old clock wait until arguments never (inl dial) = inl dial
-later old clock wait until arguments never (inr (last, is, le, after)) = elim (cases_lt clock last) [
-  | inl lt ↦ inr (last, is, omega (arith, le), omega (arith, lt))
+later old clock wait until arguments never (inr (last, is, le, after, most)) = elim (cases_lt clock last) [
+  | inl lt ↦ inr (last, is, omega (arith, le), omega (arith, lt), (λ lock. let more = most lock in omega (arith, more)))
   | inr late ↦ absurd (never last is late)
 ]
 
@@ -391,7 +394,7 @@ timely_tick config history log was all c wait call is busy =
     (later (age c log) clock wait until call.arguments (λ last same le. (none_late config history log c was).0 (wait, last, is, same, le))
     (all c wait call is busy))
 
-timely_event : (config : Config) → EventsKeep config (AllTimely config)
+pub timely_event : (config : Config) → EventsKeep config (AllTimely config)
 timely_event config history (Open c role) polled channel_log log was free fit all =
     timely_on config c (Opened role) log all tt (timely_idle (age c log) _ c (Opened role ∷ of c log) (wait_acts (device_acts log)) refl)
 timely_event config history (Bytes c piece) polled channel_log log was free fit all = timely_on config c (Piece piece) log all tt (all c)
@@ -424,17 +427,32 @@ timely_event config history Tick polled channel_log log was free fit all =
     subst (AllTimely config) (sym (append_assoc (map OnDevice (map Applied adds)) (OnDevice Ticked ∷ []) log))
     (timely_happened config adds (OnDevice Ticked ∷ log) (timely_tick config history log was all))
 
+pub timely_none_yet : (config : Config) → AllTimely config []
+timely_none_yet config c wait call is busy = absurd (let z : None ≡ Some wait = is in cc)
+
 timely_log : (config : Config) (history : List PlainEvent) (log : List Act) → IsLogOf config history log → AllTimely config log
 timely_log config =
-    each_place config (AllTimely config) (λ c wait call is busy. absurd (let z : None ≡ Some wait = is in cc)) (timely_event config)
+    each_place config (AllTimely config) (timely_none_yet config) (timely_event config)
     (λ log new fit all next. step_keeps config (AllTimely config) (timely_steps config) log new all next)
 
 -- ---- so it is in time
 
+-- a call whose wait for the lock ends is as old as its lock timeout says
+pub lock_old_enough : (old clock : ℕ) (until : Option ℕ) (arguments : Arguments) (last : ℕ) → until ≡ Some last → last ≤ clock
+    → Within old clock Lock until arguments → lock_time arguments ≤ old
+lock_old_enough old clock until arguments last is ends (inl peer) = peer_old old arguments peer
+  where
+    peer_old : (old : ℕ) (arguments : Arguments) → waits_for_peer arguments ≡ true → lock_time arguments ≤ old
+    peer_old old (CreateIntrChan host_addr host_port prog_num prog_vers prog_family) peer = omega arith
+    peer_old old _ peer = absurd cc
+lock_old_enough old clock until arguments last is ends (inr (other, same, le, after, most)) =
+    let one : last ≡ other = some_same last other (sym is ∙ same) in
+    let more = most refl in omega (arith, one, more, ends)
+
 young : (old clock : ℕ) (wait : Wait) (until : Option ℕ) (arguments : Arguments) → ((last : ℕ) → until ≡ Some last → last ≤ clock → ⊥)
     → waits_for_peer arguments ≡ false → Within old clock wait until arguments → old < bound wait arguments
 young old clock wait until arguments never other (inl peer) = not_both (waits_for_peer arguments) peer other
-young old clock wait until arguments never other (inr (last, is, le, after)) = elim (cases_lt clock last) [
+young old clock wait until arguments never other (inr (last, is, le, after, most)) = elim (cases_lt clock last) [
   | inl lt ↦ omega (arith, le, lt)
   | inr late ↦ absurd (never last is late)
 ]

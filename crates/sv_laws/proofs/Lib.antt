@@ -27,8 +27,11 @@ mod SoundEvents
 mod Gone
 mod InTime
 mod Conformance
+mod Placed
+mod InLine
 mod Passing
 mod Overtaking
+mod Holding
 mod AnsweredInTime
 mod Patience
 mod Alone

@@ -1,61 +1,237 @@
--- While a call waits for the lock, a new call that needs the lock passes only on the link that holds it.
-use Rattle.std.proofs.Common.{◌≡◌, ℕ, Bool, true, false, cond, Option, Some, None, refl}
-use Rattle.std.specs.Prelude.{not, is_some, ◌&&◌, option_map}
-use Rattle.sv_vxi.specs.declared.error_code.ErrorCode.TheVariants.{InvalidLink, ParameterError, NotAccessible, OutOfResources}
+-- A new call that needs the lock isn't executed while another link holds the lock and a call waits for it.
+use Rattle.std.proofs.Common.{◌≡◌, ◌≢◌, ℕ, zero, suc, Bool, true, false, cond, List, [], ◌∷◌, ◌++◌, Option, Some, None, refl, sym, ap, subst, ◌∙◌, inl, inr, ◌⊎◌, eq-eqb}
+use Rattle.std.specs.Prelude.{map, not, is_some, ◌&&◌, option_map}
+use Rattle.std.proofs.lemmas.Bool.{cases_eq, ne_eqb}
+use Rattle.sv_vxi.specs.declared.error_code.ErrorCode.{ErrorCode}
+use Rattle.sv_vxi.specs.declared.error_code.ErrorCode.TheVariants.{NoError, InvalidLink, ParameterError, NotAccessible, OutOfResources}
 use Rattle.sv_vxi.specs.declared.error_code.ErrorCode.TheVariants.{Locked as DeviceLocked}
 use Rattle.sv_vxi.specs.declared.arguments.LockWait.{LockWait}
-use Rattle.sv_vxi.specs.Arguments.{CreateLink, OnLink, lock_wait}
+use Rattle.sv_vxi.specs.Arguments.{Arguments, CreateLink, OnLink, lock_wait, link as link_in}
+use Rattle.sv_links.specs.declared.waiting.Wait.{Wait}
 use Rattle.sv_links.specs.declared.waiting.Wait.TheVariants.{Lock}
 use Rattle.sv_links.specs.Links.{holder, is_locked_out}
-use Rattle.sv_history.specs.Act.{device_acts, link_acts}
-use Rattle.sv_history.specs.CoreCall.{lid_of, is_too_long}
+use Rattle.sv_links.specs.Waiting.{WaitAct, Entered, Left, waits, link as named_link, deadline as until_of, is_there}
+use Rattle.sv_layers.specs.Act.{Act as InstrumentAct}
+use Rattle.sv_history.specs.declared.event.Config.{Config}
+use Rattle.sv_history.specs.Event.{PlainEvent, Turn}
+use Rattle.sv_history.specs.Act.{Act, ConnAct, DeviceAct, CallTaken, Replied, Waited, Applied, On, OnDevice, of, device_acts, link_acts, wait_acts, ticks}
+use Rattle.sv_history.specs.Connection.{next_call, open_role, pending_call}
+use Rattle.sv_history.specs.CoreCall.{CoreCall, lid_of, is_too_long, failure}
 use Rattle.sv_history.specs.CoreChannel.{owns}
-use Rattle.sv_history.specs.Admission.{Stop, Fails, Awaits, lock_stop}
-use Rattle.sv_laws.specs.LockFair.{is_let_in, NoneOvertakes}
+use Rattle.sv_history.specs.Effect.{Effect, acts_of, result_reply, call_effect}
+use Rattle.sv_history.specs.Request.{CoreRequest, core_call_in, request_for, next_request}
+use Rattle.sv_history.specs.Admission.{Stop, Fails, Awaits, lock_stop, stop_of, admission, deadline}
+use Rattle.sv_history.specs.Resuming.{effect_of, failure_effect, late}
+use Rattle.sv_history.specs.Settling.{CanResume, IsNext, Settles}
+use Rattle.sv_history.specs.History.{turn_acts, own_acts, IsLogOf}
+use Rattle.sv_history.proofs.Projections.{of_mine, of_shared}
+use Rattle.sv_laws.specs.LockFair.{WaitsForLock, StaysOut, NoneOvertakes, needs_lock}
+use Rattle.sv_laws.proofs.Facts.{some_same, some_none, not_both}
+use Rattle.sv_laws.proofs.CallsAlike.{SameCall}
+use Rattle.sv_laws.proofs.OneLog.{one_log}
+use Rattle.sv_laws.proofs.NoneLate.{none_late}
+use Rattle.sv_laws.proofs.Sound.{same_other}
 use Rattle.sv_laws.proofs.SoundEvents.{quiet_log}
-use Rattle.sv_laws.proofs.EveryLog.Keeps.{out_or_this}
+use Rattle.sv_laws.proofs.EveryLog.Taken.{core_taken}
+use Rattle.sv_laws.proofs.EveryLog.Fit.{of_each}
+use Rattle.sv_laws.proofs.EveryLog.Steps.{log_settled, rested}
+use Rattle.sv_laws.proofs.EveryLog.EachEvent.{each_settled, StepsKeep, ends_keep, step_keeps, turn_parts, entered_waits}
 
-link_let_in : (named more locked : Bool) (timeout : ℕ)
-    → is_let_in (cond (not named) (Some (Fails NotAccessible)) (cond (not more) (Some (Fails OutOfResources))
-    (cond locked (Some (Awaits Lock (Some timeout))) None))) ≡ true → locked ≡ false
-link_let_in false more locked timeout e = absurd cc
-link_let_in true false locked timeout e = absurd cc
-link_let_in true true true timeout e = absurd cc
-link_let_in true true false timeout e = refl
+-- ---- what stops a call that is locked out
 
-lock_stops : (found : Option LockWait) → is_some found ≡ true → is_let_in (option_map lock_stop found) ≡ true → ⊥
-lock_stops (Some one) some e = by one.waits e
+-- A call is stopped: by an error, or because it waits for the lock.
+abbrev IsStopped : Option Stop → Type 0
+IsStopped stop = ((error : ErrorCode) × (error ≢ NoError) × (stop ≡ Some (Fails error)))
+    ⊎ ((until : Option ℕ) × (stop ≡ Some (Awaits Lock until)))
+
+link_stopped : (named more : Bool) (timeout : ℕ)
+    → IsStopped (cond (not named) (Some (Fails NotAccessible)) (cond (not more) (Some (Fails OutOfResources))
+    (Some (Awaits Lock (Some timeout)))))
+link_stopped false more timeout = inl (NotAccessible, (λ (e : NotAccessible ≡ NoError). cc), refl)
+link_stopped true false timeout = inl (OutOfResources, (λ (e : OutOfResources ≡ NoError). cc), refl)
+link_stopped true true timeout = inr (Some timeout, refl)
+
+lock_stopped : (found : Option LockWait) → is_some found ≡ true → IsStopped (option_map lock_stop found)
+lock_stopped (Some one) some = by one.waits
   where
-    by : (b : Bool) → is_let_in (Some (cond b (Awaits Lock (Some one.timeout)) (Fails DeviceLocked))) ≡ true → ⊥
-    by true e = cc
-    by false e = cc
-lock_stops None some e = cc
+    by : (b : Bool) → IsStopped (Some (cond b (Awaits Lock (Some one.timeout)) (Fails DeviceLocked)))
+    by true = inr (Some one.timeout, refl)
+    by false = inl (DeviceLocked, (λ (e : DeviceLocked ≡ NoError). cc), refl)
+lock_stopped None some = absurd cc
 
-call_let_in : (own long some locked : Bool) (lock other : Option Stop) → some ≡ true → (is_let_in lock ≡ true → ⊥)
-    → is_let_in (cond (not own) (Some (Fails InvalidLink)) (cond long (Some (Fails ParameterError)) (cond (some && locked) lock other)))
-    ≡ true
-    → locked ≡ false
-call_let_in false long some locked lock other is stops e = absurd cc
-call_let_in true true some locked lock other is stops e = absurd cc
-call_let_in true false true true lock other is stops e = absurd (stops e)
-call_let_in true false true false lock other is stops e = refl
-call_let_in true false false locked lock other is stops e = absurd cc
+call_stopped : (own long some locked : Bool) (lock other : Option Stop) → some ≡ true → locked ≡ true → IsStopped lock
+    → IsStopped (cond (not own) (Some (Fails InvalidLink)) (cond long (Some (Fails ParameterError)) (cond (some && locked) lock other)))
+call_stopped false long some locked lock other is out stops = inl (InvalidLink, (λ (e : InvalidLink ≡ NoError). cc), refl)
+call_stopped true true some locked lock other is out stops = inl (ParameterError, (λ (e : ParameterError ≡ NoError). cc), refl)
+call_stopped true false true true lock other is out stops = stops
+call_stopped true false true false lock other is out stops = absurd cc
+call_stopped true false false locked lock other is out stops = absurd cc
 
--- a call that isn't locked out is on the holder, or the lock is free
-on_holder : (o named : Option ℕ) → is_locked_out o named ≡ false → (o ≡ None → ⊥) → (lid : ℕ) × (o ≡ Some lid) × (named ≡ Some lid)
-on_holder None named e busy = absurd (busy refl)
-on_holder (Some lid) named e busy = (lid, refl, out_or_this lid named e)
+stopped : (c : ℕ) (arguments : Arguments) (acts : List DeviceAct) → needs_lock arguments ≡ true
+    → is_locked_out (holder (link_acts acts)) (lid_of (link_in arguments)) ≡ true → IsStopped (stop_of c arguments acts)
+stopped c (CreateLink client_id true lock_timeout device) acts needs out = rw out (link_stopped _ _ lock_timeout)
+stopped c (CreateLink client_id false lock_timeout device) acts needs out = absurd cc
+stopped c (OnLink lid call) acts needs out =
+    call_stopped (owns c (lid_of (Some lid)) acts) (is_too_long call) (is_some (lock_wait call))
+    (is_locked_out (holder (link_acts acts)) (lid_of (Some lid))) (option_map lock_stop (lock_wait call)) _ needs out
+    (lock_stopped (lock_wait call) needs)
+stopped c _ acts needs out = absurd cc
+
+-- a call is locked out if its link isn't the one that holds the lock
+out_of : (o named : Option ℕ) → (o ≡ None → ⊥) → o ≢ named → is_locked_out o named ≡ true
+out_of None named held ne = absurd (held refl)
+out_of (Some h) None held ne = refl
+out_of (Some h) (Some n) held ne = rw (ne_eqb n h (λ e. ne (ap (λ (m : ℕ). Some m) (sym e)))) refl
+
+-- ---- the call is answered with an error, and stays so
+
+-- The call is answered with an error.
+abbrev IsRefused : ℕ → List ℕ → CoreCall → List Act → List Act → Type 0
+IsRefused c bytes call before log = (error : ErrorCode) × (error ≢ NoError)
+    × (of c log ≡ Replied (result_reply call.xid (failure call.arguments error)) ∷ CallTaken bytes ∷ of c before)
+
+own_ended : (c : ℕ) (own : List ConnAct) (does : Arguments → _) (d : ℕ) (log : List Act) → pending_call own ≡ None → of c log ≡ own
+    → of c (acts_of d (effect_of d does (core_call_in (pending_call (of d log)))) ++ log) ≡ own
+own_ended c own does d log free is =
+    of_each (λ n acts. c ≡ n → acts ≡ own) d (effect_of d does (core_call_in (pending_call (of d log)))) log
+    (λ e. let mine : of d log ≡ own = ap (λ (n : ℕ). of n log) (sym e) ∙ is in
+    let none : core_call_in (pending_call (of d log)) ≡ None = ap (λ (l : List ConnAct). core_call_in (pending_call l)) mine
+    ∙ ap core_call_in free in
+    ap (λ (found : Option CoreCall). (effect_of d does found).own ++ of d log) none ∙ mine)
+    (λ n ne e. ap (λ (m : ℕ). of m log) (sym e) ∙ is) c refl
+
+-- steps leave what came on a connection whose calls are answered
+own_steps : (config : Config) (c : ℕ) (own : List ConnAct) → pending_call own ≡ None → StepsKeep config (λ log. of c log ≡ own)
+own_steps config c own free = ends_keep config (λ log. of c log ≡ own) (λ adds log is. of_shared c (map Applied adds) log ∙ is)
+    (λ d does log is. own_ended c own does d log free is)
+
+-- ---- the call waits for the lock
+
+-- A call waits for the lock where another link holds it, and until then nothing was due.
+record IsBehind (config : Config) (c : ℕ) (bytes : List ℕ) (call : CoreCall) (before : List Act) : Type 0 where
+  history : List PlainEvent
+  was : IsLogOf config history before
+  known : core_call_in (Some bytes) ≡ Some call
+  out : is_locked_out (holder (link_acts (device_acts before))) (lid_of (link_in call.arguments)) ≡ true
+
+-- the log in which it waits
+abbrev suspended : ℕ → List ℕ → CoreCall → Option ℕ → List Act → List Act
+suspended c bytes call last before =
+    OnDevice (Waited (Entered c (lid_of (link_in call.arguments)) Lock last)) ∷ On c (CallTaken bytes) ∷ before
+
+-- The call waits for the lock, or it is answered with an error.
+abbrev StaysBehind : ℕ → List ℕ → CoreCall → List Act → List Act → Type 0
+StaysBehind c bytes call before log = ((last : Option ℕ) × (log ≡ suspended c bytes call last before)) ⊎ IsRefused c bytes call before log
+
+-- such a call can't resume, and neither can another
+none_behind : (config : Config) (c : ℕ) (bytes : List ℕ) (call : CoreCall) (before : List Act) (last : Option ℕ) (e : ℕ)
+    → IsBehind config c bytes call before → CanResume (device_acts (suspended c bytes call last before)) e → ⊥
+none_behind config c bytes call before last e is able = elim (cases_eq e c) [
+  | inl same ↦
+      let acts = wait_acts (device_acts before) in
+      let named = lid_of (link_in call.arguments) in
+      let new = Entered c named Lock last ∷ acts in
+      let now = entered_waits c named Lock last acts in
+      let mine : CanResume (device_acts (suspended c bytes call last before)) c =
+      subst (CanResume (device_acts (suspended c bytes call last before))) same able in
+      let there : not (is_locked_out (holder (link_acts (device_acts before))) named) ≡ true = rw (now.0, now.1) at mine in
+      (let z : false ≡ true = rw is.out at there in cc)
+  | inr ne ↦
+      let acts = wait_acts (device_acts before) in
+      let alike = same_other c e (Entered c (lid_of (link_in call.arguments)) Lock last) acts refl ne in
+      (none_late config is.history before e is.was).1 (rw (alike.wait, alike.named) at able)
+]
+
+-- only its own timeout ends its wait
+refused_late : (config : Config) (c : ℕ) (bytes : List ℕ) (call : CoreCall) (before : List Act) (last : Option ℕ) (new : List Act) (e : ℕ)
+    (wait : Wait) → IsBehind config c bytes call before → e ≡ c
+    → let log = suspended c bytes call last before in
+    waits e (wait_acts (device_acts log)) ≡ Some wait
+    → new ≡ acts_of e (failure_effect (late wait) e (core_call_in (pending_call (of e log)))) ++ log → IsRefused c bytes call before new
+refused_late config c bytes call before last new e wait is same for so =
+    let log = suspended c bytes call last before in
+    let own : of c log ≡ CallTaken bytes ∷ of c before = of_mine c (CallTaken bytes) before in
+    let now = entered_waits c (lid_of (link_in call.arguments)) Lock last (wait_acts (device_acts before)) in
+    let lock : Lock ≡ wait = some_same Lock wait (sym now.0 ∙ ap (λ (n : ℕ). waits n (wait_acts (device_acts log))) (sym same) ∙ for) in
+    let found : core_call_in (pending_call (of c log)) ≡ Some call = ap (λ (l : List ConnAct). core_call_in (pending_call l)) own ∙ is.known in
+    let moved : new ≡ acts_of c (failure_effect (late wait) c (core_call_in (pending_call (of c log)))) ++ log =
+    so ∙ ap (λ (n : ℕ). acts_of n (failure_effect (late wait) n (core_call_in (pending_call (of n log)))) ++ log) same in
+    let mine : new ≡ acts_of c (failure_effect DeviceLocked c (Some call)) ++ log =
+    moved ∙ ap (λ (w : Wait). acts_of c (failure_effect (late w) c (core_call_in (pending_call (of c log)))) ++ log) (sym lock)
+    ∙ ap (λ (k : Option CoreCall). acts_of c (failure_effect DeviceLocked c k) ++ log) found in
+    let reply = Replied (result_reply call.xid (failure call.arguments DeviceLocked)) in
+    (DeviceLocked, (λ (z : DeviceLocked ≡ NoError). cc),
+    ap (of c) mine ∙ of_mine c reply (OnDevice (Waited (Left c)) ∷ log) ∙ ap (λ (l : List ConnAct). reply ∷ l) own)
+
+behind_step : (config : Config) (c : ℕ) (bytes : List ℕ) (call : CoreCall) (before log new : List Act)
+    → IsBehind config c bytes call before → StaysBehind c bytes call before log → IsNext config log new
+    → StaysBehind c bytes call before new
+behind_step config c bytes call before log new is (inr (error, ne, own)) next =
+    let reply = Replied (result_reply call.xid (failure call.arguments error)) in
+    inr (error, ne, step_keeps config (λ log. of c log ≡ reply ∷ CallTaken bytes ∷ of c before)
+    (own_steps config c (reply ∷ CallTaken bytes ∷ of c before) refl) log new own next)
+behind_step config c bytes call before log new is (inl (last, same)) next =
+    by (subst (λ (l : List Act). IsNext config l new) same next)
+  where
+    by : IsNext config (suspended c bytes call last before) new → StaysBehind c bytes call before new
+    by (inl (adds, such, so)) =
+        absurd ((rested config before (log_settled config is.history before is.was)).fires _ (adds, such, refl))
+    by (inr (none, inl (e, wait, polled, oldest, for, said, so))) = absurd (none_behind config c bytes call before last e is oldest.0)
+    by (inr (none, inr (still, inl (adds, such, so)))) =
+        absurd ((rested config before (log_settled config is.history before is.was)).steps _ (adds, such, refl))
+    by (inr (none, inr (still, inr (idle, (e, wait, oldest, for, so))))) = elim (cases_eq e c) [
+      | inl same ↦ inr (refused_late config c bytes call before last new e wait is same for so)
+      | inr ne ↦
+          let alike = same_other c e (Entered c (lid_of (link_in call.arguments)) Lock last) (wait_acts (device_acts before)) refl ne in
+          let past = oldest.0 in
+          absurd ((none_late config is.history before e is.was).0
+              (past.0, past.1, sym alike.wait ∙ past.2, sym alike.until ∙ past.3, past.4))
+    ]
+
+-- ---- the Turn that takes it
+
+behind_turn : (config : Config) (polled c : ℕ) (bytes : List ℕ) (call : CoreCall) (before : List Act) (stop : Option Stop)
+    → stop_of c call.arguments (device_acts before) ≡ stop → IsStopped stop
+    → StaysBehind c bytes call before (acts_of c (call_effect call.xid (admission config polled c call.arguments stop (device_acts before)))
+    ++ On c (CallTaken bytes) ∷ before)
+behind_turn config polled c bytes call before stop e (inl (error, ne, is)) =
+    let reply = Replied (result_reply call.xid (failure call.arguments error)) in
+    rw is (inr (error, ne, of_mine c reply (On c (CallTaken bytes) ∷ before)
+    ∙ ap (λ (l : List ConnAct). reply ∷ l) (of_mine c (CallTaken bytes) before)))
+behind_turn config polled c bytes call before stop e (inr (until, is)) =
+    rw is (inl (deadline config until (device_acts before), refl))
+
+behind_settled : (config : Config) (polled c : ℕ) (bytes : List ℕ) (call : CoreCall) (before log : List Act)
+    → IsBehind config c bytes call before → next_call (of c before) ≡ Some bytes → next_request (of c before) ≡ Some (CoreRequest call)
+    → needs_lock call.arguments ≡ true → Settles config (own_acts config polled (Turn c) before ++ before) log
+    → StaysBehind c bytes call before log
+behind_settled config polled c bytes call before log is next asks needs settles =
+    let acts = device_acts before in
+    let effect = call_effect call.xid (admission config polled c call.arguments (stop_of c call.arguments acts) acts) in
+    let turned : StaysBehind c bytes call before (turn_acts config polled c (Some bytes) (Some (CoreRequest call)) before ++ before) =
+    subst (StaysBehind c bytes call before) (sym (turn_parts c bytes effect None before))
+    (behind_turn config polled c bytes call before (stop_of c call.arguments acts) refl (stopped c call.arguments acts needs is.out)) in
+    let asked : request_for (open_role (of c before)) (Some bytes) ≡ Some (CoreRequest call) =
+    ap (request_for (open_role (of c before))) (sym next) ∙ asks in
+    let begins : StaysBehind c bytes call before (own_acts config polled (Turn c) before ++ before) = rw (next, asked) turned in
+    each_settled config (StaysBehind c bytes call before) (λ one new so due. behind_step config c bytes call before one new is so due)
+    settles.0 (own_acts config polled (Turn c) before ++ before) log begins settles.1
+
+stays_out : (c : ℕ) (bytes : List ℕ) (call : CoreCall) (before log : List Act) → StaysBehind c bytes call before log
+    → StaysOut c bytes call before log
+stays_out c bytes call before log (inl (last, is)) =
+    let acts = wait_acts (device_acts before) in
+    inl (ap (of c) is ∙ of_mine c (CallTaken bytes) before, ap (λ (l : List Act). waits c (wait_acts (device_acts l))) is
+    ∙ (entered_waits c (lid_of (link_in call.arguments)) Lock last acts).0)
+stays_out c bytes call before log (inr refused) = inr refused
 
 pub none_overtakes : NoneOvertakes
-none_overtakes config history log c d (CreateLink client_id true lock_timeout device) was w needs lets =
-    let acts = device_acts log in
-    let out = link_let_in _ _ (is_locked_out (holder (link_acts acts)) None) lock_timeout lets in
-    on_holder (holder (link_acts acts)) None out (quiet_log config history log was d w)
-none_overtakes config history log c d (CreateLink client_id false lock_timeout device) was w needs lets = absurd cc
-none_overtakes config history log c d (OnLink lid call) was w needs lets =
-    let acts = device_acts log in
-    let out = call_let_in (owns c (lid_of (Some lid)) acts) (is_too_long call) (is_some (lock_wait call))
-    (is_locked_out (holder (link_acts acts)) (lid_of (Some lid))) (option_map lock_stop (lock_wait call)) _ needs
-    (lock_stops (lock_wait call) needs) lets in
-    on_holder (holder (link_acts acts)) (lid_of (Some lid)) out (quiet_log config history log was d w)
-none_overtakes config history log c d _ was w needs lets = absurd cc
+none_overtakes config history before log c d bytes call was now w next asks needs other =
+    let same = one_log config history now.0 before now.4 was in
+    let held : holder (link_acts (device_acts before)) ≡ None → ⊥ = quiet_log config history before was d w in
+    stays_out c bytes call before log (behind_settled config now.1 c bytes call before log (record {
+      history = history;
+      was = was;
+      known = (core_taken (of c before) bytes call next asks).1;
+      out = out_of (holder (link_acts (device_acts before))) (lid_of (link_in call.arguments)) held other;
+    }) next asks needs (subst (λ (l : List Act). Settles config (own_acts config now.1 (Turn c) l ++ l) log) same now.8))

@@ -1,32 +1,38 @@
--- A call stops to wait for the lock if it is the oldest and the lock is free, if its connection closes, or with an error.
-use Rattle.std.proofs.Common.{◌≡◌, ◌≢◌, ℕ, ◌<◌, nat_lt, Bool, true, false, List, [], ◌∷◌, ◌++◌, Option, Some, None, refl, sym, ap, subst, ◌∙◌, inl, inr, ◌⊎◌, append_assoc}
-use Rattle.std.specs.Prelude.{map, not, ⊤}
+-- A call stops to wait for the lock if it came first and the lock is free, if its connection closes, if its timeout has passed, or if a
+-- device_abort names its link.
+use Rattle.std.proofs.Common.{◌≡◌, ◌≢◌, ℕ, ◌+◌, ◌<◌, ◌≤◌, nat_lt, Bool, true, false, cond, List, [], ◌∷◌, ◌++◌, Option, Some, None, refl, sym, ap, subst, ◌∙◌, inl, inr, ◌⊎◌, append_assoc}
+use Rattle.std.specs.Prelude.{map, not, is_some, ◌&&◌, ℤ, ⊤}
 use Rattle.std.proofs.lemmas.Bool.{eqb-true}
 use Rattle.sv_logs.proofs.Each.{Each}
+use Rattle.sv_rpc.specs.Call.{call_at}
 use Rattle.sv_vxi.specs.declared.error_code.ErrorCode.{ErrorCode}
-use Rattle.sv_vxi.specs.declared.error_code.ErrorCode.TheVariants.{NoError, Abort}
+use Rattle.sv_vxi.specs.declared.error_code.ErrorCode.TheVariants.{Abort}
+use Rattle.sv_vxi.specs.declared.error_code.ErrorCode.TheVariants.{Locked as DeviceLocked}
 use Rattle.sv_vxi.specs.Arguments.{Arguments}
 use Rattle.sv_links.specs.declared.request.Peer.{Peer}
 use Rattle.sv_links.specs.declared.waiting.Wait.{Wait}
 use Rattle.sv_links.specs.declared.waiting.Wait.TheVariants.{Lock, Input as ForInput, Response, Dial}
-use Rattle.sv_links.specs.Links.{LinkAct, closing, holder}
-use Rattle.sv_links.specs.Waiting.{WaitAct, Entered, Again, Left, waits}
+use Rattle.sv_links.specs.Links.{LinkAct, closing, holder, is_this}
+use Rattle.sv_links.specs.Waiting.{WaitAct, Entered, Again, Left, waits, deadline as until_of, link as named_link}
 use Rattle.sv_links.specs.Channels.{ChannelClosed, ChannelTaken}
 use Rattle.sv_scan.specs.declared.acts.ScanAct.TheVariants.{Input as InputTo}
 use Rattle.sv_layers.specs.Act.{Act as InstrumentAct, Scanned}
 use Rattle.sv_instrument.specs.Stimulus.{external_acts, tick_acts}
 use Rattle.sv_history.specs.declared.event.Config.{Config}
 use Rattle.sv_history.specs.declared.event.Port.TheVariants.{Conn, Intr}
+use Rattle.sv_history.specs.declared.event.Role.{Role}
+use Rattle.sv_history.specs.declared.event.Role.TheVariants.{Abort as AbortChannel}
 use Rattle.sv_history.specs.Event.{PlainEvent, Open, Bytes, Turn, Refuse, Took, Close, Dialed, Input, External, Tick}
-use Rattle.sv_history.specs.Act.{Act, ConnAct, DeviceAct, Opened, Piece, CallTaken, Replied, BytesTaken, PortClosed, Linked, Waited, Channel, Applied, Ticked, On, OnDevice, of, device_acts, link_acts, wait_acts, instrument_acts}
-use Rattle.sv_history.specs.Connection.{is_open, next_call, pending_call}
+use Rattle.sv_history.specs.Act.{Act, ConnAct, DeviceAct, Opened, Piece, CallTaken, Replied, BytesTaken, PortClosed, Linked, Waited, Channel, Applied, Ticked, On, OnDevice, of, device_acts, link_acts, wait_acts, instrument_acts, ticks}
+use Rattle.sv_history.specs.Connection.{is_open, next_call, open_role, pending_call}
 use Rattle.sv_history.specs.CallOutcome.{only}
-use Rattle.sv_history.specs.CoreCall.{CoreCall, failure}
+use Rattle.sv_history.specs.CoreCall.{CoreCall, lid_of, failure}
 use Rattle.sv_history.specs.CoreChannel.{own_call}
 use Rattle.sv_history.specs.Effect.{Effect, acts_of, result_reply, call_effect}
-use Rattle.sv_history.specs.Request.{Request, CoreRequest, core_call_in, next_request}
+use Rattle.sv_history.specs.Request.{Request, CoreRequest, AbortRequest, request_of, core_call_in, request_for, next_request}
 use Rattle.sv_history.specs.Interrupts.{is_dial, connect_outcome}
 use Rattle.sv_history.specs.Admission.{Stop, Fails, Awaits, stop_of, admission}
+use Rattle.sv_history.specs.AbortChannel.{owner_of, if_waiting, abort_result}
 use Rattle.sv_history.specs.Execution.{request_effect, aborts}
 use Rattle.sv_history.specs.Refusing.{refusable, refused_reply}
 use Rattle.sv_history.specs.Resuming.{effect_of, leaving, next_wait, resume_outcome, resume_effect, failure_effect, late}
@@ -34,25 +40,38 @@ use Rattle.sv_history.specs.Settling.{IsNext}
 use Rattle.sv_history.specs.History.{abort_acts, turn_acts, own_acts, refusal, IsLogOf}
 use Rattle.sv_history.proofs.Dialing.{peer_by, dialed_to, dialed_is}
 use Rattle.sv_history.proofs.Projections.{of_mine}
-use Rattle.sv_laws.specs.LockFair.{WaitsForLock, IsFirst, FailsNext, OldestPasses, ends_wait}
+use Rattle.sv_laws.specs.InTime.{age, lock_time}
+use Rattle.sv_laws.specs.LockFair.{WaitsForLock, IsFirst, IsAborted, FailsNext, OldestPasses, ends_wait}
 use Rattle.sv_laws.proofs.Facts.{some_same, some_none}
 use Rattle.sv_laws.proofs.Gone.{dials}
 use Rattle.sv_laws.proofs.Place.{EventsKeep, EachStepKeeps, each_place}
 use Rattle.sv_laws.proofs.EveryLog.Done.{IsDone, each_done}
-use Rattle.sv_laws.proofs.EveryLog.Taken.{within}
+use Rattle.sv_laws.proofs.EveryLog.Taken.{within, asks_as}
 use Rattle.sv_laws.proofs.EveryLog.Fit.{Fit}
-use Rattle.sv_laws.proofs.EveryLog.EachEvent.{turn_parts, refuse_keeps, close_adds, fit_request}
-use Rattle.sv_laws.proofs.EveryLog.Keeps.{Keeps}
+use Rattle.sv_laws.proofs.EveryLog.EachEvent.{step_keeps, turn_parts, refuse_keeps, close_adds, fit_request}
+use Rattle.sv_laws.proofs.EveryLog.Keeps.{IsEarliest, Keeps}
+use Rattle.sv_laws.proofs.InTime.{AllTimely, timely_event, timely_steps, timely_none_yet, lock_old_enough}
+use Rattle.sv_laws.proofs.InLine.{first_is}
+use Rattle.sv_laws.proofs.Placed.{AllPlaced, placed_before, placed_log}
 use Rattle.sv_laws.proofs.Sound.{Sound, free_of}
 use Rattle.sv_laws.proofs.SoundEvents.{sound_event, sound_step, sound_none, place_of}
 
 -- ---- where a call leaves
 
--- An act is a reply with an error to the call of this connection.
+-- Why a call fails with this error: its lock timeout has passed, or a device_abort names its link.
+abbrev IsCause : ℕ → Arguments → ErrorCode → List Act → Type 0
+IsCause c arguments error older = ((error ≡ DeviceLocked) × (lock_time arguments ≤ age c older)) ⊎ ((error ≡ Abort) × IsAborted c older)
+
+-- A call of this connection that waits for the lock has cause to fail with this error.
+abbrev HasCause : ℕ → ErrorCode → List Act → Type 0
+HasCause c error older = WaitsForLock (device_acts older) c → (call : CoreCall) → core_call_in (pending_call (of c older)) ≡ Some call
+    → IsCause c call.arguments error older
+
+-- An act is a reply with an error to the call of this connection, which has cause to fail.
 abbrev IsFailure : ℕ → Act → List Act → Type 0
 IsFailure c (On d (Replied reply)) older = (d ≡ c) × (call : CoreCall) × (error : ErrorCode)
     × (reply ≡ result_reply call.xid (failure call.arguments error)) × (core_call_in (pending_call (of c older)) ≡ Some call)
-    × (error ≢ NoError)
+    × IsCause c call.arguments error older
 IsFailure c act older = ⊥
 
 -- A call that leaves while it waits for the lock, and a link holds it.
@@ -122,16 +141,16 @@ free_quiet : (c : ℕ) (log : List Act)
 free_quiet c log free kept = some_none (holder (link_acts (device_acts log))) kept.1 (free kept.0) kept.2
 
 -- one with an error
-ended_failed : (error : ErrorCode) (c : ℕ) (log : List Act) → error ≢ NoError → Fit log → IsEnded log
+ended_failed : (error : ErrorCode) (c : ℕ) (log : List Act) → HasCause c error log → Fit log → IsEnded log
     → IsEnded (acts_of c (failure_effect error c (core_call_in (pending_call (of c log)))) ++ log)
-ended_failed error c log is_error fit so = by (core_call_in (pending_call (of c log))) refl
+ended_failed error c log cause fit so = by (core_call_in (pending_call (of c log))) refl
   where
     by : (call : Option CoreCall) → core_call_in (pending_call (of c log)) ≡ call
         → IsEnded (acts_of c (failure_effect error c call) ++ log)
     by (Some call) e = (
       tt,
       (
-        (λ kept. inr (refl, call, error, refl, e, is_error)),
+        (λ kept. inr (refl, call, error, refl, e, cause kept.0 call e)),
         (ends_any (OnDevice (Waited (Left c))) log so.0, so.1),
       ),
     )
@@ -164,21 +183,27 @@ ended_resumed config polled c wait None log free so =
 
 -- ---- with what is known of the device
 
-record Passing (log : List Act) : Type 0 where
+record Passing (config : Config) (log : List Act) : Type 0 where
   sound : Sound log
+  timely : AllTimely config log
   ended : IsEnded log
 
-late_error : (wait : Wait) → late wait ≢ NoError
-late_error Lock e = cc
-late_error ForInput e = cc
-late_error Response e = cc
-late_error Dial e = cc
+-- a call that times out while it waits for the lock has waited as long as its lock timeout says
+late_cause : (config : Config) (c : ℕ) (wait : Wait) (last : ℕ) (log : List Act) → AllTimely config log
+    → waits c (wait_acts (device_acts log)) ≡ Some wait → until_of c (wait_acts (device_acts log)) ≡ Some last
+    → last ≤ config.clock + ticks (device_acts log) → HasCause c (late wait) log
+late_cause config c wait last log timely for until ends w call known = inl (
+  ap late (some_same wait Lock (sym for ∙ w)),
+  lock_old_enough (age c log) (config.clock + ticks (device_acts log)) (until_of c (wait_acts (device_acts log))) call.arguments last until
+      ends (timely c Lock call w known),
+)
 
-abort_error : Abort ≢ NoError
-abort_error e = cc
-
-passing_step : (config : Config) → EachStepKeeps config Passing
-passing_step config log new fit so next = record { sound = sound_step config log new fit so.sound next; ended = by next }
+passing_step : (config : Config) → EachStepKeeps config (Passing config)
+passing_step config log new fit so next = record {
+  sound = sound_step config log new fit so.sound next;
+  timely = step_keeps config (AllTimely config) (timely_steps config) log new so.timely next;
+  ended = by next;
+}
   where
     by : IsNext config log new → IsEnded new
     by (inl (adds, such, is)) =
@@ -189,7 +214,9 @@ passing_step config log new fit so next = record { sound = sound_step config log
     by (inr (none, inr (still, inl (adds, such, is)))) =
         subst IsEnded (sym is) (ended_more (map OnDevice (map Applied adds)) log (quiet_happened adds log) so.ended)
     by (inr (none, inr (still, inr (idle, (c, wait, oldest, for, is))))) =
-        subst IsEnded (sym is) (ended_failed (late wait) c log (late_error wait) fit so.ended)
+        let past = oldest.0 in
+        subst IsEnded (sym is)
+        (ended_failed (late wait) c log (late_cause config c wait past.1 log so.timely for past.3 past.4) fit so.ended)
 
 -- ---- events
 
@@ -223,19 +250,62 @@ ended_request config polled c (CoreRequest call) log so =
 ended_request config polled c request log so =
     ended_effect c (request_effect config polled c request (device_acts log)) log tt so
 
-ended_aborted : (found : Option ℕ) (log : List Act) → Fit log → IsEnded log → IsEnded (abort_acts found log ++ log)
-ended_aborted (Some d) log fit so = ended_failed Abort d log abort_error fit so
-ended_aborted None log fit so = so
+-- the call that a device_abort ends names the device_abort's link
+aborted_names : (owner named : Option ℕ) (acts : List DeviceAct) (d : ℕ) → if_waiting owner named acts ≡ Some d
+    → named ≡ named_link d (wait_acts acts)
+aborted_names (Some c) (Some lid) acts d e =
+    by (is_some (waits c (wait_acts acts))) (is_this lid (named_link c (wait_acts acts))) refl e
+  where
+    is_named : (found : Option ℕ) → is_this lid found ≡ true → Some lid ≡ found
+    is_named (Some other) on = ap (λ (n : ℕ). Some n) (sym (eqb-true other lid on))
+    is_named None on = absurd cc
+    by : (suspended named : Bool) → is_this lid (named_link c (wait_acts acts)) ≡ named
+        → cond (suspended && named) (Some c) None ≡ Some d → Some lid ≡ named_link d (wait_acts acts)
+    by true true is e = is_named (named_link c (wait_acts acts)) is ∙ ap (λ (n : ℕ). named_link n (wait_acts acts)) (some_same c d e)
+    by true false is e = absurd cc
+    by false named is e = absurd cc
+aborted_names (Some c) None acts d e = absurd cc
+aborted_names None named acts d e = absurd cc
+
+-- a device_abort is one by its bytes
+abort_asked : (acts : List ConnAct) (bytes : List ℕ) (xid : ℕ) (lid : ℤ) → next_call acts ≡ Some bytes
+    → next_request acts ≡ Some (AbortRequest xid lid) → request_of AbortChannel (call_at bytes) ≡ AbortRequest xid lid
+abort_asked acts bytes xid lid next asks = by (open_role acts) (ap (request_for (open_role acts)) (sym next) ∙ asks)
+  where
+    by : (role : Option Role) → request_for role (Some bytes) ≡ Some (AbortRequest xid lid)
+        → request_of AbortChannel (call_at bytes) ≡ AbortRequest xid lid
+    by (Some role) e =
+        let is = some_same (request_of role (call_at bytes)) (AbortRequest xid lid) e in
+        ap (λ (r : Role). request_of r (call_at bytes)) (sym (asks_as role (call_at bytes) (AbortRequest xid lid) is).0) ∙ is
+    by None e = absurd cc
+
+ended_aborted : (config : Config) (polled c : ℕ) (bytes : List ℕ) (xid : ℕ) (lid : ℤ) (found : Option ℕ) (log : List Act)
+    → let taken = acts_of c (request_effect config polled c (AbortRequest xid lid) (device_acts log)) ++ On c (CallTaken bytes) ∷ log in
+    Fit taken → IsEnded taken → request_of AbortChannel (call_at bytes) ≡ AbortRequest xid lid
+    → aborts (AbortRequest xid lid) (device_acts log) ≡ found → IsEnded (abort_acts found taken ++ taken)
+ended_aborted config polled c bytes xid lid (Some d) log fit so is e =
+    let taken = acts_of c (request_effect config polled c (AbortRequest xid lid) (device_acts log)) ++ On c (CallTaken bytes) ∷ log in
+    let reply = result_reply xid (abort_result (lid_of (Some lid)) (device_acts log)) in
+    let names = aborted_names (owner_of (lid_of (Some lid)) (device_acts log)) (lid_of (Some lid)) (device_acts log) d e in
+    ended_failed Abort d taken (λ w call known. inr (refl, (c, bytes, reply, log, xid, lid, refl, is, names))) fit so
+ended_aborted config polled c bytes xid lid None log fit so is e = so
 
 ended_turn : (config : Config) (polled c : ℕ) (found : Option (List ℕ)) (asked : Option Request) (log : List Act) → Fit log
     → c < 16 → IsEnded log → next_call (of c log) ≡ found → next_request (of c log) ≡ asked
     → IsEnded (turn_acts config polled c found asked log ++ log)
 ended_turn config polled c (Some bytes) (Some request) log fit lt so next asks =
     let effect = request_effect config polled c request (device_acts log) in
-    let taken = acts_of c effect ++ On c (CallTaken bytes) ∷ log in
     subst IsEnded (sym (turn_parts c bytes effect (aborts request (device_acts log)) log))
-    (ended_aborted (aborts request (device_acts log)) taken (fit_request config polled c bytes request log fit lt next asks)
+    (by request asks (fit_request config polled c bytes request log fit lt next asks)
     (ended_request config polled c request (On c (CallTaken bytes) ∷ log) (ended_on c (CallTaken bytes) log so)))
+  where
+    by : (request : Request) → next_request (of c log) ≡ Some request
+        → let taken = acts_of c (request_effect config polled c request (device_acts log)) ++ On c (CallTaken bytes) ∷ log in
+        Fit taken → IsEnded taken → IsEnded (abort_acts (aborts request (device_acts log)) taken ++ taken)
+    by (AbortRequest xid lid) asks fit so =
+        ended_aborted config polled c bytes xid lid (aborts (AbortRequest xid lid) (device_acts log)) log fit so
+        (abort_asked (of c log) bytes xid lid next asks) refl
+    by _ asks fit so = so
 ended_turn config polled c _ _ log fit lt so next asks = so
 
 -- a peer was connected or not
@@ -261,9 +331,12 @@ ended_close c log so =
     ended_more (map OnDevice (close_adds c (device_acts log))) base
     (tt, quiet_links c (closing c (link_acts (device_acts log))) base (λ kept. shut)) (ended_on c PortClosed log so)
 
-passing_event : (config : Config) → EventsKeep config Passing
-passing_event config history event polled channel_log log was free fit so =
-    record { sound = sound_event config history event polled channel_log log was free fit so.sound; ended = by event free }
+passing_event : (config : Config) → EventsKeep config (Passing config)
+passing_event config history event polled channel_log log was free fit so = record {
+  sound = sound_event config history event polled channel_log log was free fit so.sound;
+  timely = timely_event config history event polled channel_log log was free fit so.timely;
+  ended = by event free;
+}
   where
     by : (event : PlainEvent) → refusal config channel_log event log ≡ None → IsEnded (own_acts config polled event log ++ log)
     by (Open c role) free = ended_on c (Opened role) log so.ended
@@ -302,14 +375,15 @@ passing_event config history event polled channel_log log was free fit so =
         (ended_more (map OnDevice (map Applied adds)) (OnDevice Ticked ∷ log) (quiet_happened adds (OnDevice Ticked ∷ log))
         (ended_more (OnDevice Ticked ∷ []) log (tt, tt) so.ended))
 
-passing_log : (config : Config) (history : List PlainEvent) (log : List Act) → IsLogOf config history log → Passing log
-passing_log config = each_place config Passing (record { sound = sound_none; ended = (tt, tt) }) (passing_event config)
-    (passing_step config)
+passing_log : (config : Config) (history : List PlainEvent) (log : List Act) → IsLogOf config history log → Passing config log
+passing_log config =
+    each_place config (Passing config) (record { sound = sound_none; timely = timely_none_yet config; ended = (tt, tt) })
+    (passing_event config) (passing_step config)
 
 -- ---- the law
 
 fails_at : (c : ℕ) (act : Act) (older : List Act) → IsFailure c act older → FailsNext c (act ∷ []) older
-fails_at c (On d (Replied reply)) older (same, call, error, is, known, ne) = ([], call, error, rw (same, is) refl, known, ne)
+fails_at c (On d (Replied reply)) older (same, call, error, is, known, cause) = ([], call, error, rw (same, is) refl, known, cause)
 fails_at c _ older h = absurd h
 
 ends_behind : (act : Act) (newer older : List Act) (c : ℕ) → AllEnd ((act ∷ newer) ++ OnDevice (Waited (Left c)) ∷ older) → IsKept c older
@@ -317,7 +391,7 @@ ends_behind : (act : Act) (newer older : List Act) (c : ℕ) → AllEnd ((act �
 ends_behind act [] older c all kept = elim (all.0 kept) [ inl shut ↦ inl shut | inr fails ↦ inr (fails_at c act older fails) ]
 ends_behind act (other ∷ newer) older c all kept = elim (ends_behind other newer older c all.1 kept) [
   | inl shut ↦ inl shut
-  | inr (more, call, error, is, known, ne) ↦ inr (act ∷ more, call, error, ap (λ (l : List Act). act ∷ l) is, known, ne)
+  | inr (more, call, error, is, known, cause) ↦ inr (act ∷ more, call, error, ap (λ (l : List Act). act ∷ l) is, known, cause)
 ]
 
 ends_at : (newer older : List Act) (c : ℕ) → IsEnded (newer ++ OnDevice (Waited (Left c)) ∷ older) → IsKept c older
@@ -325,37 +399,38 @@ ends_at : (newer older : List Act) (c : ℕ) → IsEnded (newer ++ OnDevice (Wai
 ends_at [] older c so kept = inl (so.0 kept)
 ends_at (act ∷ newer) older c so kept = ends_behind act newer older c so.1 kept
 
-device_join : (newer older : List Act) (act : DeviceAct)
+pub device_join : (newer older : List Act) (act : DeviceAct)
     → device_acts (newer ++ OnDevice act ∷ older) ≡ device_acts newer ++ act ∷ device_acts older
 device_join [] older act = refl
 device_join (On c other ∷ newer) older act = device_join newer older act
 device_join (OnDevice other ∷ newer) older act = ap (λ (l : List DeviceAct). other ∷ l) (device_join newer older act)
 
--- The lock is free and the call is the oldest; or its connection is closed; or it fails.
+-- The lock is free and the call came first; or its connection is closed; or it fails.
 abbrev Passes : ℕ → List Act → List Act → Type 0
-Passes c newer older = ((holder (link_acts (device_acts older)) ≡ None) × IsFirst c (device_acts older))
-    ⊎ (is_open (of c older) ≡ false) ⊎ FailsNext c newer older
+Passes c newer older =
+    ((holder (link_acts (device_acts older)) ≡ None) × IsFirst c older) ⊎ (is_open (of c older) ≡ false) ⊎ FailsNext c newer older
 
-passes_left : (c : ℕ) (newer older : List Act) (o : Option ℕ) → holder (link_acts (device_acts older)) ≡ o
+passes_left : (c : ℕ) (newer older : List Act) (o : Option ℕ) → AllPlaced older → holder (link_acts (device_acts older)) ≡ o
     → Keeps (device_acts older) (Waited (Left c)) → IsEnded (newer ++ OnDevice (Waited (Left c)) ∷ older)
     → WaitsForLock (device_acts older) c → Passes c newer older
-passes_left c newer older None is keep so w = inl (is, keep w is)
-passes_left c newer older (Some lid) is keep so w = inr (ends_at newer older c so (w, lid, is))
+passes_left c newer older None placed is keep so w = inl (is, first_is c older placed (keep w is))
+passes_left c newer older (Some lid) placed is keep so w = inr (ends_at newer older c so (w, lid, is))
 
-passes_by : (c : ℕ) (act : WaitAct) (newer older : List Act) → Keeps (device_acts older) (Waited act)
+passes_by : (c : ℕ) (act : WaitAct) (newer older : List Act) → AllPlaced older → Keeps (device_acts older) (Waited act)
     → IsEnded (newer ++ OnDevice (Waited act) ∷ older) → ends_wait c act ≡ true → WaitsForLock (device_acts older) c → Passes c newer older
-passes_by c (Entered conn named wait last) newer older keep so e w = absurd cc
-passes_by c (Again conn wait last) newer older keep so e w =
-    inl (keep.1, subst (λ (n : ℕ). IsFirst n (device_acts older)) (eqb-true conn c e) keep.2)
-passes_by c (Left conn) newer older keep so e w =
+passes_by c (Entered conn named wait last) newer older placed keep so e w = absurd cc
+passes_by c (Again conn wait last) newer older placed keep so e w =
+    inl (keep.1, subst (λ (n : ℕ). IsFirst n older) (eqb-true conn c e) (first_is conn older placed keep.2))
+passes_by c (Left conn) newer older placed keep so e w =
     let same = eqb-true conn c e in
     subst (λ (n : ℕ). Passes n newer older) same
-    (passes_left conn newer older (holder (link_acts (device_acts older))) refl keep so
+    (passes_left conn newer older (holder (link_acts (device_acts older))) placed refl keep so
     (ap (λ (n : ℕ). waits n (wait_acts (device_acts older))) same ∙ w))
 
 pub oldest_passes : OldestPasses
 oldest_passes config history log newer older act c was is e w =
-    passes_by c act newer older
+    passes_by c act newer older (placed_before newer (OnDevice (Waited act) ∷ older)
+    (subst AllPlaced is (placed_log config history log was).placed)).1
     (place_of config history log (device_acts newer) (device_acts older) (Waited act) was
     (ap device_acts is ∙ device_join newer older (Waited act)))
     (subst IsEnded is (passing_log config history log was).ended) e w

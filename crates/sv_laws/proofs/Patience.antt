@@ -1,5 +1,5 @@
 -- How long calls wait at most, by their arguments: where they begin to wait, and behind the lock.
-use Rattle.std.proofs.Common.{◌≡◌, ℕ, ◌+◌, ◌≤◌, Bool, true, false, cond, List, Option, Some, None, refl, subst, inl, inr, ◌⊎◌, arith}
+use Rattle.std.proofs.Common.{◌≡◌, ◌≢◌, ℕ, ◌+◌, ◌≤◌, Bool, true, false, cond, List, Option, Some, None, refl, subst, inl, inr, ◌⊎◌, arith}
 use Rattle.std.specs.Prelude.{not, is_some, ◌&&◌, option_map, ℤ}
 use Rattle.sv_vxi.specs.declared.error_code.ErrorCode.TheVariants.{InvalidLink, ParameterError, NotAccessible, NotSupported, OutOfResources, InvalidAddress, AlreadyEstablished}
 use Rattle.sv_vxi.specs.declared.error_code.ErrorCode.TheVariants.{Locked as DeviceLocked}
@@ -17,6 +17,7 @@ use Rattle.sv_history.specs.Admission.{Stop, Fails, Awaits, lock_stop, device_wa
 use Rattle.sv_history.specs.Resuming.{next_wait}
 use Rattle.sv_laws.specs.InTime.{lock_patience, lock_time, patience, waits_for_peer}
 use Rattle.sv_laws.proofs.Facts.{some_same}
+use Rattle.sv_laws.proofs.Sound.{again_is}
 
 -- how long a call can have waited in all, when this wait ends
 abbrev pub bound : Wait → Arguments → ℕ
@@ -34,6 +35,7 @@ bound_most _ arguments = omega arith
 -- what a call waits for behind the lock, it waits for as long as its I/O timeout says
 abbrev pub IsThen : Wait → Arguments → Wait × ℕ → Type 0
 IsThen wait arguments next = (wait ≡ Lock) × (waits_for_peer arguments ≡ false) × (next.1 + lock_time arguments ≤ bound next.0 arguments)
+    × (next.0 ≢ Lock)
 
 then_write : (b : Bool) (timeout most : ℕ) (arguments : Arguments) (next : Wait × ℕ) → cond b (Some (ForInput, timeout)) None ≡ Some next
     → timeout + most ≤ patience arguments → next.1 + most ≤ bound next.0 arguments
@@ -55,6 +57,7 @@ then_is Lock (OnLink lid (DeviceWrite timeout lock_timeout flags bytes)) acts ne
       refl,
       then_write (has_ended (exchange_acts acts)) timeout (lock_patience (lock_wait call)) (OnLink lid call) next e
           (omega arith),
+      (again_is Lock (OnLink lid call) acts next e).1,
     )
 then_is Lock (OnLink lid (DeviceRead request_size timeout lock_timeout flags term_char)) acts next e =
     let call = DeviceRead request_size timeout lock_timeout flags term_char in (
@@ -62,6 +65,7 @@ then_is Lock (OnLink lid (DeviceRead request_size timeout lock_timeout flags ter
       refl,
       then_read (is_answerable (instrument_acts acts)) timeout (lock_patience (lock_wait call)) (OnLink lid call) next e
           (omega arith),
+      (again_is Lock (OnLink lid call) acts next e).1,
     )
 then_is Lock _ acts next e = absurd cc
 then_is ForInput arguments acts next e = absurd cc
@@ -70,10 +74,10 @@ then_is Dial arguments acts next e = absurd cc
 
 -- ---- a call begins to wait
 
--- A call that begins to wait waits for a peer, or no longer than its timeout.
+-- A call that begins to wait waits for a peer, or no longer than its timeout; and for the lock no shorter.
 abbrev pub Begins : Wait → Option ℕ → Arguments → Type 0
 Begins wait until arguments = (waits_for_peer arguments ≡ true)
-    ⊎ ((timeout : ℕ) × (until ≡ Some timeout) × (timeout ≤ bound wait arguments))
+    ⊎ ((timeout : ℕ) × (until ≡ Some timeout) × (timeout ≤ bound wait arguments) × (wait ≡ Lock → lock_time arguments ≤ timeout))
 
 begins_same : (wait other : Wait) (until also : Option ℕ) (arguments : Arguments) → Begins wait until arguments
     → Some (Awaits wait until) ≡ Some (Awaits other also) → Begins other also arguments
@@ -92,7 +96,7 @@ device_begins lid (DeviceWrite timeout lock_timeout flags bytes) acts wait until
         ≡ Some (Awaits wait until)
         → Begins wait until (OnLink lid (DeviceWrite timeout lock_timeout flags bytes))
     by true e = begins_same ForInput wait (Some timeout) until (OnLink lid (DeviceWrite timeout lock_timeout flags bytes))
-        (inr (timeout, refl, omega arith)) e
+        (inr (timeout, refl, omega arith, λ (lock : ForInput ≡ Lock). absurd cc)) e
     by false e = absurd cc
 device_begins lid (DeviceRead request_size timeout lock_timeout flags term_char) acts wait until e = by
     (is_answerable (instrument_acts acts)) e
@@ -101,7 +105,7 @@ device_begins lid (DeviceRead request_size timeout lock_timeout flags term_char)
         ≡ Some (Awaits wait until)
         → Begins wait until (OnLink lid (DeviceRead request_size timeout lock_timeout flags term_char))
     by false e = begins_same Response wait (Some timeout) until (OnLink lid (DeviceRead request_size timeout lock_timeout flags term_char))
-        (inr (timeout, refl, omega arith)) e
+        (inr (timeout, refl, omega arith, λ (lock : Response ≡ Lock). absurd cc)) e
     by true e = absurd cc
 device_begins lid _ acts wait until e = absurd cc
 
@@ -112,7 +116,7 @@ lock_begins lid call (Some one) wait until is e = by one.waits refl e
     by : (b : Bool) → one.waits ≡ b → Some (cond b (Awaits Lock (Some one.timeout)) (Fails DeviceLocked)) ≡ Some (Awaits wait until)
         → Begins wait until (OnLink lid call)
     by true w e = begins_same Lock wait (Some one.timeout) until (OnLink lid call)
-        (inr (one.timeout, refl, rw (is, w) (omega arith))) e
+        (inr (one.timeout, refl, rw (is, w) (omega arith), λ (lock : Lock ≡ Lock). rw (is, w) (omega arith))) e
     by false w e = absurd cc
 lock_begins lid call None wait until is e = absurd cc
 
@@ -132,7 +136,8 @@ link_begins : (named more asks locked : Bool) (client_id : ℤ) (timeout : ℕ) 
 link_begins false more asks locked client_id timeout device wait until e = absurd cc
 link_begins true false asks locked client_id timeout device wait until e = absurd cc
 link_begins true true true true client_id timeout device wait until e =
-    begins_same Lock wait (Some timeout) until (CreateLink client_id true timeout device) (inr (timeout, refl, omega arith)) e
+    begins_same Lock wait (Some timeout) until (CreateLink client_id true timeout device)
+    (inr (timeout, refl, omega arith, λ (lock : Lock ≡ Lock). omega arith)) e
 link_begins true true true false client_id timeout device wait until e = absurd cc
 link_begins true true false locked client_id timeout device wait until e = absurd cc
 

@@ -27,14 +27,14 @@ use Rattle.sv_history.specs.Request.{core_call_in}
 use Rattle.sv_history.specs.Resuming.{effect_of, leaving, next_wait, resume_outcome, resume_effect, failure_effect}
 use Rattle.sv_history.specs.Settling.{CanResume}
 use Rattle.sv_history.proofs.Projections.{of_shared, device_shared, device_effect, wait_acts-happened}
-use Rattle.sv_laws.specs.LockFair.{WaitsForLock, IsFirst, MayGet}
+use Rattle.sv_laws.specs.LockFair.{WaitsForLock}
 use Rattle.sv_laws.proofs.Facts.{some_same, some_none}
 use Rattle.sv_laws.proofs.CallsAlike.{SameCall, conn_of, call_foreign}
 use Rattle.sv_laws.proofs.EveryLog.Done.{each_done}
 use Rattle.sv_laws.proofs.EveryLog.Fit.{AllSuit, Fit, of_each}
 use Rattle.sv_laws.proofs.EveryLog.Known.{owner_within}
 use Rattle.sv_laws.proofs.EveryLog.EachEvent.{done_waits}
-use Rattle.sv_laws.proofs.EveryLog.Keeps.{Keeps, AllKeep, NamesNone, keep_more, named_lives, out_or_this, lock_is_free}
+use Rattle.sv_laws.proofs.EveryLog.Keeps.{IsEarliest, MayTake, Keeps, AllKeep, NamesNone, keep_more, named_lives, out_or_this, lock_is_free}
 
 -- ---- a suspended call is that of its connection
 
@@ -44,10 +44,17 @@ takes_lock (CreateLink client_id lock_device lock_timeout device) = true
 takes_lock (OnLink lid (DeviceLock flags lock_timeout)) = true
 takes_lock _ = false
 
--- A suspended call has the link of its arguments, and waits for the lock if it can take the lock.
+-- whether a call lets its link go
+abbrev pub lets_go : Arguments → Bool
+lets_go (OnLink lid DeviceUnlock) = true
+lets_go (OnLink lid DestroyLink) = true
+lets_go _ = false
+
+-- A suspended call has the link of its arguments, waits for the lock if it can take the lock, and doesn't let its link go.
 abbrev pub Told : ℕ → List ConnAct → List WaitAct → Type 0
 Told c own acts = (wait : Wait) (call : CoreCall) → waits c acts ≡ Some wait → core_call_in (pending_call own) ≡ Some call
     → (named_link c acts ≡ lid_of (link call.arguments)) × (takes_lock call.arguments ≡ true → wait ≡ Lock)
+    × (lets_go call.arguments ≡ false)
 
 pub record Sound (log : List Act) : Type 0 where
   pub keeps : AllKeep (device_acts log)
@@ -62,7 +69,7 @@ told_idle c own acts none = λ wait call is busy. some_none (core_call_in (pendi
 pub told_same : (c : ℕ) (own now : List ConnAct) (acts after : List WaitAct) → pending_call now ≡ pending_call own → SameCall c after acts
     → Told c own acts → Told c now after
 told_same c own now acts after pending same told = λ wait call is busy.
-    let was = told wait call (sym same.wait ∙ is) (ap core_call_in (sym pending) ∙ busy) in (same.named ∙ was.0, was.1)
+    let was = told wait call (sym same.wait ∙ is) (ap core_call_in (sym pending) ∙ busy) in (same.named ∙ was.0, was.1, was.2)
 
 pub same_none : (c : ℕ) (acts : List WaitAct) → SameCall c acts acts
 same_none c acts = record { wait = refl; until = refl; named = refl }
@@ -110,7 +117,7 @@ asks_lock _ = false
 -- Nobody waits for the lock, or the call waited for it until now, and was the first.
 abbrev pub IsTurn : ℕ → List DeviceAct → Type 0
 IsTurn c acts = ((d : ℕ) → WaitsForLock acts d → ⊥)
-    ⊎ ((before : List DeviceAct) × (acts ≡ Waited (Left c) ∷ before) × IsFirst c before)
+    ⊎ ((before : List DeviceAct) × (acts ≡ Waited (Left c) ∷ before) × IsEarliest c before)
 
 pub record MayDo (c : ℕ) (arguments : Arguments) (acts : List DeviceAct) : Type 0 where
   pub suits : AllSuit acts
@@ -138,18 +145,18 @@ made_owner c lid acts all next = pushed_new lid c (live (link_acts acts)) (by (o
     by (Some d) is = let le = owner_within lid d acts all is in absurd (omega (arith, le, next))
 
 may_get : (c lid : ℕ) (acts : List DeviceAct) → owner lid (link_acts acts) ≡ Some c → holder (link_acts acts) ≡ None → IsTurn c acts
-    → MayGet lid acts
+    → MayTake lid acts
 may_get c lid acts owns free (inl nobody) = inr (free, inl nobody)
 may_get c lid acts owns free (inr (before, is, first)) = inr (free, inr (c, [], before, is, owns, first))
 
 made_gets : (c lid : ℕ) (acts : List DeviceAct) → owner lid (Made lid c ∷ link_acts acts) ≡ Some c → holder (link_acts acts) ≡ None
-    → IsTurn c acts → MayGet lid (Linked (Made lid c) ∷ acts)
+    → IsTurn c acts → MayTake lid (Linked (Made lid c) ∷ acts)
 made_gets c lid acts owns free (inl nobody) = inr (free, inl nobody)
 made_gets c lid acts owns free (inr (before, is, first)) =
     inr (free, inr (c, Made lid c ∷ [], before, ap (λ (l : List DeviceAct). Linked (Made lid c) ∷ l) is, owns, first))
 
 lock_gets : (c lid : ℕ) (acts : List DeviceAct) (o : Option ℕ) → holder (link_acts acts) ≡ o → is_locked_out o (Some lid) ≡ false
-    → owner lid (link_acts acts) ≡ Some c → (holder (link_acts acts) ≡ None → IsTurn c acts) → MayGet lid acts
+    → owner lid (link_acts acts) ≡ Some c → (holder (link_acts acts) ≡ None → IsTurn c acts) → MayTake lid acts
 lock_gets c lid acts None is e owns turn = may_get c lid acts owns is (turn is)
 lock_gets c lid acts (Some h) is e owns turn = inl (is ∙ sym (out_or_this h (Some lid) e))
 
@@ -272,7 +279,7 @@ pub free_of : (acts : List DeviceAct) → AllSuit acts → AllKeep acts → (c :
 free_of acts suits keeps c able w = lock_is_free acts suits keeps c w (not_out acts c able w)
 
 pub first_of : (acts : List DeviceAct) → AllSuit acts → AllKeep acts → (c : ℕ) → IsOldest (wait_acts acts) (CanResume acts) (Some c)
-    → WaitsForLock acts c → IsFirst c acts
+    → WaitsForLock acts c → IsEarliest c acts
 first_of acts suits keeps c oldest w =
     let free = free_of acts suits keeps c oldest.0 w in
     (w, λ d waits_too. oldest.1 d (able_lock acts d waits_too free))
@@ -326,6 +333,7 @@ sound_continued config polled c wait call (Some next) log fit so oldest for know
       (so.told c wait found for busy).0,
       λ takes. absurd (let z : true ≡ false = sym takes ∙ ap (λ (k : CoreCall). takes_lock k.arguments) same
           ∙ again.2 in cc),
+      (so.told c wait found for busy).2,
     ))
 sound_continued config polled c wait call None log fit so oldest for known e =
     let acts = device_acts log in

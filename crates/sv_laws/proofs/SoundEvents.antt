@@ -7,7 +7,7 @@ use mathlib.Core.List.{reverse_aux}
 use Rattle.sv_logs.proofs.Each.{Each}
 use Rattle.sv_vxi.specs.declared.error_code.ErrorCode.TheVariants.{Abort, InvalidLink, ParameterError, NotAccessible, NotSupported, OutOfResources, InvalidAddress, AlreadyEstablished}
 use Rattle.sv_vxi.specs.declared.error_code.ErrorCode.TheVariants.{Locked as DeviceLocked}
-use Rattle.sv_vxi.specs.Arguments.{LinkCall, DeviceWrite, DeviceRead, DeviceLock, Arguments, CreateLink, OnLink, CreateIntrChan, DestroyIntrChan, link, lock_wait}
+use Rattle.sv_vxi.specs.Arguments.{LinkCall, DeviceWrite, DeviceRead, DeviceLock, DeviceUnlock, DestroyLink, Arguments, CreateLink, OnLink, CreateIntrChan, DestroyIntrChan, link, lock_wait}
 use Rattle.sv_links.specs.declared.waiting.Wait.{Wait}
 use Rattle.sv_links.specs.declared.waiting.Wait.TheVariants.{Lock, Input as ForInput, Response, Dial}
 use Rattle.sv_links.specs.Links.{LinkAct, Destroyed, Locked, links_of, closing, owner, holder, is_locked_out}
@@ -38,7 +38,7 @@ use Rattle.sv_history.proofs.Dialing.{peer_by, dialed_to, dialed_is}
 use Rattle.sv_history.proofs.Projections.{of_mine, device_effect, wait_acts-links}
 use Rattle.sv_laws.proofs.CallsAlike.{SameCall}
 use Rattle.sv_links.specs.declared.request.Peer.{Peer}
-use Rattle.sv_laws.specs.LockFair.{WaitsForLock, WaitsWhileHeld, OldestGets}
+use Rattle.sv_laws.specs.LockFair.{WaitsForLock, WaitsWhileHeld}
 use Rattle.sv_laws.proofs.Facts.{some_same, some_none}
 use Rattle.sv_laws.proofs.NoneLate.{none_late}
 use Rattle.sv_laws.proofs.Place.{EventsKeep, EachStepKeeps, each_place, none_resumes}
@@ -49,7 +49,7 @@ use Rattle.sv_laws.proofs.EveryLog.Fit.{AllSuit, Fit}
 use Rattle.sv_laws.proofs.EveryLog.Known.{rises}
 use Rattle.sv_laws.proofs.EveryLog.EachEvent.{done_waits, entered_waits, idle_free, turn_parts, refuse_keeps, close_adds, device_closed, of_closed}
 use Rattle.sv_laws.proofs.EveryLog.Keeps.{Keeps, AllKeep, NamesNone, keep_more, keep_before, named_lives}
-use Rattle.sv_laws.proofs.Sound.{takes_lock, Told, Sound, told_none, told_idle, told_same, same_none, same_other, sound_effect, sound_shared, sound_happened, asks_lock, MayDo, keep_done, left_none, sound_left, sound_ended, sound_failed, able_lock, sound_resumed}
+use Rattle.sv_laws.proofs.Sound.{takes_lock, lets_go, Told, Sound, told_none, told_idle, told_same, same_none, same_other, sound_effect, sound_shared, sound_happened, asks_lock, MayDo, keep_done, left_none, sound_left, sound_ended, sound_failed, able_lock, sound_resumed}
 
 -- ---- a call that nothing stops
 
@@ -57,7 +57,7 @@ owned_by : (own : Bool) (rest : Option Stop) → cond (not own) (Some (Fails Inv
 owned_by true rest e = refl
 owned_by false rest e = absurd cc
 
-unstopped_names : (c : ℕ) (arguments : Arguments) (acts : List DeviceAct) (n : ℕ) → stop_of c arguments acts ≡ None
+pub unstopped_names : (c : ℕ) (arguments : Arguments) (acts : List DeviceAct) (n : ℕ) → stop_of c arguments acts ≡ None
     → lid_of (link arguments) ≡ Some n → owner n (link_acts acts) ≡ Some c
 unstopped_names c (OnLink lid call) acts n e is = named_own c (lid_of (Some lid)) acts n (owned_by (owns c (lid_of (Some lid)) acts) _ e) is
 unstopped_names c _ acts n e is = absurd cc
@@ -152,10 +152,21 @@ takes_waits c (OnLink lid (DeviceLock flags lock_timeout)) acts wait until e is 
     lock_by (owns c (lid_of (Some lid)) acts) (is_locked_out (holder (link_acts acts)) (lid_of (Some lid))) _ lock_timeout wait until e
 takes_waits c _ acts wait until e is = absurd cc
 
+-- a call that lets its link go waits for nothing
+unlock_by : (own : Bool) (wait : Wait) (until : Option ℕ) → cond (not own) (Some (Fails InvalidLink)) None ≡ Some (Awaits wait until) → ⊥
+unlock_by false wait until e = cc
+unlock_by true wait until e = cc
+
+waits_on : (c : ℕ) (arguments : Arguments) (acts : List DeviceAct) (wait : Wait) (until : Option ℕ)
+    → stop_of c arguments acts ≡ Some (Awaits wait until) → lets_go arguments ≡ false
+waits_on c (OnLink lid DeviceUnlock) acts wait until e = absurd (unlock_by (owns c (lid_of (Some lid)) acts) wait until e)
+waits_on c (OnLink lid DestroyLink) acts wait until e = absurd (unlock_by (owns c (lid_of (Some lid)) acts) wait until e)
+waits_on c _ acts wait until e = refl
+
 -- ---- a Turn
 
 -- No call waits for a free lock.
-abbrev IsQuiet : List DeviceAct → Type 0
+abbrev pub IsQuiet : List DeviceAct → Type 0
 IsQuiet acts = (d : ℕ) → WaitsForLock acts d → holder (link_acts acts) ≡ None → ⊥
 
 quiet_left : (acts : List DeviceAct) → IsQuiet acts → (c : ℕ) → Keeps acts (Waited (Left c))
@@ -213,8 +224,8 @@ sound_admitted config polled c bytes call (Some (Awaits wait until)) log suits s
     let same : call ≡ found = some_same call found (sym known ∙ busy) in
     let waits_same : wait ≡ other = some_same wait other (sym now.0 ∙ is) in
     subst (λ (k : CoreCall). (named_link c (Entered c named wait last ∷ wait_acts acts) ≡ lid_of (link k.arguments))
-    × (takes_lock k.arguments ≡ true → other ≡ Lock)) same
-    (now.1, λ takes. sym waits_same ∙ takes_waits c call.arguments acts wait until e takes))
+    × (takes_lock k.arguments ≡ true → other ≡ Lock) × (lets_go k.arguments ≡ false)) same
+    (now.1, (λ takes. sym waits_same ∙ takes_waits c call.arguments acts wait until e takes), waits_on c call.arguments acts wait until e))
 
 sound_request : (config : Config) (polled c : ℕ) (bytes : List ℕ) (request : Request) (log : List Act) → Fit log → Sound log
     → IsQuiet (device_acts log) → next_call (of c log) ≡ Some bytes → next_request (of c log) ≡ Some request
@@ -391,6 +402,3 @@ pub place_of : (config : Config) (history : List PlainEvent) (log : List Act) (n
     → IsLogOf config history log → device_acts log ≡ newer ++ act ∷ older → Keeps older act
 place_of config history log newer older act was is =
     (keep_before newer (act ∷ older) (subst AllKeep is (sound_log config history log was).keeps)).0
-
-pub oldest_gets : OldestGets
-oldest_gets config history log newer older lid was is = (place_of config history log newer older (Linked (Locked lid)) was is).1

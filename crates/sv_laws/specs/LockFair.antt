@@ -1,28 +1,38 @@
--- The lock is given in the order in which calls came (VXI-11 revision 1.0, section B.4.4).
-use Rattle.std.specs.Prelude.{◌≡◌, ◌⊎◌, ◌≢◌, ℕ, ◌==◌, Bool, true, false, List, [], ◌∷◌, ◌++◌, map, Option, Some, None, is_some}
+-- The lock is given in the order in which calls came, and the link that holds it keeps it (VXI-11 revision 1.0, section B.4.4).
+use Rattle.std.specs.Prelude.{◌≡◌, ◌≢◌, ◌⊎◌, ◌≤◌, ℕ, ℤ, pos, ◌==◌, Bool, true, false, List, [], ◌∷◌, ◌++◌, map, Option, Some, None, is_some, if◌then◌else◌}
+use Rattle.sv_rpc.specs.Call.{call_at}
 use Rattle.sv_vxi.specs.declared.error_code.ErrorCode.{ErrorCode}
-use Rattle.sv_vxi.specs.declared.error_code.ErrorCode.TheVariants.{NoError}
-use Rattle.sv_vxi.specs.Arguments.{Arguments, CreateLink, OnLink, lock_wait, link as link_in}
+use Rattle.sv_vxi.specs.declared.error_code.ErrorCode.TheVariants.{NoError, Abort}
+use Rattle.sv_vxi.specs.declared.error_code.ErrorCode.TheVariants.{Locked as DeviceLocked}
+use Rattle.sv_vxi.specs.Arguments.{DeviceUnlock, DestroyLink, Arguments, CreateLink, OnLink, lock_wait, link as link_in}
 use Rattle.sv_links.specs.declared.waiting.Wait.TheVariants.{Lock}
 use Rattle.sv_links.specs.Links.{LinkAct, Locked, owner, holder}
-use Rattle.sv_links.specs.Waiting.{WaitAct, Entered, Again, Left, waits, link, IsOldest}
+use Rattle.sv_links.specs.Waiting.{WaitAct, Entered, Again, Left, waits, link}
 use Rattle.sv_history.specs.declared.event.Config.{Config}
-use Rattle.sv_history.specs.Event.{PlainEvent}
-use Rattle.sv_history.specs.Act.{Act, DeviceAct, Replied, Linked, Waited, On, OnDevice, of, device_acts, link_acts, wait_acts}
-use Rattle.sv_history.specs.Connection.{is_open, pending_call}
-use Rattle.sv_history.specs.Admission.{Stop, Fails, Awaits, stop_of}
+use Rattle.sv_history.specs.declared.event.Role.TheVariants.{Core, Abort as AbortChannel}
+use Rattle.sv_history.specs.Event.{PlainEvent, Turn}
+use Rattle.sv_history.specs.Act.{Act, DeviceAct, CallTaken, Replied, Linked, Waited, On, OnDevice, of, device_acts, link_acts, wait_acts}
+use Rattle.sv_history.specs.Connection.{is_open, next_call, pending_call}
 use Rattle.sv_history.specs.CoreCall.{CoreCall, lid_of, failure}
 use Rattle.sv_history.specs.Effect.{result_reply}
-use Rattle.sv_history.specs.Request.{core_call_in}
+use Rattle.sv_history.specs.Request.{CoreRequest, AbortRequest, request_of, core_call_in, next_request}
 use Rattle.sv_history.specs.History.{IsLogOf}
+use Rattle.sv_laws.specs.InTime.{age, lock_time}
 
 -- The call of this connection waits for the lock.
 abbrev pub WaitsForLock : List DeviceAct → ℕ → Type 0
 WaitsForLock acts c = waits c (wait_acts acts) ≡ Some Lock
 
--- Of all calls that wait for the lock, the call of this connection was suspended first.
-abbrev pub IsFirst : ℕ → List DeviceAct → Type 0
-IsFirst c acts = IsOldest (wait_acts acts) (WaitsForLock acts) (Some c)
+-- whether the newest call that was taken on connection `d` came after the newest call that was taken on connection `c`
+abbrev pub is_later : ℕ → ℕ → List Act → Bool
+is_later c d [] = false
+is_later c d (On e (CallTaken call) ∷ log) = if e == d then true else (if e == c then false else is_later c d log)
+is_later c d (_ ∷ log) = is_later c d log
+
+-- The call of connection `c` waits for the lock, and of all calls that wait for the lock it came first.
+abbrev pub IsFirst : ℕ → List Act → Type 0
+IsFirst c log = WaitsForLock (device_acts log) c
+    × ((d : ℕ) → WaitsForLock (device_acts log) d → d ≢ c → is_later c d log ≡ true)
 
 -- While a call waits for the lock between two events, a link holds the lock, and it isn't the link that the call names.
 abbrev pub WaitsWhileHeld : Type 0
@@ -36,19 +46,19 @@ needs_lock (CreateLink client_id lock_device lock_timeout device) = lock_device
 needs_lock (OnLink lid call) = is_some (lock_wait call)
 needs_lock _ = false
 
--- whether a call passes the check of the lock, given what stops the call: nothing, or something that the call waits for besides the lock
-abbrev pub is_let_in : Option Stop → Bool
-is_let_in None = true
-is_let_in (Some (Fails error)) = false
-is_let_in (Some (Awaits Lock timeout)) = false
-is_let_in (Some (Awaits wait timeout)) = true
+-- The call that a Turn took isn't executed: it waits for the lock, or it is answered with an error.
+abbrev pub StaysOut : ℕ → List ℕ → CoreCall → List Act → List Act → Type 0
+StaysOut c bytes call before log = ((of c log ≡ CallTaken bytes ∷ of c before) × WaitsForLock (device_acts log) c)
+    ⊎ ((error : ErrorCode) × (error ≢ NoError)
+    × (of c log ≡ Replied (result_reply call.xid (failure call.arguments error)) ∷ CallTaken bytes ∷ of c before))
 
--- While a call waits for the lock, a new call that needs the lock passes the check of the lock only if its link holds the lock.
+-- While a call waits for the lock, a Turn takes another call that needs the lock. If the link that this call names doesn't hold the lock,
+-- the call isn't executed.
 abbrev pub NoneOvertakes : Type 0
-NoneOvertakes = (config : Config) (history : List PlainEvent) (log : List Act) (c d : ℕ) (arguments : Arguments)
-    → IsLogOf config history log → WaitsForLock (device_acts log) d → needs_lock arguments ≡ true
-    → is_let_in (stop_of c arguments (device_acts log)) ≡ true
-    → (lid : ℕ) × (holder (link_acts (device_acts log)) ≡ Some lid) × (lid_of (link_in arguments) ≡ Some lid)
+NoneOvertakes = (config : Config) (history : List PlainEvent) (before log : List Act) (c d : ℕ) (bytes : List ℕ) (call : CoreCall)
+    → IsLogOf config history before → IsLogOf config (Turn c ∷ history) log → WaitsForLock (device_acts before) d
+    → next_call (of c before) ≡ Some bytes → next_request (of c before) ≡ Some (CoreRequest call) → needs_lock call.arguments ≡ true
+    → holder (link_acts (device_acts before)) ≢ lid_of (link_in call.arguments) → StaysOut c bytes call before log
 
 -- whether this act ends what the call of connection `c` waits for: the call waits for something else, or isn't suspended any more
 abbrev pub ends_wait : ℕ → WaitAct → Bool
@@ -56,31 +66,54 @@ ends_wait c (Entered conn link wait deadline) = false
 ends_wait c (Again conn wait deadline) = conn == c
 ends_wait c (Left conn) = conn == c
 
--- The act that comes right after the call of connection `c` left the suspended calls is a reply with an error to this call.
+-- The newest acts are those of a device_abort that names the link of the suspended call of connection `c`.
+abbrev pub IsAborted : ℕ → List Act → Type 0
+IsAborted c log = (d : ℕ) × (bytes reply : List ℕ) × (before : List Act) × (xid : ℕ) × (lid : ℤ)
+    × (log ≡ On d (Replied reply) ∷ On d (CallTaken bytes) ∷ before)
+    × (request_of AbortChannel (call_at bytes) ≡ AbortRequest xid lid)
+    × (lid_of (Some lid) ≡ link c (wait_acts (device_acts before)))
+
+-- The call of connection `c` fails: the next act is the reply with the error. The error is 11, and as many milliseconds as the call's lock
+-- timeout passed since the call was taken; or it is 23, and a device_abort named the call's link.
 abbrev pub FailsNext : ℕ → List Act → List Act → Type 0
 FailsNext c newer older = (more : List Act) × (call : CoreCall) × (error : ErrorCode)
     × (newer ≡ more ++ On c (Replied (result_reply call.xid (failure call.arguments error))) ∷ [])
-    × (core_call_in (pending_call (of c older)) ≡ Some call) × (error ≢ NoError)
+    × (core_call_in (pending_call (of c older)) ≡ Some call)
+    × (((error ≡ DeviceLocked) × (lock_time call.arguments ≤ age c older)) ⊎ ((error ≡ Abort) × IsAborted c older))
 
--- A call stops to wait for the lock in one of three ways: the lock is free, and of all calls that wait for the lock the call is the oldest;
--- or its connection was closed; or the call is answered with an error.
+-- A call stops to wait for the lock in one of three ways: the lock is free, and of all calls that wait for the lock the call came first; or
+-- its connection was closed; or the call fails, by its own timeout or by a device_abort (`FailsNext`).
 abbrev pub OldestPasses : Type 0
 OldestPasses = (config : Config) (history : List PlainEvent) (log newer older : List Act) (act : WaitAct) (c : ℕ)
     → IsLogOf config history log → log ≡ newer ++ OnDevice (Waited act) ∷ older → ends_wait c act ≡ true
     → WaitsForLock (device_acts older) c
-    → ((holder (link_acts (device_acts older)) ≡ None) × IsFirst c (device_acts older))
-    ⊎ (is_open (of c older) ≡ false) ⊎ FailsNext c newer older
+    → ((holder (link_acts (device_acts older)) ≡ None) × IsFirst c older) ⊎ (is_open (of c older) ≡ false) ⊎ FailsNext c newer older
 
 -- A link may get the lock in three cases: it holds the lock already; or the lock is free and no call waits for it; or the lock is free, and
--- the call that takes it was suspended until now, and of all calls that waited for the lock it was the oldest. (In the third case the call
--- has just left the suspended calls. A create_link then has made its link.)
-abbrev pub MayGet : ℕ → List DeviceAct → Type 0
-MayGet lid acts = (holder (link_acts acts) ≡ Some lid)
-    ⊎ ((holder (link_acts acts) ≡ None) × (((c : ℕ) → WaitsForLock acts c → ⊥)
-    ⊎ ((c : ℕ) × (made : List LinkAct) × (before : List DeviceAct) × (acts ≡ map Linked made ++ Waited (Left c) ∷ before)
-    × (owner lid (link_acts acts) ≡ Some c) × IsFirst c before)))
+-- the call that takes it was suspended until now, and of all calls that waited for the lock it came first. (In the third case the call has
+-- just left the suspended calls. A create_link then has made its link.)
+abbrev pub MayGet : ℕ → List Act → Type 0
+MayGet lid log = (holder (link_acts (device_acts log)) ≡ Some lid)
+    ⊎ ((holder (link_acts (device_acts log)) ≡ None) × (((c : ℕ) → WaitsForLock (device_acts log) c → ⊥)
+    ⊎ ((c : ℕ) × (made : List LinkAct) × (before : List Act)
+    × (log ≡ map OnDevice (map Linked made) ++ OnDevice (Waited (Left c)) ∷ before)
+    × (owner lid (link_acts (device_acts log)) ≡ Some c) × IsFirst c before)))
 
 -- Each link that gets the lock may get it.
 abbrev pub OldestGets : Type 0
-OldestGets = (config : Config) (history : List PlainEvent) (log : List Act) (newer older : List DeviceAct) (lid : ℕ)
-    → IsLogOf config history log → device_acts log ≡ newer ++ Linked (Locked lid) ∷ older → MayGet lid older
+OldestGets = (config : Config) (history : List PlainEvent) (log newer older : List Act) (lid : ℕ)
+    → IsLogOf config history log → log ≡ newer ++ OnDevice (Linked (Locked lid)) ∷ older → MayGet lid older
+
+-- The newest act takes a device_unlock or a destroy_link of this link, on this connection.
+abbrev pub LetsGo : ℕ → ℕ → List Act → Type 0
+LetsGo c lid log = (bytes : List ℕ) × (before : List Act) × (xid : ℕ) × (log ≡ On c (CallTaken bytes) ∷ before)
+    × ((request_of Core (call_at bytes) ≡ CoreRequest (record { xid = xid; arguments = OnLink (pos lid) DeviceUnlock }))
+    ⊎ (request_of Core (call_at bytes) ≡ CoreRequest (record { xid = xid; arguments = OnLink (pos lid) DestroyLink })))
+
+-- A link that holds the lock keeps it until the connection that owns it lets it go: by a device_unlock or a destroy_link of the link
+-- (`LetsGo`), or because the connection was closed.
+abbrev pub HolderKeeps : Type 0
+HolderKeeps = (config : Config) (history : List PlainEvent) (log newer older : List Act) (act : Act) (c lid : ℕ)
+    → IsLogOf config history log → log ≡ newer ++ act ∷ older → holder (link_acts (device_acts older)) ≡ Some lid
+    → owner lid (link_acts (device_acts older)) ≡ Some c → holder (link_acts (device_acts (act ∷ older))) ≢ Some lid
+    → (is_open (of c older) ≡ false) ⊎ LetsGo c lid older

@@ -8,7 +8,7 @@ ghost use Rattle.sv_laws.specs.Conformance.{PollEndsRequest, StatusByteLeaves, C
 ghost use Rattle.sv_laws.specs.Gone.{ShutIsGone, CloseShuts};
 ghost use Rattle.sv_laws.specs.InOrder.{InOrder};
 ghost use Rattle.sv_laws.specs.InTime.{InTime, AnsweredInTime};
-ghost use Rattle.sv_laws.specs.LockFair.{WaitsWhileHeld, NoneOvertakes, OldestPasses, OldestGets};
+ghost use Rattle.sv_laws.specs.LockFair.{WaitsWhileHeld, NoneOvertakes, OldestPasses, OldestGets, HolderKeeps};
 ghost use Rattle.sv_laws.specs.QueryAlone.{QueryAlone, QueryLocked, NoQueryError, HeldAlone, HeldLocked};
 
 /// A history has at most one log.
@@ -88,15 +88,22 @@ pub fn in_order()
     ensures { InOrder }
 {}
 
-/// The lock goes to the calls in the order in which they were suspended (VXI-11 revision 1.0,
-/// section B.4.4). While a call waits for the lock, another link holds it, and a new call that
-/// needs the lock doesn't overtake. A suspended call that passes is the oldest, and so is one that
-/// gets the lock.
+/// The lock goes to the calls in the order in which they came (VXI-11 revision 1.0, section
+/// B.4.4). While a call waits for the lock, another link holds it, and a new call that needs the
+/// lock isn't executed. A call that stops to wait came first, or its connection was closed, or it
+/// fails by its own lock timeout or by a device_abort of its link. A suspended call that gets the
+/// lock came first.
 pub fn lock_fair()
     ensures held { WaitsWhileHeld }
     ensures overtakes { NoneOvertakes }
     ensures passes { OldestPasses }
     ensures gets { OldestGets }
+{}
+
+/// A link that holds the lock keeps it until the connection that owns it unlocks or destroys the
+/// link, or is closed (VXI-11 revision 1.0, sections B.4.4 and B.6).
+pub fn holder_keeps()
+    ensures { HolderKeeps }
 {}
 
 /// A connection that isn't open, such as one that was closed, has no live link, no suspended call,

@@ -9,10 +9,10 @@ use Rattle.sv_links.specs.declared.waiting.Wait.{Wait}
 use Rattle.sv_links.specs.declared.waiting.Wait.TheVariants.{Lock}
 use Rattle.sv_links.specs.Links.{LinkAct, Made, Destroyed, Locked, Unlocked, links_made, live, owner, is_locked, holder, is_this, is_locked_out}
 use Rattle.sv_links.specs.Table.{IsKept}
-use Rattle.sv_links.specs.Waiting.{Entered, Again, Left, waits, link}
+use Rattle.sv_links.specs.Waiting.{Entered, Again, Left, waits, link, IsOldest}
 use Rattle.sv_links.proofs.Locks.{holder_is, lock-free, lock-again, freed, lock-destroyed}
 use Rattle.sv_history.specs.Act.{DeviceAct, Linked, Waited, link_acts, wait_acts}
-use Rattle.sv_laws.specs.LockFair.{WaitsForLock, IsFirst, MayGet}
+use Rattle.sv_laws.specs.LockFair.{WaitsForLock}
 use Rattle.sv_laws.proofs.Facts.{some_same, some_none, not_both}
 use Rattle.sv_laws.proofs.LinksAlike.{owner_made, owner_destroyed_other}
 use Rattle.sv_laws.proofs.EveryLog.Fit.{AllSuit}
@@ -26,14 +26,26 @@ NamesNone lid acts = (d : ℕ) (wait : Wait) → waits d (wait_acts acts) ≡ So
 abbrev pub IsFree : ℕ → List DeviceAct → Type 0
 IsFree lid acts = (d : ℕ) × (owner lid (link_acts acts) ≡ Some d) × (waits d (wait_acts acts) ≡ None)
 
+-- Of all calls that wait for the lock, the call of this connection was suspended first.
+abbrev pub IsEarliest : ℕ → List DeviceAct → Type 0
+IsEarliest c acts = IsOldest (wait_acts acts) (WaitsForLock acts) (Some c)
+
+-- A link may take the lock: it holds the lock; or the lock is free, and no call waits for it, or its connection's call, which waited for the
+-- lock until now, was suspended first.
+abbrev pub MayTake : ℕ → List DeviceAct → Type 0
+MayTake lid acts = (holder (link_acts acts) ≡ Some lid)
+    ⊎ ((holder (link_acts acts) ≡ None) × (((c : ℕ) → WaitsForLock acts c → ⊥)
+    ⊎ ((c : ℕ) × (made : List LinkAct) × (before : List DeviceAct) × (acts ≡ map Linked made ++ Waited (Left c) ∷ before)
+    × (owner lid (link_acts acts) ≡ Some c) × IsEarliest c before)))
+
 -- A link is destroyed that no suspended call names; a link gets the lock that may get it; a call begins to wait for the lock while another
 -- link holds it; and a call that stops to wait for the lock while it is free is the oldest.
 abbrev pub Keeps : List DeviceAct → DeviceAct → Type 0
 Keeps acts (Linked (Destroyed lid)) = NamesNone lid acts
-Keeps acts (Linked (Locked lid)) = IsFree lid acts × MayGet lid acts
+Keeps acts (Linked (Locked lid)) = IsFree lid acts × MayTake lid acts
 Keeps acts (Waited (Entered conn named wait last)) = wait ≡ Lock → is_locked_out (holder (link_acts acts)) named ≡ true
-Keeps acts (Waited (Again conn wait last)) = (wait ≢ Lock) × (holder (link_acts acts) ≡ None) × IsFirst conn acts
-Keeps acts (Waited (Left conn)) = WaitsForLock acts conn → holder (link_acts acts) ≡ None → IsFirst conn acts
+Keeps acts (Waited (Again conn wait last)) = (wait ≢ Lock) × (holder (link_acts acts) ≡ None) × IsEarliest conn acts
+Keeps acts (Waited (Left conn)) = WaitsForLock acts conn → holder (link_acts acts) ≡ None → IsEarliest conn acts
 Keeps acts _ = ⊤
 
 abbrev pub AllKeep : List DeviceAct → Type 0
@@ -71,7 +83,7 @@ locked_by lid acts o held (inl same) =
     lock-again lid acts (λ n. held n ∙ ap (is_this n) same)
 locked_by lid acts o held (inr none) = lock-free lid acts (λ n. held n ∙ ap (is_this n) none)
 
-may_by : (lid : ℕ) (acts : List DeviceAct) (o : Option ℕ) → holder (link_acts acts) ≡ o → MayGet lid acts → (o ≡ Some lid) ⊎ (o ≡ None)
+may_by : (lid : ℕ) (acts : List DeviceAct) (o : Option ℕ) → holder (link_acts acts) ≡ o → MayTake lid acts → (o ≡ Some lid) ⊎ (o ≡ None)
 may_by lid acts o is (inl same) = inl (sym is ∙ same)
 may_by lid acts o is (inr (none, more)) = inr (sym is ∙ none)
 

@@ -1,4 +1,5 @@
-use Rattle.sv_laws.proofs.SoundEvents.{waits_while_held, oldest_gets}
+use Rattle.sv_laws.proofs.SoundEvents.{waits_while_held}
+use Rattle.sv_laws.proofs.Holding.{oldest_gets}
 use Rattle.sv_laws.proofs.Passing.{oldest_passes}
 use Rattle.sv_laws.proofs.Overtaking.{none_overtakes}
 use Rattle.sv_laws.proofs.laws.lock_fair.Goals as goal

@@ -1,0 +1,122 @@
+-- The link that holds the lock keeps it until its connection lets it go; and the lock is given in the order in which calls were taken.
+use Rattle.std.proofs.Common.{◌≡◌, ◌≢◌, ℕ, Bool, true, false, cond, eqb, List, [], ◌∷◌, ◌++◌, Option, Some, None, refl, sym, ap, subst, ◌∙◌, inl, inr, ◌⊎◌, eq-eqb}
+use Rattle.std.specs.Prelude.{map, not, ◌&&◌, ◌||◌}
+use Rattle.std.proofs.lemmas.Bool.{cases_eq, eqb-true, ne_eqb}
+use Rattle.sv_links.specs.Links.{LinkAct, Made, Destroyed, Locked, Unlocked, owner, is_locked, holder, is_this}
+use Rattle.sv_links.specs.Waiting.{WaitAct, Left}
+use Rattle.sv_history.specs.declared.event.Config.{Config}
+use Rattle.sv_history.specs.Event.{PlainEvent}
+use Rattle.sv_history.specs.Act.{Act, DeviceAct, Linked, Waited, On, OnDevice, of, device_acts, link_acts}
+use Rattle.sv_history.specs.Connection.{is_open}
+use Rattle.sv_history.specs.History.{IsLogOf}
+use Rattle.sv_history.proofs.Projections.{device_shared}
+use Rattle.sv_laws.specs.LockFair.{WaitsForLock, IsFirst, MayGet, OldestGets, LetsGo, HolderKeeps}
+use Rattle.sv_laws.proofs.InLine.{first_is}
+use Rattle.sv_laws.proofs.Passing.{device_join}
+use Rattle.sv_laws.proofs.Placed.{HasTurn, IsPlaced, AllPlaced, placed_before, placed_log}
+use Rattle.sv_laws.proofs.Sound.{Sound}
+use Rattle.sv_laws.proofs.SoundEvents.{place_of}
+use Rattle.sv_laws.proofs.EveryLog.Fit.{AllSuit}
+use Rattle.sv_laws.proofs.EveryLog.EachEvent.{fit_log}
+use Rattle.sv_laws.proofs.EveryLog.Keeps.{IsEarliest, MayTake, AllKeep, keep_before, held_is}
+
+-- ---- which acts end the holding of the lock
+
+-- what is so of the device's acts in a log
+device_before : (newer older : List Act) → (more : List DeviceAct) × (device_acts (newer ++ older) ≡ more ++ device_acts older)
+device_before [] older = ([], refl)
+device_before (On c act ∷ newer) older = device_before newer older
+device_before (OnDevice act ∷ newer) older =
+    let rest = device_before newer older in (act ∷ rest.0, ap (λ (l : List DeviceAct). act ∷ l) rest.1)
+
+suit_before : (newer older : List DeviceAct) → AllSuit (newer ++ older) → AllSuit older
+suit_before [] older all = all
+suit_before (act ∷ newer) older all = suit_before newer older all.1
+
+this_is : (lid : ℕ) (o : Option ℕ) → is_this lid o ≡ true → o ≡ Some lid
+this_is lid (Some n) e = ap (λ (m : ℕ). Some m) (eqb-true n lid e)
+this_is lid None e = absurd cc
+
+-- a link that is locked holds the lock, and the other way round
+locked_holds : (acts : List DeviceAct) → AllSuit acts → AllKeep acts → (lid : ℕ) → is_locked lid (link_acts acts) ≡ true
+    → holder (link_acts acts) ≡ Some lid
+locked_holds acts suits keeps lid on = this_is lid (holder (link_acts acts)) (sym (held_is acts suits keeps lid) ∙ on)
+
+holds_locked : (acts : List DeviceAct) → AllSuit acts → AllKeep acts → (lid : ℕ) → holder (link_acts acts) ≡ Some lid
+    → is_locked lid (link_acts acts) ≡ true
+holds_locked acts suits keeps lid is = held_is acts suits keeps lid ∙ ap (is_this lid) is ∙ eq-eqb lid lid refl
+
+or_on : (a b : Bool) → b ≡ true → (a || b) ≡ true
+or_on true b e = refl
+or_on false b e = e
+
+off_and : (a b : ℕ) (on : Bool) → a ≢ b → on ≡ true → (not (eqb a b) && on) ≡ true
+off_and a b on ne e = rw (ne_eqb a b ne) e
+
+-- A locked link stays locked, but for an act that unlocks or destroys it.
+stays_locked : (act : Act) (older : List Act) (c lid : ℕ) → IsPlaced older act → owner lid (link_acts (device_acts older)) ≡ Some c
+    → is_locked lid (link_acts (device_acts older)) ≡ true
+    → (is_locked lid (link_acts (device_acts (act ∷ older))) ≡ true) ⊎ (is_open (of c older) ≡ false) ⊎ LetsGo c lid older
+stays_locked (OnDevice (Linked (Locked other))) older c lid placed owns on = inl (or_on (eqb other lid) _ on)
+stays_locked (OnDevice (Linked (Unlocked other))) older c lid placed owns on = elim (cases_eq other lid) [
+  | inl same ↦ inr (subst (λ (n : ℕ). owner n (link_acts (device_acts older)) ≡ Some c → (is_open (of c older) ≡ false) ⊎ LetsGo c n older)
+      same (placed c) owns)
+  | inr ne ↦ inl (off_and other lid _ ne on)
+]
+stays_locked (OnDevice (Linked (Destroyed other))) older c lid placed owns on = elim (cases_eq other lid) [
+  | inl same ↦ inr (subst (λ (n : ℕ). owner n (link_acts (device_acts older)) ≡ Some c → (is_open (of c older) ≡ false) ⊎ LetsGo c n older)
+      same (placed c) owns)
+  | inr ne ↦ inl (off_and other lid _ ne on)
+]
+stays_locked _ older c lid placed owns on = inl on
+
+pub holder_keeps : HolderKeeps
+holder_keeps config history log newer older act c lid was is holds owns ends =
+    let known = placed_log config history log was in
+    let part = device_before newer (act ∷ older) in
+    let acts : device_acts log ≡ part.0 ++ device_acts (act ∷ older) = ap device_acts is ∙ part.1 in
+    let suits : AllSuit (device_acts (act ∷ older)) =
+    suit_before part.0 (device_acts (act ∷ older)) (subst AllSuit acts (fit_log config history log was).suits) in
+    let keeps : AllKeep (device_acts (act ∷ older)) =
+    keep_before part.0 (device_acts (act ∷ older)) (subst AllKeep acts known.sound.keeps) in
+    let step = device_before (act ∷ []) older in
+    let suited : AllSuit (device_acts older) = suit_before step.0 (device_acts older) (subst AllSuit step.1 suits) in
+    let kept : AllKeep (device_acts older) = keep_before step.0 (device_acts older) (subst AllKeep step.1 keeps) in
+    let placed = placed_before newer (act ∷ older) (subst AllPlaced is known.placed) in
+    elim (stays_locked act older c lid placed.0 owns (holds_locked (device_acts older) suited kept lid holds)) [
+      | inl on ↦ absurd (ends (locked_holds (device_acts (act ∷ older)) suits keeps lid on))
+      | inr lets ↦ lets
+    ]
+
+-- ---- which link gets the lock
+
+-- one call left last
+left_last : (made other : List LinkAct) (c d : ℕ) (acts more : List DeviceAct)
+    → map Linked made ++ Waited (Left c) ∷ acts ≡ map Linked other ++ Waited (Left d) ∷ more → (c ≡ d) × (acts ≡ more)
+left_last [] [] c d acts more e = (cc, cc)
+left_last [] (act ∷ other) c d acts more e = absurd cc
+left_last (act ∷ made) [] c d acts more e = absurd cc
+left_last (act ∷ made) (one ∷ other) c d acts more e = left_last made other c d acts more (cc)
+
+gets_by : (lid : ℕ) (older : List Act) → AllPlaced older → (holder (link_acts (device_acts older)) ≡ None → HasTurn older)
+    → MayTake lid (device_acts older) → MayGet lid older
+gets_by lid older placed turn (inl holds) = inl holds
+gets_by lid older placed turn (inr (free, inl nobody)) = inr (free, inl nobody)
+gets_by lid older placed turn (inr (free, inr (c, made, acts, is, owns, first))) = elim (turn free) [
+  | inl nobody ↦ inr (free, inl nobody)
+  | inr (d, other, before, so) ↦
+      let split : device_acts older ≡ map Linked other ++ Waited (Left d) ∷ device_acts before =
+      ap device_acts so ∙ device_shared (map Linked other) (OnDevice (Waited (Left d)) ∷ before) in
+      let same = left_last made other c d acts (device_acts before) (sym is ∙ split) in
+      let earliest : IsEarliest d (device_acts before) =
+      subst (λ (n : ℕ). IsEarliest n (device_acts before)) same.0 (subst (IsEarliest c) same.1 first) in
+      let behind = placed_before (map OnDevice (map Linked other)) (OnDevice (Waited (Left d)) ∷ before) (subst AllPlaced so placed) in
+      inr (free, inr (d, other, before, so, owns ∙ ap (λ (n : ℕ). Some n) same.0, first_is d before behind.1 earliest))
+]
+
+pub oldest_gets : OldestGets
+oldest_gets config history log newer older lid was is =
+    let placed = placed_before newer (OnDevice (Linked (Locked lid)) ∷ older) (subst AllPlaced is (placed_log config history log was).placed) in
+    gets_by lid older placed.1 placed.0
+    (place_of config history log (device_acts newer) (device_acts older) (Linked (Locked lid)) was
+    (ap device_acts is ∙ device_join newer older (Linked (Locked lid)))).1
