@@ -1,29 +1,32 @@
--- What common commands and queries change and leave.
-use Rattle.std.proofs.Common.{◌≡◌, ◌≢◌, ℕ, ◌+◌, ◌<◌, Bool, true, false, List, [], ◌∷◌, refl, sym, ap, ◌∙◌, inl, inr, arith}
+-- What common commands and queries set, change and leave.
+use Rattle.std.proofs.Common.{◌≡◌, ◌≢◌, ℕ, ◌+◌, ◌<◌, Bool, true, false, List, [], ◌∷◌, refl, sym, ap, subst, ◌∙◌, inl, inr, arith}
 use Rattle.std.specs.Int.{bit_at}
 use Rattle.std.specs.Prelude.{◌↔◌, ◌&&◌, ◌||◌}
 use Rattle.std.specs.List.{list_any, range_with_len}
 use Rattle.sv_logs.specs.Since.{is_since}
 use Rattle.sv_logs.proofs.Since.{since_empty, since_step, since_kept, since_over, since_same, since_ended, then_same}
+use Rattle.sv_errors.specs.declared.error_queue.QueueAct.{QueueAct}
+use Rattle.sv_errors.specs.ErrorQueue.{entries}
 use Rattle.sv_errors.proofs.Queue.{queued-reported, queued-taken}
 use Rattle.sv_status.specs.declared.register_name.RegisterName.{RegisterName}
 use Rattle.sv_status.specs.declared.register_name.RegisterName.TheVariants.{Operation, Questionable, Limit}
 use Rattle.sv_scan.specs.declared.acts.ScanAct.{ScanAct}
 use Rattle.sv_scan.specs.declared.acts.ScanAct.TheVariants.{Reset}
 use Rattle.sv_scan.specs.Counted.{effective}
-use Rattle.sv_exchange.specs.Exchange.{ExchangeAct, Answered, UnitDone}
-use Rattle.sv_layers.specs.Act.{Act, Exchanged, Scanned, Cleared, Preset, StandardRead, Polled, scan_acts}
+use Rattle.sv_exchange.specs.Exchange.{ExchangeAct, Answered, UnitDone, response, is_something}
+use Rattle.sv_layers.specs.Act.{Act, Exchanged, Purged, Scanned, EntryTaken, Cleared, Preset, StandardRead, Polled, exchange_acts, queue_acts, scan_acts}
 use Rattle.sv_layers.specs.Condition.{effective_acts, is_idle, scan_word, word, summary, condition}
 use Rattle.sv_layers.specs.Filter.{rise, fall, enable, has_bit, passes, leaves}
 use Rattle.sv_layers.specs.Event.{EventStands}
 use Rattle.sv_layers.specs.Standard.{IsAsked, cancels, IsPending, Waits, Completes, Occurs, NotCleared, Stands}
-use Rattle.sv_layers.specs.StatusByte.{SummaryBit, Reason, Lasts}
+use Rattle.sv_layers.specs.StatusByte.{SummaryBit, ServiceRequested, Master, Reason, Lasts, Request}
 use Rattle.sv_layers.proofs.Transitions.{has_is, no_change}
 use Rattle.sv_layers.proofs.Bits.{top_bit}
 use Rattle.sv_scan.specs.Scan.{last_reading}
 use Rattle.sv_scan.specs.Condition.{bit, is_overload}
-use Rattle.sv_instrument.specs.CommandEffect.{done}
-use Rattle.sv_laws.specs.Conformance.{SameRegisters, PollEndsRequest, StatusByteLeaves, ClearClears, ResetLeaves, StandardReadOnce, PresetLeaves, ErrorsInOrder}
+use Rattle.sv_instrument.specs.CommandEffect.{done, after_answering}
+use Rattle.sv_history.specs.Act.{instrument_acts}
+use Rattle.sv_laws.specs.Conformance.{SameSettings, SameRegisters, HasDefaults, PollEndsRequest, StatusByteLeaves, ClearClears, ResetLeaves, StandardReadOnce, PresetLeaves, ErrorsInOrder, ClearRests}
 use Rattle.sv_laws.proofs.Facts.{not_both}
 
 -- ---- an act that isn't of the scanner
@@ -138,9 +141,12 @@ polled_same log = record {
 }
 
 pub poll_ends_request : PollEndsRequest
-poll_ends_request log = (polled_same log, refl, since_ended Reason Lasts Polled log (λ lasts. lasts))
+poll_ends_request config polled c lid flags lock_timeout io_timeout acts outcome told is =
+    let log = instrument_acts acts in
+    rw is (refl, polled_same log, refl, since_ended Reason Lasts Polled log (λ lasts. lasts))
 
-exchanged_same : (act : ExchangeAct) (log : List Act) → SameRegisters (Exchanged act ∷ log) log
+-- an act of message exchange changes no register
+pub exchanged_same : (act : ExchangeAct) (log : List Act) → SameRegisters (Exchanged act ∷ log) log
 exchanged_same act log = record {
   settings = ((λ name. (refl, refl, refl)), refl, refl);
   events = λ name k. events_same name k (Exchanged act) log (condition_same name (Exchanged act) log refl refl refl) refl;
@@ -151,15 +157,18 @@ exchanged_same act log = record {
   scanner = refl;
 }
 
+settings_then : (one two three : List Act) → SameSettings one two → SameSettings two three → SameSettings one three
+settings_then one two three f g = (
+  (λ name.
+      let a = f.0 name in
+      let b = g.0 name in (a.0 ∙ b.0, a.1 ∙ b.1, a.2 ∙ b.2)),
+  f.1 ∙ g.1,
+  f.2 ∙ g.2,
+)
+
 registers_then : (one two three : List Act) → SameRegisters one two → SameRegisters two three → SameRegisters one three
 registers_then one two three f g = record {
-  settings = (
-    (λ name.
-        let a = f.settings.0 name in
-        let b = g.settings.0 name in (a.0 ∙ b.0, a.1 ∙ b.1, a.2 ∙ b.2)),
-    f.settings.1 ∙ g.settings.1,
-    f.settings.2 ∙ g.settings.2,
-  );
+  settings = settings_then one two three f.settings g.settings;
   events = λ name k. then_same (f.events name k) (g.events name k);
   standard = λ k. then_same (f.standard k) (g.standard k);
   waits = then_same f.waits g.waits;
@@ -167,10 +176,90 @@ registers_then one two three f g = record {
   scanner = f.scanner ∙ g.scanner;
 }
 
+registers_turned : (one two : List Act) → SameRegisters one two → SameRegisters two one
+registers_turned one two f = record {
+  settings = (
+    (λ name. let a = f.settings.0 name in (sym a.0, sym a.1, sym a.2)),
+    sym f.settings.1,
+    sym f.settings.2,
+  );
+  events = λ name k. ((f.events name k).1, (f.events name k).0);
+  standard = λ k. ((f.standard k).1, (f.standard k).0);
+  waits = (f.waits.1, f.waits.0);
+  queue = sym f.queue;
+  scanner = sym f.scanner;
+}
+
+-- ---- a request for service
+
+-- Where registers and response are the same, so are the summary bits.
+summary_moved : (one two : List Act) → SameRegisters one two → response (exchange_acts one) ≡ response (exchange_acts two) → (k : ℕ)
+    → SummaryBit k one → SummaryBit k two
+summary_moved one two f same k (inl (is, (bit, stands, on))) = inl (
+  is,
+  (
+    bit,
+    (f.events Operation bit).0 stands,
+    subst (λ (m : ℕ). bit_at m bit ≡ 1) (f.settings.0 Operation).2 on,
+  ),
+)
+summary_moved one two f same k (inr (inl (is, (bit, stands, on)))) = inr (inl (
+  is,
+  (
+    bit,
+    (f.standard bit).0 stands,
+    subst (λ (m : ℕ). bit_at m bit ≡ 1) f.settings.1 on,
+  ),
+))
+summary_moved one two f same k (inr (inr (inl (is, some)))) =
+    inr (inr (inl (is, subst (λ (r : List ℕ). is_something r ≡ true) same some)))
+summary_moved one two f same k (inr (inr (inr (inl (is, (bit, stands, on)))))) = inr (inr (inr (inl (
+  is,
+  (
+    bit,
+    (f.events Questionable bit).0 stands,
+    subst (λ (m : ℕ). bit_at m bit ≡ 1) (f.settings.0 Questionable).2 on,
+  ),
+))))
+summary_moved one two f same k (inr (inr (inr (inr (is, some))))) =
+    inr (inr (inr (inr (is, subst (λ (q : List QueueAct). is_something (entries q) ≡ true) f.queue some))))
+
+requested_moved : (one two : List Act) → SameRegisters one two → response (exchange_acts one) ≡ response (exchange_acts two) → (k : ℕ)
+    → ServiceRequested k one → ServiceRequested k two
+requested_moved one two f same k (is, on) =
+    (summary_moved one two f same k is, subst (λ (m : ℕ). bit_at m k ≡ 1) f.settings.2 on)
+
+lasts_master : (log : List Act) → Lasts log → Master log
+lasts_master [] h = h
+lasts_master (Polled ∷ log) h = absurd h
+lasts_master (_ ∷ log) h = h
+
+-- While a request is pending, the master summary is set.
+request_master : (log : List Act) → Request log → Master log
+request_master [] s = absurd ((since_empty Reason Lasts).0 s).0
+request_master (act ∷ log) s = lasts_master (act ∷ log) ((since_step Reason Lasts act log).0 s).0
+
+-- An act of message exchange that leaves the response neither raises nor ends a request.
+request_same : (act : ExchangeAct) (log : List Act) → response (exchange_acts (Exchanged act ∷ log)) ≡ response (exchange_acts log)
+    → Request (Exchanged act ∷ log) ↔ Request log
+request_same act log same =
+    let now = exchanged_same act log in
+    let back = registers_turned (Exchanged act ∷ log) log now in
+    since_over Reason Lasts (Exchanged act) log
+    (λ (h : Reason (Exchanged act ∷ log)). h.2 (requested_moved (Exchanged act ∷ log) log now same h.0 h.1))
+    (λ s. let h = request_master log s in (h.0, requested_moved log (Exchanged act ∷ log) back (sym same) h.0 h.1))
+
 pub status_byte_leaves : StatusByteLeaves
-status_byte_leaves log text says fits =
-    rw fits (registers_then (Exchanged (Answered text) ∷ done log) (done log) log (exchanged_same (Answered text) (done log))
-    (exchanged_same UnitDone log))
+status_byte_leaves log new (text, says, is) = (
+  text,
+  says,
+  is,
+  λ fits. rw (is, fits) (
+    registers_then (Exchanged (Answered text) ∷ done log) (done log) log (exchanged_same (Answered text) (done log))
+        (exchanged_same UnitDone log),
+    then_same (request_same (Answered text) (done log) refl) (request_same UnitDone log refl),
+  ),
+)
 
 -- ---- *CLS
 
@@ -189,15 +278,19 @@ summary_left k log (inr (inr (inr (inl (is, (bit, stands, on)))))) = absurd (no_
 summary_left k log (inr (inr (inr (inr (is, some))))) = absurd (let z : false ≡ true = some in cc)
 
 pub clear_clears : ClearClears
-clear_clears log = (
-  (λ name k. no_events name k log),
-  (λ k. no_standard k log),
-  refl,
-  since_ended IsAsked IsPending Cleared log (λ pending. let z : true ≡ false = pending.1 in cc),
-  ((λ name. (refl, refl, refl)), refl, refl),
-  refl,
-  (λ k. summary_left k log),
-)
+clear_clears log new is =
+    let cleared = Cleared ∷ log in
+    let end = exchanged_same UnitDone cleared in
+    rw is (record {
+      events = λ name k s. no_events name k log ((end.events name k).0 s);
+      standard = λ k s. no_standard k log ((end.standard k).0 s);
+      queue = refl;
+      waits = λ s. since_ended IsAsked IsPending Cleared log (λ pending. let z : true ≡ false = pending.1 in cc) (end.waits.0 s);
+      settings = ((λ name. (refl, refl, refl)), refl, refl);
+      scanner = refl;
+      response = (refl, refl);
+      summary = λ k s. summary_left k log (summary_moved (done cleared) cleared end refl k s);
+    })
 
 -- ---- *RST
 
@@ -210,15 +303,34 @@ reset_completes : (log : List Act) → Completes (Scanned Reset ∷ log) → ⊥
 reset_completes log (idle, inl asked) = asked
 reset_completes log (idle, inr (s, goes)) = let z : true ≡ false = goes in cc
 
+default_settings : (log : List Act) → HasDefaults (done (Scanned Reset ∷ log))
+default_settings log = record {
+  list = refl;
+  monitored = refl;
+  range = refl;
+  upper = refl;
+  lower = refl;
+  limits = refl;
+  source = refl;
+  count = refl;
+  idle = refl;
+}
+
 pub reset_leaves : ResetLeaves
-reset_leaves log = (
-  ((λ name. (refl, refl, refl)), refl, refl),
-  (λ name k. events_kept name k (Scanned Reset) log refl),
-  (λ k. since_same (Occurs k) NotCleared (Scanned Reset) log tt (λ h. reset_completes log h.1)),
-  refl,
-  refl,
-  since_ended IsAsked IsPending (Scanned Reset) log (λ pending. let z : true ≡ false = pending.1 in cc),
-)
+reset_leaves log new is =
+    let reset = Scanned Reset ∷ log in
+    let end = exchanged_same UnitDone reset in
+    rw is (record {
+      defaults = default_settings log;
+      settings = ((λ name. (refl, refl, refl)), refl, refl);
+      events = λ name k s. (end.events name k).1 (events_kept name k (Scanned Reset) log refl s);
+      standard = λ k. then_same (end.standard k)
+          (since_same (Occurs k) NotCleared (Scanned Reset) log tt (λ h. reset_completes log h.1));
+      waits = λ s. since_ended IsAsked IsPending (Scanned Reset) log (λ pending. let z : true ≡ false = pending.1 in cc)
+          (end.waits.0 s);
+      queue = refl;
+      response = (refl, refl);
+    })
 
 -- ---- *ESR?
 
@@ -227,27 +339,67 @@ read_none k log s = since_ended (Occurs k) NotCleared StandardRead log (λ kept.
     (((exchanged_same UnitDone (StandardRead ∷ log)).standard k).0 s)
 
 pub standard_read_once : StandardReadOnce
-standard_read_once log new (text, says, is) = (text, says, is, (λ k. read_none k log))
+standard_read_once log new (text, says, is) =
+    let read = StandardRead ∷ log in
+    let end = exchanged_same UnitDone read in (
+      text,
+      says,
+      done read,
+      is,
+      (λ k. read_none k log),
+      ((λ name. (refl, refl, refl)), refl, refl),
+      (λ name k. then_same (end.events name k)
+          (events_same name k StandardRead log (condition_same name StandardRead log refl refl refl) refl)),
+      refl,
+      refl,
+    )
 
 -- ---- STATus:PRESet
 
 pub preset_leaves : PresetLeaves
-preset_leaves log = (
-  (λ name k. events_kept name k Preset log refl),
-  (λ k. (
-    events_same Operation k Preset log refl refl,
-    events_same Limit k Preset log refl refl,
-    (λ ne. questionable_events k log ne),
-    since_same (Occurs k) NotCleared Preset log tt (λ h. completes_none Preset log refl (λ asked. asked) h.1),
-  )),
-  refl,
-  refl,
-  waits_same Preset log refl (λ asked. asked) refl,
-  refl,
-  refl,
-)
+preset_leaves log new is =
+    let preset = Preset ∷ log in
+    let end = exchanged_same UnitDone preset in
+    rw is (record {
+      masks = λ name. (refl, refl, refl);
+      kept = λ name k s. (end.events name k).1 (events_kept name k Preset log refl s);
+      operation = λ k. then_same (end.events Operation k) (events_same Operation k Preset log refl refl);
+      limit = λ k. then_same (end.events Limit k) (events_same Limit k Preset log refl refl);
+      questionable = λ k ne. then_same (end.events Questionable k) (questionable_events k log ne);
+      standard = λ k. then_same (end.standard k)
+          (since_same (Occurs k) NotCleared Preset log tt (λ h. completes_none Preset log refl (λ asked. asked) h.1));
+      enables = (refl, refl);
+      waits = then_same end.waits (waits_same Preset log refl (λ asked. asked) refl);
+      queue = refl;
+      scanner = refl;
+      response = (refl, refl);
+    })
 
 -- ---- SYSTem:ERRor?
 
 pub errors_in_order : ErrorsInOrder
-errors_in_order acts = ((λ code few. queued-reported code acts few), queued-taken acts)
+errors_in_order = (
+  (λ log new (text, says, is).
+      (done (EntryTaken ∷ log), is ∙ ap (λ (t : List ℕ). after_answering t (done (EntryTaken ∷ log))) says, queued-taken (queue_acts log))),
+  (λ log code few. queued-reported code (queue_acts log) few),
+)
+
+-- ---- device_clear
+
+purge_completes : (log : List Act) → Completes (Purged ∷ log) → ⊥
+purge_completes log (idle, inl asked) = asked
+purge_completes log (idle, inr (s, goes)) = let z : true ≡ false = goes in cc
+
+pub clear_rests : ClearRests
+clear_rests config polled c lid flags lock_timeout io_timeout acts outcome is =
+    let log = instrument_acts acts in
+    rw is (refl, record {
+      rest = record { text_left = refl; none_left = refl };
+      held = refl;
+      waits = since_ended IsAsked IsPending Purged log (λ pending. let z : true ≡ false = pending.1 in cc);
+      settings = ((λ name. (refl, refl, refl)), refl, refl);
+      events = λ name k. events_same name k Purged log (condition_same name Purged log refl refl refl) refl;
+      standard = λ k. since_same (Occurs k) NotCleared Purged log tt (λ h. purge_completes log h.1);
+      queue = refl;
+      scanner = refl;
+    })

@@ -4,7 +4,7 @@ ghost use Rattle.sv_laws.specs.Taking.{Taking, NoneRefused};
 ghost use Rattle.sv_laws.specs.Laws.{OneLog, TimeOnlyCounts, NoneLate, NothingLost, EachAnswered, RepliesMatch, TurnAnswered};
 ghost use Rattle.sv_laws.specs.Isolation.{Isolation};
 ghost use Rattle.sv_laws.specs.Cuts.{RecordsCut, WritesCut};
-ghost use Rattle.sv_laws.specs.Conformance.{PollEndsRequest, StatusByteLeaves, ClearClears, ResetLeaves, StandardReadOnce, PresetLeaves, ErrorsInOrder};
+ghost use Rattle.sv_laws.specs.Conformance.{PollEndsRequest, StatusByteLeaves, ClearClears, ResetLeaves, StandardReadOnce, PresetLeaves, ErrorsInOrder, ClearRests};
 ghost use Rattle.sv_laws.specs.Gone.{ShutIsGone, CloseShuts};
 ghost use Rattle.sv_laws.specs.InOrder.{InOrder};
 ghost use Rattle.sv_laws.specs.InTime.{InTime, AnsweredInTime};
@@ -122,8 +122,9 @@ pub fn in_time()
     ensures answered { AnsweredInTime }
 {}
 
-/// Common commands and queries change what IEEE 488.2 and SCPI-1999 say, and leave the rest: a
-/// poll, `*STB?`, `*CLS`, `*RST`, `*ESR?`, STATus:PRESet, and SYSTem:ERRor?.
+/// Common commands and queries set and change what IEEE 488.2 and SCPI-1999 say, and leave the
+/// rest: a poll, `*STB?`, `*CLS`, `*RST`, `*ESR?`, STATus:PRESet, and SYSTem:ERRor?. Behind a
+/// device_clear, message exchange is at rest.
 pub fn conformance()
     ensures poll { PollEndsRequest }
     ensures status_byte { StatusByteLeaves }
@@ -132,6 +133,7 @@ pub fn conformance()
     ensures standard { StandardReadOnce }
     ensures preset { PresetLeaves }
     ensures errors { ErrorsInOrder }
+    ensures rest { ClearRests }
 {}
 
 /// A connection that writes one query, and reads the response to its end before it writes again,
