@@ -76,7 +76,7 @@ in_line (OnDevice (Waited (Entered e named wait last)) ∷ log) c d v w all ne x
     | inl same ↦
         let acts = wait_acts (device_acts log) in
         absurd (entered_last c d named wait last acts (λ s. ne (sym s))
-            (subst (λ (n : ℕ). arrival c (Entered n named wait last ∷ acts) ≤ arrival d (Entered n named wait last ∷ acts)) same le))
+        (subst (λ (n : ℕ). arrival c (Entered n named wait last ∷ acts) ≤ arrival d (Entered n named wait last ∷ acts)) same le))
     | inr off_c ↦
         let acts = wait_acts (device_acts log) in
         let at_c = entered_other e c named wait last acts off_c in

@@ -29,6 +29,7 @@ mod InTime
 mod Conformance
 mod Placed
 mod InLine
+mod Leaving
 mod Passing
 mod Overtaking
 mod Holding

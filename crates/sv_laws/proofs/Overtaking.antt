@@ -159,17 +159,23 @@ refused_late config c bytes call before last new e wait is same for so =
     let mine : new ≡ acts_of c (failure_effect DeviceLocked c (Some call)) ++ log =
     moved ∙ ap (λ (w : Wait). acts_of c (failure_effect (late w) c (core_call_in (pending_call (of c log)))) ++ log) (sym lock)
     ∙ ap (λ (k : Option CoreCall). acts_of c (failure_effect DeviceLocked c k) ++ log) found in
-    let reply = Replied (result_reply call.xid (failure call.arguments DeviceLocked)) in
-    (DeviceLocked, (λ (z : DeviceLocked ≡ NoError). cc),
-    ap (of c) mine ∙ of_mine c reply (OnDevice (Waited (Left c)) ∷ log) ∙ ap (λ (l : List ConnAct). reply ∷ l) own)
+    let reply = Replied (result_reply call.xid (failure call.arguments DeviceLocked)) in (
+      DeviceLocked,
+      (λ (z : DeviceLocked ≡ NoError). cc),
+      ap (of c) mine ∙ of_mine c reply (OnDevice (Waited (Left c)) ∷ log) ∙ ap (λ (l : List ConnAct). reply ∷ l) own,
+    )
 
 behind_step : (config : Config) (c : ℕ) (bytes : List ℕ) (call : CoreCall) (before log new : List Act)
     → IsBehind config c bytes call before → StaysBehind c bytes call before log → IsNext config log new
     → StaysBehind c bytes call before new
 behind_step config c bytes call before log new is (inr (error, ne, own)) next =
     let reply = Replied (result_reply call.xid (failure call.arguments error)) in
-    inr (error, ne, step_keeps config (λ log. of c log ≡ reply ∷ CallTaken bytes ∷ of c before)
-    (own_steps config c (reply ∷ CallTaken bytes ∷ of c before) refl) log new own next)
+    inr (
+      error,
+      ne,
+      step_keeps config (λ log. of c log ≡ reply ∷ CallTaken bytes ∷ of c before)
+          (own_steps config c (reply ∷ CallTaken bytes ∷ of c before) refl) log new own next,
+    )
 behind_step config c bytes call before log new is (inl (last, same)) next =
     by (subst (λ (l : List Act). IsNext config l new) same next)
   where
@@ -185,7 +191,7 @@ behind_step config c bytes call before log new is (inl (last, same)) next =
           let alike = same_other c e (Entered c (lid_of (link_in call.arguments)) Lock last) (wait_acts (device_acts before)) refl ne in
           let past = oldest.0 in
           absurd ((none_late config is.history before e is.was).0
-              (past.0, past.1, sym alike.wait ∙ past.2, sym alike.until ∙ past.3, past.4))
+          (past.0, past.1, sym alike.wait ∙ past.2, sym alike.until ∙ past.3, past.4))
     ]
 
 -- ---- the Turn that takes it
@@ -196,8 +202,12 @@ behind_turn : (config : Config) (polled c : ℕ) (bytes : List ℕ) (call : Core
     ++ On c (CallTaken bytes) ∷ before)
 behind_turn config polled c bytes call before stop e (inl (error, ne, is)) =
     let reply = Replied (result_reply call.xid (failure call.arguments error)) in
-    rw is (inr (error, ne, of_mine c reply (On c (CallTaken bytes) ∷ before)
-    ∙ ap (λ (l : List ConnAct). reply ∷ l) (of_mine c (CallTaken bytes) before)))
+    rw is (inr (
+      error,
+      ne,
+      of_mine c reply (On c (CallTaken bytes) ∷ before)
+          ∙ ap (λ (l : List ConnAct). reply ∷ l) (of_mine c (CallTaken bytes) before),
+    ))
 behind_turn config polled c bytes call before stop e (inr (until, is)) =
     rw is (inl (deadline config until (device_acts before), refl))
 
@@ -221,8 +231,11 @@ stays_out : (c : ℕ) (bytes : List ℕ) (call : CoreCall) (before log : List Ac
     → StaysOut c bytes call before log
 stays_out c bytes call before log (inl (last, is)) =
     let acts = wait_acts (device_acts before) in
-    inl (ap (of c) is ∙ of_mine c (CallTaken bytes) before, ap (λ (l : List Act). waits c (wait_acts (device_acts l))) is
-    ∙ (entered_waits c (lid_of (link_in call.arguments)) Lock last acts).0)
+    inl (
+      ap (of c) is ∙ of_mine c (CallTaken bytes) before,
+      ap (λ (l : List Act). waits c (wait_acts (device_acts l))) is
+          ∙ (entered_waits c (lid_of (link_in call.arguments)) Lock last acts).0,
+    )
 stays_out c bytes call before log (inr refused) = inr refused
 
 pub none_overtakes : NoneOvertakes

@@ -36,12 +36,14 @@ use Rattle.sv_history.specs.AbortChannel.{owner_of, if_waiting, abort_result}
 use Rattle.sv_history.specs.Execution.{request_effect, aborts}
 use Rattle.sv_history.specs.Refusing.{refusable, refused_reply}
 use Rattle.sv_history.specs.Resuming.{effect_of, leaving, next_wait, resume_outcome, resume_effect, failure_effect, late}
+use Rattle.sv_history.specs.PolledStatus.{IsPolled}
 use Rattle.sv_history.specs.Settling.{IsNext}
 use Rattle.sv_history.specs.History.{abort_acts, turn_acts, own_acts, refusal, IsLogOf}
 use Rattle.sv_history.proofs.Dialing.{peer_by, dialed_to, dialed_is}
 use Rattle.sv_history.proofs.Projections.{of_mine}
 use Rattle.sv_laws.specs.InTime.{age, lock_time}
-use Rattle.sv_laws.specs.LockFair.{WaitsForLock, IsFirst, IsAborted, FailsNext, OldestPasses, ends_wait}
+use Rattle.sv_laws.specs.LockFair.{WaitsForLock, IsFirst, IsAborted, GoesOn, FailsNext, OldestPasses, changes_wait}
+use Rattle.sv_laws.proofs.Leaving.{Ends, AllEnd, ended_quiet, ended_before, ended_effect, ended_left, ended_closed, none_done, none_happened, none_links, all_at}
 use Rattle.sv_laws.proofs.Facts.{some_same, some_none}
 use Rattle.sv_laws.proofs.Gone.{dials}
 use Rattle.sv_laws.proofs.Place.{EventsKeep, EachStepKeeps, each_place}
@@ -52,7 +54,7 @@ use Rattle.sv_laws.proofs.EveryLog.EachEvent.{step_keeps, turn_parts, refuse_kee
 use Rattle.sv_laws.proofs.EveryLog.Keeps.{IsEarliest, Keeps}
 use Rattle.sv_laws.proofs.InTime.{AllTimely, timely_event, timely_steps, timely_none_yet, lock_old_enough}
 use Rattle.sv_laws.proofs.InLine.{first_is}
-use Rattle.sv_laws.proofs.Placed.{AllPlaced, placed_before, placed_log}
+use Rattle.sv_laws.proofs.Placed.{IsPlaced, AllPlaced, placed_before, placed_log}
 use Rattle.sv_laws.proofs.Sound.{Sound, free_of}
 use Rattle.sv_laws.proofs.SoundEvents.{sound_event, sound_step, sound_none, place_of}
 
@@ -67,126 +69,43 @@ abbrev HasCause : ℕ → ErrorCode → List Act → Type 0
 HasCause c error older = WaitsForLock (device_acts older) c → (call : CoreCall) → core_call_in (pending_call (of c older)) ≡ Some call
     → IsCause c call.arguments error older
 
--- An act is a reply with an error to the call of this connection, which has cause to fail.
-abbrev IsFailure : ℕ → Act → List Act → Type 0
-IsFailure c (On d (Replied reply)) older = (d ≡ c) × (call : CoreCall) × (error : ErrorCode)
-    × (reply ≡ result_reply call.xid (failure call.arguments error)) × (core_call_in (pending_call (of c older)) ≡ Some call)
-    × IsCause c call.arguments error older
-IsFailure c act older = ⊥
-
--- A call that leaves while it waits for the lock, and a link holds it.
-abbrev IsKept : ℕ → List Act → Type 0
-IsKept c older = WaitsForLock (device_acts older) c × (lid : ℕ) × (holder (link_acts (device_acts older)) ≡ Some lid)
-
--- Behind it comes a reply with an error, unless its connection is closed.
-abbrev EndsAt : Act → List Act → Type 0
-EndsAt act (OnDevice (Waited (Left c)) ∷ older) = IsKept c older → (is_open (of c older) ≡ false) ⊎ IsFailure c act older
-EndsAt act _ = ⊤
-
--- The newest act isn't that of such a call, unless its connection is closed.
-abbrev IsQuietAt : List Act → Act → Type 0
-IsQuietAt older (OnDevice (Waited (Left c))) = IsKept c older → is_open (of c older) ≡ false
-IsQuietAt older act = ⊤
-
-abbrev AllEnd : List Act → Type 0
-AllEnd [] = ⊤
-AllEnd (act ∷ log) = EndsAt act log × AllEnd log
-
-abbrev HeadQuiet : List Act → Type 0
-HeadQuiet [] = ⊤
-HeadQuiet (act ∷ log) = IsQuietAt log act
-
-abbrev IsEnded : List Act → Type 0
-IsEnded log = HeadQuiet log × AllEnd log
-
-ends_any : (act : Act) (log : List Act) → HeadQuiet log → EndsAt act log
-ends_any act [] quiet = tt
-ends_any act (OnDevice (Waited (Left c)) ∷ older) quiet = λ kept. inl (quiet kept)
-ends_any act (_ ∷ older) quiet = tt
-
-ended_more : (acts log : List Act) → Each IsQuietAt acts log → IsEnded log → IsEnded (acts ++ log)
-ended_more [] log h so = so
-ended_more (act ∷ acts) log h so =
-    let was = ended_more acts log h.1 so in (h.0, (ends_any act (acts ++ log) was.0, was.1))
-
--- ---- acts of an effect
-
-quiet_on : (c : ℕ) (own : List ConnAct) (rest log : List Act) → Each IsQuietAt rest log → Each IsQuietAt (map (On c) own ++ rest) log
-quiet_on c [] rest log h = h
-quiet_on c (act ∷ own) rest log h = (tt, quiet_on c own rest log h)
-
-quiet_done : (c : ℕ) (arguments : Arguments) (adds acts : List DeviceAct) (rest : List DeviceAct) (log : List Act)
-    → Each (IsDone c arguments) adds acts → Each IsQuietAt (map OnDevice rest) log → Each IsQuietAt (map OnDevice (adds ++ rest)) log
-quiet_done c arguments [] acts rest log h k = k
-quiet_done c arguments (Waited act ∷ adds) acts rest log h k = absurd h.0
-quiet_done c arguments (_ ∷ adds) acts rest log h k = (tt, quiet_done c arguments adds acts rest log h.1 k)
-
-quiet_happened : (adds : List InstrumentAct) (log : List Act) → Each IsQuietAt (map OnDevice (map Applied adds)) log
-quiet_happened [] log = tt
-quiet_happened (act ∷ adds) log = (tt, quiet_happened adds log)
-
-quiet_links : (c : ℕ) (links : List LinkAct) (log : List Act) → IsQuietAt log (OnDevice (Waited (Left c)))
-    → Each IsQuietAt (map OnDevice (map Linked links ++ Waited (Left c) ∷ [])) log
-quiet_links c [] log h = (h, tt)
-quiet_links c (act ∷ links) log h = (tt, quiet_links c links log h)
-
-ended_effect : (c : ℕ) (effect : Effect) (log : List Act) → Each IsQuietAt (map OnDevice effect.adds) log → IsEnded log
-    → IsEnded (acts_of c effect ++ log)
-ended_effect c effect log h so = ended_more (acts_of c effect) log (quiet_on c effect.own (map OnDevice effect.adds) log h) so
+-- Each call that waited for the lock, and left in this log, ended by one of three ways.
+abbrev IsEnded : Config → List Act → Type 0
+IsEnded config log = AllEnd config [] log
 
 -- ---- a suspended call ends, or waits anew
 
-free_quiet : (c : ℕ) (log : List Act)
-    → (WaitsForLock (device_acts log) c → holder (link_acts (device_acts log)) ≡ None) → IsQuietAt log (OnDevice (Waited (Left c)))
-free_quiet c log free kept = some_none (holder (link_acts (device_acts log))) kept.1 (free kept.0) kept.2
-
 -- one with an error
-ended_failed : (error : ErrorCode) (c : ℕ) (log : List Act) → HasCause c error log → Fit log → IsEnded log
-    → IsEnded (acts_of c (failure_effect error c (core_call_in (pending_call (of c log)))) ++ log)
-ended_failed error c log cause fit so = by (core_call_in (pending_call (of c log))) refl
+ended_failed : (config : Config) (error : ErrorCode) (c : ℕ) (log : List Act) → HasCause c error log → Fit log → IsEnded config log
+    → IsEnded config (acts_of c (failure_effect error c (core_call_in (pending_call (of c log)))) ++ log)
+ended_failed config error c log cause fit so = by (core_call_in (pending_call (of c log))) refl
   where
     by : (call : Option CoreCall) → core_call_in (pending_call (of c log)) ≡ call
-        → IsEnded (acts_of c (failure_effect error c call) ++ log)
-    by (Some call) e = (
-      tt,
-      (
-        (λ kept. inr (refl, call, error, refl, e, cause kept.0 call e)),
-        (ends_any (OnDevice (Waited (Left c))) log so.0, so.1),
-      ),
-    )
-    by None e = ended_effect c (failure_effect error c None) log (
-      (λ kept.
-          let known = (fit.held c Lock kept.0).1 in
-          some_none (core_call_in (pending_call (of c log))) known.0 e known.1),
-      tt,
-    ) so
+        → IsEnded config (acts_of c (failure_effect error c call) ++ log)
+    by (Some call) e = ended_left config c call.xid (only (failure call.arguments error)) log tt
+        (λ w. inr (inr ([], call, error, refl, e, cause w call e))) so
+    by None e = ended_before config c [] log tt
+        (λ w. let known = (fit.held c Lock w).1 in some_none (core_call_in (pending_call (of c log))) known.0 e known.1) so
 
 ended_continued : (config : Config) (polled c : ℕ) (call : CoreCall) (next : Option (Wait × ℕ)) (log : List Act)
-    → (WaitsForLock (device_acts log) c → holder (link_acts (device_acts log)) ≡ None) → IsEnded log
-    → IsEnded (acts_of c (call_effect call.xid (resume_outcome config polled c call.arguments next (device_acts log))) ++ log)
-ended_continued config polled c call (Some next) log free so =
-    ended_effect c (call_effect call.xid (resume_outcome config polled c call.arguments (Some next) (device_acts log))) log (tt, tt) so
-ended_continued config polled c call None log free so =
+    → IsPolled polled (device_acts log) → core_call_in (pending_call (of c log)) ≡ Some call
+    → (WaitsForLock (device_acts log) c → holder (link_acts (device_acts log)) ≡ None) → IsEnded config log
+    → IsEnded config (acts_of c (call_effect call.xid (resume_outcome config polled c call.arguments next (device_acts log))) ++ log)
+ended_continued config polled c call (Some next) log said known free so =
+    ended_effect config c (call_effect call.xid (resume_outcome config polled c call.arguments (Some next) (device_acts log))) log tt so
+ended_continued config polled c call None log said known free so =
     let before = Waited (Left c) ∷ device_acts log in
     let outcome = own_call config polled c call.arguments before in
-    ended_effect c (call_effect call.xid (leaving c outcome)) log
-    (quiet_done c call.arguments outcome.adds before (Waited (Left c) ∷ []) log (each_done config polled c call.arguments before)
-    (free_quiet c log free, tt)) so
-
-ended_resumed : (config : Config) (polled c : ℕ) (wait : Wait) (call : Option CoreCall) (log : List Act)
-    → (WaitsForLock (device_acts log) c → holder (link_acts (device_acts log)) ≡ None) → IsEnded log
-    → IsEnded (acts_of c (resume_effect config polled c wait call (device_acts log)) ++ log)
-ended_resumed config polled c wait (Some call) log free so =
-    ended_continued config polled c call (next_wait wait call.arguments (device_acts log)) log free so
-ended_resumed config polled c wait None log free so =
-    ended_effect c (resume_effect config polled c wait None (device_acts log)) log (free_quiet c log free, tt) so
+    ended_left config c call.xid outcome log
+    (none_done c call.arguments outcome.adds before (each_done config polled c call.arguments before))
+    (λ w. inl (free w, ([], call, polled, said, known, refl))) so
 
 -- ---- with what is known of the device
 
 record Passing (config : Config) (log : List Act) : Type 0 where
   sound : Sound log
   timely : AllTimely config log
-  ended : IsEnded log
+  ended : IsEnded config log
 
 -- a call that times out while it waits for the lock has waited as long as its lock timeout says
 late_cause : (config : Config) (c : ℕ) (wait : Wait) (last : ℕ) (log : List Act) → AllTimely config log
@@ -205,50 +124,46 @@ passing_step config log new fit so next = record {
   ended = by next;
 }
   where
-    by : IsNext config log new → IsEnded new
-    by (inl (adds, such, is)) =
-        subst IsEnded (sym is) (ended_more (map OnDevice (map Applied adds)) log (quiet_happened adds log) so.ended)
-    by (inr (none, inl (c, wait, polled, oldest, for, said, is))) = subst IsEnded (sym is)
-        (ended_resumed config polled c wait (core_call_in (pending_call (of c log))) log
-        (λ w. free_of (device_acts log) fit.suits so.sound.keeps c oldest.0 w) so.ended)
-    by (inr (none, inr (still, inl (adds, such, is)))) =
-        subst IsEnded (sym is) (ended_more (map OnDevice (map Applied adds)) log (quiet_happened adds log) so.ended)
+    by : IsNext config log new → IsEnded config new
+    by (inl (adds, such, is)) = subst (IsEnded config) (sym is)
+        (ended_quiet config (map OnDevice (map Applied adds)) log (none_happened adds) so.ended)
+    by (inr (none, inl (c, wait, polled, oldest, for, said, is))) =
+        let known = (fit.held c wait for).1 in
+        let call = known.0 in
+        subst (IsEnded config) (sym is)
+        (subst (λ (found : Option CoreCall). IsEnded config (acts_of c (resume_effect config polled c wait found (device_acts log)) ++ log))
+        (sym known.1) (ended_continued config polled c call (next_wait wait call.arguments (device_acts log)) log said known.1
+        (λ w. free_of (device_acts log) fit.suits so.sound.keeps c oldest.0 w) so.ended))
+    by (inr (none, inr (still, inl (adds, such, is)))) = subst (IsEnded config) (sym is)
+        (ended_quiet config (map OnDevice (map Applied adds)) log (none_happened adds) so.ended)
     by (inr (none, inr (still, inr (idle, (c, wait, oldest, for, is))))) =
         let past = oldest.0 in
-        subst IsEnded (sym is)
-        (ended_failed (late wait) c log (late_cause config c wait past.1 log so.timely for past.3 past.4) fit so.ended)
+        subst (IsEnded config) (sym is)
+        (ended_failed config (late wait) c log (late_cause config c wait past.1 log so.timely for past.3 past.4) fit so.ended)
 
 -- ---- events
 
-ended_on : (c : ℕ) (act : ConnAct) (log : List Act) → IsEnded log → IsEnded (On c act ∷ log)
-ended_on c act log so = ended_more (On c act ∷ []) log (tt, tt) so
+ended_on : (config : Config) (c : ℕ) (act : ConnAct) (log : List Act) → IsEnded config log → IsEnded config (On c act ∷ log)
+ended_on config c act log so = ended_quiet config (On c act ∷ []) log tt so
 
-ended_admitted : (config : Config) (polled c : ℕ) (call : CoreCall) (stop : Option Stop) (log : List Act) → IsEnded log
-    → IsEnded (acts_of c (call_effect call.xid (admission config polled c call.arguments stop (device_acts log))) ++ log)
+ended_admitted : (config : Config) (polled c : ℕ) (call : CoreCall) (stop : Option Stop) (log : List Act) → IsEnded config log
+    → IsEnded config (acts_of c (call_effect call.xid (admission config polled c call.arguments stop (device_acts log))) ++ log)
 ended_admitted config polled c call None log so =
     let outcome = own_call config polled c call.arguments (device_acts log) in
-    ended_more (acts_of c (call_effect call.xid outcome)) log
-    (quiet_on c (call_effect call.xid outcome).own (map OnDevice outcome.adds) log
-    (quiet_alone c call.arguments outcome.adds (device_acts log) log (each_done config polled c call.arguments (device_acts log)))) so
-  where
-    quiet_alone : (c : ℕ) (arguments : Arguments) (adds acts : List DeviceAct) (log : List Act) → Each (IsDone c arguments) adds acts
-        → Each IsQuietAt (map OnDevice adds) log
-    quiet_alone c arguments [] acts log h = tt
-    quiet_alone c arguments (Waited act ∷ adds) acts log h = absurd h.0
-    quiet_alone c arguments (_ ∷ adds) acts log h = (tt, quiet_alone c arguments adds acts log h.1)
+    ended_effect config c (call_effect call.xid outcome) log
+    (none_done c call.arguments outcome.adds (device_acts log) (each_done config polled c call.arguments (device_acts log))) so
 ended_admitted config polled c call (Some (Fails error)) log so =
-    ended_effect c (call_effect call.xid (only (failure call.arguments error))) log tt so
+    ended_effect config c (call_effect call.xid (only (failure call.arguments error))) log tt so
 ended_admitted config polled c call (Some (Awaits wait until)) log so =
-    ended_effect c (call_effect call.xid (admission config polled c call.arguments (Some (Awaits wait until)) (device_acts log))) log
-    (tt, tt)
-    so
+    ended_effect config c (call_effect call.xid (admission config polled c call.arguments (Some (Awaits wait until)) (device_acts log))) log
+    tt so
 
-ended_request : (config : Config) (polled c : ℕ) (request : Request) (log : List Act) → IsEnded log
-    → IsEnded (acts_of c (request_effect config polled c request (device_acts log)) ++ log)
+ended_request : (config : Config) (polled c : ℕ) (request : Request) (log : List Act) → IsEnded config log
+    → IsEnded config (acts_of c (request_effect config polled c request (device_acts log)) ++ log)
 ended_request config polled c (CoreRequest call) log so =
     ended_admitted config polled c call (stop_of c call.arguments (device_acts log)) log so
 ended_request config polled c request log so =
-    ended_effect c (request_effect config polled c request (device_acts log)) log tt so
+    ended_effect config c (request_effect config polled c request (device_acts log)) log tt so
 
 -- the call that a device_abort ends names the device_abort's link
 aborted_names : (owner named : Option ℕ) (acts : List DeviceAct) (d : ℕ) → if_waiting owner named acts ≡ Some d
@@ -259,6 +174,7 @@ aborted_names (Some c) (Some lid) acts d e =
     is_named : (found : Option ℕ) → is_this lid found ≡ true → Some lid ≡ found
     is_named (Some other) on = ap (λ (n : ℕ). Some n) (sym (eqb-true other lid on))
     is_named None on = absurd cc
+
     by : (suspended named : Bool) → is_this lid (named_link c (wait_acts acts)) ≡ named
         → cond (suspended && named) (Some c) None ≡ Some d → Some lid ≡ named_link d (wait_acts acts)
     by true true is e = is_named (named_link c (wait_acts acts)) is ∙ ap (λ (n : ℕ). named_link n (wait_acts acts)) (some_same c d e)
@@ -281,42 +197,43 @@ abort_asked acts bytes xid lid next asks = by (open_role acts) (ap (request_for 
 
 ended_aborted : (config : Config) (polled c : ℕ) (bytes : List ℕ) (xid : ℕ) (lid : ℤ) (found : Option ℕ) (log : List Act)
     → let taken = acts_of c (request_effect config polled c (AbortRequest xid lid) (device_acts log)) ++ On c (CallTaken bytes) ∷ log in
-    Fit taken → IsEnded taken → request_of AbortChannel (call_at bytes) ≡ AbortRequest xid lid
-    → aborts (AbortRequest xid lid) (device_acts log) ≡ found → IsEnded (abort_acts found taken ++ taken)
+    Fit taken → IsEnded config taken → request_of AbortChannel (call_at bytes) ≡ AbortRequest xid lid
+    → aborts (AbortRequest xid lid) (device_acts log) ≡ found → IsEnded config (abort_acts found taken ++ taken)
 ended_aborted config polled c bytes xid lid (Some d) log fit so is e =
     let taken = acts_of c (request_effect config polled c (AbortRequest xid lid) (device_acts log)) ++ On c (CallTaken bytes) ∷ log in
     let reply = result_reply xid (abort_result (lid_of (Some lid)) (device_acts log)) in
     let names = aborted_names (owner_of (lid_of (Some lid)) (device_acts log)) (lid_of (Some lid)) (device_acts log) d e in
-    ended_failed Abort d taken (λ w call known. inr (refl, (c, bytes, reply, log, xid, lid, refl, is, names))) fit so
+    ended_failed config Abort d taken (λ w call known. inr (refl, (c, bytes, reply, log, xid, lid, refl, is, names))) fit so
 ended_aborted config polled c bytes xid lid None log fit so is e = so
 
 ended_turn : (config : Config) (polled c : ℕ) (found : Option (List ℕ)) (asked : Option Request) (log : List Act) → Fit log
-    → c < 16 → IsEnded log → next_call (of c log) ≡ found → next_request (of c log) ≡ asked
-    → IsEnded (turn_acts config polled c found asked log ++ log)
+    → c < 16 → IsEnded config log → next_call (of c log) ≡ found → next_request (of c log) ≡ asked
+    → IsEnded config (turn_acts config polled c found asked log ++ log)
 ended_turn config polled c (Some bytes) (Some request) log fit lt so next asks =
     let effect = request_effect config polled c request (device_acts log) in
-    subst IsEnded (sym (turn_parts c bytes effect (aborts request (device_acts log)) log))
+    subst (IsEnded config) (sym (turn_parts c bytes effect (aborts request (device_acts log)) log))
     (by request asks (fit_request config polled c bytes request log fit lt next asks)
-    (ended_request config polled c request (On c (CallTaken bytes) ∷ log) (ended_on c (CallTaken bytes) log so)))
+    (ended_request config polled c request (On c (CallTaken bytes) ∷ log) (ended_on config c (CallTaken bytes) log so)))
   where
     by : (request : Request) → next_request (of c log) ≡ Some request
         → let taken = acts_of c (request_effect config polled c request (device_acts log)) ++ On c (CallTaken bytes) ∷ log in
-        Fit taken → IsEnded taken → IsEnded (abort_acts (aborts request (device_acts log)) taken ++ taken)
+        Fit taken → IsEnded config taken → IsEnded config (abort_acts (aborts request (device_acts log)) taken ++ taken)
     by (AbortRequest xid lid) asks fit so =
         ended_aborted config polled c bytes xid lid (aborts (AbortRequest xid lid) (device_acts log)) log fit so
         (abort_asked (of c log) bytes xid lid next asks) refl
     by _ asks fit so = so
 ended_turn config polled c _ _ log fit lt so next asks = so
 
--- a peer was connected or not
-ended_dialed : (c : ℕ) (ok : Bool) (call : CoreCall) (peer : Option Peer) (log : List Act) → IsQuietAt log (OnDevice (Waited (Left c)))
-    → IsEnded log → IsEnded (acts_of c (call_effect call.xid (leaving c (dialed_to c ok call.arguments peer))) ++ log)
-ended_dialed c true call (Some peer) log quiet so =
-    ended_effect c (call_effect call.xid (leaving c (dialed_to c true call.arguments (Some peer)))) log (tt, (quiet, tt)) so
-ended_dialed c false call (Some peer) log quiet so =
-    ended_effect c (call_effect call.xid (leaving c (dialed_to c false call.arguments (Some peer)))) log (quiet, tt) so
-ended_dialed c ok call None log quiet so =
-    ended_effect c (call_effect call.xid (leaving c (dialed_to c ok call.arguments None))) log (quiet, tt) so
+-- a peer was connected or not, which no call that waits for the lock waits for
+ended_dialed : (config : Config) (c : ℕ) (ok : Bool) (call : CoreCall) (peer : Option Peer) (log : List Act)
+    → (WaitsForLock (device_acts log) c → ⊥) → IsEnded config log
+    → IsEnded config (acts_of c (call_effect call.xid (leaving c (dialed_to c ok call.arguments peer))) ++ log)
+ended_dialed config c true call (Some peer) log never so =
+    ended_left config c call.xid (dialed_to c true call.arguments (Some peer)) log tt (λ w. absurd (never w)) so
+ended_dialed config c false call (Some peer) log never so =
+    ended_left config c call.xid (dialed_to c false call.arguments (Some peer)) log tt (λ w. absurd (never w)) so
+ended_dialed config c ok call None log never so =
+    ended_left config c call.xid (dialed_to c ok call.arguments None) log tt (λ w. absurd (never w)) so
 
 dial_not : (found : Option Wait) → is_dial found ≡ true → found ≡ Some Lock → ⊥
 dial_not (Some wait) dial is =
@@ -324,12 +241,12 @@ dial_not (Some wait) dial is =
     let z : false ≡ true = rw same at dial in cc
 dial_not None dial is = cc
 
-ended_close : (c : ℕ) (log : List Act) → IsEnded log → IsEnded (map OnDevice (close_adds c (device_acts log)) ++ On c PortClosed ∷ log)
-ended_close c log so =
-    let base = On c PortClosed ∷ log in
-    let shut : is_open (of c base) ≡ false = ap is_open (of_mine c PortClosed log) in
-    ended_more (map OnDevice (close_adds c (device_acts log))) base
-    (tt, quiet_links c (closing c (link_acts (device_acts log))) base (λ kept. shut)) (ended_on c PortClosed log so)
+ended_close : (config : Config) (c : ℕ) (log : List Act) → IsEnded config log
+    → IsEnded config (map OnDevice (close_adds c (device_acts log)) ++ On c PortClosed ∷ log)
+ended_close config c log so =
+    let links = map Linked (closing c (link_acts (device_acts log))) in
+    ended_closed config c (Channel (ChannelClosed c) ∷ links) (On c PortClosed ∷ log) (none_links (closing c (link_acts (device_acts log))))
+    (ap is_open (of_mine c PortClosed log)) (ended_on config c PortClosed log so)
 
 passing_event : (config : Config) → EventsKeep config (Passing config)
 passing_event config history event polled channel_log log was free fit so = record {
@@ -338,66 +255,46 @@ passing_event config history event polled channel_log log was free fit so = reco
   ended = by event free;
 }
   where
-    by : (event : PlainEvent) → refusal config channel_log event log ≡ None → IsEnded (own_acts config polled event log ++ log)
-    by (Open c role) free = ended_on c (Opened role) log so.ended
-    by (Bytes c piece) free = ended_on c (Piece piece) log so.ended
-    by (Turn c) free = ended_turn config polled c (next_call (of c log)) (next_request (of c log)) log fit (within c log _ free) so.ended
-        refl refl
-    by (Refuse c) free = refuse_keeps IsEnded c (next_call (of c log)) (refusable (of c log)) log so.ended
-        (λ bytes call next can. ended_on c (Replied (refused_reply call)) (On c (CallTaken bytes) ∷ log)
-        (ended_on c (CallTaken bytes) log so.ended))
-    by (Took (Conn c) count) free = ended_on c (BytesTaken count) log so.ended
-    by (Took (Intr c) count) free = ended_more (OnDevice (Channel (ChannelTaken c count)) ∷ []) log (tt, tt) so.ended
+    by : (event : PlainEvent) → refusal config channel_log event log ≡ None → IsEnded config (own_acts config polled event log ++ log)
+    by (Open c role) free = ended_on config c (Opened role) log so.ended
+    by (Bytes c piece) free = ended_on config c (Piece piece) log so.ended
+    by (Turn c) free =
+        ended_turn config polled c (next_call (of c log)) (next_request (of c log)) log fit (within c log _ free) so.ended refl refl
+    by (Refuse c) free = refuse_keeps (IsEnded config) c (next_call (of c log)) (refusable (of c log)) log so.ended
+        (λ bytes call next can. ended_on config c (Replied (refused_reply call)) (On c (CallTaken bytes) ∷ log)
+        (ended_on config c (CallTaken bytes) log so.ended))
+    by (Took (Conn c) count) free = ended_on config c (BytesTaken count) log so.ended
+    by (Took (Intr c) count) free = ended_quiet config (OnDevice (Channel (ChannelTaken c count)) ∷ []) log tt so.ended
     by (Close (Conn c)) free =
-        subst IsEnded (sym (append_assoc (map OnDevice (close_adds c (device_acts log))) (On c PortClosed ∷ []) log))
-        (ended_close c log so.ended)
-    by (Close (Intr c)) free = ended_more (OnDevice (Channel (ChannelClosed c)) ∷ []) log (tt, tt) so.ended
+        subst (IsEnded config) (sym (append_assoc (map OnDevice (close_adds c (device_acts log))) (On c PortClosed ∷ []) log))
+        (ended_close config c log so.ended)
+    by (Close (Intr c)) free = ended_quiet config (OnDevice (Channel (ChannelClosed c)) ∷ []) log tt so.ended
     by (Dialed c ok) free =
         let dial = dials (nat_lt 15 c) (not (is_open (of c log))) _ free in
-        let quiet : IsQuietAt log (OnDevice (Waited (Left c))) =
-        λ kept. absurd (dial_not (waits c (wait_acts (device_acts log))) dial kept.0) in
-        called c ok (core_call_in (pending_call (of c log))) quiet
+        called c ok (core_call_in (pending_call (of c log))) (λ w. dial_not (waits c (wait_acts (device_acts log))) dial w)
       where
-        called : (c : ℕ) (ok : Bool) (call : Option CoreCall) → IsQuietAt log (OnDevice (Waited (Left c)))
-            → IsEnded (acts_of c (effect_of c (λ arguments. leaving c (connect_outcome c ok arguments)) call) ++ log)
-        called c ok (Some call) quiet =
-            rw (dialed_is c ok call.arguments) (ended_dialed c ok call (peer_by call.arguments) log quiet so.ended)
-        called c ok None quiet =
-            ended_effect c (effect_of c (λ arguments. leaving c (connect_outcome c ok arguments)) None) log (quiet, tt) so.ended
+        called : (c : ℕ) (ok : Bool) (call : Option CoreCall) → (WaitsForLock (device_acts log) c → ⊥)
+            → IsEnded config (acts_of c (effect_of c (λ arguments. leaving c (connect_outcome c ok arguments)) call) ++ log)
+        called c ok (Some call) never =
+            rw (dialed_is c ok call.arguments) (ended_dialed config c ok call (peer_by call.arguments) log never so.ended)
+        called c ok None never = ended_before config c [] log tt (λ w. absurd (never w)) so.ended
     by (Input channel microvolts) free =
-        ended_more (map OnDevice (map Applied (Scanned (InputTo channel microvolts) ∷ []))) log (tt, tt) so.ended
+        ended_quiet config (map OnDevice (map Applied (Scanned (InputTo channel microvolts) ∷ []))) log tt so.ended
     by External free =
         let adds = external_acts (instrument_acts (device_acts log)) in
-        ended_more (map OnDevice (map Applied adds)) log (quiet_happened adds log) so.ended
+        ended_quiet config (map OnDevice (map Applied adds)) log (none_happened adds) so.ended
     by Tick free =
         let adds = tick_acts (instrument_acts (device_acts log)) in
-        subst IsEnded (sym (append_assoc (map OnDevice (map Applied adds)) (OnDevice Ticked ∷ []) log))
-        (ended_more (map OnDevice (map Applied adds)) (OnDevice Ticked ∷ log) (quiet_happened adds (OnDevice Ticked ∷ log))
-        (ended_more (OnDevice Ticked ∷ []) log (tt, tt) so.ended))
+        subst (IsEnded config) (sym (append_assoc (map OnDevice (map Applied adds)) (OnDevice Ticked ∷ []) log))
+        (ended_quiet config (map OnDevice (map Applied adds)) (OnDevice Ticked ∷ log) (none_happened adds)
+        (ended_quiet config (OnDevice Ticked ∷ []) log tt so.ended))
 
 passing_log : (config : Config) (history : List PlainEvent) (log : List Act) → IsLogOf config history log → Passing config log
 passing_log config =
-    each_place config (Passing config) (record { sound = sound_none; timely = timely_none_yet config; ended = (tt, tt) })
+    each_place config (Passing config) (record { sound = sound_none; timely = timely_none_yet config; ended = tt })
     (passing_event config) (passing_step config)
 
 -- ---- the law
-
-fails_at : (c : ℕ) (act : Act) (older : List Act) → IsFailure c act older → FailsNext c (act ∷ []) older
-fails_at c (On d (Replied reply)) older (same, call, error, is, known, cause) = ([], call, error, rw (same, is) refl, known, cause)
-fails_at c _ older h = absurd h
-
-ends_behind : (act : Act) (newer older : List Act) (c : ℕ) → AllEnd ((act ∷ newer) ++ OnDevice (Waited (Left c)) ∷ older) → IsKept c older
-    → (is_open (of c older) ≡ false) ⊎ FailsNext c (act ∷ newer) older
-ends_behind act [] older c all kept = elim (all.0 kept) [ inl shut ↦ inl shut | inr fails ↦ inr (fails_at c act older fails) ]
-ends_behind act (other ∷ newer) older c all kept = elim (ends_behind other newer older c all.1 kept) [
-  | inl shut ↦ inl shut
-  | inr (more, call, error, is, known, cause) ↦ inr (act ∷ more, call, error, ap (λ (l : List Act). act ∷ l) is, known, cause)
-]
-
-ends_at : (newer older : List Act) (c : ℕ) → IsEnded (newer ++ OnDevice (Waited (Left c)) ∷ older) → IsKept c older
-    → (is_open (of c older) ≡ false) ⊎ FailsNext c newer older
-ends_at [] older c so kept = inl (so.0 kept)
-ends_at (act ∷ newer) older c so kept = ends_behind act newer older c so.1 kept
 
 pub device_join : (newer older : List Act) (act : DeviceAct)
     → device_acts (newer ++ OnDevice act ∷ older) ≡ device_acts newer ++ act ∷ device_acts older
@@ -405,32 +302,41 @@ device_join [] older act = refl
 device_join (On c other ∷ newer) older act = device_join newer older act
 device_join (OnDevice other ∷ newer) older act = ap (λ (l : List DeviceAct). other ∷ l) (device_join newer older act)
 
--- The lock is free and the call came first; or its connection is closed; or it fails.
-abbrev Passes : ℕ → List Act → List Act → Type 0
-Passes c newer older =
-    ((holder (link_acts (device_acts older)) ≡ None) × IsFirst c older) ⊎ (is_open (of c older) ≡ false) ⊎ FailsNext c newer older
+-- The lock is free, the call came first, and it goes on; or its connection is closed; or it fails.
+abbrev Passes : Config → WaitAct → ℕ → List Act → List Act → Type 0
+Passes config act c newer older = ((holder (link_acts (device_acts older)) ≡ None) × IsFirst c older × GoesOn config act newer older)
+    ⊎ (is_open (of c older) ≡ false) ⊎ FailsNext c newer older
 
-passes_left : (c : ℕ) (newer older : List Act) (o : Option ℕ) → AllPlaced older → holder (link_acts (device_acts older)) ≡ o
-    → Keeps (device_acts older) (Waited (Left c)) → IsEnded (newer ++ OnDevice (Waited (Left c)) ∷ older)
-    → WaitsForLock (device_acts older) c → Passes c newer older
-passes_left c newer older None placed is keep so w = inl (is, first_is c older placed (keep w is))
-passes_left c newer older (Some lid) placed is keep so w = inr (ends_at newer older c so (w, lid, is))
+passes_left : (config : Config) (c : ℕ) (newer older : List Act) → AllPlaced older → Keeps (device_acts older) (Waited (Left c))
+    → WaitsForLock (device_acts older) c → Ends config c newer older → Passes config (Left c) c newer older
+passes_left config c newer older placed keep w (inl (free, goes)) = inl (free, first_is c older placed (keep w free), goes)
+passes_left config c newer older placed keep w (inr other) = inr other
 
-passes_by : (c : ℕ) (act : WaitAct) (newer older : List Act) → AllPlaced older → Keeps (device_acts older) (Waited act)
-    → IsEnded (newer ++ OnDevice (Waited act) ∷ older) → ends_wait c act ≡ true → WaitsForLock (device_acts older) c → Passes c newer older
-passes_by c (Entered conn named wait last) newer older placed keep so e w = absurd cc
-passes_by c (Again conn wait last) newer older placed keep so e w =
-    inl (keep.1, subst (λ (n : ℕ). IsFirst n older) (eqb-true conn c e) (first_is conn older placed keep.2))
-passes_by c (Left conn) newer older placed keep so e w =
+-- no call that waits is suspended anew
+none_anew : (c : ℕ) (named : Option ℕ) (wait : Wait) (last : Option ℕ) (older : List Act)
+    → IsPlaced older (OnDevice (Waited (Entered c named wait last))) → AllPlaced older → WaitsForLock (device_acts older) c → ⊥
+none_anew c named wait last older (bytes, before, is) placed w =
+    let idle : waits c (wait_acts (device_acts before)) ≡ None = (subst AllPlaced is placed).0 in
+    some_none (waits c (wait_acts (device_acts before))) Lock idle
+    (ap (λ (l : List Act). waits c (wait_acts (device_acts l))) (sym is) ∙ w)
+
+passes_by : (config : Config) (act : WaitAct) (c : ℕ) (newer older : List Act) → AllPlaced (OnDevice (Waited act) ∷ older)
+    → Keeps (device_acts older) (Waited act) → AllEnd config newer (OnDevice (Waited act) ∷ older) → changes_wait c act ≡ true
+    → WaitsForLock (device_acts older) c → Passes config act c newer older
+passes_by config (Entered conn named wait last) c newer older placed keep so e w =
+    let lock : WaitsForLock (device_acts older) conn = ap (λ (n : ℕ). waits n (wait_acts (device_acts older))) (eqb-true conn c e) ∙ w in
+    absurd (none_anew conn named wait last older placed.0 placed.1 lock)
+passes_by config (Again conn wait last) c newer older placed keep so e w =
+    inl (keep.1, subst (λ (n : ℕ). IsFirst n older) (eqb-true conn c e) (first_is conn older placed.1 keep.2), keep.0)
+passes_by config (Left conn) c newer older placed keep so e w =
     let same = eqb-true conn c e in
-    subst (λ (n : ℕ). Passes n newer older) same
-    (passes_left conn newer older (holder (link_acts (device_acts older))) placed refl keep so
-    (ap (λ (n : ℕ). waits n (wait_acts (device_acts older))) same ∙ w))
+    let lock : WaitsForLock (device_acts older) conn = ap (λ (n : ℕ). waits n (wait_acts (device_acts older))) same ∙ w in
+    subst (λ (n : ℕ). Passes config (Left conn) n newer older) same (passes_left config conn newer older placed.1 keep lock (so.0 lock))
 
 pub oldest_passes : OldestPasses
 oldest_passes config history log newer older act c was is e w =
-    passes_by c act newer older (placed_before newer (OnDevice (Waited act) ∷ older)
-    (subst AllPlaced is (placed_log config history log was).placed)).1
+    passes_by config act c newer older
+    (placed_before newer (OnDevice (Waited act) ∷ older) (subst AllPlaced is (placed_log config history log was).placed))
     (place_of config history log (device_acts newer) (device_acts older) (Waited act) was
     (ap device_acts is ∙ device_join newer older (Waited act)))
-    (subst IsEnded is (passing_log config history log was).ended) e w
+    (all_at config newer [] (OnDevice (Waited act) ∷ older) (subst (AllEnd config []) is (passing_log config history log was).ended)) e w

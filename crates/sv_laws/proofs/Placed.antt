@@ -248,6 +248,7 @@ taken_frees c bytes call log e known lid one is goes d owns =
         → request_of Core (call_at bytes) ≡ CoreRequest (record { xid = call.xid; arguments = OnLink (pos lid) one })
     asks one is = is_core (request_of Core (call_at bytes)) call known
         ∙ ap (λ (a : Arguments). CoreRequest (record { xid = call.xid; arguments = a })) is
+
     by : (one : LinkCall) → call.arguments ≡ OnLink (pos lid) one → lets_go (OnLink (pos lid) one) ≡ true
         → LetsGo c lid (On c (CallTaken bytes) ∷ log)
     by DeviceUnlock is goes = (bytes, log, call.xid, refl, inl (asks DeviceUnlock is))
@@ -321,9 +322,11 @@ placed_close : (c : ℕ) (log : List Act) → Fit log → AllPlaced log
 placed_close c log fit all =
     let base = On c PortClosed ∷ log in
     let acts = link_acts (device_acts log) in
-    let shut : is_open (of c base) ≡ false = ap is_open (of_mine c PortClosed log) in
-    (tt, placed_links c (links_of c acts) [] base shut (closed_own c _ acts (rises (device_acts log) fit.suits)) (λ n d is. is)
-    (tt, (tt, all)))
+    let shut : is_open (of c base) ≡ false = ap is_open (of_mine c PortClosed log) in (
+      tt,
+      placed_links c (links_of c acts) [] base shut (closed_own c _ acts (rises (device_acts log) fit.suits)) (λ n d is. is)
+          (tt, (tt, all)),
+    )
 
 -- ---- an event
 
@@ -339,6 +342,7 @@ placed_event config history event polled channel_log log was free fit so =
   where
     all : AllPlaced log
     all = so.placed
+
     by : (event : PlainEvent) → AllPlaced (own_acts config polled event log ++ log)
     by (Open c role) = (tt, all)
     by (Bytes c piece) = (tt, all)

@@ -14,8 +14,10 @@ use Rattle.sv_history.specs.Event.{PlainEvent, Turn}
 use Rattle.sv_history.specs.Act.{Act, DeviceAct, CallTaken, Replied, Linked, Waited, On, OnDevice, of, device_acts, link_acts, wait_acts}
 use Rattle.sv_history.specs.Connection.{is_open, next_call, pending_call}
 use Rattle.sv_history.specs.CoreCall.{CoreCall, lid_of, failure}
-use Rattle.sv_history.specs.Effect.{result_reply}
+use Rattle.sv_history.specs.CoreChannel.{own_call}
+use Rattle.sv_history.specs.Effect.{acts_of, result_reply, call_effect}
 use Rattle.sv_history.specs.Request.{CoreRequest, AbortRequest, request_of, core_call_in, next_request}
+use Rattle.sv_history.specs.PolledStatus.{IsPolled}
 use Rattle.sv_history.specs.History.{IsLogOf}
 use Rattle.sv_laws.specs.InTime.{age, lock_time}
 
@@ -60,11 +62,12 @@ NoneOvertakes = (config : Config) (history : List PlainEvent) (before log : List
     → next_call (of c before) ≡ Some bytes → next_request (of c before) ≡ Some (CoreRequest call) → needs_lock call.arguments ≡ true
     → holder (link_acts (device_acts before)) ≢ lid_of (link_in call.arguments) → StaysOut c bytes call before log
 
--- whether this act ends what the call of connection `c` waits for: the call waits for something else, or isn't suspended any more
-abbrev pub ends_wait : ℕ → WaitAct → Bool
-ends_wait c (Entered conn link wait deadline) = false
-ends_wait c (Again conn wait deadline) = conn == c
-ends_wait c (Left conn) = conn == c
+-- whether this act changes what the call of connection `c` waits for: the call is suspended anew, waits for something else, or isn't suspended
+-- any more
+abbrev pub changes_wait : ℕ → WaitAct → Bool
+changes_wait c (Entered conn link wait deadline) = conn == c
+changes_wait c (Again conn wait deadline) = conn == c
+changes_wait c (Left conn) = conn == c
 
 -- The newest acts are those of a device_abort that names the link of the suspended call of connection `c`.
 abbrev pub IsAborted : ℕ → List Act → Type 0
@@ -81,13 +84,26 @@ FailsNext c newer older = (more : List Act) × (call : CoreCall) × (error : Err
     × (core_call_in (pending_call (of c older)) ≡ Some call)
     × (((error ≡ DeviceLocked) × (lock_time call.arguments ≤ age c older)) ⊎ ((error ≡ Abort) × IsAborted c older))
 
--- A call stops to wait for the lock in one of three ways: the lock is free, and of all calls that wait for the lock the call came first; or
--- its connection was closed; or the call fails, by its own timeout or by a device_abort (`FailsNext`).
+-- The call of connection `c` has just left the suspended calls, and is executed: the next acts are those that `own_call` says, with its reply.
+abbrev pub IsExecuted : Config → ℕ → List Act → List Act → Type 0
+IsExecuted config c newer older = (more : List Act) × (call : CoreCall) × (polled : ℕ) × IsPolled polled (device_acts older)
+    × (core_call_in (pending_call (of c older)) ≡ Some call)
+    × (newer ≡ more ++ acts_of c (call_effect call.xid (own_call config polled c call.arguments (Waited (Left c) ∷ device_acts older))))
+
+-- By this act a call goes on: it waits for something other than the lock; or it leaves the suspended calls and is executed.
+abbrev pub GoesOn : Config → WaitAct → List Act → List Act → Type 0
+GoesOn config (Entered conn link wait deadline) newer older = ⊥
+GoesOn config (Again conn wait deadline) newer older = wait ≢ Lock
+GoesOn config (Left conn) newer older = IsExecuted config conn newer older
+
+-- A call stops to wait for the lock in one of three ways: the lock is free, of all calls that wait for the lock the call came first, and it
+-- goes on (`GoesOn`); or its connection was closed; or the call fails, by its own timeout or by a device_abort (`FailsNext`).
 abbrev pub OldestPasses : Type 0
 OldestPasses = (config : Config) (history : List PlainEvent) (log newer older : List Act) (act : WaitAct) (c : ℕ)
-    → IsLogOf config history log → log ≡ newer ++ OnDevice (Waited act) ∷ older → ends_wait c act ≡ true
+    → IsLogOf config history log → log ≡ newer ++ OnDevice (Waited act) ∷ older → changes_wait c act ≡ true
     → WaitsForLock (device_acts older) c
-    → ((holder (link_acts (device_acts older)) ≡ None) × IsFirst c older) ⊎ (is_open (of c older) ≡ false) ⊎ FailsNext c newer older
+    → ((holder (link_acts (device_acts older)) ≡ None) × IsFirst c older × GoesOn config act newer older)
+    ⊎ (is_open (of c older) ≡ false) ⊎ FailsNext c newer older
 
 -- A link may get the lock in three cases: it holds the lock already; or the lock is free and no call waits for it; or the lock is free, and
 -- the call that takes it was suspended until now, and of all calls that waited for the lock it came first. (In the third case the call has
