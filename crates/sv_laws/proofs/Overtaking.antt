@@ -1,5 +1,5 @@
 -- A new call that needs the lock isn't executed while another link holds the lock and a call waits for it.
-use Rattle.std.proofs.Common.{◌≡◌, ◌≢◌, ℕ, zero, suc, Bool, true, false, cond, List, [], ◌∷◌, ◌++◌, Option, Some, None, refl, sym, ap, subst, ◌∙◌, inl, inr, ◌⊎◌, eq-eqb}
+use Rattle.std.proofs.Common.{◌≡◌, ◌≢◌, ℕ, ◌+◌, Bool, true, false, cond, List, [], ◌∷◌, ◌++◌, Option, Some, None, refl, sym, ap, subst, ◌∙◌, inl, inr, ◌⊎◌, eq-eqb}
 use Rattle.std.specs.Prelude.{map, not, is_some, ◌&&◌, option_map}
 use Rattle.std.proofs.lemmas.Bool.{cases_eq, ne_eqb}
 use Rattle.sv_vxi.specs.declared.error_code.ErrorCode.{ErrorCode}
@@ -10,11 +10,13 @@ use Rattle.sv_vxi.specs.Arguments.{Arguments, CreateLink, OnLink, lock_wait, lin
 use Rattle.sv_links.specs.declared.waiting.Wait.{Wait}
 use Rattle.sv_links.specs.declared.waiting.Wait.TheVariants.{Lock}
 use Rattle.sv_links.specs.Links.{holder, is_locked_out}
-use Rattle.sv_links.specs.Waiting.{WaitAct, Entered, Left, waits, link as named_link, deadline as until_of, is_there}
+use Rattle.sv_links.specs.Waiting.{WaitAct, Entered, Left, waits, IsExpired}
 use Rattle.sv_layers.specs.Act.{Act as InstrumentAct}
+use Rattle.sv_instrument.specs.Stimulus.{IsFired}
+use Rattle.sv_instrument.specs.Step.{IsStep}
 use Rattle.sv_history.specs.declared.event.Config.{Config}
 use Rattle.sv_history.specs.Event.{PlainEvent, Turn}
-use Rattle.sv_history.specs.Act.{Act, ConnAct, DeviceAct, CallTaken, Replied, Waited, Applied, On, OnDevice, of, device_acts, link_acts, wait_acts, ticks}
+use Rattle.sv_history.specs.Act.{Act, ConnAct, DeviceAct, CallTaken, Replied, Waited, Applied, On, OnDevice, of, device_acts, link_acts, wait_acts, instrument_acts, ticks}
 use Rattle.sv_history.specs.Connection.{next_call, open_role, pending_call}
 use Rattle.sv_history.specs.CoreCall.{CoreCall, lid_of, is_too_long, failure}
 use Rattle.sv_history.specs.CoreChannel.{owns}
@@ -30,12 +32,12 @@ use Rattle.sv_laws.proofs.Facts.{some_same, some_none, not_both}
 use Rattle.sv_laws.proofs.CallsAlike.{SameCall}
 use Rattle.sv_laws.proofs.OneLog.{one_log}
 use Rattle.sv_laws.proofs.NoneLate.{none_late}
-use Rattle.sv_laws.proofs.Sound.{same_other}
+use Rattle.sv_laws.proofs.Sound.{same_other, left_none}
 use Rattle.sv_laws.proofs.SoundEvents.{quiet_log}
 use Rattle.sv_laws.proofs.EveryLog.Taken.{core_taken}
 use Rattle.sv_laws.proofs.EveryLog.Fit.{of_each}
-use Rattle.sv_laws.proofs.EveryLog.Steps.{log_settled, rested}
-use Rattle.sv_laws.proofs.EveryLog.EachEvent.{each_settled, StepsKeep, ends_keep, step_keeps, turn_parts, entered_waits}
+use Rattle.sv_laws.proofs.EveryLog.Steps.{log_settled, Rested, rested}
+use Rattle.sv_laws.proofs.EveryLog.EachEvent.{each_settled, turn_parts, entered_waits}
 
 -- ---- what stops a call that is locked out
 
@@ -83,29 +85,30 @@ out_of None named held ne = absurd (held refl)
 out_of (Some h) None held ne = refl
 out_of (Some h) (Some n) held ne = rw (ne_eqb n h (λ e. ne (ap (λ (m : ℕ). Some m) (sym e)))) refl
 
--- ---- the call is answered with an error, and stays so
+-- ---- where nothing is due
 
--- The call is answered with an error.
-abbrev IsRefused : ℕ → List ℕ → CoreCall → List Act → List Act → Type 0
-IsRefused c bytes call before log = (error : ErrorCode) × (error ≢ NoError)
-    × (of c log ≡ Replied (result_reply call.xid (failure call.arguments error)) ∷ CallTaken bytes ∷ of c before)
+-- Where the instrument is as in the log of a history, and no call can resume or is past its deadline, no step is due.
+none_next : (config : Config) (history : List PlainEvent) (before log new : List Act) → IsLogOf config history before
+    → instrument_acts (device_acts log) ≡ instrument_acts (device_acts before) → ((e : ℕ) → CanResume (device_acts log) e → ⊥)
+    → ((e : ℕ) → IsExpired (config.clock + ticks (device_acts log)) (wait_acts (device_acts log)) e → ⊥) → IsNext config log new → ⊥
+none_next config history before log new was same able late (inl (adds, such, so)) =
+    (rested config before (log_settled config history before was)).fires _
+    (adds, subst (λ (i : List InstrumentAct). IsFired i (adds ++ i)) same such, refl)
+none_next config history before log new was same able late (inr (none, inl (e, wait, polled, oldest, for, said, so))) = able e oldest.0
+none_next config history before log new was same able late (inr (none, inr (still, inl (adds, such, so)))) =
+    (rested config before (log_settled config history before was)).steps _
+    (adds, subst (λ (i : List InstrumentAct). IsStep i (adds ++ i)) same such, refl)
+none_next config history before log new was same able late (inr (none, inr (still, inr (idle, (e, wait, oldest, for, so))))) =
+    late e oldest.0
 
-own_ended : (c : ℕ) (own : List ConnAct) (does : Arguments → _) (d : ℕ) (log : List Act) → pending_call own ≡ None → of c log ≡ own
-    → of c (acts_of d (effect_of d does (core_call_in (pending_call (of d log)))) ++ log) ≡ own
-own_ended c own does d log free is =
-    of_each (λ n acts. c ≡ n → acts ≡ own) d (effect_of d does (core_call_in (pending_call (of d log)))) log
-    (λ e. let mine : of d log ≡ own = ap (λ (n : ℕ). of n log) (sym e) ∙ is in
-    let none : core_call_in (pending_call (of d log)) ≡ None = ap (λ (l : List ConnAct). core_call_in (pending_call l)) mine
-    ∙ ap core_call_in free in
-    ap (λ (found : Option CoreCall). (effect_of d does found).own ++ of d log) none ∙ mine)
-    (λ n ne e. ap (λ (m : ℕ). of m log) (sym e) ∙ is) c refl
+-- a call that waits as in the log of a history isn't past its deadline
+none_late_alike : (config : Config) (history : List PlainEvent) (before : List Act) (e : ℕ) (acts : List WaitAct)
+    → IsLogOf config history before → SameCall e acts (wait_acts (device_acts before))
+    → IsExpired (config.clock + ticks (device_acts before)) acts e → ⊥
+none_late_alike config history before e acts was alike (wait, last, for, until, past) =
+    (none_late config history before e was).0 (wait, last, sym alike.wait ∙ for, sym alike.until ∙ until, past)
 
--- steps leave what came on a connection whose calls are answered
-own_steps : (config : Config) (c : ℕ) (own : List ConnAct) → pending_call own ≡ None → StepsKeep config (λ log. of c log ≡ own)
-own_steps config c own free = ends_keep config (λ log. of c log ≡ own) (λ adds log is. of_shared c (map Applied adds) log ∙ is)
-    (λ d does log is. own_ended c own does d log free is)
-
--- ---- the call waits for the lock
+-- ---- the call waits for the lock, or is refused
 
 -- A call waits for the lock where another link holds it, and until then nothing was due.
 record IsBehind (config : Config) (c : ℕ) (bytes : List ℕ) (call : CoreCall) (before : List Act) : Type 0 where
@@ -119,9 +122,18 @@ abbrev suspended : ℕ → List ℕ → CoreCall → Option ℕ → List Act →
 suspended c bytes call last before =
     OnDevice (Waited (Entered c (lid_of (link_in call.arguments)) Lock last)) ∷ On c (CallTaken bytes) ∷ before
 
+-- The call is answered with an error: at once, or right behind its suspension.
+abbrev IsRefused : ℕ → List ℕ → CoreCall → List Act → List Act → Type 0
+IsRefused c bytes call before log = (error : ErrorCode) × (error ≢ NoError)
+    × ((log ≡ On c (Replied (result_reply call.xid (failure call.arguments error))) ∷ On c (CallTaken bytes) ∷ before)
+    ⊎ ((last : Option ℕ) × (log ≡ On c (Replied (result_reply call.xid (failure call.arguments error))) ∷ OnDevice (Waited (Left c))
+    ∷ suspended c bytes call last before)))
+
 -- The call waits for the lock, or it is answered with an error.
 abbrev StaysBehind : ℕ → List ℕ → CoreCall → List Act → List Act → Type 0
 StaysBehind c bytes call before log = ((last : Option ℕ) × (log ≡ suspended c bytes call last before)) ⊎ IsRefused c bytes call before log
+
+-- ---- nothing is due behind it but its own timeout
 
 -- such a call can't resume, and neither can another
 none_behind : (config : Config) (c : ℕ) (bytes : List ℕ) (call : CoreCall) (before : List Act) (last : Option ℕ) (e : ℕ)
@@ -130,7 +142,6 @@ none_behind config c bytes call before last e is able = elim (cases_eq e c) [
   | inl same ↦
       let acts = wait_acts (device_acts before) in
       let named = lid_of (link_in call.arguments) in
-      let new = Entered c named Lock last ∷ acts in
       let now = entered_waits c named Lock last acts in
       let mine : CanResume (device_acts (suspended c bytes call last before)) c =
       subst (CanResume (device_acts (suspended c bytes call last before))) same able in
@@ -141,6 +152,41 @@ none_behind config c bytes call before last e is able = elim (cases_eq e c) [
       let alike = same_other c e (Entered c (lid_of (link_in call.arguments)) Lock last) acts refl ne in
       (none_late config is.history before e is.was).1 (rw (alike.wait, alike.named) at able)
 ]
+
+-- the calls of others behind its suspension and its end
+left_alike : (c e : ℕ) (named last : Option ℕ) (acts : List WaitAct) → e ≢ c → SameCall e (Left c ∷ Entered c named Lock last ∷ acts) acts
+left_alike c e named last acts ne =
+    let one = same_other c e (Entered c named Lock last) acts refl ne in
+    let two = same_other c e (Left c) (Entered c named Lock last ∷ acts) refl ne in
+    record { wait = two.wait ∙ one.wait; until = two.until ∙ one.until; named = two.named ∙ one.named }
+
+-- nothing is due where it is answered
+none_refused : (config : Config) (c : ℕ) (bytes : List ℕ) (call : CoreCall) (before log new : List Act)
+    → IsBehind config c bytes call before → IsRefused c bytes call before log → IsNext config log new → ⊥
+none_refused config c bytes call before log new is (error, ne, inl so) next =
+    let answered = On c (Replied (result_reply call.xid (failure call.arguments error))) ∷ On c (CallTaken bytes) ∷ before in
+    none_next config is.history before answered new is.was refl (λ e able. (none_late config is.history before e is.was).1 able)
+    (λ e late. (none_late config is.history before e is.was).0 late) (subst (λ (l : List Act). IsNext config l new) so next)
+none_refused config c bytes call before log new is (error, ne, inr (last, so)) next =
+    let held = suspended c bytes call last before in
+    let answered = On c (Replied (result_reply call.xid (failure call.arguments error))) ∷ OnDevice (Waited (Left c)) ∷ held in
+    let named = lid_of (link_in call.arguments) in
+    let acts = wait_acts (device_acts before) in
+    let now = Left c ∷ Entered c named Lock last ∷ acts in
+    let none : waits c now ≡ None = left_none c (Entered c named Lock last ∷ acts) in
+    none_next config is.history before answered new is.was refl
+    (λ e able. elim (cases_eq e c) [
+      | inl same ↦
+          let mine : CanResume (device_acts answered) c = subst (CanResume (device_acts answered)) same able in
+          (let z : false ≡ true = rw none at mine in cc)
+      | inr other ↦
+          let alike = left_alike c e named last acts other in
+          (none_late config is.history before e is.was).1 (rw (alike.wait, alike.named) at able)
+    ])
+    (λ e late. elim (cases_eq e c) [
+      | inl same ↦ some_none (waits e now) late.0 (ap (λ (n : ℕ). waits n now) same ∙ none) late.2
+      | inr other ↦ none_late_alike config is.history before e now is.was (left_alike c e named last acts other) late
+    ]) (subst (λ (l : List Act). IsNext config l new) so next)
 
 -- only its own timeout ends its wait
 refused_late : (config : Config) (c : ℕ) (bytes : List ℕ) (call : CoreCall) (before : List Act) (last : Option ℕ) (new : List Act) (e : ℕ)
@@ -159,56 +205,38 @@ refused_late config c bytes call before last new e wait is same for so =
     let mine : new ≡ acts_of c (failure_effect DeviceLocked c (Some call)) ++ log =
     moved ∙ ap (λ (w : Wait). acts_of c (failure_effect (late w) c (core_call_in (pending_call (of c log)))) ++ log) (sym lock)
     ∙ ap (λ (k : Option CoreCall). acts_of c (failure_effect DeviceLocked c k) ++ log) found in
-    let reply = Replied (result_reply call.xid (failure call.arguments DeviceLocked)) in (
-      DeviceLocked,
-      (λ (z : DeviceLocked ≡ NoError). cc),
-      ap (of c) mine ∙ of_mine c reply (OnDevice (Waited (Left c)) ∷ log) ∙ ap (λ (l : List ConnAct). reply ∷ l) own,
-    )
+    (DeviceLocked, (λ (z : DeviceLocked ≡ NoError). cc), inr (last, mine))
 
 behind_step : (config : Config) (c : ℕ) (bytes : List ℕ) (call : CoreCall) (before log new : List Act)
     → IsBehind config c bytes call before → StaysBehind c bytes call before log → IsNext config log new
     → StaysBehind c bytes call before new
-behind_step config c bytes call before log new is (inr (error, ne, own)) next =
-    let reply = Replied (result_reply call.xid (failure call.arguments error)) in
-    inr (
-      error,
-      ne,
-      step_keeps config (λ log. of c log ≡ reply ∷ CallTaken bytes ∷ of c before)
-          (own_steps config c (reply ∷ CallTaken bytes ∷ of c before) refl) log new own next,
-    )
+behind_step config c bytes call before log new is (inr refused) next =
+    absurd (none_refused config c bytes call before log new is refused next)
 behind_step config c bytes call before log new is (inl (last, same)) next =
     by (subst (λ (l : List Act). IsNext config l new) same next)
   where
+    rest : Rested config before
+    rest = rested config before (log_settled config is.history before is.was)
     by : IsNext config (suspended c bytes call last before) new → StaysBehind c bytes call before new
-    by (inl (adds, such, so)) =
-        absurd ((rested config before (log_settled config is.history before is.was)).fires _ (adds, such, refl))
+    by (inl (adds, such, so)) = absurd (rest.fires _ (adds, such, refl))
     by (inr (none, inl (e, wait, polled, oldest, for, said, so))) = absurd (none_behind config c bytes call before last e is oldest.0)
-    by (inr (none, inr (still, inl (adds, such, so)))) =
-        absurd ((rested config before (log_settled config is.history before is.was)).steps _ (adds, such, refl))
+    by (inr (none, inr (still, inl (adds, such, so)))) = absurd (rest.steps _ (adds, such, refl))
     by (inr (none, inr (still, inr (idle, (e, wait, oldest, for, so))))) = elim (cases_eq e c) [
       | inl same ↦ inr (refused_late config c bytes call before last new e wait is same for so)
       | inr ne ↦
-          let alike = same_other c e (Entered c (lid_of (link_in call.arguments)) Lock last) (wait_acts (device_acts before)) refl ne in
-          let past = oldest.0 in
-          absurd ((none_late config is.history before e is.was).0
-          (past.0, past.1, sym alike.wait ∙ past.2, sym alike.until ∙ past.3, past.4))
+          let acts = wait_acts (device_acts before) in
+          let named = lid_of (link_in call.arguments) in
+          absurd (none_late_alike config is.history before e (Entered c named Lock last ∷ acts) is.was
+              (same_other c e (Entered c named Lock last) acts refl ne) oldest.0)
     ]
 
 -- ---- the Turn that takes it
 
-behind_turn : (config : Config) (polled c : ℕ) (bytes : List ℕ) (call : CoreCall) (before : List Act) (stop : Option Stop)
-    → stop_of c call.arguments (device_acts before) ≡ stop → IsStopped stop
+behind_turn : (config : Config) (polled c : ℕ) (bytes : List ℕ) (call : CoreCall) (before : List Act) (stop : Option Stop) → IsStopped stop
     → StaysBehind c bytes call before (acts_of c (call_effect call.xid (admission config polled c call.arguments stop (device_acts before)))
     ++ On c (CallTaken bytes) ∷ before)
-behind_turn config polled c bytes call before stop e (inl (error, ne, is)) =
-    let reply = Replied (result_reply call.xid (failure call.arguments error)) in
-    rw is (inr (
-      error,
-      ne,
-      of_mine c reply (On c (CallTaken bytes) ∷ before)
-          ∙ ap (λ (l : List ConnAct). reply ∷ l) (of_mine c (CallTaken bytes) before),
-    ))
-behind_turn config polled c bytes call before stop e (inr (until, is)) =
+behind_turn config polled c bytes call before stop (inl (error, ne, is)) = rw is (inr (error, ne, inl refl))
+behind_turn config polled c bytes call before stop (inr (until, is)) =
     rw is (inl (deadline config until (device_acts before), refl))
 
 behind_settled : (config : Config) (polled c : ℕ) (bytes : List ℕ) (call : CoreCall) (before log : List Act)
@@ -220,23 +248,29 @@ behind_settled config polled c bytes call before log is next asks needs settles 
     let effect = call_effect call.xid (admission config polled c call.arguments (stop_of c call.arguments acts) acts) in
     let turned : StaysBehind c bytes call before (turn_acts config polled c (Some bytes) (Some (CoreRequest call)) before ++ before) =
     subst (StaysBehind c bytes call before) (sym (turn_parts c bytes effect None before))
-    (behind_turn config polled c bytes call before (stop_of c call.arguments acts) refl (stopped c call.arguments acts needs is.out)) in
+    (behind_turn config polled c bytes call before (stop_of c call.arguments acts) (stopped c call.arguments acts needs is.out)) in
     let asked : request_for (open_role (of c before)) (Some bytes) ≡ Some (CoreRequest call) =
     ap (request_for (open_role (of c before))) (sym next) ∙ asks in
     let begins : StaysBehind c bytes call before (own_acts config polled (Turn c) before ++ before) = rw (next, asked) turned in
     each_settled config (StaysBehind c bytes call before) (λ one new so due. behind_step config c bytes call before one new is so due)
     settles.0 (own_acts config polled (Turn c) before ++ before) log begins settles.1
 
+-- ---- so it stays out
+
 stays_out : (c : ℕ) (bytes : List ℕ) (call : CoreCall) (before log : List Act) → StaysBehind c bytes call before log
     → StaysOut c bytes call before log
 stays_out c bytes call before log (inl (last, is)) =
-    let acts = wait_acts (device_acts before) in
-    inl (
-      ap (of c) is ∙ of_mine c (CallTaken bytes) before,
-      ap (λ (l : List Act). waits c (wait_acts (device_acts l))) is
-          ∙ (entered_waits c (lid_of (link_in call.arguments)) Lock last acts).0,
-    )
-stays_out c bytes call before log (inr refused) = inr refused
+    subst (StaysOut c bytes call before) (sym is) ((refl, refl, refl), inl (of_mine c (CallTaken bytes) before,
+    (entered_waits c (lid_of (link_in call.arguments)) Lock last (wait_acts (device_acts before))).0))
+stays_out c bytes call before log (inr (error, ne, inl is)) =
+    let reply = Replied (result_reply call.xid (failure call.arguments error)) in
+    subst (StaysOut c bytes call before) (sym is) ((refl, refl, refl), inr (error, ne,
+    of_mine c reply (On c (CallTaken bytes) ∷ before) ∙ ap (λ (l : List ConnAct). reply ∷ l) (of_mine c (CallTaken bytes) before)))
+stays_out c bytes call before log (inr (error, ne, inr (last, is))) =
+    let reply = Replied (result_reply call.xid (failure call.arguments error)) in
+    subst (StaysOut c bytes call before) (sym is) ((refl, refl, refl), inr (error, ne,
+    of_mine c reply (OnDevice (Waited (Left c)) ∷ suspended c bytes call last before)
+    ∙ ap (λ (l : List ConnAct). reply ∷ l) (of_mine c (CallTaken bytes) before)))
 
 pub none_overtakes : NoneOvertakes
 none_overtakes config history before log c d bytes call was now w next asks needs other =

@@ -11,7 +11,7 @@ use Rattle.sv_links.specs.Waiting.{WaitAct, Entered, Again, Left, waits, link}
 use Rattle.sv_history.specs.declared.event.Config.{Config}
 use Rattle.sv_history.specs.declared.event.Role.TheVariants.{Core, Abort as AbortChannel}
 use Rattle.sv_history.specs.Event.{PlainEvent, Turn}
-use Rattle.sv_history.specs.Act.{Act, DeviceAct, CallTaken, Replied, Linked, Waited, On, OnDevice, of, device_acts, link_acts, wait_acts}
+use Rattle.sv_history.specs.Act.{Act, DeviceAct, CallTaken, Replied, Linked, Waited, On, OnDevice, of, device_acts, link_acts, wait_acts, channel_acts, instrument_acts}
 use Rattle.sv_history.specs.Connection.{is_open, next_call, pending_call}
 use Rattle.sv_history.specs.CoreCall.{CoreCall, lid_of, failure}
 use Rattle.sv_history.specs.CoreChannel.{own_call}
@@ -48,11 +48,17 @@ needs_lock (CreateLink client_id lock_device lock_timeout device) = lock_device
 needs_lock (OnLink lid call) = is_some (lock_wait call)
 needs_lock _ = false
 
--- The call that a Turn took isn't executed: it waits for the lock, or it is answered with an error.
+-- Between two logs nothing happened to the links, the interrupt channels and the instrument.
+abbrev pub IsUntouched : List DeviceAct → List DeviceAct → Type 0
+IsUntouched before acts = (link_acts acts ≡ link_acts before) × (channel_acts acts ≡ channel_acts before)
+    × (instrument_acts acts ≡ instrument_acts before)
+
+-- The call that a Turn took isn't executed: the Turn touches nothing, and the call waits for the lock, or it is answered with an error.
 abbrev pub StaysOut : ℕ → List ℕ → CoreCall → List Act → List Act → Type 0
-StaysOut c bytes call before log = ((of c log ≡ CallTaken bytes ∷ of c before) × WaitsForLock (device_acts log) c)
+StaysOut c bytes call before log = IsUntouched (device_acts before) (device_acts log)
+    × (((of c log ≡ CallTaken bytes ∷ of c before) × WaitsForLock (device_acts log) c)
     ⊎ ((error : ErrorCode) × (error ≢ NoError)
-    × (of c log ≡ Replied (result_reply call.xid (failure call.arguments error)) ∷ CallTaken bytes ∷ of c before))
+    × (of c log ≡ Replied (result_reply call.xid (failure call.arguments error)) ∷ CallTaken bytes ∷ of c before)))
 
 -- While a call waits for the lock, a Turn takes another call that needs the lock. If the link that this call names doesn't hold the lock,
 -- the call isn't executed.
