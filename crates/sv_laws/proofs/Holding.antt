@@ -1,20 +1,16 @@
 -- The link that holds the lock keeps it until its connection lets it go; and the lock is given in the order in which calls were taken.
-use Rattle.std.proofs.Common.{◌≡◌, ◌≢◌, ℕ, Bool, true, false, cond, eqb, List, [], ◌∷◌, ◌++◌, Option, Some, None, refl, sym, ap, subst, ◌∙◌, inl, inr, ◌⊎◌, eq-eqb}
+use Rattle.std.proofs.Common.{◌≡◌, ◌≢◌, ℕ, Bool, true, false, eqb, List, [], ◌∷◌, ◌++◌, Option, Some, None, refl, sym, ap, subst, ◌∙◌, inl, inr, ◌⊎◌, eq-eqb}
 use Rattle.std.specs.Prelude.{map, not, ◌&&◌, ◌||◌}
 use Rattle.std.proofs.lemmas.Bool.{cases_eq, eqb-true, ne_eqb}
-use Rattle.sv_links.specs.Links.{LinkAct, Made, Destroyed, Locked, Unlocked, owner, is_locked, holder, is_this}
-use Rattle.sv_links.specs.Waiting.{WaitAct, Left}
-use Rattle.sv_history.specs.declared.event.Config.{Config}
-use Rattle.sv_history.specs.Event.{PlainEvent}
+use Rattle.sv_links.specs.Links.{LinkAct, Destroyed, Locked, Unlocked, owner, is_locked, holder, is_this}
+use Rattle.sv_links.specs.Waiting.{Left}
 use Rattle.sv_history.specs.Act.{Act, DeviceAct, Linked, Waited, On, OnDevice, of, device_acts, link_acts}
 use Rattle.sv_history.specs.Connection.{is_open}
-use Rattle.sv_history.specs.History.{IsLogOf}
 use Rattle.sv_history.proofs.Projections.{device_shared}
-use Rattle.sv_laws.specs.LockFair.{WaitsForLock, IsFirst, MayGet, OldestGets, LetsGo, HolderKeeps}
+use Rattle.sv_laws.specs.LockFair.{MayGet, OldestGets, LetsGo, HolderKeeps}
 use Rattle.sv_laws.proofs.InLine.{first_is}
 use Rattle.sv_laws.proofs.Passing.{device_join}
 use Rattle.sv_laws.proofs.Placed.{HasTurn, IsPlaced, AllPlaced, placed_before, placed_log}
-use Rattle.sv_laws.proofs.Sound.{Sound}
 use Rattle.sv_laws.proofs.SoundEvents.{place_of}
 use Rattle.sv_laws.proofs.EveryLog.Fit.{AllSuit}
 use Rattle.sv_laws.proofs.EveryLog.EachEvent.{fit_log}

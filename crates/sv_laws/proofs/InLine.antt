@@ -1,14 +1,11 @@
 -- Suspended calls stand in line in the order in which they were taken.
-use Rattle.std.proofs.Common.{◌≡◌, ◌≢◌, ℕ, ◌+◌, ◌≤◌, Bool, true, false, cond, eqb, List, [], ◌∷◌, ◌++◌, length, Option, Some, None, refl, sym, ap, subst, ◌∙◌, inl, inr, ◌⊎◌, eq-eqb, append_assoc, arith}
-use Rattle.std.specs.Prelude.{map}
+use Rattle.std.proofs.Common.{◌≡◌, ◌≢◌, ℕ, ◌≤◌, Bool, true, false, cond, eqb, List, [], ◌∷◌, length, Option, Some, None, refl, sym, ap, subst, ◌∙◌, inl, inr, eq-eqb, arith}
 use Rattle.std.proofs.lemmas.Bool.{cases_Bool, cases_eq, ne_eqb}
 use Rattle.sv_logs.specs.Since.{newest}
 use Rattle.sv_links.specs.declared.waiting.Wait.{Wait}
 use Rattle.sv_links.specs.declared.waiting.Wait.TheVariants.{Lock}
-use Rattle.sv_links.specs.Links.{LinkAct, Locked, holder}
 use Rattle.sv_links.specs.Waiting.{WaitAct, Entered, Again, Left, waits, arrival, enters}
-use Rattle.sv_history.specs.Act.{Act, DeviceAct, CallTaken, Linked, Waited, On, OnDevice, device_acts, link_acts, wait_acts}
-use Rattle.sv_history.proofs.Projections.{device_shared}
+use Rattle.sv_history.specs.Act.{Act, CallTaken, Waited, On, OnDevice, device_acts, wait_acts}
 use Rattle.sv_laws.specs.LockFair.{IsFirst, is_later}
 use Rattle.sv_laws.proofs.Facts.{some_none}
 use Rattle.sv_laws.proofs.Placed.{AllPlaced}

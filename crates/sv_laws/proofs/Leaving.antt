@@ -1,5 +1,5 @@
 -- Where a call that waited for the lock leaves the suspended calls, and what comes next.
-use Rattle.std.proofs.Common.{◌≡◌, ℕ, false, List, [], ◌∷◌, ◌++◌, Option, Some, None, refl, sym, ap, subst, ◌∙◌, inl, inr, ◌⊎◌, append_assoc, append-nil}
+use Rattle.std.proofs.Common.{◌≡◌, ℕ, false, List, [], ◌∷◌, ◌++◌, None, refl, sym, ap, subst, ◌∙◌, inl, inr, ◌⊎◌, append_assoc, append-nil}
 use Rattle.std.specs.Prelude.{map, ⊤}
 use Rattle.sv_logs.proofs.Each.{Each}
 use Rattle.sv_vxi.specs.Arguments.{Arguments}
@@ -32,14 +32,17 @@ AllEnd config newer (act ∷ older) = EndsAt config newer act older × AllEnd co
 -- ---- more acts come
 
 ends_more : (config : Config) (c : ℕ) (more newer older : List Act) → Ends config c newer older → Ends config c (more ++ newer) older
-ends_more config c more newer older (inl (free, (rest, call, polled, said, known, is))) = inl (free, (
-  more ++ rest,
-  call,
-  polled,
-  said,
-  known,
-  ap (λ (l : List Act). more ++ l) is ∙ sym (append_assoc more rest _),
-))
+ends_more config c more newer older (inl (free, (rest, call, polled, said, known, is))) = inl (
+  free,
+  (
+    more ++ rest,
+    call,
+    polled,
+    said,
+    known,
+    ap (λ (l : List Act). more ++ l) is ∙ sym (append_assoc more rest _),
+  ),
+)
 ends_more config c more newer older (inr (inl shut)) = inr (inl shut)
 ends_more config c more newer older (inr (inr (rest, call, error, is, known, cause))) = inr (inr (
   more ++ rest,

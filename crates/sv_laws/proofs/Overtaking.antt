@@ -1,6 +1,6 @@
 -- A new call that needs the lock isn't executed while another link holds the lock and a call waits for it.
-use Rattle.std.proofs.Common.{◌≡◌, ◌≢◌, ℕ, ◌+◌, Bool, true, false, cond, List, [], ◌∷◌, ◌++◌, Option, Some, None, refl, sym, ap, subst, ◌∙◌, inl, inr, ◌⊎◌, eq-eqb}
-use Rattle.std.specs.Prelude.{map, not, is_some, ◌&&◌, option_map}
+use Rattle.std.proofs.Common.{◌≡◌, ◌≢◌, ℕ, ◌+◌, Bool, true, false, cond, List, ◌∷◌, ◌++◌, Option, Some, None, refl, sym, ap, subst, ◌∙◌, inl, inr, ◌⊎◌}
+use Rattle.std.specs.Prelude.{not, is_some, ◌&&◌, option_map}
 use Rattle.std.proofs.lemmas.Bool.{cases_eq, ne_eqb}
 use Rattle.sv_vxi.specs.declared.error_code.ErrorCode.{ErrorCode}
 use Rattle.sv_vxi.specs.declared.error_code.ErrorCode.TheVariants.{NoError, InvalidLink, ParameterError, NotAccessible, OutOfResources}
@@ -16,26 +16,25 @@ use Rattle.sv_instrument.specs.Stimulus.{IsFired}
 use Rattle.sv_instrument.specs.Step.{IsStep}
 use Rattle.sv_history.specs.declared.event.Config.{Config}
 use Rattle.sv_history.specs.Event.{PlainEvent, Turn}
-use Rattle.sv_history.specs.Act.{Act, ConnAct, DeviceAct, CallTaken, Replied, Waited, Applied, On, OnDevice, of, device_acts, link_acts, wait_acts, instrument_acts, ticks}
+use Rattle.sv_history.specs.Act.{Act, ConnAct, DeviceAct, CallTaken, Replied, Waited, On, OnDevice, of, device_acts, link_acts, wait_acts, instrument_acts, ticks}
 use Rattle.sv_history.specs.Connection.{next_call, open_role, pending_call}
 use Rattle.sv_history.specs.CoreCall.{CoreCall, lid_of, is_too_long, failure}
 use Rattle.sv_history.specs.CoreChannel.{owns}
-use Rattle.sv_history.specs.Effect.{Effect, acts_of, result_reply, call_effect}
+use Rattle.sv_history.specs.Effect.{acts_of, result_reply, call_effect}
 use Rattle.sv_history.specs.Request.{CoreRequest, core_call_in, request_for, next_request}
 use Rattle.sv_history.specs.Admission.{Stop, Fails, Awaits, lock_stop, stop_of, admission, deadline}
-use Rattle.sv_history.specs.Resuming.{effect_of, failure_effect, late}
+use Rattle.sv_history.specs.Resuming.{failure_effect, late}
 use Rattle.sv_history.specs.Settling.{CanResume, IsNext, Settles}
 use Rattle.sv_history.specs.History.{turn_acts, own_acts, IsLogOf}
-use Rattle.sv_history.proofs.Projections.{of_mine, of_shared}
-use Rattle.sv_laws.specs.LockFair.{WaitsForLock, StaysOut, NoneOvertakes, needs_lock}
-use Rattle.sv_laws.proofs.Facts.{some_same, some_none, not_both}
+use Rattle.sv_history.proofs.Projections.{of_mine}
+use Rattle.sv_laws.specs.LockFair.{StaysOut, NoneOvertakes, needs_lock}
+use Rattle.sv_laws.proofs.Facts.{some_same, some_none}
 use Rattle.sv_laws.proofs.CallsAlike.{SameCall}
 use Rattle.sv_laws.proofs.OneLog.{one_log}
 use Rattle.sv_laws.proofs.NoneLate.{none_late}
 use Rattle.sv_laws.proofs.Sound.{same_other, left_none}
 use Rattle.sv_laws.proofs.SoundEvents.{quiet_log}
 use Rattle.sv_laws.proofs.EveryLog.Taken.{core_taken}
-use Rattle.sv_laws.proofs.EveryLog.Fit.{of_each}
 use Rattle.sv_laws.proofs.EveryLog.Steps.{log_settled, Rested, rested}
 use Rattle.sv_laws.proofs.EveryLog.EachEvent.{each_settled, turn_parts, entered_waits}
 
@@ -217,6 +216,7 @@ behind_step config c bytes call before log new is (inl (last, same)) next =
   where
     rest : Rested config before
     rest = rested config before (log_settled config is.history before is.was)
+
     by : IsNext config (suspended c bytes call last before) new → StaysBehind c bytes call before new
     by (inl (adds, such, so)) = absurd (rest.fires _ (adds, such, refl))
     by (inr (none, inl (e, wait, polled, oldest, for, said, so))) = absurd (none_behind config c bytes call before last e is oldest.0)
@@ -227,7 +227,7 @@ behind_step config c bytes call before log new is (inl (last, same)) next =
           let acts = wait_acts (device_acts before) in
           let named = lid_of (link_in call.arguments) in
           absurd (none_late_alike config is.history before e (Entered c named Lock last ∷ acts) is.was
-              (same_other c e (Entered c named Lock last) acts refl ne) oldest.0)
+          (same_other c e (Entered c named Lock last) acts refl ne) oldest.0)
     ]
 
 -- ---- the Turn that takes it
@@ -260,17 +260,34 @@ behind_settled config polled c bytes call before log is next asks needs settles 
 stays_out : (c : ℕ) (bytes : List ℕ) (call : CoreCall) (before log : List Act) → StaysBehind c bytes call before log
     → StaysOut c bytes call before log
 stays_out c bytes call before log (inl (last, is)) =
-    subst (StaysOut c bytes call before) (sym is) ((refl, refl, refl), inl (of_mine c (CallTaken bytes) before,
-    (entered_waits c (lid_of (link_in call.arguments)) Lock last (wait_acts (device_acts before))).0))
+    subst (StaysOut c bytes call before) (sym is) (
+      (refl, refl, refl),
+      inl (
+        of_mine c (CallTaken bytes) before,
+        (entered_waits c (lid_of (link_in call.arguments)) Lock last (wait_acts (device_acts before))).0,
+      ),
+    )
 stays_out c bytes call before log (inr (error, ne, inl is)) =
     let reply = Replied (result_reply call.xid (failure call.arguments error)) in
-    subst (StaysOut c bytes call before) (sym is) ((refl, refl, refl), inr (error, ne,
-    of_mine c reply (On c (CallTaken bytes) ∷ before) ∙ ap (λ (l : List ConnAct). reply ∷ l) (of_mine c (CallTaken bytes) before)))
+    subst (StaysOut c bytes call before) (sym is) (
+      (refl, refl, refl),
+      inr (
+        error,
+        ne,
+        of_mine c reply (On c (CallTaken bytes) ∷ before) ∙ ap (λ (l : List ConnAct). reply ∷ l) (of_mine c (CallTaken bytes) before),
+      ),
+    )
 stays_out c bytes call before log (inr (error, ne, inr (last, is))) =
     let reply = Replied (result_reply call.xid (failure call.arguments error)) in
-    subst (StaysOut c bytes call before) (sym is) ((refl, refl, refl), inr (error, ne,
-    of_mine c reply (OnDevice (Waited (Left c)) ∷ suspended c bytes call last before)
-    ∙ ap (λ (l : List ConnAct). reply ∷ l) (of_mine c (CallTaken bytes) before)))
+    subst (StaysOut c bytes call before) (sym is) (
+      (refl, refl, refl),
+      inr (
+        error,
+        ne,
+        of_mine c reply (OnDevice (Waited (Left c)) ∷ suspended c bytes call last before)
+            ∙ ap (λ (l : List ConnAct). reply ∷ l) (of_mine c (CallTaken bytes) before),
+      ),
+    )
 
 pub none_overtakes : NoneOvertakes
 none_overtakes config history before log c d bytes call was now w next asks needs other =

@@ -1,9 +1,8 @@
 -- A call stops to wait for the lock if it came first and the lock is free, if its connection closes, if its timeout has passed, or if a
 -- device_abort names its link.
-use Rattle.std.proofs.Common.{◌≡◌, ◌≢◌, ℕ, ◌+◌, ◌<◌, ◌≤◌, nat_lt, Bool, true, false, cond, List, [], ◌∷◌, ◌++◌, Option, Some, None, refl, sym, ap, subst, ◌∙◌, inl, inr, ◌⊎◌, append_assoc}
-use Rattle.std.specs.Prelude.{map, not, is_some, ◌&&◌, ℤ, ⊤}
+use Rattle.std.proofs.Common.{◌≡◌, ℕ, ◌+◌, ◌<◌, ◌≤◌, nat_lt, Bool, true, false, cond, List, [], ◌∷◌, ◌++◌, Option, Some, None, refl, sym, ap, subst, ◌∙◌, inl, inr, ◌⊎◌, append_assoc}
+use Rattle.std.specs.Prelude.{map, not, is_some, ◌&&◌, ℤ}
 use Rattle.std.proofs.lemmas.Bool.{eqb-true}
-use Rattle.sv_logs.proofs.Each.{Each}
 use Rattle.sv_rpc.specs.Call.{call_at}
 use Rattle.sv_vxi.specs.declared.error_code.ErrorCode.{ErrorCode}
 use Rattle.sv_vxi.specs.declared.error_code.ErrorCode.TheVariants.{Abort}
@@ -11,12 +10,12 @@ use Rattle.sv_vxi.specs.declared.error_code.ErrorCode.TheVariants.{Locked as Dev
 use Rattle.sv_vxi.specs.Arguments.{Arguments}
 use Rattle.sv_links.specs.declared.request.Peer.{Peer}
 use Rattle.sv_links.specs.declared.waiting.Wait.{Wait}
-use Rattle.sv_links.specs.declared.waiting.Wait.TheVariants.{Lock, Input as ForInput, Response, Dial}
-use Rattle.sv_links.specs.Links.{LinkAct, closing, holder, is_this}
+use Rattle.sv_links.specs.declared.waiting.Wait.TheVariants.{Lock}
+use Rattle.sv_links.specs.Links.{closing, holder, is_this}
 use Rattle.sv_links.specs.Waiting.{WaitAct, Entered, Again, Left, waits, deadline as until_of, link as named_link}
 use Rattle.sv_links.specs.Channels.{ChannelClosed, ChannelTaken}
 use Rattle.sv_scan.specs.declared.acts.ScanAct.TheVariants.{Input as InputTo}
-use Rattle.sv_layers.specs.Act.{Act as InstrumentAct, Scanned}
+use Rattle.sv_layers.specs.Act.{Scanned}
 use Rattle.sv_instrument.specs.Stimulus.{external_acts, tick_acts}
 use Rattle.sv_history.specs.declared.event.Config.{Config}
 use Rattle.sv_history.specs.declared.event.Port.TheVariants.{Conn, Intr}
@@ -28,7 +27,7 @@ use Rattle.sv_history.specs.Connection.{is_open, next_call, open_role, pending_c
 use Rattle.sv_history.specs.CallOutcome.{only}
 use Rattle.sv_history.specs.CoreCall.{CoreCall, lid_of, failure}
 use Rattle.sv_history.specs.CoreChannel.{own_call}
-use Rattle.sv_history.specs.Effect.{Effect, acts_of, result_reply, call_effect}
+use Rattle.sv_history.specs.Effect.{acts_of, result_reply, call_effect}
 use Rattle.sv_history.specs.Request.{Request, CoreRequest, AbortRequest, request_of, core_call_in, request_for, next_request}
 use Rattle.sv_history.specs.Interrupts.{is_dial, connect_outcome}
 use Rattle.sv_history.specs.Admission.{Stop, Fails, Awaits, stop_of, admission}
@@ -47,11 +46,11 @@ use Rattle.sv_laws.proofs.Leaving.{Ends, AllEnd, ended_quiet, ended_before, ende
 use Rattle.sv_laws.proofs.Facts.{some_same, some_none}
 use Rattle.sv_laws.proofs.Gone.{dials}
 use Rattle.sv_laws.proofs.Place.{EventsKeep, EachStepKeeps, each_place}
-use Rattle.sv_laws.proofs.EveryLog.Done.{IsDone, each_done}
+use Rattle.sv_laws.proofs.EveryLog.Done.{each_done}
 use Rattle.sv_laws.proofs.EveryLog.Taken.{within, asks_as}
 use Rattle.sv_laws.proofs.EveryLog.Fit.{Fit}
 use Rattle.sv_laws.proofs.EveryLog.EachEvent.{step_keeps, turn_parts, refuse_keeps, close_adds, fit_request}
-use Rattle.sv_laws.proofs.EveryLog.Keeps.{IsEarliest, Keeps}
+use Rattle.sv_laws.proofs.EveryLog.Keeps.{Keeps}
 use Rattle.sv_laws.proofs.InTime.{AllTimely, timely_event, timely_steps, timely_none_yet, lock_old_enough}
 use Rattle.sv_laws.proofs.InLine.{first_is}
 use Rattle.sv_laws.proofs.Placed.{IsPlaced, AllPlaced, placed_before, placed_log}

@@ -10,7 +10,7 @@ use Rattle.sv_vxi.specs.declared.error_code.ErrorCode.TheVariants.{Locked as Dev
 use Rattle.sv_vxi.specs.Arguments.{LinkCall, DeviceWrite, DeviceRead, DeviceLock, DeviceUnlock, DestroyLink, Arguments, CreateLink, OnLink, CreateIntrChan, DestroyIntrChan, link, lock_wait}
 use Rattle.sv_links.specs.declared.waiting.Wait.{Wait}
 use Rattle.sv_links.specs.declared.waiting.Wait.TheVariants.{Lock, Input as ForInput, Response, Dial}
-use Rattle.sv_links.specs.Links.{LinkAct, Destroyed, Locked, links_of, closing, owner, holder, is_locked_out}
+use Rattle.sv_links.specs.Links.{LinkAct, Destroyed, links_of, closing, owner, holder, is_locked_out}
 use Rattle.sv_links.specs.Waiting.{WaitAct, Entered, Left, waits, link as named_link}
 use Rattle.sv_links.specs.Channels.{ChannelClosed, ChannelTaken}
 use Rattle.sv_scan.specs.declared.acts.ScanAct.TheVariants.{Input as InputTo}
