@@ -266,7 +266,7 @@ timely_taken config c bytes log all none d = elim (cases_eq d c) [
 taken_age : (c : ℕ) (bytes : List ℕ) (log : List Act) → age c (On c (CallTaken bytes) ∷ log) ≡ 0
 taken_age c bytes log = rw (eq-eqb c c refl) refl
 
-entered_until : (c : ℕ) (named : Option ℕ) (wait : Wait) (last : Option ℕ) (acts : List WaitAct)
+pub entered_until : (c : ℕ) (named : Option ℕ) (wait : Wait) (last : Option ℕ) (acts : List WaitAct)
     → until_of c (Entered c named wait last ∷ acts) ≡ last
 entered_until c named wait last acts = rw (eq-eqb c c refl) refl
 

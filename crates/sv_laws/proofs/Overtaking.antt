@@ -1,16 +1,16 @@
 -- A new call that needs the lock isn't executed while another link holds the lock and a call waits for it.
-use Rattle.std.proofs.Common.{◌≡◌, ◌≢◌, ℕ, ◌+◌, Bool, true, false, cond, List, ◌∷◌, ◌++◌, Option, Some, None, refl, sym, ap, subst, ◌∙◌, inl, inr, ◌⊎◌}
-use Rattle.std.specs.Prelude.{not, is_some, ◌&&◌, option_map}
+use Rattle.std.proofs.Common.{◌≡◌, ◌≢◌, ℕ, ◌+◌, ◌≤◌, Bool, true, false, cond, List, ◌∷◌, ◌++◌, Option, Some, None, refl, sym, ap, subst, ◌∙◌, inl, inr, ◌⊎◌, arith}
+use Rattle.std.specs.Prelude.{not, is_some, ◌&&◌, option_map, ℤ}
 use Rattle.std.proofs.lemmas.Bool.{cases_eq, ne_eqb}
 use Rattle.sv_vxi.specs.declared.error_code.ErrorCode.{ErrorCode}
 use Rattle.sv_vxi.specs.declared.error_code.ErrorCode.TheVariants.{NoError, InvalidLink, ParameterError, NotAccessible, OutOfResources}
 use Rattle.sv_vxi.specs.declared.error_code.ErrorCode.TheVariants.{Locked as DeviceLocked}
 use Rattle.sv_vxi.specs.declared.arguments.LockWait.{LockWait}
-use Rattle.sv_vxi.specs.Arguments.{Arguments, CreateLink, OnLink, lock_wait, link as link_in}
+use Rattle.sv_vxi.specs.Arguments.{LinkCall, Arguments, CreateLink, OnLink, CreateIntrChan, lock_wait, link as link_in}
 use Rattle.sv_links.specs.declared.waiting.Wait.{Wait}
 use Rattle.sv_links.specs.declared.waiting.Wait.TheVariants.{Lock}
 use Rattle.sv_links.specs.Links.{holder, is_locked_out}
-use Rattle.sv_links.specs.Waiting.{WaitAct, Entered, Left, waits, IsExpired}
+use Rattle.sv_links.specs.Waiting.{WaitAct, Entered, Left, waits, IsExpired, deadline as until_of}
 use Rattle.sv_layers.specs.Act.{Act as InstrumentAct}
 use Rattle.sv_instrument.specs.Stimulus.{IsFired}
 use Rattle.sv_instrument.specs.Step.{IsStep}
@@ -27,6 +27,9 @@ use Rattle.sv_history.specs.Resuming.{failure_effect, late}
 use Rattle.sv_history.specs.Settling.{CanResume, IsNext, Settles}
 use Rattle.sv_history.specs.History.{turn_acts, own_acts, IsLogOf}
 use Rattle.sv_history.proofs.Projections.{of_mine}
+use Rattle.sv_laws.specs.InTime.{lock_time, waits_for_peer}
+use Rattle.sv_laws.proofs.Patience.{Begins, begins}
+use Rattle.sv_laws.proofs.InTime.{entered_until}
 use Rattle.sv_laws.specs.LockFair.{StaysOut, NoneOvertakes, needs_lock}
 use Rattle.sv_laws.proofs.Facts.{some_same, some_none}
 use Rattle.sv_laws.proofs.CallsAlike.{SameCall}
@@ -40,43 +43,65 @@ use Rattle.sv_laws.proofs.EveryLog.EachEvent.{each_settled, turn_parts, entered_
 
 -- ---- what stops a call that is locked out
 
--- A call is stopped: by an error, or because it waits for the lock.
-abbrev IsStopped : Option Stop → Type 0
-IsStopped stop = ((error : ErrorCode) × (error ≢ NoError) × (stop ≡ Some (Fails error)))
+-- A call is stopped: by an error, which is 11 only if the call waits no time for the lock; or because it waits for the lock.
+abbrev IsStopped : Arguments → Option Stop → Type 0
+IsStopped arguments stop =
+    ((error : ErrorCode) × (error ≢ NoError) × (error ≡ DeviceLocked → lock_time arguments ≡ 0) × (stop ≡ Some (Fails error)))
     ⊎ ((until : Option ℕ) × (stop ≡ Some (Awaits Lock until)))
 
-link_stopped : (named more : Bool) (timeout : ℕ)
-    → IsStopped (cond (not named) (Some (Fails NotAccessible)) (cond (not more) (Some (Fails OutOfResources))
+link_stopped : (arguments : Arguments) (named more : Bool) (timeout : ℕ)
+    → IsStopped arguments (cond (not named) (Some (Fails NotAccessible)) (cond (not more) (Some (Fails OutOfResources))
     (Some (Awaits Lock (Some timeout)))))
-link_stopped false more timeout = inl (NotAccessible, (λ (e : NotAccessible ≡ NoError). cc), refl)
-link_stopped true false timeout = inl (OutOfResources, (λ (e : OutOfResources ≡ NoError). cc), refl)
-link_stopped true true timeout = inr (Some timeout, refl)
+link_stopped arguments false more timeout =
+    inl (NotAccessible, (λ (e : NotAccessible ≡ NoError). cc), (λ (e : NotAccessible ≡ DeviceLocked). absurd cc), refl)
+link_stopped arguments true false timeout =
+    inl (OutOfResources, (λ (e : OutOfResources ≡ NoError). cc), (λ (e : OutOfResources ≡ DeviceLocked). absurd cc), refl)
+link_stopped arguments true true timeout = inr (Some timeout, refl)
 
-lock_stopped : (found : Option LockWait) → is_some found ≡ true → IsStopped (option_map lock_stop found)
-lock_stopped (Some one) some = by one.waits
+lock_stopped : (lid : ℤ) (call : LinkCall) (found : Option LockWait) → lock_wait call ≡ found → is_some found ≡ true
+    → IsStopped (OnLink lid call) (option_map lock_stop found)
+lock_stopped lid call (Some one) is some = by one.waits refl
   where
-    by : (b : Bool) → IsStopped (Some (cond b (Awaits Lock (Some one.timeout)) (Fails DeviceLocked)))
-    by true = inr (Some one.timeout, refl)
-    by false = inl (DeviceLocked, (λ (e : DeviceLocked ≡ NoError). cc), refl)
-lock_stopped None some = absurd cc
+    by : (b : Bool) → one.waits ≡ b
+        → IsStopped (OnLink lid call) (Some (cond b (Awaits Lock (Some one.timeout)) (Fails DeviceLocked)))
+    by true w = inr (Some one.timeout, refl)
+    by false w = inl (
+      DeviceLocked,
+      (λ (e : DeviceLocked ≡ NoError). cc),
+      (λ (e : DeviceLocked ≡ DeviceLocked). rw (is, w) refl),
+      refl,
+    )
+lock_stopped lid call None is some = absurd cc
 
-call_stopped : (own long some locked : Bool) (lock other : Option Stop) → some ≡ true → locked ≡ true → IsStopped lock
-    → IsStopped (cond (not own) (Some (Fails InvalidLink)) (cond long (Some (Fails ParameterError)) (cond (some && locked) lock other)))
-call_stopped false long some locked lock other is out stops = inl (InvalidLink, (λ (e : InvalidLink ≡ NoError). cc), refl)
-call_stopped true true some locked lock other is out stops = inl (ParameterError, (λ (e : ParameterError ≡ NoError). cc), refl)
-call_stopped true false true true lock other is out stops = stops
-call_stopped true false true false lock other is out stops = absurd cc
-call_stopped true false false locked lock other is out stops = absurd cc
+call_stopped : (arguments : Arguments) (own long some locked : Bool) (lock other : Option Stop) → some ≡ true → locked ≡ true
+    → IsStopped arguments lock
+    → IsStopped arguments
+    (cond (not own) (Some (Fails InvalidLink)) (cond long (Some (Fails ParameterError)) (cond (some && locked) lock other)))
+call_stopped arguments false long some locked lock other is out stops =
+    inl (InvalidLink, (λ (e : InvalidLink ≡ NoError). cc), (λ (e : InvalidLink ≡ DeviceLocked). absurd cc), refl)
+call_stopped arguments true true some locked lock other is out stops =
+    inl (ParameterError, (λ (e : ParameterError ≡ NoError). cc), (λ (e : ParameterError ≡ DeviceLocked). absurd cc), refl)
+call_stopped arguments true false true true lock other is out stops = stops
+call_stopped arguments true false true false lock other is out stops = absurd cc
+call_stopped arguments true false false locked lock other is out stops = absurd cc
 
 stopped : (c : ℕ) (arguments : Arguments) (acts : List DeviceAct) → needs_lock arguments ≡ true
-    → is_locked_out (holder (link_acts acts)) (lid_of (link_in arguments)) ≡ true → IsStopped (stop_of c arguments acts)
-stopped c (CreateLink client_id true lock_timeout device) acts needs out = rw out (link_stopped _ _ lock_timeout)
+    → is_locked_out (holder (link_acts acts)) (lid_of (link_in arguments)) ≡ true → IsStopped arguments (stop_of c arguments acts)
+stopped c (CreateLink client_id true lock_timeout device) acts needs out =
+    rw out (link_stopped (CreateLink client_id true lock_timeout device) _ _ lock_timeout)
 stopped c (CreateLink client_id false lock_timeout device) acts needs out = absurd cc
 stopped c (OnLink lid call) acts needs out =
-    call_stopped (owns c (lid_of (Some lid)) acts) (is_too_long call) (is_some (lock_wait call))
+    call_stopped (OnLink lid call) (owns c (lid_of (Some lid)) acts) (is_too_long call) (is_some (lock_wait call))
     (is_locked_out (holder (link_acts acts)) (lid_of (Some lid))) (option_map lock_stop (lock_wait call)) _ needs out
-    (lock_stopped (lock_wait call) needs)
+    (lock_stopped lid call (lock_wait call) refl needs)
 stopped c _ acts needs out = absurd cc
+
+-- a call that needs the lock waits for no peer
+no_peer : (arguments : Arguments) → needs_lock arguments ≡ true → waits_for_peer arguments ≡ true → ⊥
+no_peer (CreateLink client_id lock_device lock_timeout device) needs peer = cc
+no_peer (OnLink lid call) needs peer = cc
+no_peer (CreateIntrChan host_addr host_port prog_num prog_vers prog_family) needs peer = cc
+no_peer _ needs peer = cc
 
 -- a call is locked out if its link isn't the one that holds the lock
 out_of : (o named : Option ℕ) → (o ≡ None → ⊥) → o ≢ named → is_locked_out o named ≡ true
@@ -116,6 +141,20 @@ record IsBehind (config : Config) (c : ℕ) (bytes : List ℕ) (call : CoreCall)
   known : core_call_in (Some bytes) ≡ Some call
   out : is_locked_out (holder (link_acts (device_acts before))) (lid_of (link_in call.arguments)) ≡ true
 
+-- A wait that begins now, and has this deadline, lasts as long as the call waits for the lock.
+abbrev IsLong : Config → CoreCall → List Act → Option ℕ → Type 0
+IsLong config call before last =
+    (n : ℕ) → last ≡ Some n → config.clock + ticks (device_acts before) + lock_time call.arguments ≤ n
+
+long_by : (config : Config) (c : ℕ) (call : CoreCall) (before : List Act) (until : Option ℕ) → needs_lock call.arguments ≡ true
+    → Begins Lock until call.arguments → IsLong config call before (deadline config until (device_acts before))
+long_by config c call before until needs (inl peer) = absurd (no_peer call.arguments needs peer)
+long_by config c call before until needs (inr (timeout, is, most, least)) = λ n same.
+    let clock = config.clock + ticks (device_acts before) in
+    let now : Some (clock + timeout) ≡ Some n = ap (λ (u : Option ℕ). deadline config u (device_acts before)) (sym is) ∙ same in
+    let sum : clock + timeout ≡ n = some_same (clock + timeout) n now in
+    let less = least refl in omega (arith, sum, less)
+
 -- the log in which it waits
 abbrev suspended : ℕ → List ℕ → CoreCall → Option ℕ → List Act → List Act
 suspended c bytes call last before =
@@ -123,14 +162,15 @@ suspended c bytes call last before =
 
 -- The call is answered with an error: at once, or right behind its suspension.
 abbrev IsRefused : ℕ → List ℕ → CoreCall → List Act → List Act → Type 0
-IsRefused c bytes call before log = (error : ErrorCode) × (error ≢ NoError)
+IsRefused c bytes call before log = (error : ErrorCode) × (error ≢ NoError) × (error ≡ DeviceLocked → lock_time call.arguments ≡ 0)
     × ((log ≡ On c (Replied (result_reply call.xid (failure call.arguments error))) ∷ On c (CallTaken bytes) ∷ before)
     ⊎ ((last : Option ℕ) × (log ≡ On c (Replied (result_reply call.xid (failure call.arguments error))) ∷ OnDevice (Waited (Left c))
     ∷ suspended c bytes call last before)))
 
 -- The call waits for the lock, or it is answered with an error.
-abbrev StaysBehind : ℕ → List ℕ → CoreCall → List Act → List Act → Type 0
-StaysBehind c bytes call before log = ((last : Option ℕ) × (log ≡ suspended c bytes call last before)) ⊎ IsRefused c bytes call before log
+abbrev StaysBehind : Config → ℕ → List ℕ → CoreCall → List Act → List Act → Type 0
+StaysBehind config c bytes call before log =
+    ((last : Option ℕ) × (log ≡ suspended c bytes call last before) × IsLong config call before last) ⊎ IsRefused c bytes call before log
 
 -- ---- nothing is due behind it but its own timeout
 
@@ -162,11 +202,11 @@ left_alike c e named last acts ne =
 -- nothing is due where it is answered
 none_refused : (config : Config) (c : ℕ) (bytes : List ℕ) (call : CoreCall) (before log new : List Act)
     → IsBehind config c bytes call before → IsRefused c bytes call before log → IsNext config log new → ⊥
-none_refused config c bytes call before log new is (error, ne, inl so) next =
+none_refused config c bytes call before log new is (error, ne, no_time, inl so) next =
     let answered = On c (Replied (result_reply call.xid (failure call.arguments error))) ∷ On c (CallTaken bytes) ∷ before in
     none_next config is.history before answered new is.was refl (λ e able. (none_late config is.history before e is.was).1 able)
     (λ e late. (none_late config is.history before e is.was).0 late) (subst (λ (l : List Act). IsNext config l new) so next)
-none_refused config c bytes call before log new is (error, ne, inr (last, so)) next =
+none_refused config c bytes call before log new is (error, ne, no_time, inr (last, so)) next =
     let held = suspended c bytes call last before in
     let answered = On c (Replied (result_reply call.xid (failure call.arguments error))) ∷ OnDevice (Waited (Left c)) ∷ held in
     let named = lid_of (link_in call.arguments) in
@@ -189,11 +229,12 @@ none_refused config c bytes call before log new is (error, ne, inr (last, so)) n
 
 -- only its own timeout ends its wait
 refused_late : (config : Config) (c : ℕ) (bytes : List ℕ) (call : CoreCall) (before : List Act) (last : Option ℕ) (new : List Act) (e : ℕ)
-    (wait : Wait) → IsBehind config c bytes call before → e ≡ c
+    (wait : Wait) → IsBehind config c bytes call before → IsLong config call before last → e ≡ c
     → let log = suspended c bytes call last before in
     waits e (wait_acts (device_acts log)) ≡ Some wait
+    → IsExpired (config.clock + ticks (device_acts before)) (wait_acts (device_acts log)) e
     → new ≡ acts_of e (failure_effect (late wait) e (core_call_in (pending_call (of e log)))) ++ log → IsRefused c bytes call before new
-refused_late config c bytes call before last new e wait is same for so =
+refused_late config c bytes call before last new e wait is long same for past so =
     let log = suspended c bytes call last before in
     let own : of c log ≡ CallTaken bytes ∷ of c before = of_mine c (CallTaken bytes) before in
     let now = entered_waits c (lid_of (link_in call.arguments)) Lock last (wait_acts (device_acts before)) in
@@ -204,25 +245,31 @@ refused_late config c bytes call before last new e wait is same for so =
     let mine : new ≡ acts_of c (failure_effect DeviceLocked c (Some call)) ++ log =
     moved ∙ ap (λ (w : Wait). acts_of c (failure_effect (late w) c (core_call_in (pending_call (of c log)))) ++ log) (sym lock)
     ∙ ap (λ (k : Option CoreCall). acts_of c (failure_effect DeviceLocked c k) ++ log) found in
-    (DeviceLocked, (λ (z : DeviceLocked ≡ NoError). cc), inr (last, mine))
+    let acts = wait_acts (device_acts before) in
+    let until : last ≡ Some past.1 = sym (entered_until c (lid_of (link_in call.arguments)) Lock last acts)
+    ∙ ap (λ (n : ℕ). until_of n (wait_acts (device_acts log))) (sym same) ∙ past.3 in
+    let least = long past.1 until in
+    let most = past.4 in
+    let no_time : lock_time call.arguments ≡ 0 = omega (arith, least, most) in
+    (DeviceLocked, (λ (z : DeviceLocked ≡ NoError). cc), (λ (z : DeviceLocked ≡ DeviceLocked). no_time), inr (last, mine))
 
 behind_step : (config : Config) (c : ℕ) (bytes : List ℕ) (call : CoreCall) (before log new : List Act)
-    → IsBehind config c bytes call before → StaysBehind c bytes call before log → IsNext config log new
-    → StaysBehind c bytes call before new
+    → IsBehind config c bytes call before → StaysBehind config c bytes call before log → IsNext config log new
+    → StaysBehind config c bytes call before new
 behind_step config c bytes call before log new is (inr refused) next =
     absurd (none_refused config c bytes call before log new is refused next)
-behind_step config c bytes call before log new is (inl (last, same)) next =
+behind_step config c bytes call before log new is (inl (last, same, long)) next =
     by (subst (λ (l : List Act). IsNext config l new) same next)
   where
     rest : Rested config before
     rest = rested config before (log_settled config is.history before is.was)
 
-    by : IsNext config (suspended c bytes call last before) new → StaysBehind c bytes call before new
+    by : IsNext config (suspended c bytes call last before) new → StaysBehind config c bytes call before new
     by (inl (adds, such, so)) = absurd (rest.fires _ (adds, such, refl))
     by (inr (none, inl (e, wait, polled, oldest, for, said, so))) = absurd (none_behind config c bytes call before last e is oldest.0)
     by (inr (none, inr (still, inl (adds, such, so)))) = absurd (rest.steps _ (adds, such, refl))
     by (inr (none, inr (still, inr (idle, (e, wait, oldest, for, so))))) = elim (cases_eq e c) [
-      | inl same ↦ inr (refused_late config c bytes call before last new e wait is same for so)
+      | inl same ↦ inr (refused_late config c bytes call before last new e wait is long same for oldest.0 so)
       | inr ne ↦
           let acts = wait_acts (device_acts before) in
           let named = lid_of (link_in call.arguments) in
@@ -232,34 +279,37 @@ behind_step config c bytes call before log new is (inl (last, same)) next =
 
 -- ---- the Turn that takes it
 
-behind_turn : (config : Config) (polled c : ℕ) (bytes : List ℕ) (call : CoreCall) (before : List Act) (stop : Option Stop) → IsStopped stop
-    → StaysBehind c bytes call before (acts_of c (call_effect call.xid (admission config polled c call.arguments stop (device_acts before)))
-    ++ On c (CallTaken bytes) ∷ before)
-behind_turn config polled c bytes call before stop (inl (error, ne, is)) = rw is (inr (error, ne, inl refl))
-behind_turn config polled c bytes call before stop (inr (until, is)) =
-    rw is (inl (deadline config until (device_acts before), refl))
+behind_turn : (config : Config) (polled c : ℕ) (bytes : List ℕ) (call : CoreCall) (before : List Act) (stop : Option Stop)
+    → needs_lock call.arguments ≡ true → stop_of c call.arguments (device_acts before) ≡ stop → IsStopped call.arguments stop
+    → let effect = call_effect call.xid (admission config polled c call.arguments stop (device_acts before)) in
+    StaysBehind config c bytes call before (acts_of c effect ++ On c (CallTaken bytes) ∷ before)
+behind_turn config polled c bytes call before stop needs e (inl (error, ne, no_time, is)) = rw is (inr (error, ne, no_time, inl refl))
+behind_turn config polled c bytes call before stop needs e (inr (until, is)) =
+    let long = long_by config c call before until needs (begins c call.arguments (device_acts before) Lock until (e ∙ is)) in
+    rw is (inl (deadline config until (device_acts before), refl, long))
 
 behind_settled : (config : Config) (polled c : ℕ) (bytes : List ℕ) (call : CoreCall) (before log : List Act)
     → IsBehind config c bytes call before → next_call (of c before) ≡ Some bytes → next_request (of c before) ≡ Some (CoreRequest call)
     → needs_lock call.arguments ≡ true → Settles config (own_acts config polled (Turn c) before ++ before) log
-    → StaysBehind c bytes call before log
+    → StaysBehind config c bytes call before log
 behind_settled config polled c bytes call before log is next asks needs settles =
     let acts = device_acts before in
     let effect = call_effect call.xid (admission config polled c call.arguments (stop_of c call.arguments acts) acts) in
-    let turned : StaysBehind c bytes call before (turn_acts config polled c (Some bytes) (Some (CoreRequest call)) before ++ before) =
-    subst (StaysBehind c bytes call before) (sym (turn_parts c bytes effect None before))
-    (behind_turn config polled c bytes call before (stop_of c call.arguments acts) (stopped c call.arguments acts needs is.out)) in
+    let turned : StaysBehind config c bytes call before (turn_acts config polled c (Some bytes) (Some (CoreRequest call)) before ++ before) =
+    subst (StaysBehind config c bytes call before) (sym (turn_parts c bytes effect None before))
+    (behind_turn config polled c bytes call before (stop_of c call.arguments acts) needs refl
+    (stopped c call.arguments acts needs is.out)) in
     let asked : request_for (open_role (of c before)) (Some bytes) ≡ Some (CoreRequest call) =
     ap (request_for (open_role (of c before))) (sym next) ∙ asks in
-    let begins : StaysBehind c bytes call before (own_acts config polled (Turn c) before ++ before) = rw (next, asked) turned in
-    each_settled config (StaysBehind c bytes call before) (λ one new so due. behind_step config c bytes call before one new is so due)
-    settles.0 (own_acts config polled (Turn c) before ++ before) log begins settles.1
+    let begins : StaysBehind config c bytes call before (own_acts config polled (Turn c) before ++ before) = rw (next, asked) turned in
+    each_settled config (StaysBehind config c bytes call before)
+    (λ one new so due. behind_step config c bytes call before one new is so due) settles.0 (own_acts config polled (Turn c) before ++ before) log begins settles.1
 
 -- ---- so it stays out
 
-stays_out : (c : ℕ) (bytes : List ℕ) (call : CoreCall) (before log : List Act) → StaysBehind c bytes call before log
+stays_out : (config : Config) (c : ℕ) (bytes : List ℕ) (call : CoreCall) (before log : List Act) → StaysBehind config c bytes call before log
     → StaysOut c bytes call before log
-stays_out c bytes call before log (inl (last, is)) =
+stays_out config c bytes call before log (inl (last, is, long)) =
     subst (StaysOut c bytes call before) (sym is) (
       (refl, refl, refl),
       inl (
@@ -267,23 +317,25 @@ stays_out c bytes call before log (inl (last, is)) =
         (entered_waits c (lid_of (link_in call.arguments)) Lock last (wait_acts (device_acts before))).0,
       ),
     )
-stays_out c bytes call before log (inr (error, ne, inl is)) =
+stays_out config c bytes call before log (inr (error, ne, no_time, inl is)) =
     let reply = Replied (result_reply call.xid (failure call.arguments error)) in
     subst (StaysOut c bytes call before) (sym is) (
       (refl, refl, refl),
       inr (
         error,
         ne,
+        no_time,
         of_mine c reply (On c (CallTaken bytes) ∷ before) ∙ ap (λ (l : List ConnAct). reply ∷ l) (of_mine c (CallTaken bytes) before),
       ),
     )
-stays_out c bytes call before log (inr (error, ne, inr (last, is))) =
+stays_out config c bytes call before log (inr (error, ne, no_time, inr (last, is))) =
     let reply = Replied (result_reply call.xid (failure call.arguments error)) in
     subst (StaysOut c bytes call before) (sym is) (
       (refl, refl, refl),
       inr (
         error,
         ne,
+        no_time,
         of_mine c reply (OnDevice (Waited (Left c)) ∷ suspended c bytes call last before)
             ∙ ap (λ (l : List ConnAct). reply ∷ l) (of_mine c (CallTaken bytes) before),
       ),
@@ -293,7 +345,7 @@ pub none_overtakes : NoneOvertakes
 none_overtakes config history before log c d bytes call was now w next asks needs other =
     let same = one_log config history now.0 before now.4 was in
     let held : holder (link_acts (device_acts before)) ≡ None → ⊥ = quiet_log config history before was d w in
-    stays_out c bytes call before log (behind_settled config now.1 c bytes call before log (record {
+    stays_out config c bytes call before log (behind_settled config now.1 c bytes call before log (record {
       history = history;
       was = was;
       known = (core_taken (of c before) bytes call next asks).1;

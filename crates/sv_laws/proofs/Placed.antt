@@ -63,11 +63,13 @@ MayFree lid older =
 -- No call waits for the lock; or a call was suspended until now, and since then only links were made.
 abbrev pub HasTurn : List Act → Type 0
 HasTurn older = ((d : ℕ) → WaitsForLock (device_acts older) d → ⊥)
-    ⊎ ((c : ℕ) × (made : List LinkAct) × (before : List Act) × (older ≡ map OnDevice (map Linked made) ++ OnDevice (Waited (Left c)) ∷ before))
+    ⊎ ((c : ℕ) × (made : List LinkAct) × (before : List Act)
+    × (older ≡ map OnDevice (map Linked made) ++ OnDevice (Waited (Left c)) ∷ before))
 
 abbrev pub IsPlaced : List Act → Act → Type 0
 IsPlaced older (On c (CallTaken bytes)) = waits c (wait_acts (device_acts older)) ≡ None
-IsPlaced older (OnDevice (Waited (Entered c named wait last))) = (bytes : List ℕ) × (before : List Act) × (older ≡ On c (CallTaken bytes) ∷ before)
+IsPlaced older (OnDevice (Waited (Entered c named wait last))) =
+    (bytes : List ℕ) × (before : List Act) × (older ≡ On c (CallTaken bytes) ∷ before)
 IsPlaced older (OnDevice (Linked (Locked lid))) = holder (link_acts (device_acts older)) ≡ None → HasTurn older
 IsPlaced older (OnDevice (Linked (Unlocked lid))) = MayFree lid older
 IsPlaced older (OnDevice (Linked (Destroyed lid))) = MayFree lid older

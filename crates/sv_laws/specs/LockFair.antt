@@ -53,11 +53,12 @@ abbrev pub IsUntouched : List DeviceAct → List DeviceAct → Type 0
 IsUntouched before acts = (link_acts acts ≡ link_acts before) × (channel_acts acts ≡ channel_acts before)
     × (instrument_acts acts ≡ instrument_acts before)
 
--- The call that a Turn took isn't executed: the Turn touches nothing, and the call waits for the lock, or it is answered with an error.
+-- The call that a Turn took isn't executed: the Turn touches nothing, and the call waits for the lock, or it is answered with an error. The
+-- error is 11 only if the call waits no time for the lock: its waitlock flag isn't set, or its lock timeout is 0.
 abbrev pub StaysOut : ℕ → List ℕ → CoreCall → List Act → List Act → Type 0
 StaysOut c bytes call before log = IsUntouched (device_acts before) (device_acts log)
     × (((of c log ≡ CallTaken bytes ∷ of c before) × WaitsForLock (device_acts log) c)
-    ⊎ ((error : ErrorCode) × (error ≢ NoError)
+    ⊎ ((error : ErrorCode) × (error ≢ NoError) × (error ≡ DeviceLocked → lock_time call.arguments ≡ 0)
     × (of c log ≡ Replied (result_reply call.xid (failure call.arguments error)) ∷ CallTaken bytes ∷ of c before)))
 
 -- While a call waits for the lock, a Turn takes another call that needs the lock. If the link that this call names doesn't hold the lock,
@@ -68,8 +69,8 @@ NoneOvertakes = (config : Config) (history : List PlainEvent) (before log : List
     → next_call (of c before) ≡ Some bytes → next_request (of c before) ≡ Some (CoreRequest call) → needs_lock call.arguments ≡ true
     → holder (link_acts (device_acts before)) ≢ lid_of (link_in call.arguments) → StaysOut c bytes call before log
 
--- whether this act changes what the call of connection `c` waits for: the call is suspended anew, waits for something else, or isn't suspended
--- any more
+-- whether this act changes what the call of connection `c` waits for: the call is suspended anew, waits for something else, or isn't
+-- suspended any more
 abbrev pub changes_wait : ℕ → WaitAct → Bool
 changes_wait c (Entered conn link wait deadline) = conn == c
 changes_wait c (Again conn wait deadline) = conn == c
@@ -82,15 +83,15 @@ IsAborted c log = (d : ℕ) × (bytes reply : List ℕ) × (before : List Act) �
     × (request_of AbortChannel (call_at bytes) ≡ AbortRequest xid lid)
     × (lid_of (Some lid) ≡ link c (wait_acts (device_acts before)))
 
--- The call of connection `c` fails: the next act is the reply with the error. The error is 11, and as many milliseconds as the call's lock
--- timeout passed since the call was taken; or it is 23, and a device_abort named the call's link.
+-- The call of connection `c` fails: the next act is the reply with the error. The error is 11, and at least as many milliseconds as the call
+-- waits for the lock passed since the call was taken; or it is 23, and a device_abort named the call's link.
 abbrev pub FailsNext : ℕ → List Act → List Act → Type 0
 FailsNext c newer older = (more : List Act) × (call : CoreCall) × (error : ErrorCode)
     × (newer ≡ more ++ On c (Replied (result_reply call.xid (failure call.arguments error))) ∷ [])
     × (core_call_in (pending_call (of c older)) ≡ Some call)
     × (((error ≡ DeviceLocked) × (lock_time call.arguments ≤ age c older)) ⊎ ((error ≡ Abort) × IsAborted c older))
 
--- The call of connection `c` has just left the suspended calls, and is executed: the next acts are those that `own_call` says, with its reply.
+-- The call of connection `c` has just left the suspended calls, and is executed: the next acts are those of `own_call`, with its reply.
 abbrev pub IsExecuted : Config → ℕ → List Act → List Act → Type 0
 IsExecuted config c newer older = (more : List Act) × (call : CoreCall) × (polled : ℕ) × IsPolled polled (device_acts older)
     × (core_call_in (pending_call (of c older)) ≡ Some call)
