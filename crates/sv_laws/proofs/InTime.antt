@@ -33,7 +33,7 @@ use Rattle.sv_history.specs.History.{IsLogOf}
 use Rattle.sv_history.proofs.Dialing.{peer_by, dialed_to, dialed_is}
 use Rattle.sv_history.proofs.Projections.{of_mine, of_shared, device_shared, device_effect, wait_acts-links, wait_acts-happened, ticks-links}
 use Rattle.sv_laws.specs.InTime.{age, lock_time, patience, waits_for_peer, InTime}
-use Rattle.sv_laws.proofs.Patience.{bound, bound_most, then_is, Begins, begins}
+use Rattle.sv_laws.proofs.Patience.{bound, bound_most, time_bound, then_is, Begins, begins}
 use Rattle.sv_laws.proofs.Facts.{some_same, some_none, not_both}
 use Rattle.sv_laws.proofs.CallsAlike.{SameCall}
 use Rattle.sv_laws.proofs.NoneLate.{none_late}
@@ -276,7 +276,7 @@ begun config old acts wait until arguments zero (inl dial) = inl dial
 begun config old acts wait until arguments zero (inr (timeout, is, le, most)) = inr (
   config.clock + ticks acts + timeout,
   ap (λ (u : Option ℕ). deadline config u acts) is,
-  omega (arith, zero, le),
+  omega (arith, zero, le, time_bound wait arguments),
   omega arith,
   (λ lock. let more = most lock in omega (arith, zero, more)),
 )

@@ -35,6 +35,7 @@ mod Overtaking
 mod Holding
 mod AnsweredInTime
 mod Patience
+mod EachWait
 mod Alone
 mod Taking
 mod NoneRefused

@@ -15,7 +15,7 @@ use Rattle.sv_history.specs.CoreCall.{lid_of, is_too_long}
 use Rattle.sv_history.specs.CoreChannel.{owns}
 use Rattle.sv_history.specs.Admission.{Stop, Fails, Awaits, lock_stop, device_wait, stop_of}
 use Rattle.sv_history.specs.Resuming.{next_wait}
-use Rattle.sv_laws.specs.InTime.{lock_patience, lock_time, patience, waits_for_peer}
+use Rattle.sv_laws.specs.InTime.{lock_patience, lock_time, patience, waits_for_peer, time_for}
 use Rattle.sv_laws.proofs.Facts.{some_same}
 use Rattle.sv_laws.proofs.Sound.{again_is}
 
@@ -29,6 +29,17 @@ bound_most Lock (CreateLink client_id lock_device lock_timeout device) = omega a
 bound_most Lock (OnLink lid call) = omega arith
 bound_most Lock _ = omega arith
 bound_most _ arguments = omega arith
+
+-- A call waits for one thing no longer than for all that it waits for.
+pub time_bound : (wait : Wait) (arguments : Arguments) → time_for wait arguments ≤ bound wait arguments
+time_bound Lock arguments = omega arith
+time_bound _ arguments = omega arith
+
+-- what is left of all that it waits for, behind the lock
+pub time_left : (wait : Wait) (arguments : Arguments) (n : ℕ) → n + lock_time arguments ≤ bound wait arguments
+    → n ≤ time_for wait arguments
+time_left Lock arguments n le = omega (arith, le)
+time_left _ arguments n le = omega (arith, le)
 
 -- ---- behind the lock
 
@@ -77,7 +88,7 @@ then_is Dial arguments acts next e = absurd cc
 -- A call that begins to wait waits for a peer, or no longer than its timeout; and for the lock no shorter.
 abbrev pub Begins : Wait → Option ℕ → Arguments → Type 0
 Begins wait until arguments = (waits_for_peer arguments ≡ true)
-    ⊎ ((timeout : ℕ) × (until ≡ Some timeout) × (timeout ≤ bound wait arguments) × (wait ≡ Lock → lock_time arguments ≤ timeout))
+    ⊎ ((timeout : ℕ) × (until ≡ Some timeout) × (timeout ≤ time_for wait arguments) × (wait ≡ Lock → lock_time arguments ≤ timeout))
 
 begins_same : (wait other : Wait) (until also : Option ℕ) (arguments : Arguments) → Begins wait until arguments
     → Some (Awaits wait until) ≡ Some (Awaits other also) → Begins other also arguments

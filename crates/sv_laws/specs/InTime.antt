@@ -3,12 +3,13 @@ use Rattle.std.specs.Prelude.{◌≡◌, ◌≢◌, ℕ, ◌+◌, ◌<◌, ◌�
 use Rattle.std.specs.List.{AllByRecursion}
 use Rattle.sv_vxi.specs.declared.arguments.LockWait.{LockWait}
 use Rattle.sv_vxi.specs.Arguments.{DeviceWrite, DeviceRead, Arguments, CreateLink, OnLink, CreateIntrChan, lock_wait}
+use Rattle.sv_links.specs.declared.waiting.Wait.{Wait}
 use Rattle.sv_links.specs.declared.waiting.Wait.TheVariants.{Lock}
-use Rattle.sv_links.specs.Waiting.{waits}
+use Rattle.sv_links.specs.Waiting.{Entered, Again, waits}
 use Rattle.sv_history.specs.declared.event.Config.{Config}
 use Rattle.sv_history.specs.declared.event.Port.TheVariants.{Conn}
 use Rattle.sv_history.specs.Event.{PlainEvent, Turn, Close, Tick}
-use Rattle.sv_history.specs.Act.{Act, CallTaken, Ticked, On, OnDevice, of, device_acts, wait_acts}
+use Rattle.sv_history.specs.Act.{Act, DeviceAct, CallTaken, Waited, Ticked, On, OnDevice, of, device_acts, wait_acts}
 use Rattle.sv_history.specs.Connection.{next_call, pending_call}
 use Rattle.sv_history.specs.CoreCall.{CoreCall}
 use Rattle.sv_history.specs.Request.{core_call}
@@ -55,6 +56,28 @@ InTime = (config : Config) (history : List PlainEvent) (log : List Act) (c : ℕ
     → pending_call (of c log) ≡ Some bytes
     → (call : CoreCall) × (core_call bytes ≡ Some call) × (waits_for_peer call.arguments ≡ false → (age c log < patience call.arguments)
     × (waits c (wait_acts (device_acts log)) ≡ Some Lock → age c log < lock_time call.arguments))
+
+-- how many milliseconds passed since the present wait of a call of connection `c` began: since the call was suspended, or since it began to
+-- wait for something else
+abbrev pub waited : ℕ → List DeviceAct → ℕ
+waited c [] = 0
+waited c (Waited (Entered d link wait deadline) ∷ acts) = if d == c then 0 else waited c acts
+waited c (Waited (Again d wait deadline) ∷ acts) = if d == c then 0 else waited c acts
+waited c (Ticked ∷ acts) = waited c acts + 1
+waited c (_ ∷ acts) = waited c acts
+
+-- how many milliseconds a call waits for this at most: its lock timeout for the lock, its I/O timeout for the device
+abbrev pub time_for : Wait → Arguments → ℕ
+time_for Lock arguments = lock_time arguments
+time_for _ arguments = device_time arguments
+
+-- A call that waits has waited for the same thing fewer milliseconds than it waits for it at most. The one exception is a create_intr_chan,
+-- which waits until its peer is connected.
+abbrev pub EachWaitInTime : Type 0
+EachWaitInTime = (config : Config) (history : List PlainEvent) (log : List Act) (c : ℕ) (bytes : List ℕ) (wait : Wait)
+    → IsLogOf config history log → pending_call (of c log) ≡ Some bytes → waits c (wait_acts (device_acts log)) ≡ Some wait
+    → (call : CoreCall) × (core_call bytes ≡ Some call)
+    × (waits_for_peer call.arguments ≡ false → waited c (device_acts log) < time_for wait call.arguments)
 
 -- how many Tick events there are
 abbrev pub ticks_in : List PlainEvent → ℕ

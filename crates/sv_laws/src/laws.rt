@@ -7,7 +7,7 @@ ghost use Rattle.sv_laws.specs.Cuts.{RecordsCut, WritesCut};
 ghost use Rattle.sv_laws.specs.Conformance.{PollEndsRequest, StatusByteLeaves, ClearClears, ResetLeaves, StandardReadOnce, PresetLeaves, ErrorsInOrder, ClearRests};
 ghost use Rattle.sv_laws.specs.Gone.{ShutIsGone, CloseShuts};
 ghost use Rattle.sv_laws.specs.InOrder.{InOrder};
-ghost use Rattle.sv_laws.specs.InTime.{InTime, AnsweredInTime};
+ghost use Rattle.sv_laws.specs.InTime.{InTime, EachWaitInTime, AnsweredInTime};
 ghost use Rattle.sv_laws.specs.LockFair.{WaitsWhileHeld, NoneOvertakes, OldestPasses, OldestGets, HolderKeeps};
 ghost use Rattle.sv_laws.specs.QueryAlone.{QueryAlone, QueryLocked, NoQueryError, HeldAlone, HeldLocked};
 
@@ -115,11 +115,12 @@ pub fn gone()
 {}
 
 /// A call is answered before it has waited longer than its timeouts allow: the lock timeout, and
-/// then the I/O timeout (VXI-11 revision 1.0, section B.4.4). Only a create_intr_chan has no
-/// timeout, and waits for its peer.
+/// then the I/O timeout (VXI-11 revision 1.0, section B.4.4). Each wait is shorter than its own
+/// timeout. Only a create_intr_chan has no timeout, and waits for its peer.
 pub fn in_time()
     ensures young { InTime }
     ensures answered { AnsweredInTime }
+    ensures each { EachWaitInTime }
 {}
 
 /// Common commands and queries set and change what IEEE 488.2 and SCPI-1999 say, and leave the
