@@ -146,7 +146,7 @@ poll_ends_request config polled c lid flags lock_timeout io_timeout acts outcome
     rw is (refl, polled_same log, refl, since_ended Reason Lasts Polled log (λ lasts. lasts))
 
 -- an act of message exchange changes no register
-pub exchanged_same : (act : ExchangeAct) (log : List Act) → SameRegisters (Exchanged act ∷ log) log
+exchanged_same : (act : ExchangeAct) (log : List Act) → SameRegisters (Exchanged act ∷ log) log
 exchanged_same act log = record {
   settings = ((λ name. (refl, refl, refl)), refl, refl);
   events = λ name k. events_same name k (Exchanged act) log (condition_same name (Exchanged act) log refl refl refl) refl;
@@ -157,7 +157,7 @@ exchanged_same act log = record {
   scanner = refl;
 }
 
-settings_then : (one two three : List Act) → SameSettings one two → SameSettings two three → SameSettings one three
+pub settings_then : (one two three : List Act) → SameSettings one two → SameSettings two three → SameSettings one three
 settings_then one two three f g = (
   (λ name.
       let a = f.0 name in
@@ -235,7 +235,7 @@ lasts_master (Polled ∷ log) h = absurd h
 lasts_master (_ ∷ log) h = h
 
 -- While a request is pending, the master summary is set.
-request_master : (log : List Act) → Request log → Master log
+pub request_master : (log : List Act) → Request log → Master log
 request_master [] s = absurd ((since_empty Reason Lasts).0 s).0
 request_master (act ∷ log) s = lasts_master (act ∷ log) ((since_step Reason Lasts act log).0 s).0
 
@@ -393,13 +393,16 @@ purge_completes log (idle, inr (s, goes)) = let z : true ≡ false = goes in cc
 pub clear_rests : ClearRests
 clear_rests config polled c lid flags lock_timeout io_timeout acts outcome is =
     let log = instrument_acts acts in
-    rw is (refl, record {
-      rest = record { text_left = refl; none_left = refl };
-      held = refl;
-      waits = since_ended IsAsked IsPending Purged log (λ pending. let z : true ≡ false = pending.1 in cc);
-      settings = ((λ name. (refl, refl, refl)), refl, refl);
-      events = λ name k. events_same name k Purged log (condition_same name Purged log refl refl refl) refl;
-      standard = λ k. since_same (Occurs k) NotCleared Purged log tt (λ h. purge_completes log h.1);
-      queue = refl;
-      scanner = refl;
-    })
+    rw is (
+      refl,
+      record {
+        rest = record { text_left = refl; none_left = refl };
+        held = refl;
+        waits = since_ended IsAsked IsPending Purged log (λ pending. let z : true ≡ false = pending.1 in cc);
+        settings = ((λ name. (refl, refl, refl)), refl, refl);
+        events = λ name k. events_same name k Purged log (condition_same name Purged log refl refl refl) refl;
+        standard = λ k. since_same (Occurs k) NotCleared Purged log tt (λ h. purge_completes log h.1);
+        queue = refl;
+        scanner = refl;
+      },
+    )

@@ -6,10 +6,9 @@ use Rattle.sv_logs.proofs.Each.{Each}
 use Rattle.sv_vxi.specs.Arguments.{Arguments, link}
 use Rattle.sv_links.specs.declared.request.Peer.{Peer}
 use Rattle.sv_links.specs.declared.waiting.Wait.{Wait}
-use Rattle.sv_links.specs.declared.waiting.Wait.TheVariants.{Lock}
 use Rattle.sv_links.specs.Links.{LinkAct, closing}
 use Rattle.sv_links.specs.Waiting.{WaitAct, Entered, Again, Left, waits, deadline as until_of}
-use Rattle.sv_links.specs.Channels.{ChannelAct, ChannelClosed, ChannelTaken}
+use Rattle.sv_links.specs.Channels.{ChannelClosed, ChannelTaken}
 use Rattle.sv_scan.specs.declared.acts.ScanAct.TheVariants.{Input as InputTo}
 use Rattle.sv_layers.specs.Act.{Act as InstrumentAct, Scanned}
 use Rattle.sv_instrument.specs.Stimulus.{external_acts, tick_acts}
@@ -31,8 +30,8 @@ use Rattle.sv_history.specs.Resuming.{effect_of, leaving, next_wait, resume_outc
 use Rattle.sv_history.specs.History.{IsLogOf}
 use Rattle.sv_history.proofs.Dialing.{peer_by, dialed_to, dialed_is}
 use Rattle.sv_history.proofs.Projections.{of_mine, of_shared, device_shared, device_effect, wait_acts-links, wait_acts-happened}
-use Rattle.sv_laws.specs.InTime.{lock_time, waits_for_peer, waited, time_for, EachWaitInTime}
-use Rattle.sv_laws.proofs.Patience.{bound, time_left, then_is, Begins, begins}
+use Rattle.sv_laws.specs.InTime.{waits_for_peer, waited, time_for, EachWaitInTime}
+use Rattle.sv_laws.proofs.Patience.{time_left, then_is, Begins, begins}
 use Rattle.sv_laws.proofs.Facts.{some_same, some_none, not_both}
 use Rattle.sv_laws.proofs.CallsAlike.{SameCall}
 use Rattle.sv_laws.proofs.NoneLate.{none_late}
@@ -321,11 +320,12 @@ dated_close config c log all d =
     let after = Channel (ChannelClosed c) ∷ (map Linked links ++ Waited (Left c) ∷ acts) in
     let calls : wait_acts after ≡ Left c ∷ wait_acts acts = wait_acts-links links (Waited (Left c) ∷ acts) in
     let starts : began d after ≡ began d acts = began_links d links (Waited (Left c) ∷ acts) in
+    let other : d ≢ c → SameWait d after acts = λ ne.
+    (subst (λ (l : List WaitAct). SameCall d l (wait_acts acts)) (sym calls) (same_other c d (Left c) (wait_acts acts) refl ne), starts) in
     let so : Dated config d (of d new) after = elim (cases_eq d c) [
       | inl e ↦ subst (λ (n : ℕ). Dated config n (of n new) after) (sym e)
           (dated_none config c (of c new) after (ap (waits c) calls ∙ left_none c (wait_acts acts)))
-      | inr ne ↦ dated_same config d (of d log) (of d new) acts after (ap pending_call (of_closed c d log ne))
-          (subst (λ (l : List WaitAct). SameCall d l (wait_acts acts)) (sym calls) (same_other c d (Left c) (wait_acts acts) refl ne), starts)
+      | inr ne ↦ dated_same config d (of d log) (of d new) acts after (ap pending_call (of_closed c d log ne)) (other ne)
           (all d)
     ] in
     subst (λ (l : List DeviceAct). Dated config d (of d new) l) (sym (device_closed c log)) so

@@ -30,6 +30,7 @@ mod Conformance
 mod Placed
 mod InLine
 mod Leaving
+mod FreshStart
 mod Passing
 mod Overtaking
 mod Holding

@@ -17,7 +17,7 @@ use Rattle.sv_layers.specs.Condition.{effective_acts, is_idle}
 use Rattle.sv_layers.specs.Filter.{start, rise, fall, enable}
 use Rattle.sv_layers.specs.Event.{EventStands}
 use Rattle.sv_layers.specs.Standard.{Waits, Stands, enable as standard_enable}
-use Rattle.sv_layers.specs.StatusByte.{service, SummaryBit, PolledBit, MasterBit, Request}
+use Rattle.sv_layers.specs.StatusByte.{service, SummaryBit, MasterBit, Request}
 use Rattle.sv_header.specs.declared.command.Action.TheVariants as action
 use Rattle.sv_header.specs.declared.command.Question.TheVariants as question
 use Rattle.sv_instrument.specs.declared.command.order.Order.TheVariants as order
@@ -93,6 +93,7 @@ pub record IsCleared (log new : List Act) : Type 0 where
   pub response : SameResponse new log
   pub summary : (k : ℕ) → SummaryBit k new → k ≡ 4
 
+-- Where `*CLS` is performed, the new log is cleared (`IsCleared`).
 abbrev pub ClearClears : Type 0
 ClearClears = (log new : List Act) → Performs (order.Do action.ClearStatus) log new → IsCleared log new
 
@@ -108,6 +109,7 @@ pub record IsReset (log new : List Act) : Type 0 where
   pub queue : queue_acts new ≡ queue_acts log
   pub response : SameResponse new log
 
+-- Where `*RST` is performed, the new log is reset (`IsReset`).
 abbrev pub ResetLeaves : Type 0
 ResetLeaves = (log new : List Act) → Performs (order.Do action.Reset) log new → IsReset log new
 
@@ -135,11 +137,12 @@ pub record IsPreset (log new : List Act) : Type 0 where
   pub scanner : scan_acts new ≡ scan_acts log
   pub response : SameResponse new log
 
+-- Where STATus:PRESet is performed, the new log is preset (`IsPreset`).
 abbrev pub PresetLeaves : Type 0
 PresetLeaves = (log new : List Act) → Performs (order.Do action.Preset) log new → IsPreset log new
 
--- SYSTem:ERRor? returns the oldest error of the queue and removes it. While fewer than 64 errors are unread, an error that is reported comes
--- last (SCPI-1999, volume 2, 21.8).
+-- SYSTem:ERRor? returns the oldest error of the queue and removes it. While fewer than 64 errors are unread, an error that is reported
+-- comes last (SCPI-1999, volume 2, 21.8).
 abbrev pub ErrorsInOrder : Type 0
 ErrorsInOrder = ((log new : List Act) → Performs (order.Ask question.Error) log new → (taken : List Act)
     × (new ≡ after_answering (oldest_text (oldest (queue_acts log))) taken)
@@ -148,8 +151,8 @@ ErrorsInOrder = ((log new : List Act) → Performs (order.Ask question.Error) lo
     → queue_codes (queue_acts (Reported code ∷ log)) ≡ queue_codes (queue_acts log) ++ code ∷ [])
 
 -- A device_clear that is executed brings message exchange to rest, whatever was sent or waited before: no text, no response and no held
--- unit is left. It cancels a pending `*OPC`, and changes no register, no setting and no error (VXI-11 revision 1.0, section B.6; IEEE 488.2,
--- 5.8).
+-- unit is left. It cancels a pending `*OPC`, and changes no register, no setting and no error (VXI-11 revision 1.0, section B.6;
+-- IEEE 488.2, 5.8).
 pub record IsAtStart (before after : List Act) : Type 0 where
   pub rest : IsAtRest (exchange_acts after)
   pub held : held_unit after ≡ None
@@ -160,6 +163,7 @@ pub record IsAtStart (before after : List Act) : Type 0 where
   pub queue : queue_acts after ≡ queue_acts before
   pub scanner : scan_acts after ≡ scan_acts before
 
+-- Where a device_clear is executed, it succeeds, and message exchange starts anew (`IsAtStart`).
 abbrev pub ClearRests : Type 0
 ClearRests = (config : Config) (polled c lid flags lock_timeout io_timeout : ℕ) (acts : List DeviceAct) (outcome : CallOutcome)
     → outcome ≡ own_call config polled c (OnLink (pos lid) (Generic Clear flags lock_timeout io_timeout)) acts

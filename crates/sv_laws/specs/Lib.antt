@@ -7,5 +7,6 @@ pub mod LockFair
 pub mod Gone
 pub mod InTime
 pub mod Conformance
+pub mod FreshStart
 pub mod QueryAlone
 pub mod Taking

@@ -5,6 +5,7 @@ ghost use Rattle.sv_laws.specs.Laws.{OneLog, TimeOnlyCounts, NoneLate, NothingLo
 ghost use Rattle.sv_laws.specs.Isolation.{Isolation};
 ghost use Rattle.sv_laws.specs.Cuts.{RecordsCut, WritesCut};
 ghost use Rattle.sv_laws.specs.Conformance.{PollEndsRequest, StatusByteLeaves, ClearClears, ResetLeaves, StandardReadOnce, PresetLeaves, ErrorsInOrder, ClearRests};
+ghost use Rattle.sv_laws.specs.FreshStart.{FreshStart};
 ghost use Rattle.sv_laws.specs.Gone.{ShutIsGone, CloseShuts};
 ghost use Rattle.sv_laws.specs.InOrder.{InOrder};
 ghost use Rattle.sv_laws.specs.InTime.{InTime, EachWaitInTime, AnsweredInTime};
@@ -125,7 +126,8 @@ pub fn in_time()
 
 /// Common commands and queries set and change what IEEE 488.2 and SCPI-1999 say, and leave the
 /// rest: a poll, `*STB?`, `*CLS`, `*RST`, `*ESR?`, STATus:PRESet, and SYSTem:ERRor?. Behind a
-/// device_clear, message exchange is at rest.
+/// device_clear, message exchange is at rest. Drivers that begin with device_clear, `*RST` and
+/// `*CLS` find the same but for enables and filters.
 pub fn conformance()
     ensures poll { PollEndsRequest }
     ensures status_byte { StatusByteLeaves }
@@ -135,6 +137,7 @@ pub fn conformance()
     ensures preset { PresetLeaves }
     ensures errors { ErrorsInOrder }
     ensures rest { ClearRests }
+    ensures fresh { FreshStart }
 {}
 
 /// A connection that writes one query, and reads the response to its end before it writes again,
