@@ -18,7 +18,7 @@ use Rattle.sv_laws.proofs.EveryLog.Keeps.{IsEarliest, MayTake, AllKeep, keep_bef
 
 -- ---- which acts end the holding of the lock
 
--- what is so of the device's acts in a log
+-- the device's acts of a log end with those of its older part
 device_before : (newer older : List Act) → (more : List DeviceAct) × (device_acts (newer ++ older) ≡ more ++ device_acts older)
 device_before [] older = ([], refl)
 device_before (On c act ∷ newer) older = device_before newer older
@@ -86,7 +86,7 @@ holder_keeps config history log newer older act c lid was is holds owns ends =
 
 -- ---- which link gets the lock
 
--- one call left last
+-- The call that left last, before links were made, is one call.
 left_last : (made other : List LinkAct) (c d : ℕ) (acts more : List DeviceAct)
     → map Linked made ++ Waited (Left c) ∷ acts ≡ map Linked other ++ Waited (Left d) ∷ more → (c ≡ d) × (acts ≡ more)
 left_last [] [] c d acts more e = (cc, cc)
@@ -94,6 +94,7 @@ left_last [] (act ∷ other) c d acts more e = absurd cc
 left_last (act ∷ made) [] c d acts more e = absurd cc
 left_last (act ∷ made) (one ∷ other) c d acts more e = left_last made other c d acts more (cc)
 
+-- A link that may take the lock by the order of suspension may get it by the order in which calls were taken.
 gets_by : (lid : ℕ) (older : List Act) → AllPlaced older → (holder (link_acts (device_acts older)) ≡ None → HasTurn older)
     → MayTake lid (device_acts older) → MayGet lid older
 gets_by lid older placed turn (inl holds) = inl holds
@@ -112,7 +113,8 @@ gets_by lid older placed turn (inr (free, inr (c, made, acts, is, owns, first)))
 
 pub oldest_gets : OldestGets
 oldest_gets config history log newer older lid was is =
-    let placed = placed_before newer (OnDevice (Linked (Locked lid)) ∷ older) (subst AllPlaced is (placed_log config history log was).placed) in
+    let all = subst AllPlaced is (placed_log config history log was).placed in
+    let placed = placed_before newer (OnDevice (Linked (Locked lid)) ∷ older) all in
     gets_by lid older placed.1 placed.0
     (place_of config history log (device_acts newer) (device_acts older) (Linked (Locked lid)) was
     (ap device_acts is ∙ device_join newer older (Linked (Locked lid)))).1

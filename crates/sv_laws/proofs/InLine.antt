@@ -14,6 +14,7 @@ use Rattle.sv_laws.proofs.EveryLog.Known.{mapped}
 
 -- ---- when a call was suspended
 
+-- no call was suspended later than now
 newest_most : (is_such : List WaitAct → Bool) (acts : List WaitAct) → length (newest is_such acts) ≤ length acts
 newest_most is_such [] = omega arith
 newest_most is_such (act ∷ acts) = by (is_such (act ∷ acts)) (newest_most is_such acts)
@@ -57,6 +58,7 @@ taken_other : (e c d : ℕ) (bytes : List ℕ) (log : List Act) → e ≢ c → 
     → is_later c d (On e (CallTaken bytes) ∷ log) ≡ true
 taken_other e c d bytes log off_c off_d later = rw (ne_eqb e d off_d, ne_eqb e c off_c) later
 
+-- Of two suspended calls, the one that was suspended later was taken later.
 pub in_line : (log : List Act) (c d : ℕ) (v w : Wait) → AllPlaced log → c ≢ d → waits c (wait_acts (device_acts log)) ≡ Some v
     → waits d (wait_acts (device_acts log)) ≡ Some w
     → arrival c (wait_acts (device_acts log)) ≤ arrival d (wait_acts (device_acts log)) → is_later c d log ≡ true

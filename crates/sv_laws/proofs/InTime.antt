@@ -217,7 +217,13 @@ timely_continued config polled c wait call (Some next) log all for known e =
     (subst (λ (w : Wait). Within (age c log) clock w (until_of c (wait_acts acts)) call.arguments) then_so.0 was) in
     let le = then_so.2 in
     let now : Within (age c log) clock next.0 (until_of c (Again c next.0 last ∷ wait_acts acts)) call.arguments =
-    inr (clock + next.1, again_until c next.0 last (wait_acts acts), omega (arith, old, le), omega arith, λ lock. absurd (then_so.3 lock)) in
+    inr (
+      clock + next.1,
+      again_until c next.0 last (wait_acts acts),
+      omega (arith, old, le),
+      omega arith,
+      λ lock. absurd (then_so.3 lock),
+    ) in
     timely_effect config c (call_effect call.xid (resume_outcome config polled c call.arguments (Some next) acts)) log all tt tt
     (λ d ne. same_other c d (Again c next.0 last) (wait_acts acts) refl ne)
     (λ other found is busy.
@@ -427,6 +433,7 @@ timely_event config history Tick polled channel_log log was free fit all =
     subst (AllTimely config) (sym (append_assoc (map OnDevice (map Applied adds)) (OnDevice Ticked ∷ []) log))
     (timely_happened config adds (OnDevice Ticked ∷ log) (timely_tick config history log was all))
 
+-- in the empty log
 pub timely_none_yet : (config : Config) → AllTimely config []
 timely_none_yet config c wait call is busy = absurd (let z : None ≡ Some wait = is in cc)
 

@@ -20,6 +20,7 @@ abbrev pub Ends : Config → ℕ → List Act → List Act → Type 0
 Ends config c newer older = ((holder (link_acts (device_acts older)) ≡ None) × IsExecuted config c newer older)
     ⊎ (is_open (of c older) ≡ false) ⊎ FailsNext c newer older
 
+-- So ends the call that leaves by this act, if it waited for the lock.
 abbrev pub EndsAt : Config → List Act → Act → List Act → Type 0
 EndsAt config newer (OnDevice (Waited (Left c))) older = WaitsForLock (device_acts older) c → Ends config c newer older
 EndsAt config newer act older = ⊤
@@ -71,6 +72,7 @@ all_before config more log so = subst (λ (l : List Act). AllEnd config l log) (
 
 -- ---- among which no call leaves
 
+-- By none of these acts a call leaves the suspended calls.
 abbrev pub NoneLeaves : List Act → Type 0
 NoneLeaves [] = ⊤
 NoneLeaves (OnDevice (Waited (Left c)) ∷ acts) = ⊥

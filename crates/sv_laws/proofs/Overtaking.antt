@@ -6,7 +6,7 @@ use Rattle.sv_vxi.specs.declared.error_code.ErrorCode.{ErrorCode}
 use Rattle.sv_vxi.specs.declared.error_code.ErrorCode.TheVariants.{NoError, InvalidLink, ParameterError, NotAccessible, OutOfResources}
 use Rattle.sv_vxi.specs.declared.error_code.ErrorCode.TheVariants.{Locked as DeviceLocked}
 use Rattle.sv_vxi.specs.declared.arguments.LockWait.{LockWait}
-use Rattle.sv_vxi.specs.Arguments.{LinkCall, Arguments, CreateLink, OnLink, CreateIntrChan, lock_wait, link as link_in}
+use Rattle.sv_vxi.specs.Arguments.{LinkCall, Arguments, CreateLink, OnLink, lock_wait, link as link_in}
 use Rattle.sv_links.specs.declared.waiting.Wait.{Wait}
 use Rattle.sv_links.specs.declared.waiting.Wait.TheVariants.{Lock}
 use Rattle.sv_links.specs.Links.{holder, is_locked_out}
@@ -49,6 +49,7 @@ IsStopped arguments stop =
     ((error : ErrorCode) × (error ≢ NoError) × (error ≡ DeviceLocked → lock_time arguments ≡ 0) × (stop ≡ Some (Fails error)))
     ⊎ ((until : Option ℕ) × (stop ≡ Some (Awaits Lock until)))
 
+-- a create_link that asks for the lock
 link_stopped : (arguments : Arguments) (named more : Bool) (timeout : ℕ)
     → IsStopped arguments (cond (not named) (Some (Fails NotAccessible)) (cond (not more) (Some (Fails OutOfResources))
     (Some (Awaits Lock (Some timeout)))))
@@ -58,6 +59,7 @@ link_stopped arguments true false timeout =
     inl (OutOfResources, (λ (e : OutOfResources ≡ NoError). cc), (λ (e : OutOfResources ≡ DeviceLocked). absurd cc), refl)
 link_stopped arguments true true timeout = inr (Some timeout, refl)
 
+-- a call on a link
 lock_stopped : (lid : ℤ) (call : LinkCall) (found : Option LockWait) → lock_wait call ≡ found → is_some found ≡ true
     → IsStopped (OnLink lid call) (option_map lock_stop found)
 lock_stopped lid call (Some one) is some = by one.waits refl
@@ -85,6 +87,7 @@ call_stopped arguments true false true true lock other is out stops = stops
 call_stopped arguments true false true false lock other is out stops = absurd cc
 call_stopped arguments true false false locked lock other is out stops = absurd cc
 
+-- A call that needs the lock is stopped where it is locked out.
 stopped : (c : ℕ) (arguments : Arguments) (acts : List DeviceAct) → needs_lock arguments ≡ true
     → is_locked_out (holder (link_acts acts)) (lid_of (link_in arguments)) ≡ true → IsStopped arguments (stop_of c arguments acts)
 stopped c (CreateLink client_id true lock_timeout device) acts needs out =
@@ -100,7 +103,6 @@ stopped c _ acts needs out = absurd cc
 no_peer : (arguments : Arguments) → needs_lock arguments ≡ true → waits_for_peer arguments ≡ true → ⊥
 no_peer (CreateLink client_id lock_device lock_timeout device) needs peer = cc
 no_peer (OnLink lid call) needs peer = cc
-no_peer (CreateIntrChan host_addr host_port prog_num prog_vers prog_family) needs peer = cc
 no_peer _ needs peer = cc
 
 -- a call is locked out if its link isn't the one that holds the lock
@@ -146,6 +148,7 @@ abbrev IsLong : Config → CoreCall → List Act → Option ℕ → Type 0
 IsLong config call before last =
     (n : ℕ) → last ≡ Some n → config.clock + ticks (device_acts before) + lock_time call.arguments ≤ n
 
+-- such is the wait for the lock of a call that needs it
 long_by : (config : Config) (c : ℕ) (call : CoreCall) (before : List Act) (until : Option ℕ) → needs_lock call.arguments ≡ true
     → Begins Lock until call.arguments → IsLong config call before (deadline config until (device_acts before))
 long_by config c call before until needs (inl peer) = absurd (no_peer call.arguments needs peer)
@@ -239,7 +242,8 @@ refused_late config c bytes call before last new e wait is long same for past so
     let own : of c log ≡ CallTaken bytes ∷ of c before = of_mine c (CallTaken bytes) before in
     let now = entered_waits c (lid_of (link_in call.arguments)) Lock last (wait_acts (device_acts before)) in
     let lock : Lock ≡ wait = some_same Lock wait (sym now.0 ∙ ap (λ (n : ℕ). waits n (wait_acts (device_acts log))) (sym same) ∙ for) in
-    let found : core_call_in (pending_call (of c log)) ≡ Some call = ap (λ (l : List ConnAct). core_call_in (pending_call l)) own ∙ is.known in
+    let found : core_call_in (pending_call (of c log)) ≡ Some call =
+    ap (λ (l : List ConnAct). core_call_in (pending_call l)) own ∙ is.known in
     let moved : new ≡ acts_of c (failure_effect (late wait) c (core_call_in (pending_call (of c log)))) ++ log =
     so ∙ ap (λ (n : ℕ). acts_of n (failure_effect (late wait) n (core_call_in (pending_call (of n log)))) ++ log) same in
     let mine : new ≡ acts_of c (failure_effect DeviceLocked c (Some call)) ++ log =
@@ -295,7 +299,8 @@ behind_settled : (config : Config) (polled c : ℕ) (bytes : List ℕ) (call : C
 behind_settled config polled c bytes call before log is next asks needs settles =
     let acts = device_acts before in
     let effect = call_effect call.xid (admission config polled c call.arguments (stop_of c call.arguments acts) acts) in
-    let turned : StaysBehind config c bytes call before (turn_acts config polled c (Some bytes) (Some (CoreRequest call)) before ++ before) =
+    let adds = turn_acts config polled c (Some bytes) (Some (CoreRequest call)) before in
+    let turned : StaysBehind config c bytes call before (adds ++ before) =
     subst (StaysBehind config c bytes call before) (sym (turn_parts c bytes effect None before))
     (behind_turn config polled c bytes call before (stop_of c call.arguments acts) needs refl
     (stopped c call.arguments acts needs is.out)) in
@@ -303,12 +308,13 @@ behind_settled config polled c bytes call before log is next asks needs settles 
     ap (request_for (open_role (of c before))) (sym next) ∙ asks in
     let begins : StaysBehind config c bytes call before (own_acts config polled (Turn c) before ++ before) = rw (next, asked) turned in
     each_settled config (StaysBehind config c bytes call before)
-    (λ one new so due. behind_step config c bytes call before one new is so due) settles.0 (own_acts config polled (Turn c) before ++ before) log begins settles.1
+    (λ one new so due. behind_step config c bytes call before one new is so due)
+    settles.0 (own_acts config polled (Turn c) before ++ before) log begins settles.1
 
 -- ---- so it stays out
 
-stays_out : (config : Config) (c : ℕ) (bytes : List ℕ) (call : CoreCall) (before log : List Act) → StaysBehind config c bytes call before log
-    → StaysOut c bytes call before log
+stays_out : (config : Config) (c : ℕ) (bytes : List ℕ) (call : CoreCall) (before log : List Act)
+    → StaysBehind config c bytes call before log → StaysOut c bytes call before log
 stays_out config c bytes call before log (inl (last, is, long)) =
     subst (StaysOut c bytes call before) (sym is) (
       (refl, refl, refl),

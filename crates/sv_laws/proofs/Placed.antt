@@ -66,6 +66,8 @@ HasTurn older = ((d : ℕ) → WaitsForLock (device_acts older) d → ⊥)
     ⊎ ((c : ℕ) × (made : List LinkAct) × (before : List Act)
     × (older ≡ map OnDevice (map Linked made) ++ OnDevice (Waited (Left c)) ∷ before))
 
+-- This act has its place behind these: a call is taken while none of its connection is suspended; a call is suspended right behind its
+-- taking; a free lock is given where it is a call's turn; a link is unlocked or destroyed where its connection lets it go, or is closed.
 abbrev pub IsPlaced : List Act → Act → Type 0
 IsPlaced older (On c (CallTaken bytes)) = waits c (wait_acts (device_acts older)) ≡ None
 IsPlaced older (OnDevice (Waited (Entered c named wait last))) =
@@ -90,6 +92,7 @@ placed_before (act ∷ newer) older all = placed_before newer older all.1
 
 -- ---- acts of an effect
 
+-- acts of a connection that take no call
 placed_own : (c : ℕ) (own : List ConnAct) (rest log : List Act) → NoCalls own → Each IsPlaced rest log
     → Each IsPlaced (map (On c) own ++ rest) log
 placed_own c [] rest log calls h = h
@@ -112,6 +115,7 @@ record MayPlace (arguments : Arguments) (log : List Act) : Type 0 where
   turn : takes_lock arguments ≡ true → holder (link_acts (device_acts log)) ≡ None → HasTurn log
   frees : (lid : ℕ) (call : LinkCall) → arguments ≡ OnLink (pos lid) call → lets_go arguments ≡ true → MayFree lid log
 
+-- it stays a call's turn while links are made
 turn_made : (c lid : ℕ) (log : List Act) → HasTurn log → HasTurn (OnDevice (Linked (Made lid c)) ∷ log)
 turn_made c lid log (inl nobody) = inl nobody
 turn_made c lid log (inr (d, made, before, is)) =
@@ -175,7 +179,7 @@ placed_done config polled c _ log may = tt
 
 -- ---- a suspended call ends, or waits anew
 
--- these acts of the device, in front of those that end a suspended call
+-- it ends, and does these acts
 placed_left : (c xid : ℕ) (outcome : CallOutcome) (log : List Act) → AllPlaced log
     → Each IsPlaced (map OnDevice outcome.adds) (OnDevice (Waited (Left c)) ∷ log)
     → AllPlaced (acts_of c (call_effect xid (leaving c outcome)) ++ log)
@@ -192,11 +196,13 @@ placed_left c xid outcome log all h = placed_effect c (call_effect xid (leaving 
         split [] = refl
         split (act ∷ adds) = ap (λ (l : List Act). OnDevice act ∷ l) (split adds)
 
+-- it ends with an error
 placed_failed : (error : ErrorCode) (c : ℕ) (call : Option CoreCall) (log : List Act) → AllPlaced log
     → AllPlaced (acts_of c (failure_effect error c call) ++ log)
 placed_failed error c (Some call) log all = placed_left c call.xid (only (failure call.arguments error)) log all tt
 placed_failed error c None log all = (tt, all)
 
+-- it resumes, and doesn't let its link go
 placed_continued : (config : Config) (polled c : ℕ) (call : CoreCall) (next : Option (Wait × ℕ)) (log : List Act) → AllPlaced log
     → lets_go call.arguments ≡ false
     → AllPlaced (acts_of c (call_effect call.xid (resume_outcome config polled c call.arguments next (device_acts log))) ++ log)
@@ -233,7 +239,7 @@ placed_step config log new fit so next = record { sound = sound_step config log 
 
 -- ---- a Turn
 
--- a call that is done where it is taken
+-- A call that is done where it is taken lets go the link that it names, which is its connection's.
 taken_frees : (c : ℕ) (bytes : List ℕ) (call : CoreCall) (log : List Act) → stop_of c call.arguments (device_acts log) ≡ None
     → core_call_in (Some bytes) ≡ Some call → (lid : ℕ) (one : LinkCall) → call.arguments ≡ OnLink (pos lid) one
     → lets_go call.arguments ≡ true → MayFree lid (On c (CallTaken bytes) ∷ log)
@@ -294,11 +300,12 @@ placed_turn config polled c _ _ log fit all quiet next asks = all
 
 -- ---- a connection closes
 
--- behind these acts each link has the owner that it had, or none
+-- Behind these acts each link has the owner that it had, or none.
 abbrev IsLessened : List LinkAct → List Act → Type 0
 IsLessened behind base =
     (n d : ℕ) → owner n (behind ++ link_acts (device_acts base)) ≡ Some d → owner n (link_acts (device_acts base)) ≡ Some d
 
+-- its links are destroyed one by one
 placed_links : (c : ℕ) (ns : List ℕ) (behind : List LinkAct) (base : List Act) → is_open (of c base) ≡ false
     → AllByRecursion (λ n. owner n (link_acts (device_acts base)) ≡ Some c) ns → IsLessened behind base
     → AllPlaced (map OnDevice (map Linked behind ++ Waited (Left c) ∷ []) ++ base)
@@ -346,8 +353,8 @@ placed_event config history event polled channel_log log was free fit so =
     by : (event : PlainEvent) → AllPlaced (own_acts config polled event log ++ log)
     by (Open c role) = (tt, all)
     by (Bytes c piece) = (tt, all)
-    by (Turn c) =
-        placed_turn config polled c (next_call (of c log)) (next_request (of c log)) log fit all (quiet_log config history log was) refl refl
+    by (Turn c) = placed_turn config polled c (next_call (of c log)) (next_request (of c log)) log fit all
+        (quiet_log config history log was) refl refl
     by (Refuse c) = refuse_keeps AllPlaced c (next_call (of c log)) (refusable (of c log)) log all
         (λ bytes call next can. (tt, (idle_free c log bytes fit next, all)))
     by (Took (Conn c) count) = (tt, all)

@@ -83,8 +83,8 @@ IsAborted c log = (d : ℕ) × (bytes reply : List ℕ) × (before : List Act) �
     × (request_of AbortChannel (call_at bytes) ≡ AbortRequest xid lid)
     × (lid_of (Some lid) ≡ link c (wait_acts (device_acts before)))
 
--- The call of connection `c` fails: the next act is the reply with the error. The error is 11, and at least as many milliseconds as the call
--- waits for the lock passed since the call was taken; or it is 23, and a device_abort named the call's link.
+-- The call of connection `c` fails: the next act is the reply with the error. The error is 11, and the call was taken at least as many
+-- milliseconds ago as its lock timeout says; or it is 23, and a device_abort named the call's link.
 abbrev pub FailsNext : ℕ → List Act → List Act → Type 0
 FailsNext c newer older = (more : List Act) × (call : CoreCall) × (error : ErrorCode)
     × (newer ≡ more ++ On c (Replied (result_reply call.xid (failure call.arguments error))) ∷ [])

@@ -91,7 +91,8 @@ pub fn in_order()
 
 /// The lock goes to the calls in the order in which they came (VXI-11 revision 1.0, section
 /// B.4.4). While a call waits for the lock, another link holds it, and a new call that needs the
-/// lock isn't executed. A call that stops to wait came first, or its connection was closed, or it
+/// lock isn't executed. A call stops to wait for the lock when the lock is free and the call came
+/// first: then it is executed, or waits for the device. Otherwise its connection was closed, or it
 /// fails by its own lock timeout or by a device_abort of its link. A suspended call that gets the
 /// lock came first.
 pub fn lock_fair()

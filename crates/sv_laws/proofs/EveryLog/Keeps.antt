@@ -30,8 +30,8 @@ IsFree lid acts = (d : ℕ) × (owner lid (link_acts acts) ≡ Some d) × (waits
 abbrev pub IsEarliest : ℕ → List DeviceAct → Type 0
 IsEarliest c acts = IsOldest (wait_acts acts) (WaitsForLock acts) (Some c)
 
--- A link may take the lock: it holds the lock; or the lock is free, and no call waits for it, or its connection's call, which waited for the
--- lock until now, was suspended first.
+-- A link may take the lock: it holds the lock; or the lock is free, and no call waits for it, or the call of the link's connection, which
+-- waited for the lock until now, was suspended first.
 abbrev pub MayTake : ℕ → List DeviceAct → Type 0
 MayTake lid acts = (holder (link_acts acts) ≡ Some lid)
     ⊎ ((holder (link_acts acts) ≡ None) × (((c : ℕ) → WaitsForLock acts c → ⊥)
