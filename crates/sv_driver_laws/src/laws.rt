@@ -19,8 +19,10 @@ pub fn carried<W: Wire>()
 /// After all reads of a sweep, the next call of each connection is taken, if there is a call to
 /// take and the output has room for the longest reply. If memory for this call is refused, the call
 /// is answered with error 9. The bytes that then wait on the connection are passed to the wire in
-/// the same sweep. The law says nothing of interrupt channels, of connecting to their peers, or of
-/// how many turns a connection has.
+/// the same sweep. A sweep takes at most one call of each connection. Each peer of an interrupt
+/// channel that has to be dialed is dialed, or asked whether it answered. What waits on any port
+/// when the sweep's time has passed is passed to the wire too, unless the port is an interrupt
+/// channel that is closed by the end of the sweep.
 pub fn served<W: Wire>()
     ensures { Served W.hears }
 {}

@@ -125,18 +125,27 @@ pub fn in_time()
     ensures each { EachWaitInTime }
 {}
 
-/// Common commands and queries set and change what IEEE 488.2 and SCPI-1999 say, and leave the
-/// rest: a poll, `*STB?`, `*CLS`, `*RST`, `*ESR?`, STATus:PRESet, and SYSTem:ERRor?. Behind a
-/// device_clear, message exchange is at rest. Drivers that begin with device_clear, `*RST` and
-/// `*CLS` find the same but for enables and filters.
+/// Common commands and queries set and change what IEEE 488.2 says, and leave the rest: a poll,
+/// `*STB?`, `*CLS`, `*RST`, and `*ESR?` (chapters 10 and 11).
 pub fn conformance()
     ensures poll { PollEndsRequest }
     ensures status_byte { StatusByteLeaves }
     ensures clear { ClearClears }
     ensures reset { ResetLeaves }
     ensures standard { StandardReadOnce }
+{}
+
+/// STATus:PRESet and SYSTem:ERRor? set, change and return what SCPI-1999 says, and leave the rest
+/// (volume 2, chapters 20 and 21).
+pub fn scpi_conformance()
     ensures preset { PresetLeaves }
     ensures errors { ErrorsInOrder }
+{}
+
+/// Behind a device_clear, message exchange is at rest, whatever was sent or waited before (VXI-11
+/// revision 1.0, section B.6; IEEE 488.2, 5.8). Drivers that begin with device_clear, `*RST` and
+/// `*CLS` find the same but for enables and filters.
+pub fn fresh_start()
     ensures rest { ClearRests }
     ensures fresh { FreshStart }
 {}
