@@ -1,4 +1,4 @@
-use Rattle.std.proofs.Common.{◌≡◌, ◌+◌, ◌-◌, ◌≤◌, ap, arith}
+use Rattle.std.proofs.Common.{◌≡◌, ◌+◌, ◌-◌, ap, arith}
 use Rattle.sv_pace.specs.Pace.{Kept}
 use Rattle.sv_net.proofs.Running.{served_by, stopped_by}
 use Rattle.sv_net.proofs.Pausing.{on_err}
