@@ -26,7 +26,7 @@ use Rattle.sv_driver_laws.specs.Served.{event_of, is_outer}
 use Rattle.sv_driver_laws.proofs.Keeps.{Keeps}
 use Rattle.sv_driver_laws.proofs.Reasons.{told_more}
 use Rattle.sv_driver_laws.proofs.Peers.{lets_go_of}
-use Rattle.sv_driver_laws.specs.Determined.{IsMoment, question, AnswersDiffer, MemoryDiffers}
+use Rattle.sv_driver_laws.specs.Determined.{question, AnswersDiffer, MemoryDiffers}
 use Rattle.sv_driver_laws.proofs.Parts.{Grows, opens_grows, comes_grows, drops_grows, calls_grows, rings_grows, picks_grows, ends_write_grows}
 use Rattle.sv_driver_laws.proofs.Recorded.{Records, Step, Lifts, lift_opens, lift_comes, lift_drops, lift_rings, lift_picks, lift_calls, lift_ends_write}
 
@@ -41,7 +41,7 @@ Forks b c = AnswersDiffer b.wire b.history c.wire c.history ⊎ MemoryDiffers b.
 
 -- the trace and the history belong together
 abbrev pub Told : View → Type 0
-Told a = IsMoment a.wire a.history
+Told a = filter is_outer a.history ≡ flat_map event_of a.wire
 
 abbrev pub Outcome : View → View → Type 0
 Outcome b c = (b ≡ c) ⊎ Forks b c

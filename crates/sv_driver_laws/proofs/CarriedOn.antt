@@ -13,12 +13,11 @@ use Rattle.sv_history.specs.declared.event.Port.{Port}
 use Rattle.sv_history.specs.declared.event.Port.TheVariants.{Conn, Intr}
 use Rattle.sv_history.specs.Event.{PlainEvent}
 use Rattle.sv_history.specs.Act.{Act, ConnAct, of, device_acts}
-use Rattle.sv_history.specs.Connection.{is_open, sent_on, waiting, waiting_on, bytes_sent}
+use Rattle.sv_history.specs.Connection.{is_open, sent_on, waiting, waiting_on, bytes_sent, total}
 use Rattle.sv_history.specs.History.{is_port_shut, last_clock, IsLogOf}
 use Rattle.sv_history.proofs.AlwaysTold.{some_told}
 use Rattle.sv_replay.specs.Scenario.{IsScenario}
 use Rattle.sv_server.specs.Server.State.{StandsFor}
-use Rattle.sv_driver_laws.specs.Timed.{handed_ticks}
 use Rattle.sv_driver_laws.proofs.Timing.{Played, begins, behind}
 use Rattle.sv_serve.specs.Heard.{Heard, Through}
 use Rattle.sv_serve.specs.DriverView.{DriverState, DriverView, driver_view}
@@ -56,7 +55,7 @@ record Over {W : Type 0} (hears : W → Heard → W → Type 0) (config : Config
   pub lets : LetsGoRightly config history trace
   pub parts : InSweeps hears config start passed now swept history trace
   pub time : config.clock ≤ last_clock → start.ticks ≡ 0 → IsScenario 0 start.ahead
-      → Played config start.ahead (handed_ticks passed) (driver_view now history)
+      → Played config start.ahead (total passed) (driver_view now history)
   pub runs : Runs config passed (onto (driver_view start []) []) (onto (driver_view now history) trace)
 
 open_by : (far opened : Bool) → (far || not opened) ≡ false → opened ≡ true

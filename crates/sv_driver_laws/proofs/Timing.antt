@@ -4,6 +4,7 @@ use Rattle.std.specs.Prelude.{◌==◌, ⊤, if◌then◌else◌}
 use Rattle.std.proofs.Math.Nat.{eq-or-lt_of_le}
 use Rattle.std.proofs.lemmas.Bool.{ne_eqb}
 use Rattle.sv_links.specs.Channels.{ChannelAct}
+use Rattle.sv_history.specs.Connection.{total}
 use Rattle.sv_history.specs.declared.event.Config.{Config}
 use Rattle.sv_history.specs.declared.event.Did.{Did}
 use Rattle.sv_history.specs.declared.event.Did.TheVariants.{Done}
@@ -26,7 +27,7 @@ use Rattle.sv_serve.specs.Heard.{Heard}
 use Rattle.sv_serve.specs.DriverView.{DriverState, DriverView, driver_view, ForEach, ◌then◌}
 use Rattle.sv_serve.specs.Steps.{ReadsFrom, Turns, Dials, WritesTo, Ends}
 use Rattle.sv_serve.specs.Sweep.{PlaysOne, IsNoneDue, Plays, most_ticks, Counts, TicksOnce, Passes, Sweeps}
-use Rattle.sv_driver_laws.specs.Timed.{is_timed, entry_events, time_events, handed_ticks}
+use Rattle.sv_driver_laws.specs.Timed.{is_timed, entry_events, time_events}
 use Rattle.sv_driver_laws.proofs.Keeps.{applied}
 use Rattle.sv_driver_laws.proofs.Idling.{Idles, idles_same, idles_then, idles_each, accepts_idles, reads_idles, turns_idles, dials_idles, writes_idles, ends_idles}
 
@@ -303,11 +304,11 @@ begins config start clock zero_ticks rising = record {
 
 -- and behind one
 pub behind : {W : Type 0} (hears : W → Heard → W → Type 0) (config : Config) (s : List Entry) (passed : List ℕ) (ticks : ℕ)
-    (a b : DriverView W) → Sweeps hears ticks config a b → Played config s (handed_ticks passed) a
-    → Played config s (handed_ticks (ticks ∷ passed)) b × (filter is_timed b.history ≡ time_events (min (handed_ticks (ticks ∷ passed))
+    (a b : DriverView W) → Sweeps hears ticks config a b → Played config s (total passed) a
+    → Played config s (total (ticks ∷ passed)) b × (filter is_timed b.history ≡ time_events (min (total (ticks ∷ passed))
     (last_clock - config.clock)) s)
 behind hears config s passed ticks a b sweeps p =
-    let r = sweep_timed hears config s (handed_ticks passed) ticks a b sweeps p in (
+    let r = sweep_timed hears config s (total passed) ticks a b sweeps p in (
       record { n = r.n; play = r.play },
-      timed_here config s r.n (handed_ticks passed + ticks) b r.play r.none ∙ ap (λ (i : ℕ). time_events i s) r.play.reached,
+      timed_here config s r.n (total passed + ticks) b r.play r.none ∙ ap (λ (i : ℕ). time_events i s) r.play.reached,
     )

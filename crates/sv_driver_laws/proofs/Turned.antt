@@ -1,5 +1,5 @@
 -- A connection that had its turn in a sweep.
-use Rattle.std.proofs.Common.{◌≡◌, ℕ, zero, suc, ◌<◌, ◌≤◌, Bool, true, false, cond, List, [], ◌∷◌, ◌++◌, filter, nat_lt, Option, Some, None, Result, Ok, Err, refl, sym, ap, subst, ◌∙◌, inl, inr, append_assoc, arith, le-ltb}
+use Rattle.std.proofs.Common.{◌≡◌, ◌⊎◌, ℕ, zero, suc, ◌<◌, ◌≤◌, Bool, true, false, cond, List, [], ◌∷◌, ◌++◌, filter, nat_lt, Option, Some, None, Result, Ok, Err, refl, sym, ap, subst, ◌∙◌, inl, inr, append_assoc, arith, le-ltb}
 use Rattle.std.specs.Prelude.{not, ◌||◌, is_some}
 use Rattle.std.proofs.Math.Nat.{eq-or-lt_of_le}
 use Rattle.std.proofs.lemmas.Bool.{ltb-true}
@@ -25,7 +25,7 @@ use Rattle.sv_laws.proofs.ShutIsClear.{shut_is_clear}
 use Rattle.sv_serve.specs.Heard.{Heard, WasWritten}
 use Rattle.sv_serve.specs.DriverView.{DriverView, ForEach}
 use Rattle.sv_serve.specs.Steps.{Given, EndsTurn, TurnsIf, Turns}
-use Rattle.sv_driver_laws.specs.Served.{Takes, Offers}
+use Rattle.sv_driver_laws.specs.Served.{Takes, IsWritten}
 use Rattle.sv_driver_laws.proofs.Keeps.{Subject, Keeps, keeps_none, keeps_then, inner_by}
 use Rattle.sv_driver_laws.proofs.Carrying.{ends}
 use Rattle.sv_driver_laws.proofs.GoingOn.{is_bytes, brought, Elsewhere, Unread, brought_outer, brought_piece, bytes_outer, bytes_piece, may_all}
@@ -86,6 +86,10 @@ turned_more config c history events more unread untouched t = record {
   had = had_more config c history events more unread t.had;
   untouched = flat_map-append (brings c) more t.behind ∙ rw (untouched, t.untouched) refl;
 }
+
+-- what waits on a connection is passed to the wire
+abbrev pub Offers : ℕ → List Act → List Heard → Type 0
+Offers c log piece = (waiting (of c log) ≡ []) ⊎ IsWritten (Conn c) (waiting (of c log)) piece
 
 -- and what waited then was offered
 pub record Offered (config : Config) (c : ℕ) (history events : List PlainEvent) (piece : List Heard) : Type 0 where

@@ -1,5 +1,5 @@
 -- That a sweep asks for each interrupt channel, and writes what waits on each port.
-use Rattle.std.proofs.Common.{◌≡◌, ◌≢◌, ◌⊎◌, ℕ, zero, suc, ◌<◌, ◌≤◌, true, false, eqb, List, [], ◌∷◌, ◌++◌, length, drop, nat_lt, Option, Some, None, refl, sym, ap, subst, ◌∙◌, inl, inr, append_assoc, append-nil, arith}
+use Rattle.std.proofs.Common.{◌≡◌, ◌≢◌, ◌⊎◌, ℕ, zero, suc, ◌<◌, ◌≤◌, true, false, eqb, List, [], ◌∷◌, ◌++◌, length, drop, nat_lt, Option, Some, None, refl, sym, ap, subst, ◌∙◌, inl, inr, append_assoc, arith}
 use Rattle.std.specs.Prelude.{⊤}
 use Rattle.std.specs.List.{AllByRecursion, concat}
 use Rattle.std.proofs.Math.Nat.{eq-or-lt_of_le}
@@ -21,7 +21,7 @@ use Rattle.sv_history.specs.History.{refusal, is_channel_shut, IsLogOf}
 use Rattle.sv_history.proofs.AlwaysTold.{some_told}
 use Rattle.sv_history.proofs.Telling.{tells_once}
 use Rattle.sv_laws.proofs.Brought.{tells, opened_to, peer_in, OnlyAdds}
-use Rattle.sv_laws.proofs.OnlyRequests.{only_requests}
+use Rattle.sv_laws.proofs.OnlyRequests.{adds_none, adds_then, only_requests}
 use Rattle.sv_laws.proofs.OneLog.{one_log}
 use Rattle.sv_serve.specs.declared.wire.Answer.{Answer}
 use Rattle.sv_serve.specs.declared.wire.Answer.TheVariants.{Got, Pending, Failed}
@@ -234,19 +234,6 @@ within_channel config (event ∷ history) log channel_log c is hears =
 -- An event tells the channel nothing.
 abbrev pub Untold : ℕ → PlainEvent → Type 0
 Untold c event = (log : List Act) (channel_log : List ChannelAct) → OnlyAdds c channel_log (tells event log ++ channel_log)
-
-adds_none : (c : ℕ) (channel_log : List ChannelAct) → OnlyAdds c channel_log channel_log
-adds_none c channel_log = λ opened. (opened, refl, [], sym (append-nil (calls c channel_log)))
-
-adds_then : (c : ℕ) (a b d : List ChannelAct) → OnlyAdds c a b → OnlyAdds c b d → OnlyAdds c a d
-adds_then c a b d x y = λ opened.
-    let last = y opened in
-    let first = x last.0 in (
-      first.0,
-      last.1 ∙ first.1,
-      first.2 ++ last.2,
-      last.3 ∙ ap (λ (l : List (List ℕ)). l ++ last.2) first.3 ∙ append_assoc (calls c a) first.2 last.2,
-    )
 
 untold_took : (c : ℕ) (port : Port) (n : ℕ) → port ≢ Intr c → Untold c (Took port n)
 untold_took c (Conn d) n ne log channel_log = adds_none c channel_log

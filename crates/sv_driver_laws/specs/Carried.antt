@@ -7,7 +7,7 @@ use Rattle.sv_history.specs.declared.event.Port.{Port}
 use Rattle.sv_history.specs.declared.event.Port.TheVariants.{Conn, Intr}
 use Rattle.sv_history.specs.Event.{PlainEvent}
 use Rattle.sv_history.specs.Act.{Act, of, device_acts}
-use Rattle.sv_history.specs.Connection.{sent_on, waiting_on, waiting, is_faulted, stream}
+use Rattle.sv_history.specs.Connection.{sent_on, waiting_on, waiting, is_faulted, stream, total}
 use Rattle.sv_history.specs.Requests.{HearsOf}
 use Rattle.sv_history.specs.History.{is_port_shut, last_clock, IsLogOf}
 use Rattle.sv_replay.specs.Scenario.{IsScenario}
@@ -18,7 +18,7 @@ use Rattle.sv_serve.specs.declared.wire.Answer.TheVariants.{Got, Failed}
 use Rattle.sv_serve.specs.Heard.{Heard, WasAccepted, WasRead, WasProbed, WasWritten, WasDialed, PeerAnswered, WasClosed, Through}
 use Rattle.sv_serve.specs.DriverView.{DriverState}
 use Rattle.sv_serve.specs.Sweep.{Swept}
-use Rattle.sv_driver_laws.specs.Timed.{is_timed, time_events, handed_ticks}
+use Rattle.sv_driver_laws.specs.Timed.{is_timed, time_events}
 use Rattle.sv_driver_laws.specs.Served.{event_of, is_outer, IsServed}
 
 -- whether two ports are the same
@@ -39,14 +39,12 @@ begins _ _ = false
 -- the bytes that were read on a port, if this is the wire's answer to a read of the port; else no
 -- bytes
 abbrev pub read : Port → Heard → List ℕ
-read port (WasRead d most (Got bytes)) = if is_same port (Conn d) then bytes else []
-read _ _ = []
+read port = elim [ WasRead d most (Got bytes) ↦ if is_same port (Conn d) then bytes else [] | _ ↦ [] ]
 
 -- the bytes that the wire took for a port, if this is the wire's answer to a write to the port; else no
 -- bytes
 abbrev pub taken_bytes : Port → Heard → List ℕ
-taken_bytes port (WasWritten other bytes (Got n)) = if is_same port other then take n bytes else []
-taken_bytes _ _ = []
+taken_bytes port = elim [ WasWritten other bytes (Got n) ↦ if is_same port other then take n bytes else [] | _ ↦ [] ]
 
 -- the bytes that the function `bytes` finds in the wire's answers since the streams of a port last started anew (`begins`). The bytes
 -- of the oldest answer come first.
@@ -95,9 +93,8 @@ pub record IsCarried (config : Config) (history : List PlainEvent) (trace : List
   pub events : filter is_outer history ≡ flat_map event_of trace
   pub streams : (c : ℕ) → Answered (λ log. stream (of c log)) config history (since (Conn c) (read (Conn c)) trace)
   pub sends : (port : Port) (log : List Act) (channel_log : List ChannelAct) → IsLogOf config history log
-      → HearsOf (device_acts log) channel_log
-      → is_port_shut port log ≡ false → since port (taken_bytes port) trace ++ waiting_on channel_log port log
-      ≡ sent_on channel_log port log
+      → HearsOf (device_acts log) channel_log → is_port_shut port log ≡ false
+      → since port (taken_bytes port) trace ++ waiting_on channel_log port log ≡ sent_on channel_log port log
   pub hands : EachHeard (λ heard older. (port : Port) (bytes : List ℕ) (answer : Answer ℕ) → heard ≡ WasWritten port bytes answer
       → Once (λ earlier. WaitOn port config earlier bytes) history older) trace
   pub failures : ClosesAtOnce None trace
@@ -111,14 +108,13 @@ pub record IsCarried (config : Config) (history : List PlainEvent) (trace : List
 -- of the clock; and the event of each entry of the scenario that was due. What is said of the timed events has three premises: the
 -- clock is in range; the driver had counted no millisecond at the start; and the scenario is valid.
 abbrev pub InSweeps : {W : Type 0} (hears : W → Heard → W → Type 0) → Config → (start : DriverState W) (passed : List ℕ)
-    (now : DriverState W)
-    → Swept hears passed start now → List PlainEvent → List Heard → Type 0
+    (now : DriverState W) → Swept hears passed start now → List PlainEvent → List Heard → Type 0
 InSweeps hears config start [] now swept history trace = (history ≡ []) × (trace ≡ [])
 InSweeps hears config start (ticks ∷ passed) now (between, swept, goes) history trace = (earlier events : List PlainEvent)
     × (older piece : List Heard) × InSweeps hears config start passed between swept earlier older × IsCarried config earlier older
     × (history ≡ events ++ earlier) × (trace ≡ piece ++ older) × IsServed hears config between now earlier events piece
     × (config.clock ≤ last_clock → start.ticks ≡ 0 → IsScenario 0 start.ahead
-    → filter is_timed history ≡ time_events (min (handed_ticks (ticks ∷ passed)) (last_clock - config.clock)) start.ahead)
+    → filter is_timed history ≡ time_events (min (total (ticks ∷ passed)) (last_clock - config.clock)) start.ahead)
 
 -- A driver whose server is new makes any number of sweeps, over any wire. Then there are a trace and a history for which `IsCarried`
 -- and `InSweeps` hold.

@@ -23,26 +23,21 @@ question (WasDialed conn dial answer) = WasDialed conn dial Pending
 question (PeerAnswered conn answer) = PeerAnswered conn Pending
 question (WasClosed port) = WasClosed port
 
--- At one moment the wire had given these answers, and the server had got these events: its events from the wire are those that the answers
--- cause.
-abbrev pub IsMoment : List Heard → List PlainEvent → Type 0
-IsMoment trace history = filter is_outer history ≡ flat_map event_of trace
-
 -- The traces and histories of two runs are the same up to a moment. The wires are then asked the same, and answer differently.
 abbrev pub AnswersDiffer : List Heard → List PlainEvent → List Heard → List PlainEvent → Type 0
 AnswersDiffer trace history other also = (heard answer : Heard) × (newer later older : List Heard) × (events more past : List PlainEvent)
     × (trace ≡ newer ++ (heard ∷ older)) × (other ≡ later ++ (answer ∷ older)) × (history ≡ events ++ past) × (also ≡ more ++ past)
-    × IsMoment older past × (question heard ≡ question answer) × (heard ≢ answer)
+    × (filter is_outer past ≡ flat_map event_of older) × (question heard ≡ question answer) × (heard ≢ answer)
 
 -- The traces and histories of two runs are the same up to a moment. Then the same call is taken in the first run, and refused in the
 -- second one, where memory for it was refused.
 abbrev pub MemoryDiffers : List Heard → List PlainEvent → List Heard → List PlainEvent → Type 0
 MemoryDiffers trace history other also = (c : ℕ) × (newer later older : List Heard) × (events more past : List PlainEvent)
     × (trace ≡ newer ++ older) × (other ≡ later ++ older) × (history ≡ events ++ (Turn c ∷ past)) × (also ≡ more ++ (Refuse c ∷ past))
-    × IsMoment older past
+    × (filter is_outer past ≡ flat_map event_of older)
 
--- Two runs are the same; or they are the same up to the first answer of the wires that differs; or up to the first call for which one of
--- them finds memory, and the other doesn't.
+-- Two runs are the same; or they are the same up to the first answer of the wires that differs; or up to the first call for which memory is
+-- refused in one run only.
 abbrev pub SameUntil : List Heard → List PlainEvent → List Heard → List PlainEvent → Type 0
 SameUntil trace history other also = ((trace ≡ other) × (history ≡ also)) ⊎ AnswersDiffer trace history other also
     ⊎ MemoryDiffers trace history other also ⊎ MemoryDiffers other also trace history
@@ -63,13 +58,13 @@ Determined hears hearing = (config : Config) (passed : List ℕ) (start now : Dr
     → (trace other : List Heard) × (history also : List PlainEvent) × IsRun hears config start passed now swept trace history
     × IsRun hearing config begin passed end sweeps other also × SameUntil trace history other also
 
--- an answer without a value, and an answer that is a number, as an answer that is a list
+-- the answer with its value replaced by a list, so that the answers of all methods have one type
 abbrev pub listed : {A : Type 0} → (A → List ℕ) → Answer A → Answer (List ℕ)
 listed list (Got value) = Got (list value)
 listed list Pending = Pending
 listed list Failed = Failed
 
--- what the wire answered, without what it was asked; a close has no answer
+-- the wire's answer, without what was asked; for a close, an empty answer
 abbrev pub answer_of : Heard → Answer (List ℕ)
 answer_of (WasAccepted role conn answer) = listed (λ all. []) answer
 answer_of (WasRead conn most answer) = answer
@@ -79,7 +74,7 @@ answer_of (WasDialed conn dial answer) = listed (λ all. []) answer
 answer_of (PeerAnswered conn answer) = listed (λ all. []) answer
 answer_of (WasClosed port) = Got []
 
--- No call of the history is refused for want of memory.
+-- No call of the history is refused for lack of memory.
 abbrev pub NeverRefuses : List PlainEvent → Type 0
 NeverRefuses = AllByRecursion (λ event. (c : ℕ) → event ≢ Refuse c)
 

@@ -49,37 +49,30 @@ abbrev pub Takes : Config → ℕ → List Act → List PlainEvent → Type 0
 Takes config c before turn = (turn ≡ Turn c ∷ []) ⊎ (((turn ≡ Refuse c ∷ []) × Answers config (Turn c) before (Err NoMemory))
     ⊎ ((turn ≡ []) × ((is_idle (of c before) ≡ true) ⊎ (free (of c before) < longest_reply))))
 
--- If bytes wait on a connection, all of them are passed to the wire in one write. The write can have further bytes after these
--- bytes.
-abbrev pub Offers : ℕ → List Act → List Heard → Type 0
-Offers c log piece = (waiting (of c log) ≡ []) ⊎ ((more : List ℕ) × (answer : Answer ℕ) × (newer older : List Heard)
-    × (piece ≡ newer ++ (WasWritten (Conn c) (waiting (of c log) ++ more) answer ∷ older)))
+-- These bytes are passed to the wire in one write to the port. The write can have further bytes after these bytes.
+abbrev pub IsWritten : Port → List ℕ → List Heard → Type 0
+IsWritten port bytes piece = (more : List ℕ) × (answer : Answer ℕ) × (newer older : List Heard)
+    × (piece ≡ newer ++ (WasWritten port (bytes ++ more) answer ∷ older))
 
 -- After all reads of a sweep, the next call of a connection is taken or refused, if that is possible (`Takes`). After that, the bytes that
 -- wait on the connection are passed to the wire in the same sweep.
 abbrev pub Serves : Config → ℕ → List PlainEvent → List PlainEvent → List Heard → Type 0
-Serves config c history events piece = (first turn behind : List PlainEvent) × (before after : List Act)
-    × (events ≡ behind ++ (turn ++ first)) × AllByRecursion (λ event. (d : ℕ) (bytes : List ℕ) → event ≡ Bytes d bytes → ⊥) behind
-    × IsLogOf config (first ++ history) before × IsLogOf config (turn ++ (first ++ history)) after
-    × Takes config c before turn × Offers c after piece
+Serves config c history events piece = (earlier turn later : List PlainEvent) × (before after : List Act)
+    × (events ≡ later ++ (turn ++ earlier)) × AllByRecursion (λ event. (d : ℕ) (bytes : List ℕ) → event ≡ Bytes d bytes → ⊥) later
+    × IsLogOf config (earlier ++ history) before × IsLogOf config (turn ++ (earlier ++ history)) after
+    × Takes config c before turn × ((waiting (of c after) ≡ []) ⊎ IsWritten (Conn c) (waiting (of c after)) piece)
 
 -- whether an event takes the next call of a connection
 abbrev pub takes_call : ℕ → PlainEvent → Bool
-takes_call c (Turn d) = d == c
-takes_call c (Refuse d) = d == c
-takes_call c _ = false
+takes_call c = elim [ Turn d ↦ d == c | Refuse d ↦ d == c | _ ↦ false ]
 
 -- whether an event takes the next call of some connection
 abbrev pub is_taking : PlainEvent → Bool
-is_taking (Turn d) = true
-is_taking (Refuse d) = true
-is_taking _ = false
+is_taking = elim [ Turn d ↦ true | Refuse d ↦ true | _ ↦ false ]
 
 -- whether an event is a Took or a Close
 abbrev pub is_sending : PlainEvent → Bool
-is_sending (Took port n) = true
-is_sending (Close port) = true
-is_sending _ = false
+is_sending = elim [ Took port n ↦ true | Close port ↦ true | _ ↦ false ]
 
 -- The wire is asked to connect the interrupt channel of a connection to this peer; or, if a peer was dialed before, whether it answered.
 abbrev pub IsDialed : ℕ → Dial → List Heard → Type 0
@@ -87,16 +80,11 @@ IsDialed c dial piece = (answer : Answer ⊤) × (newer older : List Heard)
     × ((piece ≡ newer ++ (WasDialed c dial answer ∷ older)) ⊎ (piece ≡ newer ++ (PeerAnswered c answer ∷ older)))
 
 -- After the sweep has taken its calls, and before any of its time passes, there is a moment at which the interrupt channel of a connection
--- either needn't be connected, or is: the wire is asked for it in the same sweep.
+-- needn't be connected, or the wire is asked in the same sweep to connect it, or whether the peer that was dialed before has answered.
 abbrev pub DialsFor : Config → ℕ → List PlainEvent → List PlainEvent → List Heard → Type 0
 DialsFor config c history events piece = (earlier later : List PlainEvent) × (log : List Act) × (events ≡ later ++ earlier)
     × AllByRecursion (λ event. is_taking event ≡ false) later × (filter is_timed earlier ≡ []) × IsLogOf config (earlier ++ history) log
     × ((dial_of c log ≡ None) ⊎ ((dial : Dial) × (dial_of c log ≡ Some dial) × IsDialed c dial piece))
-
--- These bytes are passed to the wire in one write to the port. The write can have further bytes after these bytes.
-abbrev pub IsWritten : Port → List ℕ → List Heard → Type 0
-IsWritten port bytes piece = (more : List ℕ) × (answer : Answer ℕ) × (newer older : List Heard)
-    × (piece ≡ newer ++ (WasWritten port (bytes ++ more) answer ∷ older))
 
 -- After all calls of the sweep are taken and all of its time has passed, there is a moment from which on the sweep only writes and closes.
 -- The bytes that wait at this moment on a port, a connection or an interrupt channel, are passed to the wire in the same sweep; unless the
@@ -108,7 +96,8 @@ SendsAll config history events piece = (earlier later : List PlainEvent) × (log
     → (waiting_on channel_log port log ≡ []) ⊎ IsWritten port (waiting_on channel_log port log) piece
     ⊎ ((port ≡ Intr (port_number port)) × (is_port_shut port end ≡ true)))
 
--- A sweep takes at most one call of each connection; its interrupt channels are connected, and all that waits is written.
+-- A sweep takes at most one call of each connection. The wire is asked to connect each interrupt channel that has to be connected, and what
+-- waits is passed to the wire.
 abbrev pub IsWhole : Config → List PlainEvent → List PlainEvent → List Heard → Type 0
 IsWhole config history events piece = ((c : ℕ) → length (filter (takes_call c) events) ≤ 1)
     × ((c : ℕ) → c < 16 → DialsFor config c history events piece) × SendsAll config history events piece

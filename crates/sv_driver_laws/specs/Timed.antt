@@ -1,5 +1,5 @@
 -- The events that happen as time passes: ticks, and the entries of a scenario.
-use Rattle.std.specs.Prelude.{ℕ, zero, suc, ◌==◌, Bool, true, false, List, [], ◌∷◌, ◌++◌, ◌+◌, if◌then◌else◌}
+use Rattle.std.specs.Prelude.{ℕ, zero, suc, ◌==◌, Bool, true, false, List, [], ◌∷◌, ◌++◌, if◌then◌else◌}
 use Rattle.sv_history.specs.Event.{PlainEvent, Input, External, Tick}
 use Rattle.sv_replay.specs.Entry.{stimulus_event}
 use Rattle.sv_replay.specs.declared.entry.Entry.{Entry}
@@ -17,8 +17,3 @@ entry_events tick (entry ∷ entries) = entry_events tick entries ++ (if entry.t
 abbrev pub time_events : ℕ → List Entry → List PlainEvent
 time_events zero entries = entry_events 0 entries
 time_events (suc n) entries = entry_events (suc n) entries ++ Tick ∷ time_events n entries
-
--- how many milliseconds pass in all these sweeps together, given the milliseconds of each sweep
-abbrev pub handed_ticks : List ℕ → ℕ
-handed_ticks [] = 0
-handed_ticks (ticks ∷ passed) = handed_ticks passed + ticks

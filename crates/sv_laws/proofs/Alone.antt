@@ -1,4 +1,4 @@
--- A query alone: what a write of one query does, and what a read of its response does.
+-- Queries whose response is read before anything else is written: the laws of specs/QueryAlone.antt.
 pub mod Texts
 pub mod Steps
 pub mod Written

@@ -1,4 +1,4 @@
--- A call that a Turn takes has its reply when as many Ticks have come as it waits milliseconds at most.
+-- After a Turn takes a call, and after as many Ticks as the call's longest wait has milliseconds, the call has its reply.
 use Rattle.std.proofs.Common.{◌≡◌, ℕ, ◌+◌, ◌<◌, Bool, true, false, cond, eqb, List, [], ◌∷◌, ◌++◌, length, nat_lt, Option, Some, None, refl, sym, ap, subst, ◌∙◌, inl, inr, ◌⊎◌, append_assoc, eq-eqb, arith}
 use Rattle.std.specs.Prelude.{is_some, ⊤, Result, Err}
 use Rattle.std.specs.List.{AllByRecursion}
@@ -67,7 +67,7 @@ stays_role (Opened role ∷ acts) own h = absurd h
 stays_role (PortClosed ∷ acts) own h = absurd h
 stays_role (_ ∷ acts) own h = stays_role acts own h
 
--- Of a call that was taken: it has no answer, and no call was taken since; or there is a reply more.
+-- A call was taken. Since then either no reply was sent and no other call was taken, and it is pending; or there are more replies.
 abbrev Goes : List ℕ → List ConnAct → List ConnAct → Type 0
 Goes bytes front own = ((length (replies (front ++ CallTaken bytes ∷ own)) ≡ length (replies own))
     × (pending_call (front ++ CallTaken bytes ∷ own) ≡ Some bytes) × NoCalls front)
@@ -101,7 +101,7 @@ goes bytes call (Replied reply ∷ front) own known stays all = elim (goes bytes
   | inr more ↦ inr (omega (arith, more))
 ]
 
--- ---- how old it is
+-- ---- the age of the call
 
 of_join : (c : ℕ) (front log : List Act) → of c (front ++ log) ≡ of c front ++ of c log
 of_join c [] log = refl
@@ -139,9 +139,9 @@ age_front c bytes (On d act ∷ front) log h = elim (cases_Bool (eqb d c)) [
 age_front c bytes (OnDevice Ticked ∷ front) log h = ap (λ (n : ℕ). n + 1) (age_front c bytes front log h)
 age_front c bytes (OnDevice _ ∷ front) log h = age_front c bytes front log h
 
--- ---- events that leave it open
+-- ---- events that leave the connection open
 
--- Behind the call's taking.
+-- The log goes on from the moment at which the call was taken, and the connection stays open.
 record Follows (c : ℕ) (bytes : List ℕ) (before log : List Act) : Type 0 where
   front : List Act
   is : log ≡ front ++ On c (CallTaken bytes) ∷ before
@@ -182,7 +182,7 @@ open_before bytes front own stays all =
     came_front [] older all = all
     came_front (act ∷ newer) older all = came_front newer older all.1
 
--- what an event adds in front
+-- An event adds acts to a log, and takes none away.
 event_extends : (config : Config) (event : PlainEvent) (history : List PlainEvent) (before log : List Act) → IsLogOf config history before
     → IsLogOf config (event ∷ history) log → Extends before log
 event_extends config event history before log was now =
@@ -191,7 +191,7 @@ event_extends config event history before log was now =
     (extends_then now.0 (own_acts config now.1 event now.0 ++ now.0) log (own_acts config now.1 event now.0, refl)
     (settles_extends now.8.0 config (own_acts config now.1 event now.0 ++ now.0) log now.8.1))
 
--- the Turn itself
+-- the acts of the Turn that takes the call
 turn_is : (config : Config) (polled c : ℕ) (bytes : List ℕ) (request : Request) (found : Option (List ℕ)) (asked : Option Request)
     (log : List Act) → found ≡ Some bytes → asked ≡ Some request
     → let taken = acts_of c (request_effect config polled c request (device_acts log)) ++ On c (CallTaken bytes) ∷ log in
@@ -236,7 +236,7 @@ own_of : (c : ℕ) (bytes : List ℕ) (front before : List Act)
 own_of c bytes front before = of_join c front (On c (CallTaken bytes) ∷ before)
     ∙ ap (λ (l : List ConnAct). of c front ++ l) (rw (eq-eqb c c refl) refl)
 
--- the events behind it
+-- the events after this Turn
 all_follow : (config : Config) (past events : List PlainEvent) (before log : List Act) (c : ℕ) (bytes : List ℕ) → IsLogOf config past before
     → next_call (of c before) ≡ Some bytes → IsLogOf config (events ++ Turn c ∷ past) log → AllByRecursion (LeavesOpen c) events
     → Follows c bytes before log

@@ -26,7 +26,7 @@ use Rattle.sv_scan.specs.Scan.{last_reading}
 use Rattle.sv_scan.specs.Condition.{bit, is_overload}
 use Rattle.sv_instrument.specs.CommandEffect.{done, after_answering}
 use Rattle.sv_history.specs.Act.{instrument_acts}
-use Rattle.sv_laws.specs.Conformance.{SameSettings, SameRegisters, HasDefaults, PollEndsRequest, StatusByteLeaves, ClearClears, ResetLeaves, StandardReadOnce, PresetLeaves, ErrorsInOrder, ClearRests}
+use Rattle.sv_laws.specs.Conformance.{SameSettings, SameElse, SameRegisters, HasDefaults, PollEndsRequest, StatusByteLeaves, ClearClears, ResetLeaves, StandardReadOnce, PresetLeaves, ErrorsInOrder, ClearRests}
 use Rattle.sv_laws.proofs.Facts.{not_both}
 
 -- ---- an act that isn't of the scanner
@@ -35,7 +35,7 @@ any_same : (f g : ℕ → Bool) → ((k : ℕ) → f k ≡ g k) → (ks : List �
 any_same f g same [] = refl
 any_same f g same (k ∷ ks) = rw (same k, any_same f g same ks) refl
 
--- where a bit of its condition is the same, it doesn't pass
+-- A bit of a condition that stays the same sets no event.
 bit_passes_none : (condition : List Act → ℕ) (name : RegisterName) (k : ℕ) (act : Act) (log : List Act)
     → has_bit (condition (act ∷ log)) k ≡ has_bit (condition log) k → passes condition name k (act ∷ log) ≡ false
 bit_passes_none condition name k act log same =
@@ -73,7 +73,7 @@ events_same : (name : RegisterName) (k : ℕ) (act : Act) (log : List Act) → c
 events_same name k act log same kept = since_same (λ place. passes (condition name) name k place ≡ true) (λ place. leaves name place ≡ true)
     act log kept (λ on. not_both _ on (passes_none (condition name) name k act log same))
 
--- bits of the questionable condition but bit 9 are the scanner's
+-- All bits of the questionable condition but bit 9 are those of the scanner.
 small : (b : Bool) → bit 0 b < 512
 small true = omega arith
 small false = omega arith
@@ -143,9 +143,9 @@ polled_same log = record {
 pub poll_ends_request : PollEndsRequest
 poll_ends_request config polled c lid flags lock_timeout io_timeout acts outcome told is =
     let log = instrument_acts acts in
-    rw is (refl, polled_same log, refl, since_ended Reason Lasts Polled log (λ lasts. lasts))
+    rw is (refl, polled_same log, refl, since_ended Reason Lasts Polled log (λ lasts. lasts), (refl, refl))
 
--- an act of message exchange changes no register
+-- An act of message exchange changes no register.
 exchanged_same : (act : ExchangeAct) (log : List Act) → SameRegisters (Exchanged act ∷ log) log
 exchanged_same act log = record {
   settings = ((λ name. (refl, refl, refl)), refl, refl);
@@ -192,7 +192,7 @@ registers_turned one two f = record {
 
 -- ---- a request for service
 
--- Where registers and response are the same, so are the summary bits.
+-- With the same registers and the same response, the summary bits are the same.
 summary_moved : (one two : List Act) → SameRegisters one two → response (exchange_acts one) ≡ response (exchange_acts two) → (k : ℕ)
     → SummaryBit k one → SummaryBit k two
 summary_moved one two f same k (inl (is, (bit, stands, on))) = inl (
@@ -347,11 +347,15 @@ standard_read_once log new (text, says, is) =
       done read,
       is,
       (λ k. read_none k log),
-      ((λ name. (refl, refl, refl)), refl, refl),
-      (λ name k. then_same (end.events name k)
-          (events_same name k StandardRead log (condition_same name StandardRead log refl refl refl) refl)),
       refl,
-      refl,
+      (
+        ((λ name. (refl, refl, refl)), refl, refl),
+        (λ name k. then_same (end.events name k)
+            (events_same name k StandardRead log (condition_same name StandardRead log refl refl refl) refl)),
+        then_same end.waits (waits_same StandardRead log refl (λ asked. asked) refl),
+        refl,
+        (refl, refl),
+      ),
     )
 
 -- ---- STATus:PRESet
@@ -377,10 +381,32 @@ preset_leaves log new is =
 
 -- ---- SYSTem:ERRor?
 
+-- Taking the oldest error changes no register.
+taken_same : (log : List Act) → ((k : ℕ) → Stands k (done (EntryTaken ∷ log)) ↔ Stands k log) × SameElse (done (EntryTaken ∷ log)) log
+taken_same log =
+    let end = exchanged_same UnitDone (EntryTaken ∷ log) in (
+      (λ k. then_same (end.standard k)
+          (since_same (Occurs k) NotCleared EntryTaken log tt (λ h. completes_none EntryTaken log refl (λ asked. asked) h.1))),
+      (
+        ((λ name. (refl, refl, refl)), refl, refl),
+        (λ name k. then_same (end.events name k)
+            (events_same name k EntryTaken log (condition_same name EntryTaken log refl refl refl) refl)),
+        then_same end.waits (waits_same EntryTaken log refl (λ asked. asked) refl),
+        refl,
+        (refl, refl),
+      ),
+    )
+
 pub errors_in_order : ErrorsInOrder
 errors_in_order = (
   (λ log new (text, says, is).
-      (done (EntryTaken ∷ log), is ∙ ap (λ (t : List ℕ). after_answering t (done (EntryTaken ∷ log))) says, queued-taken (queue_acts log))),
+      let same = taken_same log in (
+        done (EntryTaken ∷ log),
+        is ∙ ap (λ (t : List ℕ). after_answering t (done (EntryTaken ∷ log))) says,
+        queued-taken (queue_acts log),
+        same.0,
+        same.1,
+      )),
   (λ log code few. queued-reported code (queue_acts log) few),
 )
 
@@ -405,4 +431,5 @@ clear_rests config polled c lid flags lock_timeout io_timeout acts outcome is =
         queue = refl;
         scanner = refl;
       },
+      (refl, refl),
     )

@@ -1,4 +1,4 @@
--- A call that waits has waited for the same thing fewer milliseconds than it waits for it at most.
+-- The present wait of a suspended call began fewer milliseconds ago than its longest wait for this thing.
 use Rattle.std.proofs.Common.{◌≡◌, ◌≢◌, ℕ, ◌+◌, ◌<◌, ◌≤◌, ◌==◌, Bool, true, false, List, [], ◌∷◌, ◌++◌, Option, Some, None, refl, sym, ap, subst, ◌∙◌, inl, inr, ◌⊎◌, append_assoc, eq-eqb, arith, eqb}
 use Rattle.std.specs.Prelude.{map, if◌then◌else◌}
 use Rattle.std.proofs.lemmas.Bool.{cases_eq, cases_Bool, ne_eqb, cases_lt}
@@ -44,7 +44,7 @@ use Rattle.sv_laws.proofs.EveryLog.EachEvent.{StepsKeep, step_keeps, turn_keeps,
 
 -- ---- when a wait began
 
--- how many milliseconds had passed when the newest wait of a connection began
+-- the milliseconds that had passed when the newest wait of a connection began
 abbrev began : ℕ → List DeviceAct → ℕ
 began c [] = 0
 began c (Waited (Entered d link wait last) ∷ acts) = if d == c then ticks acts else began c acts
@@ -83,7 +83,7 @@ began_done d c arguments (_ ∷ adds) acts h = began_done d c arguments adds act
 
 -- ---- until when a call waits
 
--- The call waits for a peer; or the wait ends as many milliseconds behind its begin as the call waits at most, or sooner.
+-- The call waits for a peer; or the deadline of its wait comes no later after its begin than the longest wait for this thing.
 abbrev DatedBy : Config → Wait → Option ℕ → ℕ → Arguments → Type 0
 DatedBy config wait until start arguments = (waits_for_peer arguments ≡ true)
     ⊎ ((timeout : ℕ) × (until ≡ Some (config.clock + start + timeout)) × (timeout ≤ time_for wait arguments))
@@ -103,7 +103,7 @@ dated_none config c own acts none = λ wait call is busy. some_none (waits c (wa
 dated_idle : (config : Config) (c : ℕ) (own : List ConnAct) (acts : List DeviceAct) → pending_call own ≡ None → Dated config c own acts
 dated_idle config c own acts none = λ wait call is busy. some_none (core_call_in (pending_call own)) call (ap core_call_in none) busy
 
--- Acts that leave the wait of a connection and its begin.
+-- These acts leave the wait of a connection, and when it began.
 abbrev SameWait : ℕ → List DeviceAct → List DeviceAct → Type 0
 SameWait c after acts = SameCall c (wait_acts after) (wait_acts acts) × (began c after ≡ began c acts)
 
@@ -226,7 +226,7 @@ dated_only : (config : Config) (c : ℕ) (own : List ConnAct) (log : List Act) �
 dated_only config c own log all mine = dated_effect config c (record { own = own; adds = [] }) log all
     (λ d ne. (same_none d (wait_acts (device_acts log)), refl)) mine
 
--- where no call of the connection waits
+-- No call of the connection waits.
 dated_free : (config : Config) (c : ℕ) (own : List ConnAct) (log : List Act) → AllDated config log
     → waits c (wait_acts (device_acts log)) ≡ None → AllDated config (acts_of c (record { own = own; adds = [] }) ++ log)
 dated_free config c own log all none =
@@ -378,7 +378,7 @@ dated_log config =
     each_place config (AllDated config) (λ c wait call is busy. absurd (let z : None ≡ Some wait = is in cc)) (dated_event config)
     (λ log new fit all next. step_keeps config (AllDated config) (dated_steps config) log new all next)
 
--- ---- so each wait is in time
+-- ---- the law
 
 still_young : (config : Config) (c : ℕ) (acts : List DeviceAct) (wait : Wait) (until : Option ℕ) (arguments : Arguments)
     → ((last : ℕ) → until ≡ Some last → last ≤ config.clock + ticks acts → ⊥) → waits_for_peer arguments ≡ false

@@ -1,4 +1,4 @@
--- A connection that isn't open leaves nothing behind.
+-- A connection that isn't open holds nothing: no link, no lock, no suspended call and no interrupt channel.
 use Rattle.std.proofs.Common.{◌≡◌, ◌≢◌, ℕ, Bool, true, false, cond, eqb, List, [], ◌∷◌, ◌++◌, Option, Some, None, refl, sym, ap, subst, ◌∙◌, inl, inr, append_assoc, eq-eqb, nat_lt}
 use Rattle.std.specs.Prelude.{map, not, is_some, ◌||◌}
 use Rattle.std.proofs.lemmas.Bool.{cases_Bool, cases_eq, ne_eqb}
@@ -33,7 +33,7 @@ use Rattle.sv_history.specs.Resuming.{effect_of, leaving, next_wait, resume_outc
 use Rattle.sv_history.specs.History.{IsLogOf}
 use Rattle.sv_history.proofs.Dialing.{peer_by, dialed_to, dialed_is}
 use Rattle.sv_history.proofs.Projections.{of_shared, device_shared, device_effect}
-use Rattle.sv_laws.specs.Gone.{ShutIsGone, CloseShuts}
+use Rattle.sv_laws.specs.Gone.{ClosedHoldsNothing, CloseShuts}
 use Rattle.sv_laws.proofs.Facts.{some_none}
 use Rattle.sv_laws.proofs.Brought.{AreCalls}
 use Rattle.sv_laws.proofs.OnlyCalls.{only_calls}
@@ -45,7 +45,7 @@ use Rattle.sv_laws.proofs.EveryLog.Keeps.{holder_lives}
 use Rattle.sv_laws.proofs.EveryLog.EachEvent.{StepsKeep, step_keeps, turn_keeps, refuse_keeps, replies_role, shut_before, close_adds, device_closed, of_closed, fit_log}
 use Rattle.sv_laws.proofs.SoundEvents.{sound_log}
 
--- ---- an interrupt channel is open on core channels alone
+-- ---- only a connection of the core channel has an open interrupt channel
 
 abbrev HasCore : ℕ → List ConnAct → List DeviceAct → Type 0
 HasCore c own acts = is_channel_open c (channel_acts acts) ≡ true → open_role own ≡ Some Core
@@ -53,7 +53,7 @@ HasCore c own acts = is_channel_open c (channel_acts acts) ≡ true → open_rol
 abbrev AllCore : List Act → Type 0
 AllCore log = (c : ℕ) → HasCore c (of c log) (device_acts log)
 
--- These acts open no channel.
+-- These acts open no interrupt channel.
 abbrev OnlyShuts : List DeviceAct → List DeviceAct → Type 0
 OnlyShuts adds acts = (d : ℕ) → is_channel_open d (channel_acts (adds ++ acts)) ≡ true → is_channel_open d (channel_acts acts) ≡ true
 
@@ -184,7 +184,7 @@ core_close c log all d opened =
       | inr ne ↦ ap open_role (of_closed c d log ne) ∙ all d (rw (ne_eqb c d (λ e. ne (sym e))) at now)
     ]
 
--- a peer was connected
+-- A Dialed that isn't refused ends a create_intr_chan that waits for its peer.
 pub dials : (far shut dialing : Bool) → cond (far || shut) (Some NoConn) (cond dialing None (Some NoDial)) ≡ None → dialing ≡ true
 dials true shut dialing e = absurd cc
 dials false true dialing e = absurd cc
@@ -241,7 +241,7 @@ core_log : (config : Config) (history : List PlainEvent) (log : List Act) → Is
 core_log config = each_place config AllCore (λ c is. absurd (let z : false ≡ true = is in cc)) (core_event config)
     (λ log new fit all next. step_keeps config AllCore (core_steps config) log new all next)
 
--- ---- so a connection that isn't open is gone
+-- ---- a connection that isn't open holds nothing
 
 shut_role : (role : Option Role) → is_some role ≡ false → role ≡ None
 shut_role None e = refl
@@ -255,8 +255,8 @@ off_by : (b : Bool) → (b ≡ true → ⊥) → b ≡ false
 off_by false h = refl
 off_by true h = absurd (h refl)
 
-pub shut_is_gone : ShutIsGone
-shut_is_gone config history log c was shut =
+pub closed_holds_nothing : ClosedHoldsNothing
+closed_holds_nothing config history log c was shut =
     let acts = device_acts log in
     let role = shut_role (open_role (of c log)) shut in
     let fit = fit_log config history log was in
@@ -278,7 +278,7 @@ shut_is_gone config history log c was shut =
           links lid (asks_own acts channel_log fit.suits hears lid enabled is ∙ ap (λ (n : ℕ). Some n) same);
     }
 
--- ---- and behind the Close it isn't
+-- ---- after the Close of a connection, it isn't open
 
 closed_shut : (calls own : List ConnAct) → AreCalls calls → open_role (calls ++ PortClosed ∷ own) ≡ None
 closed_shut [] own h = refl

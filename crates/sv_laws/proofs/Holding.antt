@@ -1,16 +1,18 @@
--- The link that holds the lock keeps it until its connection lets it go; and the lock is given in the order in which calls were taken.
-use Rattle.std.proofs.Common.{◌≡◌, ◌≢◌, ℕ, Bool, true, false, eqb, List, [], ◌∷◌, ◌++◌, Option, Some, None, refl, sym, ap, subst, ◌∙◌, inl, inr, ◌⊎◌, eq-eqb}
+-- The link that holds the lock keeps it until its connection lets it go. A link gets the lock because a call asks for it, in the order in
+-- which calls were taken.
+use Rattle.std.proofs.Common.{◌≡◌, ◌≢◌, ℕ, Bool, true, false, eqb, List, [], ◌∷◌, ◌++◌, Some, None, refl, sym, ap, subst, ◌∙◌, inl, inr, ◌⊎◌, eq-eqb}
 use Rattle.std.specs.Prelude.{map, not, ◌&&◌, ◌||◌}
-use Rattle.std.proofs.lemmas.Bool.{cases_eq, eqb-true, ne_eqb}
+use Rattle.std.proofs.lemmas.Bool.{cases_eq, ne_eqb}
 use Rattle.sv_links.specs.Links.{LinkAct, Destroyed, Locked, Unlocked, owner, is_locked, holder, is_this}
 use Rattle.sv_links.specs.Waiting.{Left}
+use Rattle.sv_links.proofs.Locks.{is_holder}
 use Rattle.sv_history.specs.Act.{Act, DeviceAct, Linked, Waited, On, OnDevice, of, device_acts, link_acts}
 use Rattle.sv_history.specs.Connection.{is_open}
 use Rattle.sv_history.proofs.Projections.{device_shared}
-use Rattle.sv_laws.specs.LockFair.{MayGet, OldestGets, LetsGo, HolderKeeps}
+use Rattle.sv_laws.specs.LockFair.{MayGet, OldestGets, ReleasesLock, HolderKeeps}
 use Rattle.sv_laws.proofs.InLine.{first_is}
 use Rattle.sv_laws.proofs.Passing.{device_join}
-use Rattle.sv_laws.proofs.Placed.{HasTurn, IsPlaced, AllPlaced, placed_before, placed_log}
+use Rattle.sv_laws.proofs.Placed.{MayFree, HasTurn, IsPlaced, AllPlaced, placed_before, placed_log}
 use Rattle.sv_laws.proofs.SoundEvents.{place_of}
 use Rattle.sv_laws.proofs.EveryLog.Fit.{AllSuit}
 use Rattle.sv_laws.proofs.EveryLog.EachEvent.{fit_log}
@@ -29,14 +31,10 @@ suit_before : (newer older : List DeviceAct) → AllSuit (newer ++ older) → Al
 suit_before [] older all = all
 suit_before (act ∷ newer) older all = suit_before newer older all.1
 
-this_is : (lid : ℕ) (o : Option ℕ) → is_this lid o ≡ true → o ≡ Some lid
-this_is lid (Some n) e = ap (λ (m : ℕ). Some m) (eqb-true n lid e)
-this_is lid None e = absurd cc
-
 -- a link that is locked holds the lock, and the other way round
 locked_holds : (acts : List DeviceAct) → AllSuit acts → AllKeep acts → (lid : ℕ) → is_locked lid (link_acts acts) ≡ true
     → holder (link_acts acts) ≡ Some lid
-locked_holds acts suits keeps lid on = this_is lid (holder (link_acts acts)) (sym (held_is acts suits keeps lid) ∙ on)
+locked_holds acts suits keeps lid on = is_holder lid (holder (link_acts acts)) (sym on ∙ held_is acts suits keeps lid)
 
 holds_locked : (acts : List DeviceAct) → AllSuit acts → AllKeep acts → (lid : ℕ) → holder (link_acts acts) ≡ Some lid
     → is_locked lid (link_acts acts) ≡ true
@@ -52,16 +50,14 @@ off_and a b on ne e = rw (ne_eqb a b ne) e
 -- A locked link stays locked, but for an act that unlocks or destroys it.
 stays_locked : (act : Act) (older : List Act) (c lid : ℕ) → IsPlaced older act → owner lid (link_acts (device_acts older)) ≡ Some c
     → is_locked lid (link_acts (device_acts older)) ≡ true
-    → (is_locked lid (link_acts (device_acts (act ∷ older))) ≡ true) ⊎ (is_open (of c older) ≡ false) ⊎ LetsGo c lid older
+    → (is_locked lid (link_acts (device_acts (act ∷ older))) ≡ true) ⊎ (is_open (of c older) ≡ false) ⊎ ReleasesLock c lid older
 stays_locked (OnDevice (Linked (Locked other))) older c lid placed owns on = inl (or_on (eqb other lid) _ on)
 stays_locked (OnDevice (Linked (Unlocked other))) older c lid placed owns on = elim (cases_eq other lid) [
-  | inl same ↦ inr (subst (λ (n : ℕ). owner n (link_acts (device_acts older)) ≡ Some c → (is_open (of c older) ≡ false) ⊎ LetsGo c n older)
-      same (placed c) owns)
+  | inl same ↦ inr (subst (λ (n : ℕ). MayFree n older) same placed c owns)
   | inr ne ↦ inl (off_and other lid _ ne on)
 ]
 stays_locked (OnDevice (Linked (Destroyed other))) older c lid placed owns on = elim (cases_eq other lid) [
-  | inl same ↦ inr (subst (λ (n : ℕ). owner n (link_acts (device_acts older)) ≡ Some c → (is_open (of c older) ≡ false) ⊎ LetsGo c n older)
-      same (placed c) owns)
+  | inl same ↦ inr (subst (λ (n : ℕ). MayFree n older) same placed c owns)
   | inr ne ↦ inl (off_and other lid _ ne on)
 ]
 stays_locked _ older c lid placed owns on = inl on
@@ -115,6 +111,6 @@ pub oldest_gets : OldestGets
 oldest_gets config history log newer older lid was is =
     let all = subst AllPlaced is (placed_log config history log was).placed in
     let placed = placed_before newer (OnDevice (Linked (Locked lid)) ∷ older) all in
-    gets_by lid older placed.1 placed.0
-    (place_of config history log (device_acts newer) (device_acts older) (Linked (Locked lid)) was
-    (ap device_acts is ∙ device_join newer older (Linked (Locked lid)))).1
+    let place = place_of config history log (device_acts newer) (device_acts older) (Linked (Locked lid)) was
+    (ap device_acts is ∙ device_join newer older (Linked (Locked lid))) in
+    (gets_by lid older placed.1 placed.0.0 place.1, placed.0.1)

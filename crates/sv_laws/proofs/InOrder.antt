@@ -29,7 +29,7 @@ next_by true busy found call e = absurd cc
 next_by false true found call e = absurd cc
 next_by false false found call e = (refl, e)
 
--- ---- at each place
+-- ---- in every log
 
 record IsOrdered (acts : List ConnAct) : Type 0 where
   done : AreInOrder (records_of (stream acts)) (replies acts)

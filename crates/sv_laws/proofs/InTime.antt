@@ -1,4 +1,4 @@
--- A call that isn't answered was taken fewer milliseconds ago than it waits at most.
+-- A call that has no reply yet was taken fewer milliseconds ago than its longest wait.
 use Rattle.std.proofs.Common.{◌≡◌, ◌≢◌, ℕ, ◌+◌, ◌<◌, ◌≤◌, Bool, true, false, List, [], ◌∷◌, ◌++◌, Option, Some, None, refl, sym, ap, subst, ◌∙◌, inl, inr, ◌⊎◌, append_assoc, eq-eqb, arith}
 use Rattle.std.specs.Prelude.{map, ⊤}
 use Rattle.std.proofs.lemmas.Bool.{cases_eq, ne_eqb, cases_lt}
@@ -47,8 +47,8 @@ use Rattle.sv_laws.proofs.EveryLog.EachEvent.{StepsKeep, step_keeps, turn_keeps,
 
 -- ---- until when a call waits
 
--- The call waits for a peer; or the wait has a deadline that hasn't passed, and at this deadline the call is no older than it may be. If it
--- waits for the lock, it is as old as its lock timeout says then.
+-- The call waits for a peer; or its wait has a deadline that hasn't passed. At this deadline the call will be no older than `bound` allows.
+-- If it waits for the lock, it will be at least as old as its lock timeout.
 abbrev pub Within : ℕ → ℕ → Wait → Option ℕ → Arguments → Type 0
 Within old clock wait until arguments = (waits_for_peer arguments ≡ true)
     ⊎ ((last : ℕ) × (until ≡ Some last) × (last + old ≤ clock + bound wait arguments) × (clock ≤ last)
@@ -189,7 +189,7 @@ timely_ended config c does log all ends = by (core_call_in (pending_call (of c l
         (timely_none (age c log) (config.clock + ticks (device_acts log)) c (of c log) (Left c ∷ wait_acts (device_acts log))
         (left_none c (wait_acts (device_acts log))))
 
--- a call that waited for the lock is no older than its lock timeout
+-- A call that waits for the lock is no older than its lock timeout.
 lock_old : (old clock : ℕ) (until : Option ℕ) (arguments : Arguments) → waits_for_peer arguments ≡ false
     → Within old clock Lock until arguments → old ≤ lock_time arguments
 lock_old old clock until arguments other (inl peer) = not_both (waits_for_peer arguments) peer other
@@ -380,7 +380,7 @@ timely_dialed config c false call (Some peer) log all =
     timely_left config c call.xid (dialed_to c false call.arguments (Some peer)) log all tt refl
 timely_dialed config c ok call None log all = timely_left config c call.xid (dialed_to c ok call.arguments None) log all tt refl
 
--- a millisecond
+-- A millisecond passes.
 later : (old clock : ℕ) (wait : Wait) (until : Option ℕ) (arguments : Arguments) → ((last : ℕ) → until ≡ Some last → last ≤ clock → ⊥)
     → Within old clock wait until arguments → Within (old + 1) (clock + 1) wait until arguments
 later old clock wait until arguments never (inl dial) = inl dial
@@ -433,7 +433,7 @@ timely_event config history Tick polled channel_log log was free fit all =
     subst (AllTimely config) (sym (append_assoc (map OnDevice (map Applied adds)) (OnDevice Ticked ∷ []) log))
     (timely_happened config adds (OnDevice Ticked ∷ log) (timely_tick config history log was all))
 
--- in the empty log
+-- Nothing waits in the empty log.
 pub timely_none_yet : (config : Config) → AllTimely config []
 timely_none_yet config c wait call is busy = absurd (let z : None ≡ Some wait = is in cc)
 
@@ -442,9 +442,9 @@ timely_log config =
     each_place config (AllTimely config) (timely_none_yet config) (timely_event config)
     (λ log new fit all next. step_keeps config (AllTimely config) (timely_steps config) log new all next)
 
--- ---- so it is in time
+-- ---- the law
 
--- a call whose wait for the lock ends is as old as its lock timeout says
+-- When its wait for the lock ends at the deadline, a call is at least as old as its lock timeout.
 pub lock_old_enough : (old clock : ℕ) (until : Option ℕ) (arguments : Arguments) (last : ℕ) → until ≡ Some last → last ≤ clock
     → Within old clock Lock until arguments → lock_time arguments ≤ old
 lock_old_enough old clock until arguments last is ends (inl peer) = peer_old old arguments peer

@@ -34,6 +34,7 @@ mod FreshStart
 mod Passing
 mod Overtaking
 mod Holding
+mod Locking
 mod AnsweredInTime
 mod Patience
 mod EachWait

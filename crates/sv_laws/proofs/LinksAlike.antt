@@ -182,7 +182,8 @@ not_destroyed lid n acts h =
     let found = find_true (λ (m : ℕ). is_locked m (Destroyed n ∷ acts)) lid (lock_order acts) h in
     not_same n lid ((both_true (not (eqb n lid)) (is_locked lid acts)).0 found).0
 
-locked_now : (n : ℕ) (acts : List LinkAct) → holder (Locked n ∷ acts) ≡ Some n
+-- a link that gets the lock holds it
+pub locked_now : (n : ℕ) (acts : List LinkAct) → holder (Locked n ∷ acts) ≡ Some n
 locked_now n acts = rw (eq-eqb n n refl) refl
 
 still_found : (lid n : ℕ) (acts : List LinkAct) → n ≢ lid → holder acts ≡ Some lid

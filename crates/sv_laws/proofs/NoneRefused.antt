@@ -1,4 +1,4 @@
--- Where peers took no less, no event is refused that wasn't refused before.
+-- If peers take no less than before, no event is refused that wasn't refused before.
 use Rattle.std.proofs.Common.{◌≡◌, ℕ, ◌≤◌, Bool, true, false, cond, List, length, Option, Some, None, refl, sym, ap, ◌∙◌, arith, le-ltb}
 use Rattle.std.specs.Prelude.{◌||◌, not, is_some, is_none, nat_lt}
 use Rattle.std.proofs.lemmas.Bool.{ltb-false}
@@ -20,14 +20,14 @@ use Rattle.sv_laws.specs.Taking.{is_took, NoneRefused}
 use Rattle.sv_laws.proofs.Cuts.SameView.{SameConnection, next_call_same, next_request_same}
 use Rattle.sv_laws.proofs.Taking.{TakenAlike, logs_alike, retook}
 
--- ---- no event is refused for more that is taken
+-- ---- if peers take more, no event is refused for it
 
 open_by : (far opened : Bool) → (far || not opened) ≡ false → opened ≡ true
 open_by true opened e = absurd cc
 open_by false true e = refl
 open_by false false e = absurd cc
 
--- where there was room for a reply, there still is
+-- If there was room for a reply, there still is.
 room_by : (shut one two : Bool) (refused : Refused) → (one ≡ false → shut ≡ false → two ≡ false)
     → cond shut (Some NoConn) (cond one (Some refused) None) ≡ None → cond shut (Some NoConn) (cond two (Some refused) None) ≡ None
 room_by true one two refused so e = absurd cc

@@ -76,10 +76,10 @@ fold_adds p t cs (handle ∷ handles) =
     one_adds (Some what) handle = by_test (may_call t cs) _
     one_adds None handle = ([], sym (append-nil cs))
 
-adds_none : (c : ℕ) (channel_log : List ChannelAct) → OnlyAdds c channel_log channel_log
+pub adds_none : (c : ℕ) (channel_log : List ChannelAct) → OnlyAdds c channel_log channel_log
 adds_none c channel_log = λ opened. (opened, refl, [], sym (append-nil (calls c channel_log)))
 
-adds_then : (c : ℕ) (a b d : List ChannelAct) → OnlyAdds c a b → OnlyAdds c b d → OnlyAdds c a d
+pub adds_then : (c : ℕ) (a b d : List ChannelAct) → OnlyAdds c a b → OnlyAdds c b d → OnlyAdds c a d
 adds_then c a b d x y = λ opened.
     let last = y opened in
     let first = x last.0 in (

@@ -1,9 +1,9 @@
--- A new call that needs the lock isn't executed while another link holds the lock and a call waits for it.
+-- A new call that needs the lock isn't executed while another link holds the lock.
 use Rattle.std.proofs.Common.{◌≡◌, ◌≢◌, ℕ, ◌+◌, ◌≤◌, Bool, true, false, cond, List, ◌∷◌, ◌++◌, Option, Some, None, refl, sym, ap, subst, ◌∙◌, inl, inr, ◌⊎◌, arith}
 use Rattle.std.specs.Prelude.{not, is_some, ◌&&◌, option_map, ℤ}
 use Rattle.std.proofs.lemmas.Bool.{cases_eq, ne_eqb}
 use Rattle.sv_vxi.specs.declared.error_code.ErrorCode.{ErrorCode}
-use Rattle.sv_vxi.specs.declared.error_code.ErrorCode.TheVariants.{NoError, InvalidLink, ParameterError, NotAccessible, OutOfResources}
+use Rattle.sv_vxi.specs.declared.error_code.ErrorCode.TheVariants.{InvalidLink, ParameterError, NotAccessible, OutOfResources}
 use Rattle.sv_vxi.specs.declared.error_code.ErrorCode.TheVariants.{Locked as DeviceLocked}
 use Rattle.sv_vxi.specs.declared.arguments.LockWait.{LockWait}
 use Rattle.sv_vxi.specs.Arguments.{LinkCall, Arguments, CreateLink, OnLink, lock_wait, link as link_in}
@@ -30,33 +30,33 @@ use Rattle.sv_history.proofs.Projections.{of_mine}
 use Rattle.sv_laws.specs.InTime.{lock_time, waits_for_peer}
 use Rattle.sv_laws.proofs.Patience.{Begins, begins}
 use Rattle.sv_laws.proofs.InTime.{entered_until}
-use Rattle.sv_laws.specs.LockFair.{StaysOut, NoneOvertakes, needs_lock}
+use Rattle.sv_laws.specs.LockFair.{IsLockedOut, NoneOvertakes, needs_lock, is_own_fault}
 use Rattle.sv_laws.proofs.Facts.{some_same, some_none}
 use Rattle.sv_laws.proofs.CallsAlike.{SameCall}
 use Rattle.sv_laws.proofs.OneLog.{one_log}
 use Rattle.sv_laws.proofs.NoneLate.{none_late}
 use Rattle.sv_laws.proofs.Sound.{same_other, left_none}
-use Rattle.sv_laws.proofs.SoundEvents.{quiet_log}
 use Rattle.sv_laws.proofs.EveryLog.Taken.{core_taken}
 use Rattle.sv_laws.proofs.EveryLog.Steps.{log_settled, Rested, rested}
 use Rattle.sv_laws.proofs.EveryLog.EachEvent.{each_settled, turn_parts, entered_waits}
 
 -- ---- what stops a call that is locked out
 
--- A call is stopped: by an error, which is 11 only if the call waits no time for the lock; or because it waits for the lock.
+-- A call that is locked out may fail with this error: 11 if it waits no time for the lock, or a fault of its own.
+abbrev MayFail : Arguments → ErrorCode → Type 0
+MayFail arguments error = ((error ≡ DeviceLocked) × (lock_time arguments ≡ 0)) ⊎ (is_own_fault error ≡ true)
+
+-- A call is stopped: by such an error, or because it waits for the lock.
 abbrev IsStopped : Arguments → Option Stop → Type 0
-IsStopped arguments stop =
-    ((error : ErrorCode) × (error ≢ NoError) × (error ≡ DeviceLocked → lock_time arguments ≡ 0) × (stop ≡ Some (Fails error)))
+IsStopped arguments stop = ((error : ErrorCode) × MayFail arguments error × (stop ≡ Some (Fails error)))
     ⊎ ((until : Option ℕ) × (stop ≡ Some (Awaits Lock until)))
 
 -- a create_link that asks for the lock
 link_stopped : (arguments : Arguments) (named more : Bool) (timeout : ℕ)
     → IsStopped arguments (cond (not named) (Some (Fails NotAccessible)) (cond (not more) (Some (Fails OutOfResources))
     (Some (Awaits Lock (Some timeout)))))
-link_stopped arguments false more timeout =
-    inl (NotAccessible, (λ (e : NotAccessible ≡ NoError). cc), (λ (e : NotAccessible ≡ DeviceLocked). absurd cc), refl)
-link_stopped arguments true false timeout =
-    inl (OutOfResources, (λ (e : OutOfResources ≡ NoError). cc), (λ (e : OutOfResources ≡ DeviceLocked). absurd cc), refl)
+link_stopped arguments false more timeout = inl (NotAccessible, inr refl, refl)
+link_stopped arguments true false timeout = inl (OutOfResources, inr refl, refl)
 link_stopped arguments true true timeout = inr (Some timeout, refl)
 
 -- a call on a link
@@ -67,22 +67,15 @@ lock_stopped lid call (Some one) is some = by one.waits refl
     by : (b : Bool) → one.waits ≡ b
         → IsStopped (OnLink lid call) (Some (cond b (Awaits Lock (Some one.timeout)) (Fails DeviceLocked)))
     by true w = inr (Some one.timeout, refl)
-    by false w = inl (
-      DeviceLocked,
-      (λ (e : DeviceLocked ≡ NoError). cc),
-      (λ (e : DeviceLocked ≡ DeviceLocked). rw (is, w) refl),
-      refl,
-    )
+    by false w = inl (DeviceLocked, inl (refl, rw (is, w) refl), refl)
 lock_stopped lid call None is some = absurd cc
 
 call_stopped : (arguments : Arguments) (own long some locked : Bool) (lock other : Option Stop) → some ≡ true → locked ≡ true
     → IsStopped arguments lock
     → IsStopped arguments
     (cond (not own) (Some (Fails InvalidLink)) (cond long (Some (Fails ParameterError)) (cond (some && locked) lock other)))
-call_stopped arguments false long some locked lock other is out stops =
-    inl (InvalidLink, (λ (e : InvalidLink ≡ NoError). cc), (λ (e : InvalidLink ≡ DeviceLocked). absurd cc), refl)
-call_stopped arguments true true some locked lock other is out stops =
-    inl (ParameterError, (λ (e : ParameterError ≡ NoError). cc), (λ (e : ParameterError ≡ DeviceLocked). absurd cc), refl)
+call_stopped arguments false long some locked lock other is out stops = inl (InvalidLink, inr refl, refl)
+call_stopped arguments true true some locked lock other is out stops = inl (ParameterError, inr refl, refl)
 call_stopped arguments true false true true lock other is out stops = stops
 call_stopped arguments true false true false lock other is out stops = absurd cc
 call_stopped arguments true false false locked lock other is out stops = absurd cc
@@ -165,7 +158,7 @@ suspended c bytes call last before =
 
 -- The call is answered with an error: at once, or right behind its suspension.
 abbrev IsRefused : ℕ → List ℕ → CoreCall → List Act → List Act → Type 0
-IsRefused c bytes call before log = (error : ErrorCode) × (error ≢ NoError) × (error ≡ DeviceLocked → lock_time call.arguments ≡ 0)
+IsRefused c bytes call before log = (error : ErrorCode) × MayFail call.arguments error
     × ((log ≡ On c (Replied (result_reply call.xid (failure call.arguments error))) ∷ On c (CallTaken bytes) ∷ before)
     ⊎ ((last : Option ℕ) × (log ≡ On c (Replied (result_reply call.xid (failure call.arguments error))) ∷ OnDevice (Waited (Left c))
     ∷ suspended c bytes call last before)))
@@ -205,11 +198,11 @@ left_alike c e named last acts ne =
 -- nothing is due where it is answered
 none_refused : (config : Config) (c : ℕ) (bytes : List ℕ) (call : CoreCall) (before log new : List Act)
     → IsBehind config c bytes call before → IsRefused c bytes call before log → IsNext config log new → ⊥
-none_refused config c bytes call before log new is (error, ne, no_time, inl so) next =
+none_refused config c bytes call before log new is (error, may, inl so) next =
     let answered = On c (Replied (result_reply call.xid (failure call.arguments error))) ∷ On c (CallTaken bytes) ∷ before in
     none_next config is.history before answered new is.was refl (λ e able. (none_late config is.history before e is.was).1 able)
     (λ e late. (none_late config is.history before e is.was).0 late) (subst (λ (l : List Act). IsNext config l new) so next)
-none_refused config c bytes call before log new is (error, ne, no_time, inr (last, so)) next =
+none_refused config c bytes call before log new is (error, may, inr (last, so)) next =
     let held = suspended c bytes call last before in
     let answered = On c (Replied (result_reply call.xid (failure call.arguments error))) ∷ OnDevice (Waited (Left c)) ∷ held in
     let named = lid_of (link_in call.arguments) in
@@ -255,7 +248,7 @@ refused_late config c bytes call before last new e wait is long same for past so
     let least = long past.1 until in
     let most = past.4 in
     let no_time : lock_time call.arguments ≡ 0 = omega (arith, least, most) in
-    (DeviceLocked, (λ (z : DeviceLocked ≡ NoError). cc), (λ (z : DeviceLocked ≡ DeviceLocked). no_time), inr (last, mine))
+    (DeviceLocked, inl (refl, no_time), inr (last, mine))
 
 behind_step : (config : Config) (c : ℕ) (bytes : List ℕ) (call : CoreCall) (before log new : List Act)
     → IsBehind config c bytes call before → StaysBehind config c bytes call before log → IsNext config log new
@@ -287,7 +280,7 @@ behind_turn : (config : Config) (polled c : ℕ) (bytes : List ℕ) (call : Core
     → needs_lock call.arguments ≡ true → stop_of c call.arguments (device_acts before) ≡ stop → IsStopped call.arguments stop
     → let effect = call_effect call.xid (admission config polled c call.arguments stop (device_acts before)) in
     StaysBehind config c bytes call before (acts_of c effect ++ On c (CallTaken bytes) ∷ before)
-behind_turn config polled c bytes call before stop needs e (inl (error, ne, no_time, is)) = rw is (inr (error, ne, no_time, inl refl))
+behind_turn config polled c bytes call before stop needs e (inl (error, may, is)) = rw is (inr (error, may, inl refl))
 behind_turn config polled c bytes call before stop needs e (inr (until, is)) =
     let long = long_by config c call before until needs (begins c call.arguments (device_acts before) Lock until (e ∙ is)) in
     rw is (inl (deadline config until (device_acts before), refl, long))
@@ -311,47 +304,47 @@ behind_settled config polled c bytes call before log is next asks needs settles 
     (λ one new so due. behind_step config c bytes call before one new is so due)
     settles.0 (own_acts config polled (Turn c) before ++ before) log begins settles.1
 
--- ---- so it stays out
+-- ---- so it is locked out
 
-stays_out : (config : Config) (c : ℕ) (bytes : List ℕ) (call : CoreCall) (before log : List Act)
-    → StaysBehind config c bytes call before log → StaysOut c bytes call before log
-stays_out config c bytes call before log (inl (last, is, long)) =
-    subst (StaysOut c bytes call before) (sym is) (
-      (refl, refl, refl),
+locked_out : (config : Config) (c : ℕ) (bytes : List ℕ) (call : CoreCall) (before log : List Act)
+    → StaysBehind config c bytes call before log → IsLockedOut c bytes call before log
+locked_out config c bytes call before log (inl (last, is, long)) =
+    subst (IsLockedOut c bytes call before) (sym is) (
+      (refl, refl),
+      refl,
       inl (
         of_mine c (CallTaken bytes) before,
         (entered_waits c (lid_of (link_in call.arguments)) Lock last (wait_acts (device_acts before))).0,
       ),
     )
-stays_out config c bytes call before log (inr (error, ne, no_time, inl is)) =
+locked_out config c bytes call before log (inr (error, may, inl is)) =
     let reply = Replied (result_reply call.xid (failure call.arguments error)) in
-    subst (StaysOut c bytes call before) (sym is) (
-      (refl, refl, refl),
+    subst (IsLockedOut c bytes call before) (sym is) (
+      (refl, refl),
+      refl,
       inr (
         error,
-        ne,
-        no_time,
+        may,
         of_mine c reply (On c (CallTaken bytes) ∷ before) ∙ ap (λ (l : List ConnAct). reply ∷ l) (of_mine c (CallTaken bytes) before),
       ),
     )
-stays_out config c bytes call before log (inr (error, ne, no_time, inr (last, is))) =
+locked_out config c bytes call before log (inr (error, may, inr (last, is))) =
     let reply = Replied (result_reply call.xid (failure call.arguments error)) in
-    subst (StaysOut c bytes call before) (sym is) (
-      (refl, refl, refl),
+    subst (IsLockedOut c bytes call before) (sym is) (
+      (refl, refl),
+      refl,
       inr (
         error,
-        ne,
-        no_time,
+        may,
         of_mine c reply (OnDevice (Waited (Left c)) ∷ suspended c bytes call last before)
             ∙ ap (λ (l : List ConnAct). reply ∷ l) (of_mine c (CallTaken bytes) before),
       ),
     )
 
 pub none_overtakes : NoneOvertakes
-none_overtakes config history before log c d bytes call was now w next asks needs other =
+none_overtakes config history before log c bytes call was now held next asks needs other =
     let same = one_log config history now.0 before now.4 was in
-    let held : holder (link_acts (device_acts before)) ≡ None → ⊥ = quiet_log config history before was d w in
-    stays_out config c bytes call before log (behind_settled config now.1 c bytes call before log (record {
+    locked_out config c bytes call before log (behind_settled config now.1 c bytes call before log (record {
       history = history;
       was = was;
       known = (core_taken (of c before) bytes call next asks).1;

@@ -1,7 +1,7 @@
--- A call stops to wait for the lock if it came first and the lock is free, if its connection closes, if its timeout has passed, or if a
+-- A call stops waiting for the lock if it came first and the lock is free, if its connection closes, if its timeout has passed, or if a
 -- device_abort names its link.
 use Rattle.std.proofs.Common.{◌≡◌, ℕ, ◌+◌, ◌<◌, ◌≤◌, nat_lt, Bool, true, false, cond, List, [], ◌∷◌, ◌++◌, Option, Some, None, refl, sym, ap, subst, ◌∙◌, inl, inr, ◌⊎◌, append_assoc}
-use Rattle.std.specs.Prelude.{map, not, is_some, ◌&&◌, ℤ}
+use Rattle.std.specs.Prelude.{map, not, is_some, ◌&&◌, ℤ, pos, negsuc}
 use Rattle.std.proofs.lemmas.Bool.{eqb-true}
 use Rattle.sv_rpc.specs.Call.{call_at}
 use Rattle.sv_vxi.specs.declared.error_code.ErrorCode.{ErrorCode}
@@ -14,6 +14,7 @@ use Rattle.sv_links.specs.declared.waiting.Wait.TheVariants.{Lock}
 use Rattle.sv_links.specs.Links.{closing, holder, is_this}
 use Rattle.sv_links.specs.Waiting.{WaitAct, Entered, Again, Left, waits, deadline as until_of, link as named_link}
 use Rattle.sv_links.specs.Channels.{ChannelClosed, ChannelTaken}
+use Rattle.sv_links.proofs.Locks.{is_holder}
 use Rattle.sv_scan.specs.declared.acts.ScanAct.TheVariants.{Input as InputTo}
 use Rattle.sv_layers.specs.Act.{Scanned}
 use Rattle.sv_instrument.specs.Stimulus.{external_acts, tick_acts}
@@ -25,7 +26,7 @@ use Rattle.sv_history.specs.Event.{PlainEvent, Open, Bytes, Turn, Refuse, Took, 
 use Rattle.sv_history.specs.Act.{Act, ConnAct, DeviceAct, Opened, Piece, CallTaken, Replied, BytesTaken, PortClosed, Linked, Waited, Channel, Applied, Ticked, On, OnDevice, of, device_acts, link_acts, wait_acts, instrument_acts, ticks}
 use Rattle.sv_history.specs.Connection.{is_open, next_call, open_role, pending_call}
 use Rattle.sv_history.specs.CallOutcome.{only}
-use Rattle.sv_history.specs.CoreCall.{CoreCall, lid_of, failure}
+use Rattle.sv_history.specs.CoreCall.{CoreCall, failure}
 use Rattle.sv_history.specs.CoreChannel.{own_call}
 use Rattle.sv_history.specs.Effect.{acts_of, result_reply, call_effect}
 use Rattle.sv_history.specs.Request.{Request, CoreRequest, AbortRequest, request_of, core_call_in, request_for, next_request}
@@ -165,22 +166,17 @@ ended_request config polled c request log so =
     ended_effect config c (request_effect config polled c request (device_acts log)) log tt so
 
 -- the call that a device_abort ends names the device_abort's link
-aborted_names : (owner named : Option ℕ) (acts : List DeviceAct) (d : ℕ) → if_waiting owner named acts ≡ Some d
-    → named ≡ named_link d (wait_acts acts)
-aborted_names (Some c) (Some lid) acts d e =
-    by (is_some (waits c (wait_acts acts))) (is_this lid (named_link c (wait_acts acts))) refl e
+aborted_names : (owner : Option ℕ) (lid : ℕ) (acts : List DeviceAct) (d : ℕ) → if_waiting owner (Some lid) acts ≡ Some d
+    → named_link d (wait_acts acts) ≡ Some lid
+aborted_names (Some c) lid acts d e = by (is_some (waits c (wait_acts acts))) (is_this lid (named_link c (wait_acts acts))) refl e
   where
-    is_named : (found : Option ℕ) → is_this lid found ≡ true → Some lid ≡ found
-    is_named (Some other) on = ap (λ (n : ℕ). Some n) (sym (eqb-true other lid on))
-    is_named None on = absurd cc
-
     by : (suspended named : Bool) → is_this lid (named_link c (wait_acts acts)) ≡ named
-        → cond (suspended && named) (Some c) None ≡ Some d → Some lid ≡ named_link d (wait_acts acts)
-    by true true is e = is_named (named_link c (wait_acts acts)) is ∙ ap (λ (n : ℕ). named_link n (wait_acts acts)) (some_same c d e)
+        → cond (suspended && named) (Some c) None ≡ Some d → named_link d (wait_acts acts) ≡ Some lid
+    by true true is e = ap (λ (n : ℕ). named_link n (wait_acts acts)) (sym (some_same c d e))
+        ∙ is_holder lid (named_link c (wait_acts acts)) (sym is)
     by true false is e = absurd cc
     by false named is e = absurd cc
-aborted_names (Some c) None acts d e = absurd cc
-aborted_names None named acts d e = absurd cc
+aborted_names None lid acts d e = absurd cc
 
 -- a device_abort is one by its bytes
 abort_asked : (acts : List ConnAct) (bytes : List ℕ) (xid : ℕ) (lid : ℤ) → next_call acts ≡ Some bytes
@@ -198,11 +194,13 @@ ended_aborted : (config : Config) (polled c : ℕ) (bytes : List ℕ) (xid : ℕ
     → let taken = acts_of c (request_effect config polled c (AbortRequest xid lid) (device_acts log)) ++ On c (CallTaken bytes) ∷ log in
     Fit taken → IsEnded config taken → request_of AbortChannel (call_at bytes) ≡ AbortRequest xid lid
     → aborts (AbortRequest xid lid) (device_acts log) ≡ found → IsEnded config (abort_acts found taken ++ taken)
-ended_aborted config polled c bytes xid lid (Some d) log fit so is e =
-    let taken = acts_of c (request_effect config polled c (AbortRequest xid lid) (device_acts log)) ++ On c (CallTaken bytes) ∷ log in
-    let reply = result_reply xid (abort_result (lid_of (Some lid)) (device_acts log)) in
-    let names = aborted_names (owner_of (lid_of (Some lid)) (device_acts log)) (lid_of (Some lid)) (device_acts log) d e in
+ended_aborted config polled c bytes xid (pos lid) (Some d) log fit so is e =
+    let acts = device_acts log in
+    let taken = acts_of c (request_effect config polled c (AbortRequest xid (pos lid)) acts) ++ On c (CallTaken bytes) ∷ log in
+    let reply = result_reply xid (abort_result (Some lid) acts) in
+    let names = aborted_names (owner_of (Some lid) acts) lid acts d e in
     ended_failed config Abort d taken (λ w call known. inr (refl, (c, bytes, reply, log, xid, lid, refl, is, names))) fit so
+ended_aborted config polled c bytes xid (negsuc n) (Some d) log fit so is e = absurd cc
 ended_aborted config polled c bytes xid lid None log fit so is e = so
 
 ended_turn : (config : Config) (polled c : ℕ) (found : Option (List ℕ)) (asked : Option Request) (log : List Act) → Fit log

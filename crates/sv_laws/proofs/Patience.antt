@@ -1,4 +1,4 @@
--- How long calls wait at most, by their arguments: where they begin to wait, and behind the lock.
+-- The longest wait of a call, by its arguments: when it begins to wait, and after it waited for the lock.
 use Rattle.std.proofs.Common.{◌≡◌, ◌≢◌, ℕ, ◌+◌, ◌≤◌, Bool, true, false, cond, List, Option, Some, None, refl, subst, inl, inr, ◌⊎◌, arith}
 use Rattle.std.specs.Prelude.{not, is_some, ◌&&◌, option_map, ℤ}
 use Rattle.sv_vxi.specs.declared.error_code.ErrorCode.TheVariants.{InvalidLink, ParameterError, NotAccessible, NotSupported, OutOfResources, InvalidAddress, AlreadyEstablished}
@@ -19,7 +19,7 @@ use Rattle.sv_laws.specs.InTime.{lock_patience, lock_time, patience, waits_for_p
 use Rattle.sv_laws.proofs.Facts.{some_same}
 use Rattle.sv_laws.proofs.Sound.{again_is}
 
--- how long a call can have waited in all, when this wait ends
+-- the longest that a call can have waited in all when this wait ends
 abbrev pub bound : Wait → Arguments → ℕ
 bound Lock arguments = lock_time arguments
 bound _ arguments = patience arguments
@@ -30,20 +30,20 @@ bound_most Lock (OnLink lid call) = omega arith
 bound_most Lock _ = omega arith
 bound_most _ arguments = omega arith
 
--- A call waits for one thing no longer than for all that it waits for.
+-- One wait of a call is no longer than all its waits together.
 pub time_bound : (wait : Wait) (arguments : Arguments) → time_for wait arguments ≤ bound wait arguments
 time_bound Lock arguments = omega arith
 time_bound _ arguments = omega arith
 
--- what is left of all that it waits for, behind the lock
+-- If so many milliseconds are within `bound` even after the longest wait for the lock, they are no longer than this wait at most.
 pub time_left : (wait : Wait) (arguments : Arguments) (n : ℕ) → n + lock_time arguments ≤ bound wait arguments
     → n ≤ time_for wait arguments
 time_left Lock arguments n le = omega (arith, le)
 time_left _ arguments n le = omega (arith, le)
 
--- ---- behind the lock
+-- ---- after the lock
 
--- what a call waits for behind the lock, it waits for as long as its I/O timeout says
+-- After a call waited for the lock, its next wait isn't for the lock, and is within `bound` even after the longest wait for the lock.
 abbrev pub IsThen : Wait → Arguments → Wait × ℕ → Type 0
 IsThen wait arguments next = (wait ≡ Lock) × (waits_for_peer arguments ≡ false) × (next.1 + lock_time arguments ≤ bound next.0 arguments)
     × (next.0 ≢ Lock)
@@ -85,7 +85,7 @@ then_is Dial arguments acts next e = absurd cc
 
 -- ---- a call begins to wait
 
--- A call that begins to wait waits for a peer, or no longer than its timeout; and for the lock no shorter.
+-- A call that begins to wait waits for a peer; or it waits no longer than its timeout says, and for the lock exactly so long.
 abbrev pub Begins : Wait → Option ℕ → Arguments → Type 0
 Begins wait until arguments = (waits_for_peer arguments ≡ true)
     ⊎ ((timeout : ℕ) × (until ≡ Some timeout) × (timeout ≤ time_for wait arguments) × (wait ≡ Lock → lock_time arguments ≤ timeout))

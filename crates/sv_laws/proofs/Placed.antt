@@ -1,7 +1,7 @@
 -- In every log each act has its place: a call is taken while none of its connection waits, and begins to wait right behind; a link lets the
--- lock go where its connection asks for it, or is closed; and a link gets the lock where no call waits for it, or right behind a call that
--- waited for it.
-use Rattle.std.proofs.Common.{◌≡◌, ℕ, Bool, true, false, List, [], ◌∷◌, ◌++◌, length, nat_lt, Option, Some, None, refl, sym, ap, subst, ◌∙◌, inl, inr, ◌⊎◌, append_assoc}
+-- lock go where its connection asks for it, or is closed; and a link gets the lock where the call of its connection asks for it, and where
+-- no call waits for it, or right behind a call that waited for it.
+use Rattle.std.proofs.Common.{◌≡◌, ℕ, ◌+◌, Bool, true, false, List, [], ◌∷◌, ◌++◌, length, nat_lt, Option, Some, None, refl, sym, ap, subst, ◌∙◌, inl, inr, ◌⊎◌, append_assoc}
 use Rattle.std.specs.Prelude.{map, pos, ⊤}
 use Rattle.std.specs.List.{AllByRecursion}
 use Rattle.std.proofs.lemmas.Bool.{cases_Bool}
@@ -10,10 +10,10 @@ use Rattle.sv_logs.proofs.Each.{Each, each_join}
 use Rattle.sv_rpc.specs.Call.{call_at}
 use Rattle.sv_vxi.specs.declared.error_code.ErrorCode.{ErrorCode}
 use Rattle.sv_vxi.specs.declared.arguments.GenericCall.TheVariants.{Readstb, Trigger, Clear}
-use Rattle.sv_vxi.specs.Arguments.{LinkCall, DeviceWrite, DeviceRead, Generic, DeviceLock, DeviceUnlock, DeviceEnableSrq, DestroyLink, Arguments, CreateLink, OnLink, DestroyIntrChan, max_handle}
+use Rattle.sv_vxi.specs.Arguments.{LinkCall, DeviceWrite, DeviceRead, Generic, DeviceLock, DeviceUnlock, DeviceEnableSrq, DestroyLink, Arguments, CreateLink, OnLink, DestroyIntrChan, max_handle, link}
 use Rattle.sv_links.specs.declared.request.Peer.{Peer}
 use Rattle.sv_links.specs.declared.waiting.Wait.{Wait}
-use Rattle.sv_links.specs.Links.{LinkAct, Made, Destroyed, Locked, Unlocked, links_of, owner, is_of, holder, is_this, is_locked_out, lids_left}
+use Rattle.sv_links.specs.Links.{LinkAct, Made, Destroyed, Locked, Unlocked, links_made, links_of, owner, is_of, holder, is_this, is_locked_out, lids_left}
 use Rattle.sv_links.specs.Waiting.{Entered, Left, waits}
 use Rattle.sv_exchange.specs.Exchange.{has_ended, response, is_something}
 use Rattle.sv_exchange.specs.Limits.{max_message}
@@ -27,7 +27,7 @@ use Rattle.sv_history.specs.Event.{PlainEvent, Open, Bytes, Turn, Refuse, Took, 
 use Rattle.sv_history.specs.Act.{Act, ConnAct, DeviceAct, CallTaken, PortClosed, Linked, Waited, Applied, Ticked, On, OnDevice, of, device_acts, link_acts, wait_acts, instrument_acts, exchange_acts}
 use Rattle.sv_history.specs.Connection.{is_open, next_call, pending_call}
 use Rattle.sv_history.specs.CallOutcome.{CallOutcome, only}
-use Rattle.sv_history.specs.CoreCall.{CoreCall, failure}
+use Rattle.sv_history.specs.CoreCall.{CoreCall, lid_of, failure}
 use Rattle.sv_history.specs.CoreChannel.{owns, own_call}
 use Rattle.sv_history.specs.Effect.{Effect, acts_of, call_effect}
 use Rattle.sv_history.specs.Request.{Request, CoreRequest, request_of, core_call_in, next_request}
@@ -40,17 +40,18 @@ use Rattle.sv_history.specs.Settling.{IsNext}
 use Rattle.sv_history.specs.History.{abort_acts, turn_acts, own_acts, IsLogOf}
 use Rattle.sv_history.proofs.Dialing.{peer_by, dialed_to, dialed_is}
 use Rattle.sv_history.proofs.Projections.{of_mine, of_shared, device_shared, link_acts-links}
-use Rattle.sv_laws.specs.LockFair.{WaitsForLock, LetsGo}
+use Rattle.sv_laws.specs.LockFair.{WaitsForLock, AsksForLock, ReleasesLock}
 use Rattle.sv_laws.proofs.Facts.{some_same, not_both}
 use Rattle.sv_laws.proofs.LinksAlike.{owner_before}
 use Rattle.sv_laws.proofs.Closed.{closed_own}
 use Rattle.sv_laws.proofs.Place.{EventsKeep, EachStepKeeps, each_place}
 use Rattle.sv_laws.proofs.InTime.{NoCalls, replies_no_calls}
-use Rattle.sv_laws.proofs.Sound.{takes_lock, lets_go, Sound}
+use Rattle.sv_laws.proofs.Sound.{takes_lock, lets_go, Sound, made_owner}
 use Rattle.sv_laws.proofs.SoundEvents.{unstopped_names, IsQuiet, quiet_log, sound_event, sound_step, sound_none}
 use Rattle.sv_laws.proofs.EveryLog.Taken.{core_taken, is_core}
-use Rattle.sv_laws.proofs.EveryLog.Fit.{Fit}
+use Rattle.sv_laws.proofs.EveryLog.Fit.{AllSuit, Fit}
 use Rattle.sv_laws.proofs.EveryLog.Known.{rises}
+use Rattle.sv_laws.proofs.EveryLog.Keeps.{named_lives}
 use Rattle.sv_laws.proofs.EveryLog.EachEvent.{idle_free, turn_parts, refuse_keeps, close_adds}
 
 -- ---- where an act can stand
@@ -58,7 +59,7 @@ use Rattle.sv_laws.proofs.EveryLog.EachEvent.{idle_free, turn_parts, refuse_keep
 -- The connection of this link lets it go, or is closed.
 abbrev pub MayFree : ℕ → List Act → Type 0
 MayFree lid older =
-    (c : ℕ) → owner lid (link_acts (device_acts older)) ≡ Some c → (is_open (of c older) ≡ false) ⊎ LetsGo c lid older
+    (c : ℕ) → owner lid (link_acts (device_acts older)) ≡ Some c → (is_open (of c older) ≡ false) ⊎ ReleasesLock c lid older
 
 -- No call waits for the lock; or a call was suspended until now, and since then only links were made.
 abbrev pub HasTurn : List Act → Type 0
@@ -66,13 +67,19 @@ HasTurn older = ((d : ℕ) → WaitsForLock (device_acts older) d → ⊥)
     ⊎ ((c : ℕ) × (made : List LinkAct) × (before : List Act)
     × (older ≡ map OnDevice (map Linked made) ++ OnDevice (Waited (Left c)) ∷ before))
 
+-- The connection of this link has a call that isn't answered, and it asks for the lock for this link.
+abbrev IsAsked : ℕ → List Act → Type 0
+IsAsked lid older = (c : ℕ) × (call : CoreCall) × (owner lid (link_acts (device_acts older)) ≡ Some c)
+    × (core_call_in (pending_call (of c older)) ≡ Some call) × AsksForLock lid call.arguments
+
 -- This act has its place behind these: a call is taken while none of its connection is suspended; a call is suspended right behind its
--- taking; a free lock is given where it is a call's turn; a link is unlocked or destroyed where its connection lets it go, or is closed.
+-- taking; a link gets the lock where a call asks for it, and a free lock where it is a call's turn; a link is unlocked or destroyed where
+-- its connection lets it go, or is closed.
 abbrev pub IsPlaced : List Act → Act → Type 0
 IsPlaced older (On c (CallTaken bytes)) = waits c (wait_acts (device_acts older)) ≡ None
 IsPlaced older (OnDevice (Waited (Entered c named wait last))) =
     (bytes : List ℕ) × (before : List Act) × (older ≡ On c (CallTaken bytes) ∷ before)
-IsPlaced older (OnDevice (Linked (Locked lid))) = holder (link_acts (device_acts older)) ≡ None → HasTurn older
+IsPlaced older (OnDevice (Linked (Locked lid))) = (holder (link_acts (device_acts older)) ≡ None → HasTurn older) × IsAsked lid older
 IsPlaced older (OnDevice (Linked (Unlocked lid))) = MayFree lid older
 IsPlaced older (OnDevice (Linked (Destroyed lid))) = MayFree lid older
 IsPlaced older act = ⊤
@@ -110,10 +117,23 @@ placed_happened (act ∷ adds) log all = (tt, placed_happened adds log all)
 
 -- ---- a call that is done
 
--- What a call that is done can do here: take the lock if it is its turn, and let its link go.
-record MayPlace (arguments : Arguments) (log : List Act) : Type 0 where
+-- The call of this connection isn't answered, and has these arguments.
+abbrev IsPending : ℕ → Arguments → List Act → Type 0
+IsPending c arguments log =
+    (call : CoreCall) × (core_call_in (pending_call (of c log)) ≡ Some call) × (call.arguments ≡ arguments)
+
+-- What a call that is done can do here: take the lock if it is its turn, and let its link go. The link that it names is its connection's.
+record MayPlace (c : ℕ) (arguments : Arguments) (log : List Act) : Type 0 where
   turn : takes_lock arguments ≡ true → holder (link_acts (device_acts log)) ≡ None → HasTurn log
   frees : (lid : ℕ) (call : LinkCall) → arguments ≡ OnLink (pos lid) call → lets_go arguments ≡ true → MayFree lid log
+  suits : AllSuit (device_acts log)
+  names : (lid : ℕ) → lid_of (link arguments) ≡ Some lid → owner lid (link_acts (device_acts log)) ≡ Some c
+  pending : IsPending c arguments log
+
+-- such a call asks for the lock for its link
+asked : (c lid : ℕ) (arguments : Arguments) (older : List Act) → IsPending c arguments older
+    → owner lid (link_acts (device_acts older)) ≡ Some c → AsksForLock lid arguments → IsAsked lid older
+asked c lid arguments older (call, known, is) owns asks = (c, call, owns, known, subst (AsksForLock lid) (sym is) asks)
 
 -- it stays a call's turn while links are made
 turn_made : (c lid : ℕ) (log : List Act) → HasTurn log → HasTurn (OnDevice (Linked (Made lid c)) ∷ log)
@@ -125,13 +145,18 @@ turn_made c lid log (inr (d, made, before, is)) =
 abbrev ArePlaced : Config → ℕ → ℕ → Arguments → List Act → Type 0
 ArePlaced config polled c arguments log = Each IsPlaced (map OnDevice (own_call config polled c arguments (device_acts log)).adds) log
 
-placed_done : (config : Config) (polled c : ℕ) (arguments : Arguments) (log : List Act) → MayPlace arguments log
+placed_done : (config : Config) (polled c : ℕ) (arguments : Arguments) (log : List Act) → MayPlace c arguments log
     → ArePlaced config polled c arguments log
 placed_done config polled c (CreateLink client_id true lock_timeout device) log may = by (lids_left (link_acts (device_acts log))) refl
   where
     by : (b : Bool) → lids_left (link_acts (device_acts log)) ≡ b
         → ArePlaced config polled c (CreateLink client_id true lock_timeout device) log
-    by true e = rw e ((λ free. turn_made c _ log (may.turn refl free)), (tt, tt))
+    by true e =
+        let lid = links_made (link_acts (device_acts log)) + 1 in
+        let older = OnDevice (Linked (Made lid c)) ∷ log in
+        let owns = made_owner c lid (device_acts log) may.suits refl in
+        let asks = asked c lid (CreateLink client_id true lock_timeout device) older may.pending owns refl in
+        rw e (((λ free. turn_made c lid log (may.turn refl free)), asks), (tt, tt))
     by false e = rw e tt
 placed_done config polled c (CreateLink client_id false lock_timeout device) log may =
     elim (cases_Bool (lids_left (link_acts (device_acts log)))) [ inl e ↦ rw e (tt, tt) | inr e ↦ rw e tt ]
@@ -158,7 +183,9 @@ placed_done config polled c (OnLink (pos n) (Generic Clear flags lock_timeout io
 placed_done config polled c (OnLink (pos n) (DeviceLock flags lock_timeout)) log may =
     elim (cases_Bool (is_locked_out (holder (link_acts (device_acts log))) (Some n))) [
       | inl e ↦ rw e tt
-      | inr e ↦ rw e ((λ free. may.turn refl free), tt)
+      | inr e ↦
+          let asks = asked c n (OnLink (pos n) (DeviceLock flags lock_timeout)) log may.pending (may.names n refl) refl in
+          rw e ((may.turn refl, asks), tt)
     ]
 placed_done config polled c (OnLink (pos n) DeviceUnlock) log may =
     elim (cases_Bool (is_this n (holder (link_acts (device_acts log))))) [
@@ -202,24 +229,29 @@ placed_failed : (error : ErrorCode) (c : ℕ) (call : Option CoreCall) (log : Li
 placed_failed error c (Some call) log all = placed_left c call.xid (only (failure call.arguments error)) log all tt
 placed_failed error c None log all = (tt, all)
 
--- it resumes, and doesn't let its link go
-placed_continued : (config : Config) (polled c : ℕ) (call : CoreCall) (next : Option (Wait × ℕ)) (log : List Act) → AllPlaced log
-    → lets_go call.arguments ≡ false
-    → AllPlaced (acts_of c (call_effect call.xid (resume_outcome config polled c call.arguments next (device_acts log))) ++ log)
-placed_continued config polled c call (Some next) log all stays = (tt, all)
-placed_continued config polled c call None log all stays =
-    let left = OnDevice (Waited (Left c)) ∷ log in
-    placed_left c call.xid (own_call config polled c call.arguments (device_acts left)) log all
-    (placed_done config polled c call.arguments left (record {
-      turn = λ takes free. inr (c, [], log, refl);
-      frees = λ lid one is goes. not_both (lets_go call.arguments) goes stays;
-    }))
-
 -- ---- with what is known of suspended calls
 
 pub record Placed (log : List Act) : Type 0 where
   pub sound : Sound log
   pub placed : AllPlaced log
+
+-- a call resumes, and doesn't let its link go
+placed_continued : (config : Config) (polled c : ℕ) (wait : Wait) (call : CoreCall) (next : Option (Wait × ℕ)) (log : List Act) → Fit log
+    → Placed log → waits c (wait_acts (device_acts log)) ≡ Some wait → core_call_in (pending_call (of c log)) ≡ Some call
+    → AllPlaced (acts_of c (call_effect call.xid (resume_outcome config polled c call.arguments next (device_acts log))) ++ log)
+placed_continued config polled c wait call (Some next) log fit so for known = (tt, so.placed)
+placed_continued config polled c wait call None log fit so for known =
+    let acts = device_acts log in
+    let left = OnDevice (Waited (Left c)) ∷ log in
+    let told = so.sound.told c wait call for known in
+    placed_left c call.xid (own_call config polled c call.arguments (device_acts left)) log so.placed
+    (placed_done config polled c call.arguments left (record {
+      turn = λ takes free. inr (c, [], log, refl);
+      frees = λ lid one is goes. not_both (lets_go call.arguments) goes told.2;
+      suits = (tt, fit.suits);
+      names = λ lid is. named_lives acts fit.suits so.sound.keeps c wait lid for (told.0 ∙ is);
+      pending = (call, known, refl);
+    }))
 
 placed_step : (config : Config) → EachStepKeeps config Placed
 placed_step config log new fit so next = record { sound = sound_step config log new fit so.sound next; placed = by next }
@@ -231,8 +263,7 @@ placed_step config log new fit so next = record { sound = sound_step config log 
         let call = known.0 in
         subst AllPlaced (sym is)
         (subst (λ (found : Option CoreCall). AllPlaced (acts_of c (resume_effect config polled c wait found (device_acts log)) ++ log))
-        (sym known.1) (placed_continued config polled c call (next_wait wait call.arguments (device_acts log)) log so.placed
-        (so.sound.told c wait call for known.1).2))
+        (sym known.1) (placed_continued config polled c wait call (next_wait wait call.arguments (device_acts log)) log fit so for known.1))
     by (inr (none, inr (still, inl (adds, such, is)))) = subst AllPlaced (sym is) (placed_happened adds log so.placed)
     by (inr (none, inr (still, inr (idle, (c, wait, oldest, for, is))))) =
         subst AllPlaced (sym is) (placed_failed (late wait) c (core_call_in (pending_call (of c log))) log so.placed)
@@ -247,7 +278,7 @@ taken_frees c bytes call log e known lid one is goes d owns =
     let lives = unstopped_names c (OnLink (pos lid) one) (device_acts log) lid
     (ap (λ (a : Arguments). stop_of c a (device_acts log)) (sym is) ∙ e) refl in
     let same : c ≡ d = some_same c d (sym lives ∙ owns) in
-    subst (λ (n : ℕ). (is_open (of n (On c (CallTaken bytes) ∷ log)) ≡ false) ⊎ LetsGo n lid (On c (CallTaken bytes) ∷ log)) same
+    subst (λ (n : ℕ). (is_open (of n (On c (CallTaken bytes) ∷ log)) ≡ false) ⊎ ReleasesLock n lid (On c (CallTaken bytes) ∷ log)) same
     (inr (by one is (ap lets_go (sym is) ∙ goes)))
   where
     asks : (one : LinkCall) → call.arguments ≡ OnLink (pos lid) one
@@ -256,32 +287,40 @@ taken_frees c bytes call log e known lid one is goes d owns =
         ∙ ap (λ (a : Arguments). CoreRequest (record { xid = call.xid; arguments = a })) is
 
     by : (one : LinkCall) → call.arguments ≡ OnLink (pos lid) one → lets_go (OnLink (pos lid) one) ≡ true
-        → LetsGo c lid (On c (CallTaken bytes) ∷ log)
+        → ReleasesLock c lid (On c (CallTaken bytes) ∷ log)
     by DeviceUnlock is goes = (bytes, log, call.xid, refl, inl (asks DeviceUnlock is))
     by DestroyLink is goes = (bytes, log, call.xid, refl, inr (asks DestroyLink is))
     by _ is goes = absurd cc
 
 placed_admitted : (config : Config) (polled c : ℕ) (bytes : List ℕ) (call : CoreCall) (stop : Option Stop) (log : List Act)
     → let taken = On c (CallTaken bytes) ∷ log in
-    AllPlaced taken → IsQuiet (device_acts log) → core_call_in (Some bytes) ≡ Some call → stop_of c call.arguments (device_acts log) ≡ stop
+    AllPlaced taken → AllSuit (device_acts log) → IsQuiet (device_acts log) → core_call_in (Some bytes) ≡ Some call
+    → stop_of c call.arguments (device_acts log) ≡ stop
     → AllPlaced (acts_of c (call_effect call.xid (admission config polled c call.arguments stop (device_acts log))) ++ taken)
-placed_admitted config polled c bytes call None log all quiet known e =
+placed_admitted config polled c bytes call None log all suits quiet known e =
     let taken = On c (CallTaken bytes) ∷ log in
     let outcome = own_call config polled c call.arguments (device_acts taken) in
     placed_effect c (call_effect call.xid outcome) taken all (replies_no_calls call.xid outcome.result)
     (placed_done config polled c call.arguments taken (record {
       turn = λ takes free. inl (λ d w. quiet d w free);
       frees = taken_frees c bytes call log e known;
+      suits = suits;
+      names = λ lid is. unstopped_names c call.arguments (device_acts log) lid e is;
+      pending = (
+        call,
+        ap (λ (l : List ConnAct). core_call_in (pending_call l)) (of_mine c (CallTaken bytes) log) ∙ known,
+        refl,
+      );
     }))
-placed_admitted config polled c bytes call (Some (Fails error)) log all quiet known e = (tt, all)
-placed_admitted config polled c bytes call (Some (Awaits wait until)) log all quiet known e = ((bytes, log, refl), all)
+placed_admitted config polled c bytes call (Some (Fails error)) log all suits quiet known e = (tt, all)
+placed_admitted config polled c bytes call (Some (Awaits wait until)) log all suits quiet known e = ((bytes, log, refl), all)
 
 placed_request : (config : Config) (polled c : ℕ) (bytes : List ℕ) (request : Request) (log : List Act) → Fit log → AllPlaced log
     → IsQuiet (device_acts log) → next_call (of c log) ≡ Some bytes → next_request (of c log) ≡ Some request
     → AllPlaced (acts_of c (request_effect config polled c request (device_acts log)) ++ On c (CallTaken bytes) ∷ log)
 placed_request config polled c bytes (CoreRequest call) log fit all quiet next asks =
-    placed_admitted config polled c bytes call (stop_of c call.arguments (device_acts log)) log (idle_free c log bytes fit next, all) quiet
-    (core_taken (of c log) bytes call next asks).1 refl
+    placed_admitted config polled c bytes call (stop_of c call.arguments (device_acts log)) log (idle_free c log bytes fit next, all)
+    fit.suits quiet (core_taken (of c log) bytes call next asks).1 refl
 placed_request config polled c bytes _ log fit all quiet next asks = (tt, (idle_free c log bytes fit next, all))
 
 placed_turn : (config : Config) (polled c : ℕ) (found : Option (List ℕ)) (asked : Option Request) (log : List Act) → Fit log

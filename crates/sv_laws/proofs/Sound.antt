@@ -136,7 +136,7 @@ pushed_new n c (x ∷ xs) h = elim (cases_Bool (eqb x.lid n)) [
 ]
 
 -- a link that is made is its connection's
-made_owner : (c lid : ℕ) (acts : List DeviceAct) → AllSuit acts → lid ≡ links_made (link_acts acts) + 1
+pub made_owner : (c lid : ℕ) (acts : List DeviceAct) → AllSuit acts → lid ≡ links_made (link_acts acts) + 1
     → owner lid (Made lid c ∷ link_acts acts) ≡ Some c
 made_owner c lid acts all next = pushed_new lid c (live (link_acts acts)) (by (owner lid (link_acts acts)) refl)
   where

@@ -1,4 +1,4 @@
--- Two histories that differ only in what peers took.
+-- Two histories that differ only in their Took events send the same, if no service request was left out in them.
 use Rattle.std.proofs.Common.{◌≡◌, ℕ, ◌+◌, ◌≤◌, Bool, true, false, List, [], ◌∷◌, ◌++◌, length, drop, Option, Some, None, refl, sym, ap, subst, ◌∙◌, inl, inr, arith}
 use Rattle.std.specs.Prelude.{◌==◌, ◌⊎◌, max, is_some, if◌then◌else◌}
 use Rattle.std.specs.List.{concat, filter_map, fold, range_with_len}
@@ -186,7 +186,7 @@ same_calls c acts other h k same = all_free c acts h ∙ sym (free_all_same c ac
 
 -- ---- what the acts of the device tell
 
--- what the one tells, the other does, but for what was taken
+-- What the first acts tell the channels, the other acts tell them too, except for what peers took.
 abbrev pub TellsSo : List DeviceAct → List DeviceAct → Type 0
 TellsSo acts other = (channel_log : List ChannelAct) → HearsOf acts channel_log → (also : List ChannelAct) × HearsOf other also
     × (untaken channel_log ≡ untaken also)
@@ -282,7 +282,7 @@ taken_next log other v = record {
   requests = λ c. next_request_same (of c log) (of c other) (v.each c);
 }
 
--- ---- more is taken in one
+-- ---- a Took in one of the logs
 
 took_shown : (n : ℕ) (acts others : List ConnAct) → SameConnection acts others → SameConnection (BytesTaken n ∷ acts) others
 took_shown n acts others v = record {
@@ -314,7 +314,7 @@ took_intr c n log other v = record {
       let so = v.tells hears.0 hears.1 in (so.0, so.1, ap untaken hears.2 ∙ so.2);
 }
 
--- an event takes bytes, and nothing comes of it
+-- A Took changes a log only in what was taken: no step is due after it.
 took_event : (port : Port) (n : ℕ) (config : Config) (past : List PlainEvent) (log : List Act) → IsLogOf config (Took port n ∷ past) log
     → (before : List Act) × IsLogOf config past before
     × ((other : List Act) → TakenAlike before other → TakenAlike log other)
@@ -352,7 +352,7 @@ logs_alike config (Other {past} {other} port n retook) log also x y =
     let so = took_event port n config other also y in
     taken_back also log (so.2 log (taken_back log so.0 (logs_alike config retook log so.0 x so.1)))
 
--- an event is a Took, or isn't
+-- An event is a Took, or it isn't.
 took_or : (event : PlainEvent) → ((port : Port) × (n : ℕ) × (event ≡ Took port n)) ⊎ (is_took event ≡ false)
 took_or (Took port n) = inl (port, n, refl)
 took_or (Open c role) = inr refl

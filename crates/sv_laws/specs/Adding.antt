@@ -27,8 +27,7 @@ all_sent (Intr c) channel_log log = concat (all_calls c channel_log)
 -- These are all bytes that a history sends on a port.
 abbrev pub Sends : Port → Config → List PlainEvent → List ℕ → Type 0
 Sends port config history bytes = (log : List Act) × (channel_log : List ChannelAct) × IsLogOf config history log
-    × HearsOf (device_acts log) channel_log
-    × (bytes ≡ all_sent port channel_log log)
+    × HearsOf (device_acts log) channel_log × (bytes ≡ all_sent port channel_log log)
 
 -- The events `events`, which follow the history `past`, add the bytes `bytes` to all bytes that the history sends on a port.
 abbrev pub Adds : Port → Config → List PlainEvent → List PlainEvent → List ℕ → Type 0

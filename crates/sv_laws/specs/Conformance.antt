@@ -1,12 +1,12 @@
--- What common commands and queries set, change and leave (IEEE 488.2, chapters 10 to 12; SCPI-1999, chapters 20 and 21), one law each.
+-- What common commands and queries set, change and keep (IEEE 488.2, chapters 10 to 12; SCPI-1999, chapters 20 and 21); one law for each.
 -- Each law is about two logs of the instrument: that before the command or query, and that after it was performed.
-use Rattle.std.specs.Prelude.{◌≡◌, ◌≢◌, ◌↔◌, ℕ, ◌<◌, pos, neg_ℤ, true, false, List, [], ◌∷◌, ◌++◌, length, drop, Some, None}
+use Rattle.std.specs.Prelude.{◌≡◌, ◌≢◌, ◌↔◌, ℕ, ◌<◌, pos, neg_ℤ, true, false, List, [], ◌∷◌, ◌++◌, length, drop, Some, None, slice_get}
 use Rattle.sv_vxi.specs.declared.arguments.GenericCall.TheVariants.{Readstb, Clear}
 use Rattle.sv_vxi.specs.declared.error_code.ErrorCode.TheVariants.{NoError}
 use Rattle.sv_vxi.specs.Arguments.{OnLink, Generic}
 use Rattle.sv_vxi.specs.Results.{Plain, Status}
 use Rattle.sv_errors.specs.declared.code.Code.{Code}
-use Rattle.sv_errors.specs.ErrorQueue.{queue_codes, oldest}
+use Rattle.sv_errors.specs.ErrorQueue.{queue_codes}
 use Rattle.sv_status.specs.declared.register_name.RegisterName.{RegisterName}
 use Rattle.sv_status.specs.declared.register_name.RegisterName.TheVariants.{Operation, Questionable, Limit}
 use Rattle.sv_errors.specs.declared.source.Source.TheVariants.{Immediate}
@@ -25,7 +25,7 @@ use Rattle.sv_instrument.specs.HeldUnit.{held_unit}
 use Rattle.sv_instrument.specs.QueryResponse.{IsWord, oldest_text}
 use Rattle.sv_instrument.specs.CommandEffect.{done, after_answering, Performs}
 use Rattle.sv_history.specs.declared.event.Config.{Config}
-use Rattle.sv_history.specs.Act.{DeviceAct, instrument_acts}
+use Rattle.sv_history.specs.Act.{DeviceAct, link_acts, channel_acts, instrument_acts}
 use Rattle.sv_history.specs.CallOutcome.{CallOutcome}
 use Rattle.sv_history.specs.CoreChannel.{own_call}
 use Rattle.sv_history.specs.PolledStatus.{IsPolled}
@@ -52,6 +52,12 @@ abbrev pub SameResponse : List Act → List Act → Type 0
 SameResponse one two =
     (response (exchange_acts one) ≡ response (exchange_acts two)) × (answers (exchange_acts one) ≡ answers (exchange_acts two))
 
+-- The two logs give the same settings, the same bits of all event registers, the same pending `*OPC`, the same state of the scanner, and
+-- the same response.
+abbrev pub SameElse : List Act → List Act → Type 0
+SameElse one two = SameSettings one two × ((name : RegisterName) (k : ℕ) → EventStands name k one ↔ EventStands name k two)
+    × (Waits one ↔ Waits two) × (scan_acts one ≡ scan_acts two) × SameResponse one two
+
 -- The scanner has its default settings, and no measurement is under way.
 pub record HasDefaults (log : List Act) : Type 0 where
   pub list : scan_list (effective_acts log) ≡ 1 ∷ []
@@ -64,15 +70,18 @@ pub record HasDefaults (log : List Act) : Type 0 where
   pub count : count (effective_acts log) ≡ 1
   pub idle : is_idle log ≡ true
 
+-- Between two logs nothing happened to the links, the lock and the interrupt channels.
+abbrev pub SameLinks : List DeviceAct → List DeviceAct → Type 0
+SameLinks one two = (link_acts one ≡ link_acts two) × (channel_acts one ≡ channel_acts two)
+
 -- A device_readstb that is executed returns the status byte, whose bit 6 is the request for service. It ends the request, and changes
--- nothing else (IEEE 488.2, 11.3; VXI-11 revision 1.0, section B.6).
+-- nothing else: no register, no text, no link and no interrupt channel (IEEE 488.2, 11.3; VXI-11 revision 1.0, section B.6).
 abbrev pub PollEndsRequest : Type 0
 PollEndsRequest = (config : Config) (polled c lid flags lock_timeout io_timeout : ℕ) (acts : List DeviceAct) (outcome : CallOutcome)
     → IsPolled polled acts → outcome ≡ own_call config polled c (OnLink (pos lid) (Generic Readstb flags lock_timeout io_timeout)) acts
-    → (outcome.result ≡ Some (Status NoError polled))
-    × SameRegisters (instrument_acts (outcome.adds ++ acts)) (instrument_acts acts)
+    → (outcome.result ≡ Some (Status NoError polled)) × SameRegisters (instrument_acts (outcome.adds ++ acts)) (instrument_acts acts)
     × (exchange_acts (instrument_acts (outcome.adds ++ acts)) ≡ exchange_acts (instrument_acts acts))
-    × (Request (instrument_acts (outcome.adds ++ acts)) → ⊥)
+    × (Request (instrument_acts (outcome.adds ++ acts)) → ⊥) × SameLinks (outcome.adds ++ acts) acts
 
 -- `*STB?` returns the status byte, whose bit 6 is the master summary. If this answer finds room in the response, the query changes no
 -- register, and doesn't end a request for service (IEEE 488.2, 10.36 and 11.2.2.2).
@@ -113,13 +122,12 @@ pub record IsReset (log new : List Act) : Type 0 where
 abbrev pub ResetLeaves : Type 0
 ResetLeaves = (log new : List Act) → Performs (order.Do action.Reset) log new → IsReset log new
 
--- `*ESR?` returns the standard event register, and clears it. It changes no other event register and no setting (IEEE 488.2, 10.12).
+-- `*ESR?` returns the standard event register, and clears it. It keeps the error queue, the settings, the other events, a pending `*OPC`,
+-- the scanner and the response (IEEE 488.2, 10.12). (A request for service may end.)
 abbrev pub StandardReadOnce : Type 0
 StandardReadOnce = (log new : List Act) → Performs (order.Ask question.StandardEvents) log new
     → (text : List ℕ) × IsWord (λ k. Stands k log) text × (cleared : List Act) × (new ≡ after_answering text cleared)
-    × ((k : ℕ) → Stands k cleared → ⊥) × SameSettings cleared log
-    × ((name : RegisterName) (k : ℕ) → EventStands name k cleared ↔ EventStands name k log)
-    × (queue_acts cleared ≡ queue_acts log) × (scan_acts cleared ≡ scan_acts log)
+    × ((k : ℕ) → Stands k cleared → ⊥) × (queue_acts cleared ≡ queue_acts log) × SameElse cleared log
 
 -- STATus:PRESet gives each register its filters and its enable at power on, and clears no event. It leaves all events but bit 9 of the
 -- questionable events, the standard events, the enables of standard events and of service requests, a pending `*OPC`, the error queue, the
@@ -141,19 +149,20 @@ pub record IsPreset (log new : List Act) : Type 0 where
 abbrev pub PresetLeaves : Type 0
 PresetLeaves = (log new : List Act) → Performs (order.Do action.Preset) log new → IsPreset log new
 
--- SYSTem:ERRor? returns the oldest error of the queue and removes it. While fewer than 64 errors are unread, an error that is reported
--- comes last (SCPI-1999, volume 2, 21.8).
+-- SYSTem:ERRor? returns the oldest error of the queue and removes it. It keeps the standard events, the settings, the other events, a
+-- pending `*OPC`, the scanner and the response. (A request for service may end.) While fewer than 64 errors are unread, an error that is
+-- reported comes last (SCPI-1999, volume 2, 21.8).
 abbrev pub ErrorsInOrder : Type 0
 ErrorsInOrder = ((log new : List Act) → Performs (order.Ask question.Error) log new → (taken : List Act)
-    × (new ≡ after_answering (oldest_text (oldest (queue_acts log))) taken)
-    × (queue_codes (queue_acts taken) ≡ drop 1 (queue_codes (queue_acts log))))
+    × (new ≡ after_answering (oldest_text (slice_get (queue_codes (queue_acts log)) 0)) taken)
+    × (queue_codes (queue_acts taken) ≡ drop 1 (queue_codes (queue_acts log)))
+    × ((k : ℕ) → Stands k taken ↔ Stands k log) × SameElse taken log)
     × ((log : List Act) (code : Code) → length (queue_codes (queue_acts log)) < 64
     → queue_codes (queue_acts (Reported code ∷ log)) ≡ queue_codes (queue_acts log) ++ code ∷ [])
 
--- A device_clear that is executed brings message exchange to rest, whatever was sent or waited before: no text, no response and no held
--- unit is left. It cancels a pending `*OPC`, and changes no register, no setting and no error (VXI-11 revision 1.0, section B.6;
--- IEEE 488.2, 5.8).
-pub record IsAtStart (before after : List Act) : Type 0 where
+-- A device_clear that is executed brings message exchange to rest, whatever was sent before: no text, no response and no held unit is left.
+-- It cancels a pending `*OPC`, and changes no register, no setting and no error (VXI-11 revision 1.0, section B.6; IEEE 488.2, 5.8).
+pub record IsDeviceCleared (before after : List Act) : Type 0 where
   pub rest : IsAtRest (exchange_acts after)
   pub held : held_unit after ≡ None
   pub waits : Waits after → ⊥
@@ -163,8 +172,10 @@ pub record IsAtStart (before after : List Act) : Type 0 where
   pub queue : queue_acts after ≡ queue_acts before
   pub scanner : scan_acts after ≡ scan_acts before
 
--- Where a device_clear is executed, it succeeds, and message exchange starts anew (`IsAtStart`).
+-- Where a device_clear is executed, it succeeds, and message exchange starts anew (`IsDeviceCleared`). Links and interrupt channels stay.
+-- (Calls that waited go on then: a write is accepted, a read fails.)
 abbrev pub ClearRests : Type 0
 ClearRests = (config : Config) (polled c lid flags lock_timeout io_timeout : ℕ) (acts : List DeviceAct) (outcome : CallOutcome)
     → outcome ≡ own_call config polled c (OnLink (pos lid) (Generic Clear flags lock_timeout io_timeout)) acts
-    → (outcome.result ≡ Some (Plain NoError)) × IsAtStart (instrument_acts acts) (instrument_acts (outcome.adds ++ acts))
+    → (outcome.result ≡ Some (Plain NoError)) × IsDeviceCleared (instrument_acts acts) (instrument_acts (outcome.adds ++ acts))
+    × SameLinks (outcome.adds ++ acts) acts

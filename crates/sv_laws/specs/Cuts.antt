@@ -1,7 +1,7 @@
 -- Laws about cuts: how bytes are split into pieces, records into fragments (RFC 5531, section 11: record marking), and text into writes
 -- (VXI-11 revision 1.0, section B.6, device_write). Under the premises below, the bytes that are sent don't depend on how the input is
 -- split; only the replies to the writes differ.
-use Rattle.std.specs.Prelude.{◌≡◌, ◌≢◌, ◌↔◌, not, ℕ, pos, Bool, true, false, List, [], ◌∷◌, ◌++◌, length, drop, filter, map, Some}
+use Rattle.std.specs.Prelude.{◌≡◌, ◌≢◌, ◌↔◌, ℕ, pos, Bool, true, false, List, [], ◌∷◌, ◌++◌, length, drop, filter, map, Some}
 use Rattle.std.specs.Int.{bit_at}
 use Rattle.std.specs.List.{AllByRecursion}
 use Rattle.sv_rpc.specs.Stream.{reading, records_of, tail_of}
@@ -25,26 +25,18 @@ use Rattle.sv_laws.specs.Adding.{Sends, Adds}
 
 -- The event is Bytes on connection `c`, or a Turn of this connection.
 abbrev pub IsFeeding : ℕ → PlainEvent → Type 0
-IsFeeding c (Bytes d piece) = d ≡ c
-IsFeeding c (Turn d) = d ≡ c
-IsFeeding c _ = ⊥
-
--- whether an act of a connection is a piece of bytes that came
-abbrev pub is_piece : ConnAct → Bool
-is_piece (Piece bytes) = true
-is_piece _ = false
+IsFeeding c = elim [ Bytes d piece ↦ d ≡ c | Turn d ↦ d ≡ c | _ ↦ ⊥ ]
 
 -- the acts of a connection without the pieces of bytes that came
 abbrev pub without_pieces : List ConnAct → List ConnAct
-without_pieces = filter (λ act. not (is_piece act))
+without_pieces = filter (elim [ Piece bytes ↦ false | _ ↦ true ])
 
 -- The newest acts of a connection are a device_write of these bytes on a link, with or without the END flag, and the reply to it. The
 -- reply has no error, and says that all these bytes were written.
 abbrev pub IsWritten : ℕ → List ℕ → Bool → List ConnAct → List ConnAct → Type 0
 IsWritten lid bytes ended before acts = (xid io_timeout lock_timeout flags : ℕ) × (call : List ℕ)
     × (core_call call ≡ Some (record { xid = xid; arguments = OnLink (pos lid) (DeviceWrite io_timeout lock_timeout flags bytes) }))
-    × ((bit_at flags 3 ≡ 1) ↔ (ended ≡ true))
-    × (acts ≡ Replied (result_reply xid (Size NoError (length bytes))) ∷ CallTaken call ∷ before)
+    × ((bit_at flags 3 ≡ 1) ↔ (ended ≡ true)) × (acts ≡ Replied (result_reply xid (Size NoError (length bytes))) ∷ CallTaken call ∷ before)
 
 -- These events follow the history `past`, and each is Bytes on connection `c` or a Turn of this connection. The events lead from the log
 -- `before` to `log`, and leave no complete record to take on the connection.
@@ -68,7 +60,7 @@ pub record AreCut (c lid : ℕ) (x y : List ℕ) (ended : Bool) (config : Config
   pub cut : List Act
   pub middle : List ConnAct
   pub no_line : AllByRecursion (λ b. b ≢ 10) x
-  pub rest : NoneWaits (wait_acts (device_acts before))
+  pub none_waits : NoneWaits (wait_acts (device_acts before))
   pub one_feeds : Feeds c config past one before whole
   pub two_feeds : Feeds c config past two before cut
   pub same_tail : tail_of (stream (of c whole)) ≡ tail_of (stream (of c cut))

@@ -1,4 +1,4 @@
--- What a driver finds that begins with device_clear, `*RST` and `*CLS`: whatever happened before, the same but for enables and filters.
+-- The state after device_clear, `*RST` and `*CLS`. Only enables and filters depend on what happened before.
 use Rattle.std.specs.Prelude.{◌≡◌, ℕ, pos, ⊤, List, [], ◌++◌, None}
 use Rattle.std.specs.List.{AllByRecursion}
 use Rattle.sv_vxi.specs.declared.arguments.GenericCall.TheVariants.{Clear}

@@ -1,4 +1,4 @@
--- What a connection that isn't open leaves behind: nothing (VXI-11 revision 1.0, sections B.4.4 and B.6).
+-- What a connection that isn't open holds: nothing (VXI-11 revision 1.0, sections B.4.4 and B.6).
 use Rattle.std.specs.Prelude.{◌≡◌, ◌≢◌, ℕ, true, false, List, ◌∷◌, Some, None}
 use Rattle.sv_links.specs.declared.enabled.Enabled.{Enabled}
 use Rattle.sv_links.specs.Links.{owner, holder}
@@ -15,7 +15,7 @@ use Rattle.sv_history.specs.History.{IsLogOf}
 
 -- No live link is of connection `c`. If a link holds the lock, it is a live link of another connection that is open. Connection `c` has no
 -- suspended call and no open interrupt channel, and no link of it has service requests enabled.
-pub record IsGone (c : ℕ) (log : List Act) : Type 0 where
+pub record HoldsNothing (c : ℕ) (log : List Act) : Type 0 where
   pub links : (lid : ℕ) → owner lid (link_acts (device_acts log)) ≢ Some c
   pub lock : (lid : ℕ) → holder (link_acts (device_acts log)) ≡ Some lid
       → (d : ℕ) × (owner lid (link_acts (device_acts log)) ≡ Some d) × (d ≢ c) × (is_open (of d log) ≡ true)
@@ -24,13 +24,12 @@ pub record IsGone (c : ℕ) (log : List Act) : Type 0 where
   pub requests : (channel_log : List ChannelAct) (lid : ℕ) (enabled : Enabled) → HearsOf (device_acts log) channel_log
       → srq_enabled lid channel_log ≡ Some enabled → enabled.conn ≢ c
 
--- A connection that isn't open is gone.
-abbrev pub ShutIsGone : Type 0
-ShutIsGone = (config : Config) (history : List PlainEvent) (log : List Act) (c : ℕ) → IsLogOf config history log
-    → is_open (of c log) ≡ false
-    → IsGone c log
+-- A connection that isn't open holds nothing.
+abbrev pub ClosedHoldsNothing : Type 0
+ClosedHoldsNothing = (config : Config) (history : List PlainEvent) (log : List Act) (c : ℕ) → IsLogOf config history log
+    → is_open (of c log) ≡ false → HoldsNothing c log
 
--- Behind the Close of a connection, the connection isn't open.
+-- After the Close of a connection, the connection isn't open.
 abbrev pub CloseShuts : Type 0
 CloseShuts = (config : Config) (history : List PlainEvent) (log : List Act) (c : ℕ) → IsLogOf config (Close (Conn c) ∷ history) log
     → is_open (of c log) ≡ false

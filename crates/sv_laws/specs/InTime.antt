@@ -23,24 +23,24 @@ age c (On d (CallTaken call) ∷ log) = if d == c then 0 else age c log
 age c (OnDevice Ticked ∷ log) = age c log + 1
 age c (_ ∷ log) = age c log
 
--- how many milliseconds a call on a link waits for the lock at most: its lock timeout, if its waitlock flag is set
+-- the longest wait of a call on a link for the lock, in milliseconds: its lock timeout if its waitlock flag is set, else 0
 abbrev pub lock_patience : Option LockWait → ℕ
 lock_patience (Some wait) = if wait.waits then wait.timeout else 0
 lock_patience None = 0
 
--- how many milliseconds a call waits for the lock at most
+-- the longest wait of a call for the lock, in milliseconds
 abbrev pub lock_time : Arguments → ℕ
 lock_time (CreateLink client_id lock_device lock_timeout device) = if lock_device then lock_timeout else 0
 lock_time (OnLink lid call) = lock_patience (lock_wait call)
 lock_time _ = 0
 
--- how many milliseconds a call waits for the device at most: the I/O timeout of a device_write or a device_read
+-- the longest wait of a call for the device, in milliseconds: the I/O timeout of a device_write or a device_read
 abbrev pub device_time : Arguments → ℕ
 device_time (OnLink lid (DeviceWrite io_timeout lock_timeout flags bytes)) = io_timeout
 device_time (OnLink lid (DeviceRead request_size io_timeout lock_timeout flags term_char)) = io_timeout
 device_time _ = 0
 
--- how many milliseconds a call waits at most: first for the lock, and then for the device
+-- the longest wait of a call, in milliseconds: first for the lock, and then for the device
 abbrev pub patience : Arguments → ℕ
 patience arguments = lock_time arguments + device_time arguments
 
@@ -53,9 +53,8 @@ waits_for_peer _ = false
 -- ago than it waits for the lock at most. The one exception is a create_intr_chan, which waits until its peer is connected.
 abbrev pub InTime : Type 0
 InTime = (config : Config) (history : List PlainEvent) (log : List Act) (c : ℕ) (bytes : List ℕ) → IsLogOf config history log
-    → pending_call (of c log) ≡ Some bytes
-    → (call : CoreCall) × (core_call bytes ≡ Some call) × (waits_for_peer call.arguments ≡ false → (age c log < patience call.arguments)
-    × (waits c (wait_acts (device_acts log)) ≡ Some Lock → age c log < lock_time call.arguments))
+    → pending_call (of c log) ≡ Some bytes → (call : CoreCall) × (core_call bytes ≡ Some call) × (waits_for_peer call.arguments ≡ false
+    → (age c log < patience call.arguments) × (waits c (wait_acts (device_acts log)) ≡ Some Lock → age c log < lock_time call.arguments))
 
 -- how many milliseconds passed since the present wait of a call of connection `c` began: since the call was suspended, or since it began to
 -- wait for something else
@@ -95,5 +94,4 @@ abbrev pub AnsweredInTime : Type 0
 AnsweredInTime = (config : Config) (past events : List PlainEvent) (before log : List Act) (c : ℕ) (bytes : List ℕ) (call : CoreCall)
     → IsLogOf config past before → next_call (of c before) ≡ Some bytes → core_call bytes ≡ Some call
     → waits_for_peer call.arguments ≡ false → IsLogOf config (events ++ Turn c ∷ past) log → AllByRecursion (LeavesOpen c) events
-    → patience call.arguments ≤ ticks_in events
-    → length (replies (of c before)) < length (replies (of c log))
+    → patience call.arguments ≤ ticks_in events → length (replies (of c before)) < length (replies (of c log))

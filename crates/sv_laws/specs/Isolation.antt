@@ -36,13 +36,11 @@ own_events c = filter (λ event. not (is_foreign c event))
 
 -- the link that a device_abort names; `None` for any other request
 abbrev pub aborted_link : Option Request → Option ℕ
-aborted_link (Some (AbortRequest xid lid)) = lid_of (Some lid)
-aborted_link _ = None
+aborted_link = elim [ Some (AbortRequest xid lid) ↦ lid_of (Some lid) | _ ↦ None ]
 
 -- whether a request is create_link
 abbrev pub makes_link : Option Request → Bool
-makes_link (Some (CoreRequest call)) = is_create_link call.arguments
-makes_link _ = false
+makes_link = elim [ Some (CoreRequest call) ↦ is_create_link call.arguments | _ ↦ false ]
 
 -- If the event takes a device_abort, this device_abort names no link of connection `c`. The event neither takes nor refuses a
 -- create_link on connection `c`.
@@ -78,7 +76,7 @@ pub record IsLocked (c lid : ℕ) (config : Config) (past events : List PlainEve
   pub is_log : IsLogOf config (events ++ past) log
   pub owns : owner lid (link_acts (device_acts before)) ≡ Some c
   pub holds : HoldsFrom lid before log
-  pub rest : NoOtherWaits c (wait_acts (device_acts before))
+  pub none_waits : NoOtherWaits c (wait_acts (device_acts before))
   pub left_alone : EachIs (LeavesLinksAlone c) config past events
 
 -- While a link of a connection holds the lock (`IsLocked`), the events of all other connections can be left out. The history can go on

@@ -1,5 +1,5 @@
--- A query alone: what each driver does works. A connection writes a message that is one query, and reads the response to its end before
--- any other text comes (IEEE 488.2, 6.1 and 6.3; VXI-11 revision 1.0, section B.6, device_write and device_read).
+-- One query at a time: write it, read its response to the end, and the answer is right (IEEE 488.2, 6.1 and 6.3; VXI-11 revision 1.0,
+-- section B.6, device_write and device_read).
 use Rattle.std.specs.Prelude.{◌≡◌, ◌≢◌, ◌↔◌, ◌==◌, ⊤, ℕ, ◌+◌, ◌<◌, ◌≤◌, pos, Bool, true, false, filter, List, [], ◌∷◌, ◌++◌, length, drop, map, replicate, Option, Some, None, is_some, Ok, codes}
 use Rattle.std.specs.Int.{bit_at}
 use Rattle.std.specs.List.{AllByRecursion}
@@ -13,12 +13,13 @@ use Rattle.sv_header.specs.declared.command.Question.{Question}
 use Rattle.sv_header.specs.declared.command.Question.TheVariants as question
 use Rattle.sv_exchange.specs.Exchange.{ExchangeAct, Byte, End, text, messages, messages_finished, response, units}
 use Rattle.sv_exchange.specs.Limits.{max_message, max_read}
-use Rattle.sv_layers.specs.Act.{Act as InstrumentAct, Reported, queue_acts}
+use Rattle.sv_layers.specs.Act.{Act as InstrumentAct, Reported, Scanned, queue_acts}
 use Rattle.sv_layers.specs.declared.change.Awaited.{Awaited}
 use Rattle.sv_layers.specs.declared.change.Awaited.TheVariants.{Nothing, One, Readings}
 use Rattle.sv_layers.specs.Condition.{effective_acts, is_idle}
 use Rattle.sv_layers.specs.Standard.{Stands}
 use Rattle.sv_scan.specs.Counted.{read_fault}
+use Rattle.sv_scan.specs.declared.acts.ScanAct.TheVariants.{Init}
 use Rattle.sv_scan.specs.Scan.{readings}
 use Rattle.sv_header.specs.declared.command.Action.TheVariants as action
 use Rattle.sv_instrument.specs.declared.command.order.Order.{Order}
@@ -36,7 +37,7 @@ use Rattle.sv_history.specs.Request.{CoreRequest, next_request}
 use Rattle.sv_history.specs.Effect.{result_reply}
 use Rattle.sv_history.specs.CoreChannel.{term_of}
 use Rattle.sv_history.specs.History.{IsLogOf}
-use Rattle.sv_laws.specs.Adding.{all_replies, Adds}
+use Rattle.sv_laws.specs.Adding.{all_replies}
 use Rattle.sv_laws.specs.Isolation.{own_events, IsLocked}
 
 -- Message exchange is at rest: all text was executed, so that the current message is empty and hasn't ended; and there is no response to
@@ -63,8 +64,8 @@ pub record NextIs (lid : ℕ) (call : LinkCall) (acts : List ConnAct) : Type 0 w
   pub next : next_call acts ≡ Some bytes
   pub asks : next_request acts ≡ Some (CoreRequest (record { xid = xid; arguments = OnLink (pos lid) call }))
 
--- The event executes and refuses no call, ends no suspended call, and closes no connection; nor does it open this connection anew. Time
--- may pass.
+-- The event is no Turn, no Refuse, no Dialed, no Close of a connection, and no Open of this connection. So bytes may come and be taken,
+-- inputs be set, triggers come, and time pass.
 abbrev pub IsQuiet : ℕ → PlainEvent → Type 0
 IsQuiet c (Open d role) = d ≢ c
 IsQuiet c (Turn d) = ⊥
@@ -161,15 +162,21 @@ QueryAlone = (c lid : ℕ) (asked : Question) (sent answer : List ℕ) (most : �
     → IsLogOf config (Turn c ∷ (between ++ Turn c ∷ past)) log
     → IsAnswered c lid asked sent answer most config past between start before log asks
 
+-- The write and the read were answered, the read with exactly this answer and a new line, and nothing else was sent on the
+-- connection. Message exchange is at rest again, and no error was reported.
+pub record IsTold (c : ℕ) (sent answer : List ℕ) (most : ℕ) (term : Option ℕ) (write_xid read_xid : ℕ) (start log : List Act) : Type 0 where
+  pub told : all_replies (of c log) ≡ all_replies (of c start) ++ (write_reply write_xid sent ++ read_reply read_xid answer most term)
+  pub rest : IsAtRest (exchange_acts (device_acts log))
+  pub none : reported (instrument_acts (device_acts log)) ≡ reported (instrument_acts (device_acts start))
+
 -- While the connection's link holds the lock (`IsLocked`), other connections may do anything. If the connection's own events are those of
--- a query that is asked alone, all events together add exactly the two replies to what is sent on the connection.
+-- a query that is asked alone, the query is answered, and after all events together this holds (`IsTold`).
 abbrev pub QueryLocked : Type 0
 QueryLocked = (c lid : ℕ) (asked : Question) (sent answer : List ℕ) (most : ℕ) (config : Config) (past between events : List PlainEvent)
-    (start before : List Act) → IsAtRest (exchange_acts (device_acts start))
+    (start before log : List Act) → IsAtRest (exchange_acts (device_acts start))
     → (asks : AsksAlone c lid asked sent answer most config past between start before) → IsLocked c lid config past events
-    → own_events c events ≡ Turn c ∷ (between ++ Turn c ∷ [])
-    → Adds (Conn c) config past events (write_reply asks.writes.call.xid sent ++ read_reply asks.reads.call.xid answer most
-    (term_of asks.reads.flags asks.reads.term_char))
+    → own_events c events ≡ Turn c ∷ (between ++ Turn c ∷ []) → IsLogOf config (events ++ past) log
+    → IsTold c sent answer most (term_of asks.reads.flags asks.reads.term_char) asks.writes.call.xid asks.reads.call.xid start log
 
 -- ---- queries that wait for the end of the measurement
 
@@ -203,21 +210,15 @@ pub record AsksHeld (c lid : ℕ) (query : Order) (what : Awaited) (sent : List 
   pub is_log : IsLogOf config (later ++ Turn c ∷ (between ++ Turn c ∷ past)) log
   pub in_time : ticks (device_acts log) < ticks (device_acts before) + reads.timeout
 
--- The write and the read were answered, the read with exactly this answer and a new line. Message exchange is at rest again, and no error
--- was reported.
-pub record IsTold (c : ℕ) (sent answer : List ℕ) (most : ℕ) (term : Option ℕ) (write_xid read_xid : ℕ) (start log : List Act) : Type 0 where
-  pub told : all_replies (of c log) ≡ all_replies (of c start) ++ (write_reply write_xid sent ++ read_reply read_xid answer most term)
-  pub rest : IsAtRest (exchange_acts (device_acts log))
-  pub none : reported (instrument_acts (device_acts log)) ≡ reported (instrument_acts (device_acts start))
-
--- The moment at which the query's unit ends, given the instrument's log before the write and the present log. It is later than `start`; the
--- unit is held; and no measurement is under way.
+-- A moment after `start`, the instrument's log before the write, at which the unit is held and no measurement is under way: there the unit
+-- ends. If it answers with readings, a measurement was initiated since `start`.
 pub record UnitEnd (what : Awaited) (start log : List InstrumentAct) : Type 0 where
   pub done : List InstrumentAct
   pub newer : List InstrumentAct
   pub more : List InstrumentAct
   pub within : log ≡ more ++ done
   pub since : done ≡ newer ++ start
+  pub began : what ≡ Readings → (later earlier : List InstrumentAct) × (newer ≡ later ++ Scanned Init ∷ earlier)
   pub held : held_unit done ≡ Some what
   pub idle : is_idle done ≡ true
 
@@ -237,18 +238,15 @@ HeldAlone = (c lid : ℕ) (query : Order) (what : Awaited) (sent : List ℕ) (mo
     → is_idle (instrument_acts (device_acts log)) ≡ true
     → IsHeldAnswered c what sent most (term_of asks.reads.flags asks.reads.term_char) asks.writes.call.xid asks.reads.call.xid start log
 
--- The same while the connection's link holds the lock, and other connections do anything: of the connection's own events this holds, and
--- all events together add exactly the two replies to what is sent on the connection.
+-- The same while the connection's link holds the lock, and other connections do anything: if the connection's own events are those of such
+-- a query, it is answered so after all events together.
 abbrev pub HeldLocked : Type 0
 HeldLocked = (c lid : ℕ) (query : Order) (what : Awaited) (sent : List ℕ) (most : ℕ) (config : Config)
-    (past between later events : List PlainEvent) (start before log : List Act) → IsAtRest (exchange_acts (device_acts start))
-    → (asks : AsksHeld c lid query what sent most config past between later start before log)
-    → is_idle (instrument_acts (device_acts log)) ≡ true → IsLocked c lid config past events
-    → own_events c events ≡ later ++ Turn c ∷ (between ++ Turn c ∷ [])
-    → (end : UnitEnd what (instrument_acts (device_acts start)) (instrument_acts (device_acts log)))
-    × (OneRead (term_of asks.reads.flags asks.reads.term_char) most (held_answer what end.done) → Adds (Conn c) config past events
-    (write_reply asks.writes.call.xid sent
-    ++ read_reply asks.reads.call.xid (held_answer what end.done) most (term_of asks.reads.flags asks.reads.term_char)))
+    (past between later events : List PlainEvent) (start before own log : List Act) → IsAtRest (exchange_acts (device_acts start))
+    → (asks : AsksHeld c lid query what sent most config past between later start before own)
+    → is_idle (instrument_acts (device_acts own)) ≡ true → IsLocked c lid config past events
+    → own_events c events ≡ later ++ Turn c ∷ (between ++ Turn c ∷ []) → IsLogOf config (events ++ past) log
+    → IsHeldAnswered c what sent most (term_of asks.reads.flags asks.reads.term_char) asks.writes.call.xid asks.reads.call.xid start log
 
 -- ---- one message after the other
 
@@ -261,9 +259,8 @@ is_command (order.Do action.WaitAndTell) = false
 is_command (order.Do action.Read) = false
 is_command _ = true
 
--- After the history `past`, a connection writes commands and asks queries alone, one after the other, with quiet events before, between and
--- after them. This is the whole history. Each message is read as a command or a query. For a query that waits, the measurement ended in
--- time, and one read can return the answer.
+-- The history is `past` and then rounds: a connection sends commands, and queries whose response it reads, one after the other. Between
+-- them only quiet events come. For a query that waits, the measurement ended in time, and one read can return the answer.
 pub data Rounds (c lid : ℕ) (config : Config) (past : List PlainEvent) : List PlainEvent → Type 0 where
   Start : Rounds c lid config past past
   Quiet : {history : List PlainEvent} (event : PlainEvent) → IsQuiet c event → Rounds c lid config past history
@@ -291,10 +288,19 @@ is_query_error _ = false
 abbrev pub query_errors : List InstrumentAct → List Code
 query_errors log = filter is_query_error (reported log)
 
+-- Message exchange is at rest, and no query error was reported since `start`.
+abbrev pub NoneSince : List Act → List Act → Type 0
+NoneSince start log = IsAtRest (exchange_acts (device_acts log))
+    × (query_errors (instrument_acts (device_acts log)) ≡ query_errors (instrument_acts (device_acts start)))
+
 -- A controller that reads each response to its end before it writes again never gets a query error. Message exchange is at rest before the
 -- rounds, and so it is after them.
 abbrev pub NoQueryError : Type 0
 NoQueryError = (c lid : ℕ) (config : Config) (past history : List PlainEvent) (start log : List Act) → IsLogOf config past start
-    → IsAtRest (exchange_acts (device_acts start)) → Rounds c lid config past history → IsLogOf config history log
-    → IsAtRest (exchange_acts (device_acts log))
-    × (query_errors (instrument_acts (device_acts log)) ≡ query_errors (instrument_acts (device_acts start)))
+    → IsAtRest (exchange_acts (device_acts start)) → Rounds c lid config past history → IsLogOf config history log → NoneSince start log
+
+-- The same while the connection's link holds the lock, and other connections do anything: the connection's own events are such rounds.
+abbrev pub NoQueryErrorLocked : Type 0
+NoQueryErrorLocked = (c lid : ℕ) (config : Config) (past events : List PlainEvent) (start log : List Act) → IsLogOf config past start
+    → IsAtRest (exchange_acts (device_acts start)) → IsLocked c lid config past events
+    → Rounds c lid config past (own_events c events ++ past) → IsLogOf config (events ++ past) log → NoneSince start log

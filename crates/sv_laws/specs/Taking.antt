@@ -13,8 +13,7 @@ use Rattle.sv_laws.specs.Adding.{Sends}
 
 -- whether an event is a Took
 abbrev pub is_took : PlainEvent → Bool
-is_took (Took port count) = true
-is_took _ = false
+is_took = elim [ Took port count ↦ true | _ ↦ false ]
 
 -- a history without its Took events
 abbrev pub without_took : List PlainEvent → List PlainEvent
@@ -24,8 +23,8 @@ without_took = filter (λ event. not (is_took event))
 abbrev pub requesting : ℕ → List ChannelAct → ℕ
 requesting c acts = if is_channel_open c acts then length (handles_of c (enabled_links acts)) else 0
 
--- Each service request appends one call on the channel of the connection for each link that asks for it: no call is left out for want of
--- room.
+-- Each service request appends one call on the channel of the connection for each link that asks for it: no call is left out because the
+-- channel is full.
 abbrev pub NoneLeftOut : ℕ → List ChannelAct → Type 0
 NoneLeftOut c [] = ⊤
 NoneLeftOut c (Requested ∷ acts) = (length (calls c (Requested ∷ acts)) ≡ length (calls c acts) + requesting c acts) × NoneLeftOut c acts

@@ -6,11 +6,11 @@ ghost use Rattle.sv_laws.specs.Isolation.{Isolation};
 ghost use Rattle.sv_laws.specs.Cuts.{RecordsCut, WritesCut};
 ghost use Rattle.sv_laws.specs.Conformance.{PollEndsRequest, StatusByteLeaves, ClearClears, ResetLeaves, StandardReadOnce, PresetLeaves, ErrorsInOrder, ClearRests};
 ghost use Rattle.sv_laws.specs.FreshStart.{FreshStart};
-ghost use Rattle.sv_laws.specs.Gone.{ShutIsGone, CloseShuts};
+ghost use Rattle.sv_laws.specs.Gone.{ClosedHoldsNothing, CloseShuts};
 ghost use Rattle.sv_laws.specs.InOrder.{InOrder};
 ghost use Rattle.sv_laws.specs.InTime.{InTime, EachWaitInTime, AnsweredInTime};
-ghost use Rattle.sv_laws.specs.LockFair.{WaitsWhileHeld, NoneOvertakes, OldestPasses, OldestGets, HolderKeeps};
-ghost use Rattle.sv_laws.specs.QueryAlone.{QueryAlone, QueryLocked, NoQueryError, HeldAlone, HeldLocked};
+ghost use Rattle.sv_laws.specs.LockFair.{WaitsWhileHeld, NoneOvertakes, OldestPasses, OldestGets, HolderKeeps, LockIsTaken, LockIsFreed};
+ghost use Rattle.sv_laws.specs.QueryAlone.{QueryAlone, QueryLocked, HeldAlone, HeldLocked, NoQueryError, NoQueryErrorLocked};
 
 /// A history has at most one log.
 pub fn one_log()
@@ -49,8 +49,8 @@ pub fn none_late()
 {}
 
 /// Which bytes peers take, and when, doesn't change what the server sends, as long as no event is
-/// refused and no call on an interrupt channel is left out for want of room. And where no more
-/// bytes wait, no event is refused that wasn't refused before.
+/// refused and no call on an interrupt channel is left out. And if on no connection more bytes
+/// wait, no event but a Took is refused that wasn't refused before.
 pub fn taking()
     ensures same { Taking }
     ensures none_refused { NoneRefused }
@@ -89,12 +89,13 @@ pub fn in_order()
     ensures { InOrder }
 {}
 
-/// The lock goes to the calls in the order in which they came (VXI-11 revision 1.0, section
-/// B.4.4). While a call waits for the lock, another link holds it, and a new call that needs the
-/// lock isn't executed. A call stops to wait for the lock when the lock is free and the call came
-/// first: then it is executed, or waits for the device. Otherwise its connection was closed, or it
-/// fails by its own lock timeout or by a device_abort of its link. A suspended call that gets the
-/// lock came first.
+/// The lock goes to the calls in the order in which the server took them (VXI-11 revision 1.0,
+/// section B.4.4). While a call waits for the lock, another link holds it. While a link holds the
+/// lock, a new call that needs it is executed only on that link; on any other it changes nothing:
+/// it waits, or fails. A call stops waiting for the lock in three ways only: the lock is free and
+/// the call came first, and then it is executed or waits for the device; its connection is closed;
+/// or it fails, by its own lock timeout or by a device_abort of its link. A link gets the lock only
+/// by a device_lock or create_link that asks for it, and only in its turn.
 pub fn lock_fair()
     ensures held { WaitsWhileHeld }
     ensures overtakes { NoneOvertakes }
@@ -103,30 +104,35 @@ pub fn lock_fair()
 {}
 
 /// A link that holds the lock keeps it until the connection that owns it unlocks or destroys the
-/// link, or is closed (VXI-11 revision 1.0, sections B.4.4 and B.6).
+/// link, or is closed (VXI-11 revision 1.0, sections B.4.4 and B.6). A device_lock, or a
+/// create_link that asks for the lock, gives it the lock if it succeeds. A device_unlock that
+/// succeeds takes the lock from its link.
 pub fn holder_keeps()
-    ensures { HolderKeeps }
+    ensures keeps { HolderKeeps }
+    ensures locks { LockIsTaken }
+    ensures unlocks { LockIsFreed }
 {}
 
-/// A connection that isn't open, such as one that was closed, has no live link, no suspended call,
-/// no open interrupt channel and no link with service requests enabled; and no link that it made
-/// holds the lock (VXI-11 revision 1.0, sections B.4.4 and B.6).
+/// A connection that isn't open, such as one that was closed, holds nothing: no live link, no
+/// suspended call, no open interrupt channel and no link with service requests enabled; and no link
+/// that it made holds the lock (VXI-11 revision 1.0, sections B.4.4 and B.6).
 pub fn gone()
-    ensures gone { ShutIsGone }
+    ensures gone { ClosedHoldsNothing }
     ensures shut { CloseShuts }
 {}
 
-/// A call is answered before it has waited longer than its timeouts allow: the lock timeout, and
-/// then the I/O timeout (VXI-11 revision 1.0, section B.4.4). Each wait is shorter than its own
-/// timeout. Only a create_intr_chan has no timeout, and waits for its peer.
+/// A call is answered before it has waited longer than its timeouts allow, counted from when the
+/// server took it: the lock timeout, if its waitlock flag is set, and then the I/O timeout of a
+/// read or a write (VXI-11 revision 1.0, section B.4.4). Each wait is shorter than its own timeout.
+/// Only a create_intr_chan has no timeout, and waits for its peer.
 pub fn in_time()
     ensures young { InTime }
     ensures answered { AnsweredInTime }
     ensures each { EachWaitInTime }
 {}
 
-/// Common commands and queries set and change what IEEE 488.2 says, and leave the rest: a poll,
-/// `*STB?`, `*CLS`, `*RST`, and `*ESR?` (chapters 10 and 11).
+/// Common commands and queries set, change and keep what IEEE 488.2 says: a poll, `*STB?`, `*CLS`,
+/// `*RST`, and `*ESR?` (chapters 10 and 11).
 pub fn conformance()
     ensures poll { PollEndsRequest }
     ensures status_byte { StatusByteLeaves }
@@ -135,16 +141,17 @@ pub fn conformance()
     ensures standard { StandardReadOnce }
 {}
 
-/// STATus:PRESet and SYSTem:ERRor? set, change and return what SCPI-1999 says, and leave the rest
-/// (volume 2, chapters 20 and 21).
+/// STATus:PRESet and SYSTem:ERRor? set, change, return and keep what SCPI-1999 says (volume 2,
+/// chapters 20 and 21).
 pub fn scpi_conformance()
     ensures preset { PresetLeaves }
     ensures errors { ErrorsInOrder }
 {}
 
-/// Behind a device_clear, message exchange is at rest, whatever was sent or waited before (VXI-11
-/// revision 1.0, section B.6; IEEE 488.2, 5.8). Drivers that begin with device_clear, `*RST` and
-/// `*CLS` find the same but for enables and filters.
+/// When a device_clear is executed, message exchange is at rest, whatever was sent before (VXI-11
+/// revision 1.0, section B.6; IEEE 488.2, 5.8). After device_clear, `*RST` and `*CLS`, with only
+/// text between them, the scanner is idle with its default settings, and there is no event, no
+/// error and no response; enables and filters are what they were.
 pub fn fresh_start()
     ensures rest { ClearRests }
     ensures fresh { FreshStart }
@@ -152,15 +159,17 @@ pub fn fresh_start()
 
 /// A connection that writes one query, and reads the response to its end before it writes again,
 /// gets exactly the query's answer (IEEE 488.2, 6.1 and 6.3; VXI-11 revision 1.0, section B.6,
-/// device_write and device_read). There are three premises: message exchange is at rest before the
-/// write; no other link holds the lock; and until the read is answered no other call is executed.
-/// The third premise isn't needed if the connection's link holds the lock: then other connections
-/// may do anything. A query that waits for the end of the measurement is answered then. A
-/// connection that goes on like this, also with commands, never gets a query error.
+/// device_write and device_read). Among the premises are these: message exchange is at rest before
+/// the write; no other link holds the lock; and until the read is answered no other call is
+/// executed. The third premise isn't needed if the connection's link holds the lock: then other
+/// connections may do anything but name its links in a device_abort. `READ?`, `MEASure?` and
+/// `*OPC?` are answered when the measurement ends. A driver that sends one such message after
+/// another, and commands, never gets a query error.
 pub fn query_alone()
     ensures asked { QueryAlone }
     ensures locked { QueryLocked }
-    ensures rounds { NoQueryError }
     ensures held { HeldAlone }
     ensures held_locked { HeldLocked }
+    ensures rounds { NoQueryError }
+    ensures rounds_locked { NoQueryErrorLocked }
 {}

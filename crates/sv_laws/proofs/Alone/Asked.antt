@@ -1,4 +1,4 @@
--- A query alone is answered.
+-- A query that is asked alone is answered.
 use Rattle.std.proofs.Common.{◌≡◌, ℕ, Bool, true, false, List, [], ◌∷◌, ◌++◌, length, Some, None, refl, sym, ap, subst, ◌∙◌, append_assoc, arith}
 use Rattle.std.specs.Prelude.{◌||◌, drop}
 use Rattle.std.proofs.lemmas.List.{drop_all}
@@ -36,7 +36,7 @@ use Rattle.sv_laws.proofs.Alone.Quiet.{Same, same_start, quiet_same, earlier_log
 
 -- ---- a Turn
 
--- A Turn that isn't refused, behind a log of this history: what settles from its own acts.
+-- After the log `start` a Turn comes that isn't refused: its own acts lead to `log`, once all steps that are due then were done.
 pub record Turns (c : ℕ) (config : Config) (start log : List Act) : Type 0 where
   pub polled : ℕ
   pub said : IsPolled polled (device_acts start)
@@ -60,7 +60,7 @@ answerable_free acts held unended = rw (held, unended) (or_true (is_something (r
     or_true true = refl
     or_true false = refl
 
--- the acts of a connection behind a reply
+-- the acts of a connection after a call, an act of the instrument, and the reply
 pub told : (c : ℕ) (act : InstrumentAct) (call reply : List ℕ) (log : List Act)
     → of c (On c (Replied reply) ∷ OnDevice (Applied act) ∷ On c (CallTaken call) ∷ log) ≡ Replied reply ∷ CallTaken call ∷ of c log
 told c act call reply log = of_mine c (Replied reply) (OnDevice (Applied act) ∷ On c (CallTaken call) ∷ log)
@@ -219,7 +219,7 @@ module _ (c lid : ℕ) (asked : Question) (sent answer : List ℕ) (most : ℕ) 
   read_told : of c log ≡ Replied reply ∷ CallTaken asks.reads.call.bytes ∷ of c before
   read_told = ap (of c) read_is ∙ told c (Exchanged (ResponseRead (length bytes))) asks.reads.call.bytes reply before
 
-  -- ---- behind it
+  -- ---- after the read
 
   new_is : instrument_acts (device_acts log) ≡ last
   new_is = ap (λ (l : List Act). instrument_acts (device_acts l)) read_is
@@ -247,7 +247,7 @@ module _ (c lid : ℕ) (asked : Question) (sent answer : List ℕ) (most : ℕ) 
     });
   }
 
-  -- what the two Turns add on the connection
+  -- The two Turns add exactly the two replies to what is sent on the connection.
   pub both_told : all_replies (of c log)
       ≡ all_replies (of c start) ++ (write_reply asks.writes.call.xid sent ++ read_reply asks.reads.call.xid answer most
       (term_of asks.reads.flags asks.reads.term_char))
@@ -257,7 +257,7 @@ module _ (c lid : ℕ) (asked : Question) (sent answer : List ℕ) (most : ℕ) 
       ∙ ap (λ (l : List ConnAct). all_replies l ++ read) written_told
       ∙ append_assoc (all_replies (of c start)) (write_reply asks.writes.call.xid sent) read
 
-  -- no error was reported
+  -- From before the write to after the read, no error was reported.
   pub no_error : reported (instrument_acts (device_acts log)) ≡ reported base
   no_error = ap reported new_is ∙ same.codes ∙ ap reported last_is ∙ responding.codes
 

@@ -1,7 +1,6 @@
 -- A write of one command leaves message exchange at rest, and reports no query error.
 use Rattle.std.proofs.Common.{◌≡◌, ℕ, zero, suc, ◌≤◌, Bool, true, false, cond, List, [], ◌∷◌, ◌++◌, length, Option, Some, None, Ok, refl, sym, ap, subst, ◌∙◌, inl, inr, arith}
-use Rattle.std.specs.Prelude.{map, replicate, pos, not, ◌==◌}
-use Rattle.std.proofs.lemmas.Bool.{cases_Bool}
+use Rattle.std.specs.Prelude.{map, replicate, pos, not}
 use Rattle.sv_errors.specs.declared.code.Code.{Code}
 use Rattle.sv_errors.specs.declared.code.Code.TheVariants.{DataOutOfRange, SettingsConflict, TriggerIgnored, InitIgnored}
 use Rattle.sv_errors.specs.declared.source.Source.TheVariants.{Immediate, Bus}
@@ -45,7 +44,7 @@ use Rattle.sv_laws.proofs.Alone.Texts.{Left, text_comes, first_short, unit_due, 
 use Rattle.sv_laws.proofs.Alone.Steps.{happened, step_next, finish_step}
 use Rattle.sv_laws.proofs.Alone.Written.{accepted, at_root}
 use Rattle.sv_laws.proofs.Alone.Turns.{IsFree, turn_writes}
-use Rattle.sv_laws.proofs.Alone.Quiet.{at_rest_now}
+use Rattle.sv_laws.proofs.Alone.Quiet.{left_able, at_rest_now}
 use Rattle.sv_laws.proofs.Alone.Unbegun.{rests}
 use Rattle.sv_laws.proofs.Alone.Asked.{Turns, turns, answerable_free}
 use Rattle.sv_laws.proofs.Alone.Phases.{inside}
@@ -53,11 +52,11 @@ use Rattle.sv_laws.proofs.Alone.Moves.{happened_one, finishes, rests_now}
 
 -- ---- the unit
 
--- The unit is done: none is held, and no query error was reported.
+-- From the first log to the second one, a unit was done. No unit is held, and no query error was reported.
 abbrev IsDone : List InstrumentAct → List InstrumentAct → Type 0
 IsDone log new = (exchange_acts new ≡ UnitDone ∷ exchange_acts log) × (held_unit new ≡ None) × (query_errors new ≡ query_errors log)
 
--- Acts that perform the order.
+-- These acts perform the order, and the unit is done.
 abbrev Performed : Order → List InstrumentAct → Type 0
 Performed command log = (adds : List InstrumentAct) × Performs command log (adds ++ log) × IsDone log (adds ++ log)
 
@@ -118,7 +117,7 @@ performed _ log is = absurd cc
 
 -- ---- the phases
 
--- No suspended call can resume, whatever message exchange does.
+-- No suspended call can resume, whether or not the device accepts a write or answers a read.
 abbrev Nobody : List LinkAct → List WaitAct → Type 0
 Nobody links calls = (d : ℕ) (writes reads : Bool) → IsAble (holder links) writes reads calls d → ⊥
 
@@ -127,7 +126,7 @@ module _ (config : Config) (lines : ℕ) (message unit : List ℕ) (links : List
   abbrev parts : List (List ℕ)
   parts = message ∷ [] ∷ replicate lines []
 
-  -- The unit is done; then its message is finished, and after it the empty ones.
+  -- First the unit is done. Then its message is finished, and after it the empty messages of the new lines that follow.
   data State (log : List Act) : Type 0 where
     Did : (acts : List ExchangeAct) → exchange_acts (inside log) ≡ UnitDone ∷ acts → Left parts acts → response acts ≡ [] → State log
     Ended : (k : ℕ) → Left ([] ∷ replicate k []) (exchange_acts (inside log)) → response (exchange_acts (inside log)) ≡ [] → State log
@@ -140,10 +139,7 @@ module _ (config : Config) (lines : ℕ) (message unit : List ℕ) (links : List
     codes : query_errors (inside log) ≡ errors
 
   left_nobody : (d : ℕ) (calls : List WaitAct) → Nobody links calls → Nobody links (LeftCall d ∷ calls)
-  left_nobody d calls nobody e writes reads able = elim (cases_Bool (d == e)) [
-    | inl same ↦ absurd (let z : false ≡ true = rw same at able in cc)
-    | inr same ↦ nobody e writes reads (rw same at able)
-  ]
+  left_nobody d calls nobody e writes reads able = nobody e writes reads (left_able (holder links) writes reads d e calls able)
 
   state_moved : (log new : List Act) → exchange_acts (inside new) ≡ exchange_acts (inside log) → State log → State new
   state_moved log new same (Did acts is left none) = Did acts (same ∙ is) left none
@@ -206,7 +202,7 @@ module _ (config : Config) (lines : ℕ) (message unit : List ℕ) (links : List
   next_phase log new p (inr (none, inr (still, inr (idle, (d, wait, oldest, for, is))))) =
       subst Phase (sym is) (failed_phase (late wait) d (core_call_in (pending_call (of d log))) log p)
 
-  -- where nothing is due
+  -- If nothing is due any more, message exchange is at rest.
   rests_at_end : (log : List Act) → Rested config log → Phase log → State log → IsAtRest (exchange_acts (inside log))
   rests_at_end log rest p (Did acts is left none) = absurd (rest.steps (OnDevice (Applied (Exchanged Finished)) ∷ log) (
     Exchanged Finished ∷ [],

@@ -1,4 +1,4 @@
--- Messages that are one query: what the law asks of a message holds of them.
+-- Two messages that are one query each, and message exchange at power on: so the premises of the law can be met.
 use Rattle.std.proofs.Common.{◌≡◌, true, false, [], ◌∷◌, Some, refl, inl, inr, arith}
 use Rattle.std.specs.Prelude.{codes}
 use Rattle.sv_header.specs.declared.command.Question.TheVariants as question
@@ -9,7 +9,7 @@ use Rattle.sv_layers.specs.declared.change.Awaited.TheVariants.{Readings}
 use Rattle.sv_instrument.specs.declared.command.order.Order.TheVariants as order
 use Rattle.sv_laws.specs.QueryAlone.{IsQuery, IsAtRest, holds}
 
--- with the line end that many drivers send
+-- the query that drivers send first, with the line end that many of them send
 pub asks_identification : IsQuery (order.Ask question.Identification) (codes "*IDN?\r\n")
 asks_identification = record {
   message = codes "*IDN?\r";
@@ -34,7 +34,7 @@ asks_identification = record {
   );
 }
 
--- in small letters and without a line end
+-- a query in small letters, with a space before it, and with a semicolon in place of a line end
 pub asks_error : IsQuery (order.Ask question.Error) (codes " :syst:error?;")
 asks_error = record {
   message = codes " :syst:error?;";
@@ -81,6 +81,6 @@ reads_measurement = record {
 read_holds : holds (order.Do action.Read) ≡ Some Readings
 read_holds = refl
 
--- at power on
+-- Message exchange is at rest at power on.
 at_power_on : IsAtRest []
 at_power_on = record { text_left = refl; none_left = refl }

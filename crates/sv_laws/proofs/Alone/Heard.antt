@@ -1,4 +1,4 @@
--- Events that take no call send nothing on a connection that has no suspended call, where nothing is due.
+-- While nothing is due, quiet events send nothing on a connection that has no suspended call.
 use Rattle.std.proofs.Common.{◌≡◌, ◌≢◌, ℕ, List, [], ◌∷◌, ◌++◌, Option, Some, None, refl, sym, ap, subst, ◌∙◌, inl, inr}
 use Rattle.std.specs.Prelude.{map, ◌==◌}
 use Rattle.std.specs.List.{AllByRecursion}
@@ -31,11 +31,11 @@ use Rattle.sv_laws.proofs.OneLog.{one_log}
 use Rattle.sv_laws.proofs.EveryLog.EachEvent.{each_settled}
 use Rattle.sv_laws.proofs.Alone.Quiet.{Same, able_is, step_same, event_same}
 
--- No call of the connection is suspended, and these are all replies on it.
+-- No call of the connection is suspended, and these bytes are all replies that were sent on it.
 abbrev pub Heard : ℕ → List ℕ → List Act → Type 0
 Heard c replies log = (waits c (wait_acts (device_acts log)) ≡ None) × (all_replies (of c log) ≡ replies)
 
--- whether an act of a connection is no reply
+-- An act of a connection that is no reply.
 abbrev IsSilent : ConnAct → Type 0
 IsSilent act = (acts : List ConnAct) → all_replies (act ∷ acts) ≡ all_replies acts
 

@@ -1,4 +1,4 @@
--- A query that waits for the end of the measurement is answered then.
+-- A query that waits for the end of the measurement is answered as soon as no measurement is under way.
 use Rattle.std.proofs.Common.{◌≡◌, ℕ, zero, suc, ◌+◌, ◌≤◌, Bool, true, false, List, [], ◌∷◌, ◌++◌, length, Option, Some, None, Ok, refl, sym, ap, subst, ◌∙◌, inl, inr, append_assoc, arith, eq-eqb}
 use Rattle.std.specs.Prelude.{map, replicate, pos, not, codes, drop}
 use Rattle.std.proofs.lemmas.Bool.{ne_eqb}
@@ -54,33 +54,41 @@ use Rattle.sv_laws.proofs.Alone.Turns.{IsFree, is_own, turn_of, turn_writes, tur
 use Rattle.sv_laws.proofs.Alone.Quiet.{earlier_log, at_rest_now}
 use Rattle.sv_laws.proofs.Alone.Unbegun.{rests}
 use Rattle.sv_laws.proofs.Alone.Asked.{Turns, turns, answerable_free, told}
-use Rattle.sv_laws.proofs.Alone.Phases.{Status, At, Mine, Others, ending_more, inside}
+use Rattle.sv_laws.proofs.Alone.Phases.{Status, At, Mine, Others, Initiated, ending_more, inside}
 use Rattle.sv_laws.proofs.Alone.Moves.{never_answered, Holds, Gone, Live, Phase, escaped_more, step_phase, quiet_phase, Settled, StillHolds, StillShows, IsGone, settled_is}
 
 -- ---- the unit begins
 
--- what it does to the scanner
+-- The query's unit is held after these acts of the scanner. If the unit answers with readings, the newest of them initiates a measurement.
 begins : (query : Order) (what : Awaited) (acts : List InstrumentAct) → holds query ≡ Some what → hold_fault query acts ≡ None
     → (scans : List ScanAct) × Performs query acts (Held what ∷ map Scanned scans ++ acts)
+    × (what ≡ awaited.Readings → (older : List ScanAct) × (scans ≡ scan.Init ∷ older))
 begins (order.Do action.Read) what acts is none =
     let same : awaited.Readings ≡ what = cc in
     let so : Held awaited.Readings ∷ Scanned scan.Init ∷ Scanned scan.Abort ∷ acts
     ≡ unless (hold_fault (order.Do action.Read) acts) (Held awaited.Readings ∷ Scanned scan.Init ∷ Scanned scan.Abort ∷ acts) acts =
-    ap (λ (f : Option Code). unless f (Held awaited.Readings ∷ Scanned scan.Init ∷ Scanned scan.Abort ∷ acts) acts) (sym none) in
-    (scan.Init ∷ scan.Abort ∷ [], ap (λ (w : Awaited). Held w ∷ Scanned scan.Init ∷ Scanned scan.Abort ∷ acts) (sym same) ∙ so)
+    ap (λ (f : Option Code). unless f (Held awaited.Readings ∷ Scanned scan.Init ∷ Scanned scan.Abort ∷ acts) acts) (sym none) in (
+      scan.Init ∷ scan.Abort ∷ [],
+      ap (λ (w : Awaited). Held w ∷ Scanned scan.Init ∷ Scanned scan.Abort ∷ acts) (sym same) ∙ so,
+      (λ reads. (scan.Abort ∷ [], refl)),
+    )
 begins (order.Do action.WaitAndTell) what acts is none =
-    let same : awaited.One ≡ what = cc in ([], ap (λ (w : Awaited). Held w ∷ acts) (sym same))
+    let same : awaited.One ≡ what = cc in (
+      [],
+      ap (λ (w : Awaited). Held w ∷ acts) (sym same),
+      (λ reads. absurd (let other : awaited.One ≡ awaited.Readings = same ∙ reads in cc)),
+    )
 begins (order.Do _) what acts is none = absurd cc
 begins (order.Measure None) what acts is none =
     let same : awaited.Readings ≡ what = cc in
     let scans : List ScanAct = scan.Init ∷ scan.Configure (setting.Count 1) ∷ scan.Configure (setting.Source Immediate)
     ∷ scan.Configure (setting.Range (pos 10000000)) ∷ scan.Abort ∷ [] in
-    (scans, ap (λ (w : Awaited). Held w ∷ map Scanned scans ++ acts) (sym same))
+    (scans, ap (λ (w : Awaited). Held w ∷ map Scanned scans ++ acts) (sym same), (λ reads. (drop 1 scans, refl)))
 begins (order.Measure (Some list)) what acts is none =
     let same : awaited.Readings ≡ what = cc in
     let scans : List ScanAct = scan.Init ∷ scan.Configure (setting.List list) ∷ scan.Configure (setting.Count 1)
     ∷ scan.Configure (setting.Source Immediate) ∷ scan.Configure (setting.Range (pos 10000000)) ∷ scan.Abort ∷ [] in
-    (scans, ap (λ (w : Awaited). Held w ∷ map Scanned scans ++ acts) (sym same))
+    (scans, ap (λ (w : Awaited). Held w ∷ map Scanned scans ++ acts) (sym same), (λ reads. (drop 1 scans, refl)))
 begins _ what acts is none = absurd cc
 
 scanned_exchange : (scans : List ScanAct) (acts : List InstrumentAct) → exchange_acts (map Scanned scans ++ acts) ≡ exchange_acts acts
@@ -91,7 +99,7 @@ scanned_codes : (scans : List ScanAct) (acts : List InstrumentAct) → reported 
 scanned_codes [] acts = refl
 scanned_codes (act ∷ scans) acts = scanned_codes scans acts
 
--- what it answers when it ends
+-- When a held unit ends, it answers so.
 releases_so : (query : Order) (what : Awaited) → holds query ≡ Some what → (acts : List InstrumentAct)
     → after_release what acts ≡ after_answering (held_answer what acts) (done acts)
 releases_so query awaited.One is acts = refl
@@ -191,6 +199,7 @@ module _ (c lid : ℕ) (query : Order) (what : Awaited) (sent : List ℕ) (most 
   left_now = text_comes sent ([] ∷ replicate lines []) message (exchange_acts base) at_rest.0 asks.writes.query_sent.cut
 
   begun : (scans : List ScanAct) × Performs query now (Held what ∷ map Scanned scans ++ now)
+      × (what ≡ awaited.Readings → (older : List ScanAct) × (scans ≡ scan.Init ∷ older))
   begun = begins query what now asks.waits (can query asks.can)
     where
       can : (query : Order) → hold_fault query base ≡ None → hold_fault query now ≡ None
@@ -200,6 +209,14 @@ module _ (c lid : ℕ) (query : Order) (what : Awaited) (sent : List ℕ) (most 
 
   abbrev adds : List InstrumentAct
   adds = Held what ∷ map Scanned begun.0
+
+  initiates : Initiated what (adds ++ Exchanged (Accepted sent true) ∷ [])
+  initiates reads =
+      let (older, is) = begun.2 reads in (
+        Held what ∷ [],
+        map Scanned older ++ Exchanged (Accepted sent true) ∷ [],
+        ap (λ (s : List ScanAct). Held what ∷ (map Scanned s ++ Exchanged (Accepted sent true) ∷ [])) is,
+      )
 
   unit_step : IsStep now (adds ++ now)
   unit_step = step_of now (adds ++ now) None (UnitDue asks.writes.query_sent.unit) (sym at_rest.1)
@@ -236,8 +253,11 @@ module _ (c lid : ℕ) (query : Order) (what : Awaited) (sent : List ℕ) (most 
   phase_held : IsPhase false held_now
   phase_held = inl (record {
     state = Holds (subst (Left (message ∷ [] ∷ replicate lines [])) (sym exchange_is) left_now) (ap held_unit inside_is)
-        (ap response exchange_is ∙ rest.none_left)
-        (adds ++ Exchanged (Accepted sent true) ∷ [], inside_is ∙ sym (append_assoc adds (Exchanged (Accepted sent true) ∷ []) base)) (
+        (ap response exchange_is ∙ rest.none_left) (
+          adds ++ Exchanged (Accepted sent true) ∷ [],
+          inside_is ∙ sym (append_assoc adds (Exchanged (Accepted sent true) ∷ []) base),
+          initiates,
+        ) (
           ap (waits c) calls_are ∙ idle_free c start asks.writes.call.bytes (fit_log config past start asks.writes.was)
               asks.writes.call.next,
           ap all_replies (of_shared c (map Applied adds) wrote_now
@@ -312,7 +332,7 @@ module _ (c lid : ℕ) (query : Order) (what : Awaited) (sent : List ℕ) (most 
 
   suspended : IsLive false before → Left (message ∷ [] ∷ replicate lines []) (exchange_acts (inside before))
       → held_unit (inside before) ≡ Some what → response (exchange_acts (inside before)) ≡ []
-      → (newer : List InstrumentAct) × (inside before ≡ newer ++ base) → My (At false) before
+      → (newer : List InstrumentAct) × (inside before ≡ newer ++ base) × Initiated what newer → My (At false) before
       → IsPhase true (own_acts config second.polled (Turn c) before ++ before)
   suspended v left held none since mine =
       let no = never_answered before none (ended_is message [] (replicate lines []) (exchange_acts (inside before)) left) in

@@ -1,4 +1,4 @@
--- What each step makes of the phases of a query that waits for the end of the measurement.
+-- A query that waits for the end of the measurement: its phases, and what each step and each quiet event makes of them.
 use Rattle.std.proofs.Common.{append_assoc, ◌≡◌, ◌≢◌, ℕ, zero, suc, ◌+◌, ◌≤◌, Bool, true, false, List, [], ◌∷◌, ◌++◌, length, Option, Some, None, refl, sym, ap, subst, ◌∙◌, inl, inr, ◌⊎◌, arith, eq-eqb}
 use Rattle.std.specs.Prelude.{map, replicate, pos, not, ◌&&◌}
 use Rattle.std.proofs.lemmas.Bool.{cases_eq}
@@ -49,7 +49,7 @@ use Rattle.sv_laws.specs.QueryAlone.{OneRead, UnitEnd, reported, held_answer, Is
 use Rattle.sv_laws.proofs.EveryLog.Steps.{Rested, next_extends}
 use Rattle.sv_laws.proofs.Alone.Texts.{Left, Over, answered, ended_is, fits_alone, finish_due, finished_one, empty_due, finished_empty, over_rests, nothing_due, over_parts, left_due, left_finished, none_finished}
 use Rattle.sv_laws.proofs.Alone.Turns.{whole, reads_whole}
-use Rattle.sv_laws.proofs.Alone.Phases.{Status, At, Told, Mine, Others, ending_more, one_read_or, inside, Alike, alike_scanned, alike_ticked, alike_channel, alike_piece, alike_taken, alike_other, alike_failed, left_able}
+use Rattle.sv_laws.proofs.Alone.Phases.{Status, At, Told, Mine, Others, Initiated, initiated_more, ending_more, one_read_or, inside, Alike, alike_scanned, alike_ticked, alike_channel, alike_piece, alike_taken, alike_other, alike_failed, others_left}
 
 -- ---- more acts
 
@@ -90,7 +90,7 @@ answers_if : (answer : List ℕ) (acts : List InstrumentAct) → fits_response (
     → after_answering answer (done acts) ≡ Exchanged (Answered answer) ∷ Exchanged UnitDone ∷ acts
 answers_if answer acts fits = rw fits refl
 
--- no read is answered while text is left and there is no response
+-- While the message hasn't been executed to its end and there is no response, no read can be answered.
 pub never_answered : (log : List Act) → response (exchange_acts (inside log)) ≡ [] → has_ended (exchange_acts (inside log)) ≡ true
     → is_answerable (inside log) ≡ false
 never_answered log none ended = rw (none, ended) (and_false _)
@@ -118,11 +118,13 @@ module _ (config : Config) (c lid xid most io_timeout lock_timeout flags term_ch
   abbrev pub My : Status → List Act → Type 0
   My s log = Mine c limit call replies s (of c log) (wait_acts (device_acts log))
 
-  -- These acts came after those before the write.
+  -- The instrument's log before the write is a part of this log. For a unit that answers with readings, a measurement was initiated after
+  -- it.
   abbrev pub Since : List InstrumentAct → Type 0
-  Since acts = (newer : List InstrumentAct) × (acts ≡ newer ++ base)
+  Since acts = (newer : List InstrumentAct) × (acts ≡ newer ++ base) × Initiated what newer
 
-  -- The unit is held; it was answered; its message is finished; and the response was read.
+  -- `Holds`: the unit is held. `Gave`: it gave its answer. `Shows`: its message is finished, and the response can be read. `Gone`: the
+  -- response was read.
   pub data State (taken : Bool) (log : List Act) : Type 0 where
     Holds : Left parts (exchange_acts (inside log)) → held_unit (inside log) ≡ Some what → response (exchange_acts (inside log)) ≡ []
         → Since (inside log) → My (At taken) log → State taken log
@@ -137,13 +139,15 @@ module _ (config : Config) (c lid xid most io_timeout lock_timeout flags term_ch
         → Left ([] ∷ replicate k []) (exchange_acts (inside log)) → response (exchange_acts (inside log)) ≡ []
         → held_unit (inside log) ≡ None → My (Told (reply_of (answer_of (inside log) e))) log → State taken log
 
+  -- The query is in one of these states. Since the write, nothing happened to the links, no error was reported, and no suspended call of
+  -- another connection can resume.
   pub record Live (taken : Bool) (log : List Act) : Type 0 where
     pub state : State taken log
     pub linked : link_acts (device_acts log) ≡ links
     pub others : Others c links (wait_acts (device_acts log))
     pub codes : reported (inside log) ≡ errors
 
-  -- The read's deadline came, or the answer is too long for one read.
+  -- The law says nothing of this case: the read's deadline came, or the answer is too long for one read.
   abbrev pub Escaped : List Act → Type 0
   Escaped log = (limit ≤ config.clock + ticks (device_acts log))
       ⊎ ((e : UnitEnd what base (inside log)) × (OneRead (term_of flags term_char) most (held_answer what e.done) → ⊥))
@@ -167,6 +171,7 @@ module _ (config : Config) (c lid xid most io_timeout lock_timeout flags term_ch
         a.adds ++ since.0,
         a.is ∙ ap (λ (l : List InstrumentAct). a.adds ++ l) since.1
             ∙ sym (append_assoc a.adds since.0 base),
+        initiated_more what a.adds since.0 since.2,
       ) (a.mine (At taken) mine)
   state_alike taken log new a (Gave e fits acts is left none held mine) =
       Gave (ending_more what base a.adds (inside log) (inside new) a.is e) fits acts (a.exchange ∙ is) left none (a.held ∙ held)
@@ -209,6 +214,7 @@ module _ (config : Config) (c lid xid most io_timeout lock_timeout flags term_ch
                 more = both;
                 within = refl;
                 since = since.1;
+                began = since.2;
                 held = held;
                 idle =
                     out.0;
@@ -228,6 +234,7 @@ module _ (config : Config) (c lid xid most io_timeout lock_timeout flags term_ch
                 more = adds;
                 within = now;
                 since = since.1;
+                began = since.2;
                 held = held;
                 idle = out.0;
               },
@@ -300,7 +307,7 @@ module _ (config : Config) (c lid xid most io_timeout lock_timeout flags term_ch
       (subst (λ (l : List LinkAct). IsAble (holder l) (not (has_ended (exchange_acts (inside log)))) (is_answerable (inside log))
       (wait_acts (device_acts log)) d) linked able)
 
-  -- if the connection's call can resume, it is the read, and the read can be answered
+  -- If a suspended call of the connection can resume, it is the read, and the read can be answered.
   able_reads : (taken : Bool) (log : List Act) → My (At taken) log → CanResume (device_acts log) c
       → (taken ≡ true) × (is_answerable (inside log) ≡ true)
   able_reads false log m able = absurd (let z : false ≡ true = rw m.0 at able in cc)
@@ -320,10 +327,6 @@ module _ (config : Config) (c lid xid most io_timeout lock_timeout flags term_ch
       ∙ ap (λ (o : Option CoreCall). acts_of c (resume_effect config polled c ForResponse o acts) ++ log) is_call
       ∙ ap (λ (o : CallOutcome). acts_of c (call_effect xid (leaving c o)) ++ log)
       (reads_whole answer most (term_of flags term_char) (Waited (LeftCall c) ∷ acts) shows fits)
-
-  others_left : (log : List Act) → Others c links (wait_acts (device_acts log)) → Others c links (LeftCall c ∷ wait_acts (device_acts log))
-  others_left log others d ne writes reads able =
-      others d ne writes reads (left_able c limit call replies links c d writes reads (wait_acts (device_acts log)) able)
 
   read_state : (k : ℕ) (log : List Act) (e : UnitEnd what base (inside log))
       → OneRead (term_of flags term_char) most (held_answer what e.done)
@@ -361,7 +364,7 @@ module _ (config : Config) (c lid xid most io_timeout lock_timeout flags term_ch
       subst (Phase true) (sym there) (inl (record {
         state = read_state k log e fits over held mine.3;
         linked = linked;
-        others = others_left log others;
+        others = others_left c limit call replies links c (wait_acts (device_acts log)) others;
         codes = codes;
       }))
 
@@ -461,14 +464,14 @@ module _ (config : Config) (c lid xid most io_timeout lock_timeout flags term_ch
       each_settled config (Phase taken) (step_phase taken) settles.0 (own_acts config polled event before ++ before) log
       (event_phase taken polled event before quiet.0 (quiet_phase taken past events was before is_was phase quiet.1 is_before)) settles.1
 
-  -- ---- where nothing is due
+  -- ---- when no step is possible any more
 
-  -- a message that is to be finished
+  -- If no step is possible any more, no message is to be finished.
   pub unfinished : (log : List Act) → Rested config log → held_unit (inside log) ≡ None → due (exchange_acts (inside log)) ≡ FinishDue → ⊥
   unfinished log rest held finish = rest.steps (OnDevice (Applied (Exchanged Finished)) ∷ log)
       (Exchanged Finished ∷ [], finish_step (inside log) held finish, refl)
 
-  -- the unit is held, or the response can be read, or it was read
+  -- If no step is possible any more, the unit is held, or the response can be read, or it was read.
   pub data Settled (taken : Bool) (log : List Act) : Type 0 where
     StillHolds : Left parts (exchange_acts (inside log)) → held_unit (inside log) ≡ Some what → response (exchange_acts (inside log)) ≡ []
         → Since (inside log) → My (At taken) log → Settled taken log

@@ -1,4 +1,4 @@
--- A query that waits for the end of the measurement: the phases in which it is, and what each step makes of them.
+-- A query that waits for the end of the measurement: what is known of its connection and of the other ones, and which events leave it.
 use Rattle.std.proofs.Common.{◌≡◌, ◌≢◌, ℕ, Bool, true, false, List, [], ◌∷◌, ◌++◌, length, Option, Some, None, refl, sym, ap, subst, ◌∙◌, inl, inr, ◌⊎◌, append_assoc, arith}
 use Rattle.std.specs.Prelude.{◌==◌}
 use Rattle.std.specs.List.{AllByRecursion}
@@ -9,8 +9,10 @@ use Rattle.sv_links.specs.Links.{LinkAct, holder}
 use Rattle.sv_links.specs.Waiting.{WaitAct, Left as LeftCall, waits, deadline, IsAble}
 use Rattle.sv_links.specs.Channels.{ChannelAct}
 use Rattle.sv_scan.specs.declared.acts.ScanAct.{ScanAct}
+use Rattle.sv_scan.specs.declared.acts.ScanAct.TheVariants.{Init}
 use Rattle.sv_exchange.specs.Limits.{max_read}
 use Rattle.sv_layers.specs.declared.change.Awaited.{Awaited}
+use Rattle.sv_layers.specs.declared.change.Awaited.TheVariants.{Readings}
 use Rattle.sv_layers.specs.Act.{Act as InstrumentAct, Scanned, exchange_acts}
 use Rattle.sv_instrument.specs.HeldUnit.{held_unit}
 use Rattle.sv_history.specs.Act.{Act, ConnAct, Piece, BytesTaken, Channel, Applied, Ticked, On, OnDevice, of, device_acts, link_acts, wait_acts, instrument_acts}
@@ -22,26 +24,38 @@ use Rattle.sv_history.specs.Resuming.{failure_effect}
 use Rattle.sv_history.proofs.Projections.{others_effect}
 use Rattle.sv_laws.specs.Adding.{all_replies}
 use Rattle.sv_laws.specs.QueryAlone.{reported, EndsAt, OneRead, UnitEnd}
+use Rattle.sv_laws.proofs.Alone.Quiet.{left_able}
 
 -- ---- the connection
 
--- whether the read was taken; or the reply to it
+-- the status of the read: whether it was taken; or, once it was answered, the reply
 pub data Status : Type 0 where
   At : (taken : Bool) → Status
   Told : (reply : List ℕ) → Status
 
--- Before the read no call of the connection is suspended; then the read waits for the response; then it was answered.
+-- Before the read is taken, no call of the connection is suspended. After that, the read waits for the response. After the reply, again no
+-- call is suspended.
 abbrev pub Mine : (c limit : ℕ) → CoreCall → List ℕ → Status → List ConnAct → List WaitAct → Type 0
 Mine c limit call replies (At false) own calls = (waits c calls ≡ None) × (all_replies own ≡ replies)
 Mine c limit call replies (At true) own calls = (waits c calls ≡ Some ForResponse) × (deadline c calls ≡ Some limit)
     × (core_call_in (pending_call own) ≡ Some call) × (all_replies own ≡ replies)
 Mine c limit call replies (Told reply) own calls = (waits c calls ≡ None) × (all_replies own ≡ replies ++ reply)
 
--- No call of another connection can resume, whatever message exchange does.
+-- No suspended call of another connection can resume, whether or not the device accepts a write or answers a read.
 abbrev pub Others : ℕ → List LinkAct → List WaitAct → Type 0
 Others c links calls = (d : ℕ) → d ≢ c → (writes reads : Bool) → IsAble (holder links) writes reads calls d → ⊥
 
--- a later log
+-- For a unit that answers with readings, a measurement was initiated among these acts.
+abbrev pub Initiated : Awaited → List InstrumentAct → Type 0
+Initiated what newer = what ≡ Readings → (later earlier : List InstrumentAct) × (newer ≡ later ++ Scanned Init ∷ earlier)
+
+-- This stays so with more acts.
+pub initiated_more : (what : Awaited) (adds newer : List InstrumentAct) → Initiated what newer → Initiated what (adds ++ newer)
+initiated_more what adds newer initiated reads =
+    let (later, earlier, is) = initiated reads in
+    (adds ++ later, earlier, ap (λ (l : List InstrumentAct). adds ++ l) is ∙ sym (append_assoc adds later (Scanned Init ∷ earlier)))
+
+-- The end of the unit in one log is its end in each later log too.
 abbrev pub ending_more : (what : Awaited) (base adds acts new : List InstrumentAct) → new ≡ adds ++ acts → UnitEnd what base acts
     → UnitEnd what base new
 ending_more what base adds acts new is e = record {
@@ -50,6 +64,7 @@ ending_more what base adds acts new is e = record {
   more = adds ++ e.more;
   within = is ∙ ap (λ (l : List InstrumentAct). adds ++ l) e.within ∙ sym (append_assoc adds e.more e.done);
   since = e.since;
+  began = e.began;
   held = e.held;
   idle = e.idle;
 }
@@ -68,7 +83,7 @@ ends_or (Some term) answer = elim (cases_eq term 10) [
   | inr other ↦ inr (λ ends. other ends.0)
 ]
 
--- whether one read can return an answer
+-- One read can return the answer, or it can't.
 pub one_read_or : (term : Option ℕ) (most : ℕ) (answer : List ℕ) → OneRead term most answer ⊎ (OneRead term most answer → ⊥)
 one_read_or term most answer = elim (cases_lt (length answer) most) [
   | inl one ↦ elim (cases_lt (length answer) max_read) [
@@ -78,11 +93,13 @@ one_read_or term most answer = elim (cases_lt (length answer) most) [
   | inr past ↦ inr (λ fits. let far = fits.0 in omega (arith, far, past))
 ]
 
--- ---- logs that are alike but for the scanner
+-- ---- logs that differ only in what doesn't concern the query
 
 abbrev pub inside : List Act → List InstrumentAct
 inside log = instrument_acts (device_acts log)
 
+-- The new log differs from the log before only in acts that don't concern the query: it gives the same message exchange, held unit, errors
+-- and links, and what was known of the suspended calls still holds.
 pub record Alike (c limit : ℕ) (call : CoreCall) (replies : List ℕ) (links : List LinkAct) (log new : List Act) : Type 0 where
   pub adds : List InstrumentAct
   pub is : inside new ≡ adds ++ inside log
@@ -107,31 +124,28 @@ module _ (c limit : ℕ) (call : CoreCall) (replies : List ℕ) (links : List Li
     mine = λ s m. m;
   }
 
-  pub alike_ticked : (log : List Act) → Alike c limit call replies links log (OnDevice Ticked ∷ log)
-  alike_ticked log = record {
+  -- So it is if the new acts are neither the instrument's nor of a link.
+  alike_by : (log new : List Act) → inside new ≡ inside log → link_acts (device_acts new) ≡ link_acts (device_acts log)
+      → (Others c links (wait_acts (device_acts log)) → Others c links (wait_acts (device_acts new)))
+      → ((s : Status) → Mine c limit call replies s (of c log) (wait_acts (device_acts log))
+      → Mine c limit call replies s (of c new) (wait_acts (device_acts new)))
+      → Alike c limit call replies links log new
+  alike_by log new is linked others mine = record {
     adds = [];
-    is = refl;
-    exchange = refl;
-    held = refl;
-    codes = refl;
-    linked = refl;
-    others = λ o. o;
-    mine = λ s
-        m. m;
+    is = is;
+    exchange = ap exchange_acts is;
+    held = ap held_unit is;
+    codes = ap reported is;
+    linked = linked;
+    others = others;
+    mine = mine;
   }
 
+  pub alike_ticked : (log : List Act) → Alike c limit call replies links log (OnDevice Ticked ∷ log)
+  alike_ticked log = alike_by log (OnDevice Ticked ∷ log) refl refl (λ o. o) (λ s m. m)
+
   pub alike_channel : (act : ChannelAct) (log : List Act) → Alike c limit call replies links log (OnDevice (Channel act) ∷ log)
-  alike_channel act log = record {
-    adds = [];
-    is = refl;
-    exchange = refl;
-    held = refl;
-    codes = refl;
-    linked = refl;
-    others = λ o. o;
-    mine
-        = λ s m. m;
-  }
+  alike_channel act log = alike_by log (OnDevice (Channel act) ∷ log) refl refl (λ o. o) (λ s m. m)
 
   mine_piece : (bytes : List ℕ) (s : Status) (own : List ConnAct) (calls : List WaitAct) → Mine c limit call replies s own calls
       → Mine c limit call replies s (Piece bytes ∷ own) calls
@@ -157,16 +171,7 @@ module _ (c limit : ℕ) (call : CoreCall) (replies : List ℕ) (links : List Li
   alike_on : (d : ℕ) (act : ConnAct) (log : List Act) → (d ≡ c → (s : Status) (own : List ConnAct) (calls : List WaitAct)
       → Mine c limit call replies s own calls → Mine c limit call replies s (act ∷ own) calls)
       → Alike c limit call replies links log (On d act ∷ log)
-  alike_on d act log keeps = record {
-    adds = [];
-    is = refl;
-    exchange = refl;
-    held = refl;
-    codes = refl;
-    linked = refl;
-    others = λ o. o;
-    mine = on_mine d act log keeps;
-  }
+  alike_on d act log keeps = alike_by log (On d act ∷ log) refl refl (λ o. o) (on_mine d act log keeps)
 
   pub alike_piece : (d : ℕ) (bytes : List ℕ) (log : List Act) → Alike c limit call replies links log (On d (Piece bytes) ∷ log)
   alike_piece d bytes log = alike_on d (Piece bytes) log (λ e. mine_piece bytes)
@@ -177,13 +182,9 @@ module _ (c limit : ℕ) (call : CoreCall) (replies : List ℕ) (links : List Li
   pub alike_other : (d : ℕ) (act : ConnAct) (log : List Act) → d ≢ c → Alike c limit call replies links log (On d act ∷ log)
   alike_other d act log ne = alike_on d act log (λ e. absurd (ne e))
 
-  -- a call of another connection times out
-  pub left_able : (d e : ℕ) (writes reads : Bool) (calls : List WaitAct) → IsAble (holder links) writes reads (LeftCall d ∷ calls) e
-      → IsAble (holder links) writes reads calls e
-  left_able d e writes reads calls h = elim (cases_Bool (d == e)) [
-    | inl same ↦ absurd (let z : false ≡ true = rw same at h in cc)
-    | inr same ↦ rw same at h
-  ]
+  -- After a suspended call ends, still none of another connection can resume.
+  pub others_left : (d : ℕ) (calls : List WaitAct) → Others c links calls → Others c links (LeftCall d ∷ calls)
+  others_left d calls others e ne writes reads able = others e ne writes reads (left_able (holder links) writes reads d e calls able)
 
   mine_left : (d : ℕ) (s : Status) (own : List ConnAct) (calls : List WaitAct) → d ≢ c → Mine c limit call replies s own calls
       → Mine c limit call replies s own (LeftCall d ∷ calls)
@@ -191,31 +192,19 @@ module _ (c limit : ℕ) (call : CoreCall) (replies : List ℕ) (links : List Li
   mine_left d (At false) own calls ne m = (rw (ne_eqb d c ne) m.0, m.1)
   mine_left d (Told reply) own calls ne m = (rw (ne_eqb d c ne) m.0, m.1)
 
+  -- The call of another connection times out.
   pub alike_failed : (error : ErrorCode) (d : ℕ) (core : Option CoreCall) (log : List Act) → d ≢ c
       → Alike c limit call replies links log (acts_of d (failure_effect error d core) ++ log)
   alike_failed error d core log ne = by core (others_effect d c (failure_effect error d core) log (λ e. ne (sym e)))
     where
+      mine : (new : List Act) → of c new ≡ of c log → (s : Status) → Mine c limit call replies s (of c log) (wait_acts (device_acts log))
+          → Mine c limit call replies s (of c new) (LeftCall d ∷ wait_acts (device_acts log))
+      mine new same s m = subst (λ (l : List ConnAct). Mine c limit call replies s l (LeftCall d ∷ wait_acts (device_acts log))) (sym same)
+          (mine_left d s (of c log) (wait_acts (device_acts log)) ne m)
+
       by : (core : Option CoreCall) → of c (acts_of d (failure_effect error d core) ++ log) ≡ of c log
           → Alike c limit call replies links log (acts_of d (failure_effect error d core) ++ log)
-      by (Some found) same = record {
-        adds = [];
-        is = refl;
-        exchange = refl;
-        held = refl;
-        codes = refl;
-        linked = refl;
-        others = λ o e far writes reads able. o e far writes reads (left_able d e writes reads (wait_acts (device_acts log)) able);
-        mine = λ s m. subst (λ (l : List ConnAct). Mine c limit call replies s l (LeftCall d ∷ wait_acts (device_acts log))) (sym same)
-            (mine_left d s (of c log) (wait_acts (device_acts log)) ne m);
-      }
-      by None same = record {
-        adds = [];
-        is = refl;
-        exchange = refl;
-        held = refl;
-        codes = refl;
-        linked = refl;
-        others = λ o e far writes reads able. o e far writes reads (left_able d e writes reads (wait_acts (device_acts log)) able);
-        mine = λ s m. subst (λ (l : List ConnAct). Mine c limit call replies s l (LeftCall d ∷ wait_acts (device_acts log))) (sym same)
-            (mine_left d s (of c log) (wait_acts (device_acts log)) ne m);
-      }
+      by (Some found) same = alike_by log (acts_of d (failure_effect error d (Some found)) ++ log) refl refl
+          (others_left d (wait_acts (device_acts log))) (mine (acts_of d (failure_effect error d (Some found)) ++ log) same)
+      by None same = alike_by log (acts_of d (failure_effect error d None) ++ log) refl refl
+          (others_left d (wait_acts (device_acts log))) (mine (acts_of d (failure_effect error d None) ++ log) same)

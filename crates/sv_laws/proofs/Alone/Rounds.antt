@@ -1,4 +1,4 @@
--- Commands, and queries that are asked alone, one after the other, report no query error.
+-- Rounds of commands, and of queries whose response is read, report no query error.
 use Rattle.std.proofs.Common.{◌≡◌, ℕ, List, [], ◌∷◌, ◌++◌, refl, sym, ap, subst, ◌∙◌}
 use Rattle.std.specs.Prelude.{filter}
 use Rattle.sv_errors.specs.declared.code.Code.{Code}

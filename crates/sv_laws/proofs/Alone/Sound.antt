@@ -1,4 +1,5 @@
--- A message that hasn't ended hasn't begun: an act keeps that, and so does each step of the instrument.
+-- Before a message has ended, no unit of it is executed. Each act of a call or an event keeps this, and so does each step of the
+-- instrument.
 use Rattle.std.proofs.Common.{◌≡◌, ℕ, ◌+◌, ◌<◌, ◌≤◌, Bool, true, false, cond, List, [], ◌∷◌, ◌++◌, length, map, Option, Some, None, Result, Ok, Err, refl, sym, subst, ◌∙◌, inl, inr, ◌⊎◌, arith, lt-ltb}
 use Rattle.std.specs.Prelude.{not, codes, ⊤, ◌&&◌, ◌==◌}
 use Rattle.std.specs.List.{onto_first as onto}
@@ -61,26 +62,26 @@ still_long bytes ended acts e =
 abbrev pub IsEnded : List InstrumentAct → Type 0
 IsEnded acts = has_ended (exchange_acts acts) ≡ true
 
--- Nothing was done with the current message.
+-- No unit of the current message was done, and it has no answers.
 abbrev pub Fresh : List ExchangeAct → Type 0
 Fresh acts = (units_done acts ≡ 0) × (has_dropped acts ≡ false) × (all_answers acts ≡ [])
 
--- A message that is reported as too long is too long.
+-- If the current message was reported as too long, it is too long.
 abbrev pub IsLong : List InstrumentAct → Type 0
 IsLong acts = has_overrun (current (exchange_acts acts)) ≡ true → is_long (exchange_acts acts) ≡ true
 
--- The current message ended; or nothing was done with it, and no unit is held.
+-- The current message ended; or nothing of it was executed, and no unit is held.
 abbrev pub Sound : List InstrumentAct → Type 0
 Sound acts = (IsEnded acts ⊎ ((held_unit acts ≡ None) × Fresh (current (exchange_acts acts)))) × IsLong acts
 
--- It ended.
+-- The current message ended.
 abbrev Going : List InstrumentAct → Type 0
 Going acts = IsEnded acts × IsLong acts
 
 sound_going : (acts : List InstrumentAct) → Going acts → Sound acts
 sound_going acts g = (inl g.0, g.1)
 
--- An act that no step adds, or only a step that isn't one of message exchange.
+-- An act that can't begin, answer or finish a unit or a message: one of a call or an event, and not of a step of message exchange.
 abbrev pub IsTame : InstrumentAct → Type 0
 IsTame (Exchanged Overran) = ⊥
 IsTame (Exchanged UnitDone) = ⊥

@@ -1,4 +1,4 @@
--- The steps behind a write of one query: its unit is done and answered, and its message is finished.
+-- The steps after a write of one query: its unit is done and answered, and its message is finished.
 use Rattle.std.proofs.Common.{◌≡◌, ℕ, zero, suc, true, false, List, [], ◌∷◌, ◌++◌, None, refl, sym, ap, subst, ◌∙◌, inl, inr, arith}
 use Rattle.std.specs.Prelude.{map, ◌↔◌, ⊤}
 use Rattle.sv_logs.proofs.Since.{since_empty, since_over, then_same}
@@ -19,7 +19,7 @@ use Rattle.sv_laws.proofs.Alone.Texts.{Over, empty_due, finished_empty, over_res
 
 -- ---- standard events
 
--- The act reports no error, and is none of the standard events.
+-- The act reports no error, and neither sets nor clears a standard event.
 abbrev pub IsPlain : InstrumentAct → Type 0
 IsPlain (Exchanged act) = ⊤
 IsPlain EntryTaken = ⊤
@@ -59,7 +59,7 @@ kept_over EntryTaken log plain = tt
 kept_over (EventRead name) log plain = tt
 kept_over _ log plain = absurd plain
 
--- such an act leaves them
+-- Such an act leaves the standard events.
 pub stands_over : (k : ℕ) (act : InstrumentAct) (log : List InstrumentAct) → IsPlain act
     → standard.Stands k (act ∷ log) ↔ standard.Stands k log
 stands_over k act log plain = since_over (standard.Occurs k) standard.NotCleared act log (never_occurs k act log plain)
@@ -67,7 +67,7 @@ stands_over k act log plain = since_over (standard.Occurs k) standard.NotCleared
 
 -- ---- a step
 
--- The instrument's log is this, and besides the instrument's only the log of one connection changed since a log.
+-- These are all acts of the instrument. Since the log `base`, the links, the suspended calls, the clock and the scanner are the same.
 pub record Stage (base log : List Act) (acts : List InstrumentAct) : Type 0 where
   pub calm : Calm (device_acts log) (device_acts base)
   pub is : instrument_acts (device_acts log) ≡ acts
@@ -109,7 +109,7 @@ finish_step acts held finish = step_of acts (Exchanged Finished ∷ acts) None F
 
 -- ---- all that is left is finished
 
--- The log settles in one with this response, and with no more text. The standard events and the acts of the error queue are the same.
+-- The steps that are due lead to a log with this response, and with no more text. The standard events and the error queue are the same.
 pub record Ends (c : ℕ) (config : Config) (base log : List Act) (acts : List InstrumentAct) (bytes : List ℕ) : Type 0 where
   pub end : List Act
   pub last : List InstrumentAct

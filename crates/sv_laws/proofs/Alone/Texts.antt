@@ -1,9 +1,9 @@
--- What is due of message exchange while the text of one write with END is executed.
-use Rattle.std.proofs.Common.{◌≡◌, ℕ, zero, suc, ◌+◌, ◌-◌, ◌<◌, ◌≤◌, Bool, true, false, cond, List, [], ◌∷◌, ◌++◌, length, drop, Some, refl, sym, ap, ◌∙◌, arith, lt-ltb}
-use Rattle.std.specs.Prelude.{map, replicate, slice_index_or, nat_lt, ◌==◌}
+-- Which step of message exchange is due while the text of one write with END is executed.
+use Rattle.std.proofs.Common.{◌≡◌, ℕ, zero, suc, ◌+◌, ◌-◌, ◌<◌, ◌≤◌, Bool, true, false, cond, List, [], ◌∷◌, ◌++◌, length, drop, refl, sym, ap, ◌∙◌, arith, lt-ltb}
+use Rattle.std.specs.Prelude.{map, replicate, slice_get, slice_index_or, nat_lt, ◌==◌, ◌&&◌}
 use Rattle.std.proofs.lemmas.Bool.{le-ltb}
 use Rattle.std.proofs.lemmas.List.{length-drop}
-use Rattle.sv_exchange.specs.Exchange.{ExchangeAct, Accepted, UnitDone, Answered, Finished, Byte, End, text, messages, messages_finished, current, units_done, has_overrun, has_dropped, all_answers, answers, message, has_ended, is_long, units, next_unit, response, due, NothingDue, UnitDue, FinishDue, fits_response}
+use Rattle.sv_exchange.specs.Exchange.{ExchangeAct, Accepted, UnitDone, Answered, Finished, Byte, End, text, messages, messages_finished, current, units_done, has_overrun, has_dropped, all_answers, answers, message, has_ended, is_long, is_something, units, response, due, due_unit, NothingDue, UnitDue, FinishDue, fits_response}
 use Rattle.sv_exchange.specs.Limits.{max_message, max_response}
 use Rattle.std.specs.List.{onto_first as onto}
 use Rattle.sv_exchange.proofs.Cuts.{messages_some, messages-append}
@@ -60,7 +60,7 @@ first_short (b ∷ sent) part more e = at (b == 10) e (first_short sent)
 
 -- ---- the messages that are left
 
--- Behind these acts the messages that aren't finished are these, and nothing was done with the first.
+-- After these acts, these messages aren't finished yet. No unit of the first one was done, and it has no answers.
 pub record Left (parts : List (List ℕ)) (acts : List ExchangeAct) : Type 0 where
   pub left : drop (messages_finished acts) (messages (text acts)) ≡ parts
   pub done : units_done (current acts) ≡ 0
@@ -106,52 +106,40 @@ text_comes bytes parts part acts l cut = record {
   given = l.given;
 }
 
+-- What is due of a message that ended and isn't too long, while no answers were dropped.
+due_is : (part other : List ℕ) (more : List (List ℕ)) (acts : List ExchangeAct)
+    → drop (messages_finished acts) (messages (text acts)) ≡ part ∷ other ∷ more → length part ≤ max_message
+    → has_dropped (current acts) ≡ false
+    → due acts
+    ≡ due_unit (slice_get (units part) (units_done (current acts))) ((units_done (current acts) == 0) && is_something (response acts)) true
+due_is part other more acts left short kept =
+    let is : message acts ≡ part = drop_first (messages_finished acts) (messages (text acts)) part (other ∷ more) left in
+    let ended : has_ended acts ≡ true = some_left (messages_finished acts) (messages (text acts)) part other more left in
+    let fits : is_long acts ≡ false = rw is (le-ltb max_message (length part) short) in
+    rw (fits, ended, kept, is) refl
+
 pub unit_due : (part other unit : List ℕ) (more : List (List ℕ)) (acts : List ExchangeAct) → Left (part ∷ other ∷ more) acts
     → length part ≤ max_message → units part ≡ unit ∷ [] → response acts ≡ [] → due acts ≡ UnitDue unit
-unit_due part other unit more acts l short one none = rw (
-  short_is part (other ∷ more) acts l short,
-  ended_is part other more acts l,
-  l.dropped,
-  message_is part (other ∷ more) acts l,
-  l.done,
-  one,
-  none,
-) refl
-
-pub next_is : (part other unit : List ℕ) (more : List (List ℕ)) (acts : List ExchangeAct) → Left (part ∷ other ∷ more) acts
-    → length part ≤ max_message → units part ≡ unit ∷ [] → next_unit acts ≡ Some unit
-next_is part other unit more acts l short one = rw (
-  short_is part (other ∷ more) acts l short,
-  ended_is part other more acts l,
-  l.dropped,
-  message_is part (other ∷ more) acts l,
-  l.done,
-  one,
-) refl
+unit_due part other unit more acts l short one none =
+    due_is part other more acts l.left short l.dropped ∙ rw (l.done, one, none) refl
 
 pub fits_alone : (answer : List ℕ) (parts : List (List ℕ)) (acts : List ExchangeAct) → Left parts acts → length answer < max_response
     → fits_response (answers (UnitDone ∷ acts)) answer ≡ true
 fits_alone answer parts acts l fits = rw (l.dropped, l.given) (lt-ltb (length answer) max_response fits)
 
--- ---- behind the unit
+-- ---- after the unit
 
 abbrev pub answered : List ℕ → List ExchangeAct → List ExchangeAct
 answered answer acts = Answered answer ∷ UnitDone ∷ acts
 
 pub finish_due : (part other unit answer : List ℕ) (more : List (List ℕ)) (acts : List ExchangeAct) → Left (part ∷ other ∷ more) acts
     → length part ≤ max_message → units part ≡ unit ∷ [] → due (answered answer acts) ≡ FinishDue
-finish_due part other unit answer more acts l short one = rw (
-  short_is part (other ∷ more) acts l short,
-  ended_is part other more acts l,
-  l.dropped,
-  message_is part (other ∷ more) acts l,
-  l.done,
-  one,
-) refl
+finish_due part other unit answer more acts l short one =
+    due_is part other more (answered answer acts) l.left short l.dropped ∙ rw (l.done, one) refl
 
 -- ---- once the message is finished
 
--- So many empty messages that ended are left, and the response is this.
+-- So many empty messages that have ended are left. No unit of the first one was done, and the response is this.
 pub record Over (lines : ℕ) (bytes : List ℕ) (acts : List ExchangeAct) : Type 0 where
   pub left : drop (messages_finished acts) (messages (text acts)) ≡ [] ∷ replicate lines []
   pub fresh : current acts ≡ []
@@ -174,15 +162,11 @@ over_left lines bytes acts o = record {
   given = rw o.fresh refl;
 }
 
+pub left_due : (lines : ℕ) (acts : List ExchangeAct) → Left ([] ∷ [] ∷ replicate lines []) acts → due acts ≡ FinishDue
+left_due lines acts l = due_is [] [] (replicate lines []) acts l.left (omega arith) l.dropped
+
 pub empty_due : (lines : ℕ) (bytes : List ℕ) (acts : List ExchangeAct) → Over (suc lines) bytes acts → due acts ≡ FinishDue
-empty_due lines bytes acts o =
-    let l = over_left (suc lines) bytes acts o in
-    rw (
-      short_is [] ([] ∷ replicate lines []) acts l (omega arith),
-      ended_is [] [] (replicate lines []) acts l,
-      l.dropped,
-      message_is [] ([] ∷ replicate lines []) acts l,
-    ) refl
+empty_due lines bytes acts o = left_due lines acts (over_left (suc lines) bytes acts o)
 
 pub finished_empty : (lines : ℕ) (bytes : List ℕ) (acts : List ExchangeAct) → Over (suc lines) bytes acts
     → Over lines bytes (Finished ∷ acts)
@@ -200,14 +184,6 @@ over_rests bytes acts o = over_left 0 bytes acts o
 pub over_parts : (lines : ℕ) (bytes : List ℕ) (acts : List ExchangeAct) → Over lines bytes acts → Left ([] ∷ replicate lines []) acts
 over_parts lines bytes acts o = over_left lines bytes acts o
 
-pub left_due : (lines : ℕ) (acts : List ExchangeAct) → Left ([] ∷ [] ∷ replicate lines []) acts → due acts ≡ FinishDue
-left_due lines acts l = rw (
-  short_is [] ([] ∷ replicate lines []) acts l (omega arith),
-  ended_is [] [] (replicate lines []) acts l,
-  l.dropped,
-  message_is [] ([] ∷ replicate lines []) acts l,
-) refl
-
 pub left_finished : (lines : ℕ) (acts : List ExchangeAct) → Left ([] ∷ [] ∷ replicate lines []) acts
     → Left ([] ∷ replicate lines []) (Finished ∷ acts)
 left_finished lines acts l = record {
@@ -222,18 +198,12 @@ pub none_finished : (parts : List (List ℕ)) (acts : List ExchangeAct) → Left
     → response (Finished ∷ acts) ≡ []
 none_finished parts acts l none = response-finished acts ∙ rw (l.dropped, l.given) none
 
--- ---- behind a unit without an answer
+-- ---- after a unit without an answer
 
 pub done_due : (part other unit : List ℕ) (more : List (List ℕ)) (acts : List ExchangeAct) → Left (part ∷ other ∷ more) acts
     → length part ≤ max_message → units part ≡ unit ∷ [] → due (UnitDone ∷ acts) ≡ FinishDue
-done_due part other unit more acts l short one = rw (
-  short_is part (other ∷ more) acts l short,
-  ended_is part other more acts l,
-  l.dropped,
-  message_is part (other ∷ more) acts l,
-  l.done,
-  one,
-) refl
+done_due part other unit more acts l short one =
+    due_is part other more (UnitDone ∷ acts) l.left short l.dropped ∙ rw (l.done, one) refl
 
 pub done_left : (lines : ℕ) (part : List ℕ) (acts : List ExchangeAct) → Left (part ∷ [] ∷ replicate lines []) acts
     → Left ([] ∷ replicate lines []) (Finished ∷ UnitDone ∷ acts)

@@ -1,4 +1,4 @@
--- The Turns of a query alone: the write is accepted, and the read returns the response.
+-- The two Turns of a query that is asked alone: the write is accepted, and the read returns the response.
 use Rattle.std.proofs.Common.{◌≡◌, ◌≢◌, ℕ, ◌+◌, ◌-◌, ◌≤◌, Bool, true, false, cond, List, [], ◌∷◌, ◌++◌, length, Option, Some, None, refl, ap, ◌∙◌, arith, eq-eqb, lt-ltb}
 use Rattle.std.specs.Prelude.{pos, take, nat_lt, is_some, slice_get, ◌==◌}
 use Rattle.std.specs.Int.{bit_at}
@@ -35,7 +35,7 @@ pub record IsFree (c lid : ℕ) (acts : List DeviceAct) : Type 0 where
 pub is_own : (c lid : ℕ) (acts : List DeviceAct) → IsFree c lid acts → is_of c (owner lid (link_acts acts)) ≡ true
 is_own c lid acts f = ap (is_of c) f.owns ∙ eq-eqb c c refl
 
--- ---- a call that is next
+-- ---- the next call
 
 abbrev pub after : ℕ → List ℕ → ℕ → CallOutcome → List Act → List Act
 after c bytes xid outcome log = (acts_of c (call_effect xid outcome) ++ On c (CallTaken bytes) ∷ []) ++ log
@@ -84,7 +84,7 @@ abbrev pub is_read : ℕ → List ℕ → List ℕ → ℕ → List Act → List
 is_read c call reply count log =
     On c (Replied reply) ∷ OnDevice (Applied (Exchanged (ResponseRead count))) ∷ On c (CallTaken call) ∷ log
 
--- the new line is the first in the response
+-- If the answer has no new line, the new line after it is the first one in the response.
 first_line : (answer : List ℕ) → AllByRecursion (λ b. b ≢ 10) answer → position_or_len (λ b. b == 10) (answer ++ 10 ∷ []) ≡ length answer
 first_line [] none = refl
 first_line (b ∷ answer) none = rw (ne_eqb b 10 none.0) (ap (λ (n : ℕ). 1 + n) (first_line answer none.1) ∙ omega arith)

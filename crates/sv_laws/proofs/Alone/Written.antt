@@ -1,4 +1,4 @@
--- Behind a write with END of one query, the query's answer is the response.
+-- After a write with END of one query, the query's answer is the response.
 use Rattle.std.proofs.Common.{◌≡◌, ◌≢◌, ℕ, suc, ◌<◌, ◌≤◌, true, List, [], ◌∷◌, ◌++◌, length, Option, None, Ok, refl, sym, ap, subst, ◌∙◌, arith}
 use Rattle.std.specs.Prelude.{map, replicate, take, reverse, ◌↔◌}
 use Rattle.sv_errors.specs.declared.code.Code.{Code}
@@ -69,7 +69,7 @@ accepted sent acts = Exchanged (Accepted sent true) ∷ acts
 abbrev pub answer_acts : Question → List ℕ → List InstrumentAct
 answer_acts asked answer = Exchanged (Answered answer) ∷ Exchanged UnitDone ∷ taken_acts asked
 
--- Message exchange is at rest, and the query can be answered so.
+-- Message exchange is at rest. The query fits in one write, can be answered, and has this answer, which fits in a response.
 pub record Ready (asked : Question) (sent answer : List ℕ) (acts : List InstrumentAct) : Type 0 where
   pub left : Left ([] ∷ []) (exchange_acts acts)
   pub held : held_unit acts ≡ None
@@ -97,7 +97,7 @@ replies_to asked answer acts fault none says fits =
     let is : answer_acts asked answer ++ acts ≡ after_answering answer (done (taken_acts asked ++ acts)) = rw room refl in
     subst (λ (f : Option Code). Replies f asked acts (answer_acts asked answer ++ acts)) (sym none) (answer, says, is ∙ sym left)
 
--- the text that came
+-- After the write, the query's message is the first one that isn't finished.
 text_left : (asked : Question) (sent answer : List ℕ) (acts : List InstrumentAct) (r : Ready asked sent answer acts)
     → Left (r.query.message ∷ [] ∷ replicate r.query.lines []) (exchange_acts (accepted sent acts))
 text_left asked sent answer acts r = text_comes sent ([] ∷ replicate r.query.lines []) r.query.message (exchange_acts acts) r.left
@@ -130,7 +130,7 @@ unit_step asked sent answer acts r =
 
 -- ---- all steps
 
--- The log settles in one in which the answer is the response.
+-- The steps that are due lead to a log in which the answer is the response.
 pub record Responds (c : ℕ) (config : Config) (asked : Question) (answer : List ℕ) (base log : List Act) (acts : List InstrumentAct) :
     Type 0 where
   pub end : List Act

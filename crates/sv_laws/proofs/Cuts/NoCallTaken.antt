@@ -1,6 +1,6 @@
 -- What follows a call in its event takes no call: neither what the call does, nor the steps that are due then.
-use Rattle.std.proofs.Common.{◌≡◌, ℕ, List, [], ◌∷◌, ◌++◌, Option, Some, None, refl, sym, ap, subst, ◌∙◌, inl, inr, append_assoc}
-use Rattle.std.specs.Prelude.{map, not, ⊤, ◌==◌}
+use Rattle.std.proofs.Common.{◌≡◌, ℕ, true, false, List, [], ◌∷◌, ◌++◌, Option, Some, None, refl, sym, ap, subst, ◌∙◌, inl, inr, append_assoc}
+use Rattle.std.specs.Prelude.{map, ⊤, ◌==◌}
 use Rattle.std.specs.List.{AllByRecursion}
 use Rattle.std.proofs.lemmas.Bool.{cases_Bool}
 use Rattle.std.proofs.lemmas.List.Elements.{filter-append}
@@ -18,7 +18,7 @@ use Rattle.sv_history.specs.Execution.{request_effect}
 use Rattle.sv_history.specs.Resuming.{effect_of}
 use Rattle.sv_history.specs.Settling.{SettlesIn}
 use Rattle.sv_history.specs.History.{taken_acts}
-use Rattle.sv_laws.specs.Cuts.{is_piece, without_pieces}
+use Rattle.sv_laws.specs.Cuts.{without_pieces}
 use Rattle.sv_history.proofs.Projections.{of_mine}
 use Rattle.sv_laws.proofs.Facts.{all_join}
 use Rattle.sv_laws.proofs.EveryLog.EachEvent.{each_settled, StepsKeep, ends_keep, step_keeps, abort_keeps, turn_parts}
@@ -122,7 +122,7 @@ none_bare (CallTaken call ∷ acts) h = absurd h.0
 none_bare (_ ∷ acts) h = (tt, none_bare acts h.1)
 
 pub bare_append : (a b : List ConnAct) → without_pieces (a ++ b) ≡ without_pieces a ++ without_pieces b
-bare_append a b = filter-append (λ act. not (is_piece act)) a b
+bare_append a b = filter-append (elim [ Piece bytes ↦ false | _ ↦ true ]) a b
 
 -- Behind a call that is taken, a connection's acts without pieces.
 abbrev pub Follows : ℕ → List ℕ → List Act → List Act → Type 0

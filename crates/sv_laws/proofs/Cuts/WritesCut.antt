@@ -206,9 +206,9 @@ module _ (c lid : ℕ) (x y : List ℕ) (ended : Bool) (config : Config) (past o
         at_first = at_first;
         at_second = fed_one.came;
         rests_single = resting config (fed_both.earlier ++ past) h.before fed_both.base both.polled fed_both.was
-            (behind_device c h.before fed_both.base at_single) h.rest both.said;
+            (behind_device c h.before fed_both.base at_single) h.none_waits both.said;
         rests_first = resting config (fed_one.earlier ++ past) h.before fed_one.base first.polled fed_one.was
-            (behind_device c h.before fed_one.base at_first) h.rest first.said;
+            (behind_device c h.before fed_one.base at_first) h.none_waits first.said;
         both = both;
         one = first;
         other = wrote_by c lid config past h.cut y ended _ _ _ _ h.writes_second.4 h.middle h.writes_second.5 h.writes_second.6 fed_other;

@@ -133,7 +133,7 @@ in_both c lid config past events event polled n channel_log whole later before l
       holds = subst (λ (l : List Act). HoldsUp lid l whole) (sym rest.1) (holds_further lid (acts ++ before) whole rest.0 further);
     }
 
-alone_from : (c lid : ℕ) (config : Config) (past all events : List PlainEvent) (locked : IsLocked c lid config past all)
+pub alone_from : (c lid : ℕ) (config : Config) (past all events : List PlainEvent) (locked : IsLocked c lid config past all)
     (later log : List Act) → locked.log ≡ later ++ log → EachIs (LeavesLinksAlone c) config past events → IsLogOf config
     (events ++ past) log
     → Alone c lid config past events log locked.log

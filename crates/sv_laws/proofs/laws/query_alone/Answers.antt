@@ -1,5 +1,5 @@
 use Rattle.sv_laws.proofs.Alone.Asked.{query_alone}
-use Rattle.sv_laws.proofs.Alone.Locked.{query_locked, held_locked}
+use Rattle.sv_laws.proofs.Alone.Locked.{query_locked, held_locked, rounds_locked}
 use Rattle.sv_laws.proofs.Alone.Rounds.{no_query_error}
 use Rattle.sv_laws.proofs.Alone.Held.{held_alone}
 use Rattle.sv_laws.proofs.laws.query_alone.Goals as goal
@@ -18,3 +18,6 @@ returns-clause-held c = held_alone
 
 pub returns-clause-held_locked : goal.returns-clause-held_locked
 returns-clause-held_locked c = held_locked
+
+pub returns-clause-rounds_locked : goal.returns-clause-rounds_locked
+returns-clause-rounds_locked c = rounds_locked

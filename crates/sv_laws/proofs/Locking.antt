@@ -1,0 +1,80 @@
+-- A call that asks for the lock, and succeeds, takes it. A device_unlock that succeeds frees it.
+use Rattle.std.proofs.Common.{◌≡◌, ◌≢◌, ℕ, ◌+◌, Bool, true, false, cond, List, [], ◌∷◌, ◌++◌, Option, Some, None, refl, sym, ap, subst, ◌∙◌, inl, inr, ◌⊎◌}
+use Rattle.std.specs.Prelude.{not, pos}
+use Rattle.std.proofs.lemmas.Bool.{eqb-true}
+use Rattle.sv_vxi.specs.declared.error_code.ErrorCode.TheVariants.{NoError, NoLock, OutOfResources}
+use Rattle.sv_vxi.specs.declared.error_code.ErrorCode.TheVariants.{Locked as DeviceLocked}
+use Rattle.sv_vxi.specs.Arguments.{DeviceLock, Arguments, CreateLink, OnLink}
+use Rattle.sv_vxi.specs.Results.{Outcome, Link, Plain}
+use Rattle.sv_links.specs.Links.{Made, Locked, Unlocked, is_this, links_made, lids_left, holder, is_locked_out}
+use Rattle.sv_exchange.specs.Limits.{max_message}
+use Rattle.sv_history.specs.declared.event.Config.{Config}
+use Rattle.sv_history.specs.Act.{DeviceAct, Linked, link_acts}
+use Rattle.sv_history.specs.CallOutcome.{CallOutcome, answer_with, only}
+use Rattle.sv_history.specs.CoreChannel.{own_call}
+use Rattle.sv_laws.specs.LockFair.{AsksForLock, LockIsTaken, LockIsFreed}
+use Rattle.sv_laws.proofs.LinksAlike.{locked_now, not_unlocked}
+
+-- A call that asks for the lock succeeds with this result: a device_lock, or a create_link that made this link.
+abbrev Succeeds : ℕ → ℕ → ℕ → Option Outcome → Type 0
+Succeeds lid abort_port most result =
+    (result ≡ Some (Plain NoError)) ⊎ (result ≡ Some (Link NoError (pos lid) abort_port most))
+
+-- The link of a call holds the lock behind it.
+abbrev Holds : ℕ → List DeviceAct → CallOutcome → Type 0
+Holds lid acts outcome = holder (link_acts (outcome.adds ++ acts)) ≡ Some lid
+
+-- a device_lock that isn't locked out
+lock_holds : (out : Bool) (n lid abort_port most : ℕ) (acts : List DeviceAct) → n ≡ lid
+    → let outcome = cond out (only (Plain DeviceLocked)) (answer_with (Linked (Locked n) ∷ []) (Plain NoError)) in
+    Succeeds lid abort_port most outcome.result → Holds lid acts outcome
+lock_holds true n lid abort_port most acts same (inl done) = absurd cc
+lock_holds true n lid abort_port most acts same (inr done) = absurd cc
+lock_holds false n lid abort_port most acts same done = locked_now n (link_acts acts) ∙ ap (λ (m : ℕ). Some m) same
+
+-- a create_link that asks for the lock, where a number is left for its link
+made_holds : (left : Bool) (c n port size lid abort_port most : ℕ) (acts : List DeviceAct)
+    → let outcome = cond (not left) (only (Link OutOfResources (pos 0) 0 0))
+    (answer_with (Linked (Locked n) ∷ Linked (Made n c) ∷ []) (Link NoError (pos n) port size)) in
+    Succeeds lid abort_port most outcome.result → Holds lid acts outcome
+made_holds false c n port size lid abort_port most acts (inl done) = absurd cc
+made_holds false c n port size lid abort_port most acts (inr done) = absurd cc
+made_holds true c n port size lid abort_port most acts (inl done) = absurd cc
+made_holds true c n port size lid abort_port most acts (inr done) =
+    let same : n ≡ lid = cc in locked_now n (Made n c ∷ link_acts acts) ∙ ap (λ (m : ℕ). Some m) same
+
+call_holds : (config : Config) (polled c lid abort_port most : ℕ) (arguments : Arguments) (acts : List DeviceAct)
+    → AsksForLock lid arguments → Succeeds lid abort_port most (own_call config polled c arguments acts).result
+    → Holds lid acts (own_call config polled c arguments acts)
+call_holds config polled c lid abort_port most (OnLink (pos n) (DeviceLock flags lock_timeout)) acts asks done =
+    lock_holds (is_locked_out (holder (link_acts acts)) (Some n)) n lid abort_port most acts asks done
+call_holds config polled c lid abort_port most (CreateLink client_id true lock_timeout device) acts asks done =
+    made_holds (lids_left (link_acts acts)) c (links_made (link_acts acts) + 1) config.abort max_message lid abort_port most acts done
+call_holds config polled c lid abort_port most (CreateLink client_id false lock_timeout device) acts asks done = absurd cc
+call_holds config polled c lid abort_port most _ acts asks done = absurd asks
+
+pub lock_is_taken : LockIsTaken
+lock_is_taken config polled c lid abort_port most arguments acts outcome is asks done =
+    subst (Holds lid acts) (sym is) (call_holds config polled c lid abort_port most arguments acts asks
+    (subst (λ (o : CallOutcome). Succeeds lid abort_port most o.result) is done))
+
+-- ---- device_unlock
+
+-- A device_unlock that succeeds was called on the link that holds the lock.
+released : (same : Bool) (lid : ℕ) (acts : List DeviceAct)
+    → let outcome = cond same (answer_with (Linked (Unlocked lid) ∷ []) (Plain NoError)) (only (Plain NoLock)) in
+    outcome.result ≡ Some (Plain NoError) → (same ≡ true) × (holder (link_acts (outcome.adds ++ acts)) ≢ Some lid)
+released true lid acts done = (refl, (λ now. not_unlocked lid lid (link_acts acts) now refl))
+released false lid acts done = absurd cc
+
+this_is : (held : Option ℕ) (lid : ℕ) → is_this lid held ≡ true → held ≡ Some lid
+this_is None lid same = absurd cc
+this_is (Some other) lid same = ap (λ (n : ℕ). Some n) (eqb-true other lid same)
+
+pub lock_is_freed : LockIsFreed
+lock_is_freed config polled c lid acts outcome is done =
+    let so = released (is_this lid (holder (link_acts acts))) lid acts
+    (subst (λ (o : CallOutcome). o.result ≡ Some (Plain NoError)) is done) in (
+      this_is (holder (link_acts acts)) lid so.0,
+      subst (λ (o : CallOutcome). holder (link_acts (o.adds ++ acts)) ≢ Some lid) (sym is) so.1,
+    )
