@@ -1,6 +1,6 @@
 -- What is queued after one more act: `queued-reported`, `queued-overflowed` and `queued-taken`.
 use Rattle.std.proofs.Common.{◌≡◌, ℕ, suc, ◌+◌, ◌-◌, ◌<◌, ◌≤◌, Bool, true, false, ◌&&◌, cond, List, [], ◌∷◌, ◌++◌, length, take, drop, refl, sym, ap, subst, ◌∙◌, add-one, arith, ◌⊎◌, inl, inr, length-append, length-drop}
-use Rattle.std.specs.Prelude.{map, is_some, slice_get, unwrap_or}
+use Rattle.std.specs.Prelude.{◌==◌, map, min, is_some, slice_get, unwrap_or}
 use Rattle.std.specs.List.{AllByRecursion}
 use Rattle.std.proofs.lemmas.Bool.{and_right, cases_lt, lt-ltb, le-ltb, eq-eqb, ne_eqb}
 use Rattle.std.proofs.lemmas.List.{drop-drop, drop-append-le, drop-map, map_push, take_at, length-map}
@@ -8,7 +8,7 @@ use Rattle.sv_errors.specs.declared.code.Code.{Code}
 use Rattle.sv_errors.specs.declared.code.Code.TheVariants.{NoError, QueueOverflow}
 use Rattle.sv_errors.specs.declared.error_queue.QueueAct.{QueueAct}
 use Rattle.sv_errors.specs.declared.error_queue.QueueAct.TheVariants.{Report, Take, Clear}
-use Rattle.sv_errors.specs.ErrorQueue.{Counted, left, admit, take_one, count_acts, entries, is_full, up_to, report_of as newest_report, is_overtaken, entry_code, queue_codes, StandsFor, most}
+use Rattle.sv_errors.specs.ErrorQueue.{Counted, left, admit, take_one, count_acts, entries, is_full, up_to, report_of as newest_report, is_overtaken, entry_code, queue_codes, lost, Queue, StandsFor, most, most_lost}
 
 -- whether the newest act is a report, and its code
 abbrev is_report : List QueueAct → Bool
@@ -311,25 +311,57 @@ queued-taken acts =
     ap (map (entry_code (Take ∷ acts))) (entries-taken acts) ∙ sym (drop-map (entry_code (Take ∷ acts)) 1 (entries acts))
     ∙ ap (drop 1) (shown-entries Take acts (and_right (is_full acts) false refl))
 
--- ---- the codes that stand for the acts
+-- ---- how many errors are lost
+
+-- a report that finds room loses nothing
+lost-reported : (code : Code) (acts : List QueueAct) → length (queue_codes acts) < most → lost (Report code ∷ acts) ≡ lost acts
+lost-reported code acts few =
+    let room : (length (entries acts) == most) ≡ false =
+    ne_eqb (length (entries acts)) most (λ e. omega (arith, few, length-queued acts)) in
+    let step : lost (Report code ∷ acts) ≡ lost acts + 0 = ap (λ (b : Bool). lost acts + cond b 1 0) room in
+    omega (arith, step)
+
+-- a report that finds none loses its error
+lost-overflowed : (code : Code) (acts : List QueueAct) → length (queue_codes acts) ≡ most → lost (Report code ∷ acts) ≡ lost acts + 1
+lost-overflowed code acts full =
+    ap (λ (b : Bool). lost acts + cond b 1 0) (eq-eqb (length (entries acts)) most (sym (length-queued acts) ∙ full))
+
+-- ---- what the queue holds stands for the acts
 
 -- a report that finds room
-pub StandsFor-reported : (codes : List Code) (code : Code) (acts : List QueueAct) → length codes < most → StandsFor codes acts
-    → StandsFor (codes ++ code ∷ []) (Report code ∷ acts)
-StandsFor-reported codes code acts room stands =
-    ap (λ (cs : List Code). cs ++ code ∷ []) stands ∙ sym (queued-reported code acts (omega (arith, room, ap length stands)))
+pub StandsFor-reported : (queue : Queue) (code : Code) (acts : List QueueAct) → length queue.codes < most → StandsFor queue acts
+    → StandsFor (record queue { codes = queue.codes ++ code ∷ [] }) (Report code ∷ acts)
+StandsFor-reported queue code acts room stands =
+    let few : length (queue_codes acts) < most = omega (arith, room, ap length stands.codes) in
+    record {
+      codes = ap (λ (cs : List Code). cs ++ code ∷ []) stands.codes ∙ sym (queued-reported code acts few);
+      lost_count = stands.lost_count ∙ ap (λ (n : ℕ). min n most_lost) (sym (lost-reported code acts few));
+    }
 
 -- a report that finds none
-pub StandsFor-overflowed : (codes : List Code) (code : Code) (acts : List QueueAct) → length codes ≡ most → StandsFor codes acts
-    → StandsFor (take (most - 1) codes ++ QueueOverflow ∷ []) (Report code ∷ acts)
-StandsFor-overflowed codes code acts full stands =
-    ap (λ (cs : List Code). take (most - 1) cs ++ QueueOverflow ∷ []) stands
-    ∙ sym (queued-overflowed code acts (sym (ap length stands) ∙ full))
+pub StandsFor-overflowed : (queue : Queue) (code : Code) (acts : List QueueAct) → length queue.codes ≡ most → StandsFor queue acts
+    → StandsFor (record { codes = take (most - 1) queue.codes ++ QueueOverflow ∷ []; lost_count = min (queue.lost_count + 1) most_lost })
+    (Report code ∷ acts)
+StandsFor-overflowed queue code acts full stands =
+    let many : length (queue_codes acts) ≡ most = sym (ap length stands.codes) ∙ full in
+    record {
+      codes = ap (λ (cs : List Code). take (most - 1) cs ++ QueueOverflow ∷ []) stands.codes ∙ sym (queued-overflowed code acts many);
+      lost_count = omega (arith, stands.lost_count, lost-overflowed code acts many);
+    }
 
 -- a taking
-pub StandsFor-taken : (codes : List Code) (acts : List QueueAct) → StandsFor codes acts → StandsFor (drop 1 codes) (Take ∷ acts)
-StandsFor-taken codes acts stands = ap (drop 1) stands ∙ sym (queued-taken acts)
+pub StandsFor-taken : (queue : Queue) (acts : List QueueAct) → StandsFor queue acts
+    → StandsFor (record queue { codes = drop 1 queue.codes }) (Take ∷ acts)
+StandsFor-taken queue acts stands =
+    let same : lost (Take ∷ acts) ≡ lost acts = omega arith in
+    record {
+      codes = ap (drop 1) stands.codes ∙ sym (queued-taken acts);
+      lost_count = stands.lost_count ∙ ap (λ (n : ℕ). min n most_lost) (sym same);
+    }
 
--- clearing leaves nothing
-pub StandsFor-cleared : (acts : List QueueAct) → StandsFor [] (Clear ∷ acts)
-StandsFor-cleared acts = refl
+-- clearing leaves no errors
+pub StandsFor-cleared : (queue : Queue) (acts : List QueueAct) → StandsFor queue acts
+    → StandsFor (record queue { codes = [] }) (Clear ∷ acts)
+StandsFor-cleared queue acts stands =
+    let same : lost (Clear ∷ acts) ≡ lost acts = omega arith in
+    record { codes = refl; lost_count = stands.lost_count ∙ ap (λ (n : ℕ). min n most_lost) (sym same) }

@@ -1,6 +1,6 @@
 -- The error queue (SCPI-1999, volume 2, section 21.8), defined by a search of its acts, the newest first. An act's number (`place`)
 -- is counted from the oldest act, which has number 1.
-use Rattle.std.specs.Prelude.{◌≡◌, ℕ, ◌+◌, ◌-◌, ◌==◌, ◌&&◌, Bool, List, [], ◌∷◌, ◌++◌, length, map, drop, Option, Some, None, is_some, unwrap_or, nat_lt, slice_get, if◌then◌else◌}
+use Rattle.std.specs.Prelude.{◌≡◌, ℕ, ◌+◌, ◌-◌, ◌==◌, ◌&&◌, Bool, false, List, [], ◌∷◌, ◌++◌, length, map, drop, Option, Some, None, is_some, unwrap_or, min, nat_lt, slice_get, if◌then◌else◌}
 use Rattle.sv_errors.specs.declared.code.Code.{Code}
 use Rattle.sv_errors.specs.declared.code.Code.TheVariants.{NoError, QueueOverflow}
 use Rattle.sv_errors.specs.declared.error_queue.QueueAct.{QueueAct}
@@ -45,6 +45,15 @@ entries acts = left (count_acts acts)
 abbrev pub is_full : List QueueAct → Bool
 is_full acts = length (entries acts) == most
 
+-- whether the newest act reports an error to a full queue, so that this error is lost
+abbrev pub loses : List QueueAct → Bool
+loses = elim [ Report code ∷ acts ↦ is_full acts | _ ↦ false ]
+
+-- how many errors were lost because the queue was full
+abbrev pub lost : List QueueAct → ℕ
+lost [] = 0
+lost (act ∷ acts) = lost acts + (if loses (act ∷ acts) then 1 else 0)
+
 -- the acts up to and including act number `place`, counted from the oldest act
 abbrev pub up_to : ℕ → List QueueAct → List QueueAct
 up_to place acts = drop (length acts - place) acts
@@ -71,6 +80,16 @@ queue_codes acts = map (entry_code acts) (entries acts)
 abbrev pub oldest : List QueueAct → Option Code
 oldest acts = slice_get (queue_codes acts) 0
 
--- These are the errors in the queue after these acts, the oldest first.
-abbrev pub StandsFor : List Code → List QueueAct → Type 0
-StandsFor codes acts = codes ≡ queue_codes acts
+-- the largest number of lost errors that is counted
+abbrev pub most_lost : ℕ
+most_lost = 4294967295
+
+-- what the queue holds: its errors, the oldest first; and how many errors were lost, at most `most_lost`
+pub record Queue : Type 0 where
+  pub codes : List Code
+  pub lost_count : ℕ
+
+-- After these acts, the queue has these errors, and has counted the lost errors.
+pub record StandsFor (queue : Queue) (acts : List QueueAct) : Type 0 where
+  pub codes : queue.codes ≡ queue_codes acts
+  pub lost_count : queue.lost_count ≡ min (lost acts) most_lost

@@ -1,7 +1,7 @@
 //! The error queue (SCPI-1999, volume 2, section 21.8).
 
-ghost use Rattle.std.specs.Prelude.{◌≡◌, ◌==◌, ◌≤◌, [], ◌∷◌, List, length, IfOk};
-ghost use Rattle.sv_errors.specs.ErrorQueue.{StandsFor, entries, is_full, most, oldest as oldest_of};
+ghost use Rattle.std.specs.Prelude.{◌≡◌, ◌==◌, ◌≤◌, [], ◌∷◌, List, length, min, slice_get, IfOk};
+ghost use Rattle.sv_errors.specs.ErrorQueue.{StandsFor, entries, queue_codes, is_full, lost, most, oldest as oldest_of};
 
 use crate::code::Code;
 use crate::layer::Layer;
@@ -39,18 +39,19 @@ pub enum QueueAnswer {
 #[derive(Drop)]
 pub struct ErrorQueue<A: Allocator = Global> {
     codes: HeapCircularBuffer<Code, A>,
+    /// How many errors were lost because the queue was full; 4,294,967,295 also stands for more.
+    lost: u32,
 }
 
 impl<A: Allocator> Model for ErrorQueue<A> {
-    ghost use Rattle.std.specs.Prelude.{List};
-    ghost use Rattle.sv_errors.specs.declared.code.Code.{Code};
+    ghost use Rattle.sv_errors.specs.ErrorQueue.{Queue};
 
-    ghost Value = { List Code };
+    ghost Value = { Queue };
 
     ghost use Rattle.std.specs.Prelude.{◌≡◌, ◌≤◌, length};
     ghost use Rattle.sv_errors.specs.ErrorQueue.{most};
 
-    ghost view = { λ a. a.codes.items };
+    ghost view = { λ a. record { codes = a.codes.items; lost_count = a.lost } };
 
     ghost invariant = { λ a. (a.codes.capacity ≡ most) × (length a.codes.items ≤ most) };
 }
@@ -64,7 +65,7 @@ impl<A: Allocator> ErrorQueue<A> {
         ensures { IfOk result (λ queue. StandsFor queue []) }
     {
         let codes = HeapCircularBuffer::with_capacity(alloc, MOST_ERRORS)?;
-        Ok(ErrorQueue { codes })
+        Ok(ErrorQueue { codes, lost: 0 })
     }
 
     /// Reports an error, and returns whether the queue was full. If it was full, its newest entry
@@ -73,12 +74,13 @@ impl<A: Allocator> ErrorQueue<A> {
         ensures stands { (acts : List QueueAct) → StandsFor self.old acts
             → StandsFor self.new (QueueAct.Report code ∷ acts) }
         ensures answer { (acts : List QueueAct) → StandsFor self.old acts → result ≡ is_full acts }
-        ensures full { result ≡ (length self.old == most) }
+        ensures full { result ≡ (length self.old.codes == most) }
     {
         let full = self.codes.len() >= MOST_ERRORS;
         if full {
             self.codes.pop_back();
             self.codes.push_back(Code::QueueOverflow);
+            self.lost = self.lost.saturating_add(1);
         } else {
             self.codes.push_back(code);
         }
@@ -100,6 +102,22 @@ impl<A: Allocator> ErrorQueue<A> {
         ensures { (acts : List QueueAct) → StandsFor self.now acts → result ≡ oldest_of acts }
     {
         self.codes.front().copied()
+    }
+
+    /// The entry with this index; the oldest entry has index 0. `None` if there is no such entry.
+    pub fn entry(&self, index: u8) -> Option<Code>
+        ensures { (acts : List QueueAct) → StandsFor self.now acts
+            → result ≡ slice_get (queue_codes acts) index }
+    {
+        self.codes.get(usize::from(index)).copied()
+    }
+
+    /// How many errors were lost because the queue was full; 4,294,967,295 also stands for more.
+    pub fn lost(&self) -> u32
+        ensures { (acts : List QueueAct) → StandsFor self.now acts
+            → result ≡ min (lost acts) 4294967295 }
+    {
+        self.lost
     }
 
     /// How many entries the queue has.

@@ -1,5 +1,5 @@
 -- What is held says what is due by the acts.
-use Rattle.std.proofs.Common.{◌≡◌, ℕ, zero, suc, ◌+◌, ◌-◌, ◌==◌, Bool, true, false, not, ◌&&◌, cond, List, [], ◌∷◌, ◌++◌, length, drop, Option, Some, None, refl, sym, ap, ◌∙◌, nat_lt, slice_get, slice_index_or, get_or, arith}
+use Rattle.std.proofs.Common.{◌≡◌, ℕ, zero, suc, ◌+◌, ◌-◌, ◌==◌, Bool, true, false, not, ◌&&◌, ◌||◌, cond, List, [], ◌∷◌, ◌++◌, length, drop, Option, Some, None, refl, sym, ap, ◌∙◌, nat_lt, slice_get, slice_index_or, get_or, arith}
 use Rattle.std.proofs.lemmas.Bool.{lt-ltb, le-ltb}
 use Rattle.std.proofs.lemmas.List.{length-drop, get_or-drop}
 use Rattle.sv_exchange.specs.Exchange.{ExchangeAct, text, messages, message, messages_finished, current, units, units_done, has_ended, is_long, has_overrun, has_dropped, next_unit, answers, response, is_something, Due, OverrunDue, InterruptDue, UnitDue, FinishDue, due, due_unit}
@@ -73,7 +73,7 @@ unit_is contents acts s =
     let found : contents.overlong ≡ false
     → slice_get (units (message acts)) (units_done (current acts)) ≡ slice_get (units contents.rest) 0 =
     λ short. ap (λ (m : List ℕ). slice_get (units m) (units_done (current acts))) message_here
-    ∙ ap (λ (us : List (List ℕ)). slice_get us (units_done (current acts))) (s.units_left short)
+    ∙ ap (λ (us : List (List ℕ)). slice_get us (units_done (current acts))) (s.placed short).units_left
     ∙ get_behind s.executed (units contents.rest) (units_done (current acts)) s.count in
     ap (λ (b : Bool). cond (b && (not (is_long acts) && not (has_dropped (current acts))))
     (slice_get (units (message acts)) (units_done (current acts))) None) ended
@@ -187,3 +187,21 @@ at_response contents due =
     at false told None false true is = absurd cc
     at false told None false false is = absurd cc
     at false told (Some unit) false ended is = absurd cc
+
+-- how many bytes came of a message that hasn't ended; `None` if it has ended, or is too long
+abbrev pub unended_in : Contents → Option ℕ
+unended_in contents = cond (contents.ended || contents.overlong) None (Some (length contents.rest))
+
+same_size : (ended long : Bool) (n m : ℕ) → (ended ≡ false → long ≡ false → n ≡ m)
+    → cond (ended || long) None (Some n) ≡ cond (ended || long) None (Some m)
+same_size true long n m h = refl
+same_size false true n m h = refl
+same_size false false n m h = ap Some (h refl refl)
+
+pub unended_is : (contents : Contents) (acts : List ExchangeAct) → StandsFor contents acts
+    → cond (has_ended acts || is_long acts) None (Some (length (message acts))) ≡ unended_in contents
+unended_is contents acts s =
+    ap (λ (b : Bool). cond (b || is_long acts) None (Some (length (message acts)))) (ended_is contents acts s)
+    ∙ ap (λ (b : Bool). cond (contents.ended || b) None (Some (length (message acts)))) (long_is contents acts s)
+    ∙ ap (λ (m : List ℕ). cond (contents.ended || contents.overlong) None (Some (length m))) (message_is contents acts s)
+    ∙ same_size contents.ended contents.overlong _ _ (λ e l. ap (λ (m : List ℕ). length m) (s.whole e l))

@@ -18,14 +18,14 @@ pub rest_size : (text : List ℕ) (at end : ℕ) → at ≤ end → end ≤ leng
 rest_size text at end le within = length-take-le (end - at) (drop at text) (omega (arith, length-drop at text))
 
 -- some of it was stepped over
-pub done_holds : (text : List ℕ) (at end behind : ℕ) (ended mark long told lost answering : Bool) (response : List ℕ) (taken count : ℕ)
-    → at ≤ end → end ≤ length text → count ≤ length (slice_range text at end)
-    → contents_of text (at + count) end behind ended mark long told lost answering response taken
-    ≡ record (contents_of text at end behind ended mark long told lost answering response taken) {
-      rest =
-          drop count (slice_range text at end);
+pub done_holds : (text : List ℕ) (at end behind : ℕ) (ended mark long told lost answering : Bool) (response : List ℕ)
+    (taken executed count : ℕ) → at ≤ end → end ≤ length text → count ≤ length (slice_range text at end)
+    → contents_of text (at + count) end behind ended mark long told lost answering response taken (executed + count)
+    ≡ record (contents_of text at end behind ended mark long told lost answering response taken executed) {
+      rest = drop count (slice_range text at end);
+      place = executed + count;
     }
-done_holds text at end behind ended mark long told lost answering response taken count le within some =
+done_holds text at end behind ended mark long told lost answering response taken executed count le within some =
     let size = rest_size text at end le within in
     let parts : end - at ≡ count + (end - (at + count)) = omega arith in
     let rest : slice_range text (at + count) end ≡ drop count (slice_range text at end) =
@@ -33,6 +33,7 @@ done_holds text at end behind ended mark long told lost answering response taken
     ∙ ap (λ (n : ℕ). drop count (take n (drop at text))) (sym parts) in
     let made : List ℕ → Contents = λ r. record {
       rest = r;
+      place = executed + count;
       ended = ended;
       later = drop behind text;
       end_pending = mark;
@@ -69,15 +70,15 @@ rest_with text bytes before size at false e f =
 
 -- the fields with more text
 pub accept_holds : (text text' bytes : List ℕ) (at at' end behind before size second : ℕ)
-    (ended ended' mark mark' long told lost answering given : Bool) (response : List ℕ) (taken : ℕ)
+    (ended ended' mark mark' long told lost answering given : Bool) (response : List ℕ) (taken executed : ℕ)
     → end ≡ length text → text' ≡ drop at text ++ bytes → before ≡ length (drop at text) → size ≡ first_size bytes
     → second ≡ second_at bytes → ended' ≡ (has_line bytes || given)
     → mark' ≡ (has_line bytes && given) → at' ≡ cond (long || nat_lt max_message (before + size)) (before + size) 0
     → contents_of text' at' (before + size) (before + second) ended' mark'
-    (long || nat_lt max_message (before + size)) told lost answering response taken
-    ≡ after_accept (contents_of text at end behind ended mark long told lost answering response taken) bytes given
-accept_holds text text' bytes at at' end behind before size second ended ended' mark mark' long told lost answering given response taken all
-    text_is before_is size_is second_is ended_is mark_is at_is =
+    (long || nat_lt max_message (before + size)) told lost answering response taken 0
+    ≡ after_accept (contents_of text at end behind ended mark long told lost answering response taken executed) bytes given
+accept_holds text text' bytes at at' end behind before size second ended ended' mark mark' long told lost answering given response taken
+    executed all text_is before_is size_is second_is ended_is mark_is at_is =
     let rest = rest_is_all text at end all in
     let before_rest : before ≡ length (slice_range text at end) = before_is ∙ sym (ap length rest) in
     let long_is : (long || nat_lt max_message (before + size))
@@ -92,6 +93,7 @@ accept_holds text text' bytes at at' end behind before size second ended ended' 
     let made : List ℕ → Bool → List ℕ → Bool → Bool → Contents =
     λ r e l m n. record {
       rest = r;
+      place = 0;
       ended = e;
       later = l;
       end_pending = m;
@@ -141,14 +143,14 @@ read_closed false response closed read is out = ap (drop read) is
 
 -- the next message becomes the current one, field by field, where it is looked for behind these bytes
 pub finish_fields : (text given : List ℕ) (cursor end next_start size behind : ℕ) (ended pending long told lost answering : Bool)
-    (response closed : List ℕ) (read : ℕ) (new_ended new_pending : Bool) → given ≡ text
+    (response closed : List ℕ) (read executed : ℕ) (new_ended new_pending : Bool) → given ≡ text
     → (let later = take (length given - next_start) (drop next_start given) in (size ≡ first_size later) × (behind ≡ second_at later)
     × (new_ended ≡ (has_line later || pending)) × (new_pending ≡ (has_line later && pending)))
     → closed ≡ (if answering then response ++ 10 ∷ [] else response) → IsOut answering (length response) read
-    → contents_of text next_start (next_start + size) (next_start + behind) new_ended new_pending false false false false closed read
-    ≡ after_finish (contents_of text cursor end next_start ended pending long told lost answering response read)
-finish_fields text given cursor end next_start size behind ended pending long told lost answering response closed read new_ended new_pending
-    given_is first closed_is out =
+    → contents_of text next_start (next_start + size) (next_start + behind) new_ended new_pending false false false false closed read 0
+    ≡ after_finish (contents_of text cursor end next_start ended pending long told lost answering response read executed)
+finish_fields text given cursor end next_start size behind ended pending long told lost answering response closed read executed new_ended
+    new_pending given_is first closed_is out =
     let later_is : take (length given - next_start) (drop next_start given) ≡ drop next_start text =
     ap (λ (l : List ℕ). take (length l - next_start) (drop next_start l)) given_is ∙ take_rest text next_start in
     let of_size : next_start + size - next_start ≡ size = omega arith in

@@ -6,3 +6,4 @@ pub mod Stands
 pub mod Measures
 pub mod Fields
 pub mod Looking
+pub mod Placed

@@ -1,5 +1,5 @@
 -- A message that is looked at byte by byte, up to the semicolon behind its first unit.
-use Rattle.std.proofs.Common.{◌≡◌, ℕ, ◌+◌, ◌<◌, ◌≤◌, Bool, true, false, ◌&&◌, ◌||◌, cond, List, [], ◌∷◌, ◌++◌, length, take, drop, map, get_or, slice_get, slice_range, nat_lt, inl, inr, Option, Some, None, unwrap_or, refl, sym, ap, ◌∙◌, subst, append_assoc, append-nil, arith}
+use Rattle.std.proofs.Common.{◌≡◌, ◌≢◌, ℕ, ◌+◌, ◌<◌, ◌≤◌, Bool, true, false, ◌&&◌, ◌||◌, cond, List, [], ◌∷◌, ◌++◌, length, take, drop, map, get_or, slice_get, slice_range, nat_lt, inl, inr, Option, Some, None, unwrap_or, refl, sym, ap, ◌∙◌, subst, append_assoc, append-nil, arith}
 use Rattle.std.specs.Prelude.{filter}
 use Rattle.std.specs.List.{list_all, list_any, onto_first as onto}
 use Rattle.std.proofs.lemmas.Bool.{cases_lt, ltb-true, ltb-false, or_parts, or_from, and_from}
@@ -109,6 +109,7 @@ stepped_over a new seen b unclosed none skips s e l c p h =
       unit = [];
       space = [];
       whole = sym (append-nil (seen ++ b ∷ []));
+      blank = left;
       begins = omega (arith, s, h.size, long);
       closes = omega (arith, e, h.size, long);
       size = omega (arith, l, h.size, long);
@@ -134,6 +135,7 @@ one_behind a new seen b s e l p h found =
       unit = h.unit;
       space = h.space ++ b ∷ [];
       whole = regrouped seen h.before h.unit h.space b h.whole;
+      blank = h.blank;
       begins = s ∙ h.begins;
       closes = e ∙ h.closes;
       size = omega (arith, l, h.size, long);
@@ -229,6 +231,7 @@ grown a new seen bytes b h unclosed w k s e l c is reads =
       unit = part;
       space = [];
       whole = whole;
+      blank = h.blank;
       begins = s ∙ h.begins;
       closes = omega (arith, e, h.size, size, more);
       size = omega (arith, l, h.size, long);
@@ -236,16 +239,17 @@ grown a new seen bytes b h unclosed w k s e l c is reads =
       found = subst (λ (t : Bool). IsFound t (seen ++ b ∷ []) part []) (sym (c ∙ unclosed)) (grown_open seen h.unit h.space b w k o);
     }
 
+-- the text is what is before the unit, the unit, and what is behind it
+pub unit_parts : (a : Ahead) (text : List ℕ) (h : IsAhead a (take a.looked text))
+    → text ≡ h.before ++ (h.unit ++ (h.space ++ drop a.looked text))
+unit_parts a text h =
+    sym (take-append-drop a.looked text) ∙ ap (λ (l : List ℕ). l ++ drop a.looked text) h.whole
+    ∙ append_assoc h.before (h.unit ++ h.space) (drop a.looked text)
+    ∙ ap (λ (l : List ℕ). h.before ++ l) (append_assoc h.unit h.space (drop a.looked text))
+
 -- where the unit stands in the text
 unit_stands : (a : Ahead) (text : List ℕ) (h : IsAhead a (take a.looked text)) → StandsAt text a.start h.unit
-unit_stands a text h = (
-  h.before,
-  h.space ++ drop a.looked text,
-  sym (take-append-drop a.looked text) ∙ ap (λ (l : List ℕ). l ++ drop a.looked text) h.whole
-      ∙ append_assoc h.before (h.unit ++ h.space) (drop a.looked text)
-      ∙ ap (λ (l : List ℕ). h.before ++ l) (append_assoc h.unit h.space (drop a.looked text)),
-  sym h.begins,
-)
+unit_stands a text h = (h.before, h.space ++ drop a.looked text, unit_parts a text h, sym h.begins)
 
 pub unit_slice : (a : Ahead) (text : List ℕ) (h : IsAhead a (take a.looked text)) → slice_range text a.start a.end ≡ h.unit
 unit_slice a text h = slice_stands text h.unit a.start a.end (unit_stands a text h) (omega (arith, h.begins, h.closes))
@@ -372,6 +376,15 @@ left_behind a text h some = at a.closed refl
         ∙ part_unit (take a.looked text) h.begun.seen.unit h.begun.seen.space [] some o
         ∙ ap (λ (l : List ℕ). h.begun.seen.unit ∷ units l) (sym none)
 
+-- the bytes up to the semicolon after the unit, where more bytes follow
+front_over : (a : Ahead) (text : List ℕ) (h : IsLooked a text) → drop a.looked text ≢ []
+    → (more : List ℕ) → units (take a.looked text ++ more) ≡ h.begun.seen.unit ∷ units more
+front_over a text h behind = at a.closed refl
+  where
+    at : (t : Bool) → a.closed ≡ t → (more : List ℕ) → units (take a.looked text ++ more) ≡ h.begun.seen.unit ∷ units more
+    at true e = (closed_over a (take a.looked text) h.begun.seen e).1
+    at false e = absurd (behind (drop_all a.looked text (omega (arith, h.all e))))
+
 pub first_is : (a : Ahead) (text : List ℕ) → IsLooked a text → a.start < a.end → IsFirst text (slice_range text a.start a.end) a.looked
 first_is a text h lt =
     let seen = h.begun.seen in
@@ -382,6 +395,7 @@ first_is a text h lt =
       units = left_behind a text h some;
       some = λ none. (let f : true ≡ false = sym some ∙ ap is_something none in absurd cc);
       within = (omega (arith, lt, within.1), within.2);
+      front = λ behind. front_over a text h behind;
     })
 
 -- and none

@@ -1,9 +1,9 @@
 -- What is held after an act stands for the acts with that one.
 use Rattle.std.proofs.Common.{◌≡◌, ◌≢◌, ℕ, zero, suc, ◌+◌, ◌≤◌, ◌<◌, ◌==◌, Bool, true, false, not, ◌&&◌, ◌||◌, cond, List, [], ◌∷◌, ◌++◌, length, take, drop, refl, sym, ap, ◌∙◌, nat_lt, append_assoc, IsTrue, arith}
 use Rattle.std.proofs.lemmas.Bool.{lt-ltb, le-ltb, ltb-true}
-use Rattle.std.proofs.lemmas.List.{length-append, drop-drop, drop_all, length-take-le}
+use Rattle.std.proofs.lemmas.List.{length-append, take-append-drop, drop-drop, drop_all, length-take-le}
 use Rattle.sv_exchange.specs.Exchange.{ExchangeAct, Accepted, UnitDone, Answered, AnswersDropped, Finished, ResponseRead, TextDropped, Interrupted, text, messages, message, messages_finished, current, units, units_done, has_overrun, has_dropped, answers, response, fits_response, is_something, joined_answers}
-use Rattle.sv_exchange.specs.Contents.{Contents, StandsFor, IsShown, empty, IsUnitDue, symbols, following, readable_of, shown_by, next_of, is_open, may_respond}
+use Rattle.sv_exchange.specs.Contents.{Contents, StandsFor, IsPlaced, IsShown, empty, IsUnitDue, symbols, following, readable_of, shown_by, next_of, is_open, may_respond}
 use Rattle.sv_exchange.specs.Fields.{first_size, has_line, second_at, after_accept, after_finish, with_answer}
 use Rattle.sv_exchange.specs.FirstUnit.{IsFirst}
 use Rattle.sv_text.proofs.Places.{place_within}
@@ -17,21 +17,47 @@ nothing_there : (bytes : List ℕ) → is_something bytes ≡ false → bytes �
 nothing_there [] h = refl
 nothing_there (b ∷ bytes) h = absurd cc
 
+-- behind a unit that was executed
+placed_further : (place count : ℕ) (rest message unit : List ℕ) (executed : List (List ℕ)) → IsFirst rest unit count
+    → IsPlaced place rest message executed → IsPlaced (place + count) (drop count rest) message (executed ++ unit ∷ [])
+placed_further place count rest message unit executed first is =
+    let some : rest ≢ [] = λ none. omega (arith, first.within, ap length none) in
+    let size : length (take count rest) ≡ count = length-take-le count rest first.within.1 in
+    record {
+      consumed = is.consumed ++ take count rest;
+      joined = is.joined ∙ ap (λ (l : List ℕ). is.consumed ++ l) (sym (take-append-drop count rest))
+          ∙ sym (append_assoc is.consumed (take count rest) (drop count rest));
+      size = omega (arith, is.size, size, length-append is.consumed (take count rest));
+      units_left = is.units_left ∙ ap (λ (us : List (List ℕ)). executed ++ us) first.units
+          ∙ sym (append_assoc executed (unit ∷ []) (units (drop count rest)));
+      behind = λ left more. ap units (append_assoc is.consumed (take count rest) more) ∙ is.behind some (take count rest ++ more)
+          ∙ ap (λ (us : List (List ℕ)). executed ++ us) (first.front left more)
+          ∙ sym (append_assoc executed (unit ∷ []) (units more));
+    }
+
+-- where no unit was executed
+pub placed_first : (place : ℕ) (rest message : List ℕ) → message ≡ rest → place ≡ 0 → IsPlaced place rest message []
+placed_first place rest message joined size = record {
+  consumed = [];
+  joined = joined;
+  size = size;
+  units_left = ap units joined;
+  behind = λ left more. refl;
+}
+
 -- a unit was executed
 pub done_stands : (contents new : Contents) (acts : List ExchangeAct) (unit : List ℕ) (count : ℕ) → IsUnitDue (next_of contents)
     → IsFirst contents.rest unit count
-    → new ≡ record contents { rest = drop count contents.rest } → StandsFor contents acts → StandsFor new (UnitDone ∷ acts)
+    → new ≡ record contents { rest = drop count contents.rest; place = contents.place + count } → StandsFor contents acts
+    → StandsFor new (UnitDone ∷ acts)
 done_stands contents new acts unit count due first is s =
     let at = at_unit contents due in
-    let more : units s.message ≡ (s.executed ++ unit ∷ []) ++ units (drop count contents.rest) =
-    s.units_left at.short ∙ ap (λ (us : List (List ℕ)). s.executed ++ us) first.units
-    ∙ sym (append_assoc s.executed (unit ∷ []) (units (drop count contents.rest))) in
     rw is (record {
       message = s.message;
       executed = s.executed ++ unit ∷ [];
       text_left = s.text_left;
       size = s.size;
-      units_left = λ short. more;
+      placed = λ short. placed_further contents.place count contents.rest s.message unit s.executed first (s.placed short);
       count = omega (arith, length-append s.executed (unit ∷ []), s.count);
       no_response = λ later. readable_is contents acts s ∙ nothing_there (shown_by contents) at.no_response;
       whole = λ unended. (let z : true ≡ false = sym at.ended ∙ unended in absurd cc);
@@ -78,7 +104,7 @@ finish_stands contents new acts ended few is s =
       text_left = ap (λ (n : ℕ). drop n (messages (text acts))) next ∙ sym (drop-drop 1 (messages_finished acts) (messages (text acts)))
           ∙ behind;
       size = sym (le-ltb max_message (length first) (omega (arith, length-take-le (first_size contents.later) contents.later size)));
-      units_left = λ short. refl;
+      placed = λ short. placed_first _ _ _ refl refl;
       count = refl;
       no_response = λ later. absurd cc;
       whole = λ unended short. refl;
@@ -140,7 +166,7 @@ output_stands contents new acts later dropped answering output is texts finished
       executed = s.executed;
       text_left = rw (texts, finished) s.text_left;
       size = s.size;
-      units_left = s.units_left;
+      placed = s.placed;
       count = s.count ∙ sym done;
       no_response = rw done no_response;
       whole = s.whole;
@@ -218,7 +244,7 @@ accept_stands contents new acts bytes ended open_now is s =
       text_left = messages-append (text acts) (symbols bytes ended) (messages_finished acts) s.message first _ alone
           (first_cut bytes ended);
       size = long_on contents.overlong s.message first contents.rest (first_size bytes) s.size size (s.whole unended);
-      units_left = λ short. ap units (rest short);
+      placed = λ short. placed_first _ _ _ (rest short) refl;
       count = sym (ap length (s.unbegun unended)) ∙ s.count;
       no_response = s.no_response;
       whole = λ _ short. rest short;
@@ -278,7 +304,7 @@ text_dropped_stands contents new acts open_now is s =
       executed = [];
       text_left = refl;
       size = refl;
-      units_left = λ short. refl;
+      placed = λ short. placed_first _ _ _ refl refl;
       count = refl;
       no_response = λ later. absurd cc;
       whole = λ unended short. refl;
@@ -297,7 +323,26 @@ cleared_stands new acts is =
       executed = [];
       text_left = refl;
       size = refl;
-      units_left = λ short. refl;
+      placed = λ short. placed_first _ _ _ refl refl;
+      count = refl;
+      no_response = λ later. refl;
+      whole = λ unended short. refl;
+      unbegun = λ unended. refl;
+      no_answers = λ unended. refl;
+      overrun_reported = refl;
+      answers_dropped = refl;
+      shows = (refl, refl);
+    })
+
+-- before any act nothing is stored
+pub new_stands : (new : Contents) → new ≡ empty → StandsFor new []
+new_stands new is =
+    rw is (record {
+      message = [];
+      executed = [];
+      text_left = refl;
+      size = refl;
+      placed = λ short. placed_first _ _ _ refl refl;
       count = refl;
       no_response = λ later. refl;
       whole = λ unended short. refl;

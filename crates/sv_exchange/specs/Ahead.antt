@@ -27,12 +27,13 @@ IsFound true seen unit space = (is_something unit ≡ true) × ((more : List ℕ
 IsFound false seen unit space = IsOpen seen unit space
 
 -- `ahead` describes the bytes that were read (`seen`). These bytes are, in order: the bytes before the first unit; the first unit, as far
--- as it was read; and the bytes after this unit (`space`).
+-- as it was read; and the bytes after this unit (`space`). No unit is in the bytes before the first unit, whatever follows (`blank`).
 pub record IsAhead (ahead : Ahead) (seen : List ℕ) : Type 0 where
   pub before : List ℕ
   pub unit : List ℕ
   pub space : List ℕ
   pub whole : seen ≡ before ++ (unit ++ space)
+  pub blank : (more : List ℕ) → units (before ++ more) ≡ units more
   pub begins : ahead.start ≡ length before
   pub closes : ahead.end ≡ length before + length unit
   pub size : ahead.looked ≡ length seen

@@ -5,12 +5,13 @@ use Rattle.sv_exchange.specs.declared.exchange.Next.TheVariants as next
 use Rattle.sv_exchange.specs.Exchange.{ExchangeAct, Symbol, Byte, end_mark, text, messages, messages_finished, current, units_done, has_overrun, has_dropped, answers, units, is_something, joined_answers, response, Due, NothingDue, OverrunDue, InterruptDue, UnitDue, FinishDue, due_unit}
 use Rattle.sv_exchange.specs.Limits.{max_message}
 
--- the state. First: the part of the current message that wasn't executed yet, and whether the message has ended; the text after the
--- message, and whether END follows this text. Then: whether the current message is too long, whether it was reported as too long, and
--- whether its answers were dropped. Last: the output, which is the answers of the current message if `answering` is true, else the
--- response.
+-- the state. First: the part of the current message that wasn't executed yet; how many bytes of the message come before this part; and
+-- whether the message has ended. The text after the message, and whether END follows this text. Then: whether the current message is
+-- too long, whether it was reported as too long, and whether its answers were dropped. Last: the output, which is the answers of the
+-- current message if `answering` is true, else the response.
 pub record Contents : Type 0 where
   pub rest : List ℕ
+  pub place : ℕ
   pub ended : Bool
   pub later : List ℕ
   pub end_pending : Bool
@@ -24,6 +25,7 @@ pub record Contents : Type 0 where
 abbrev pub empty : Contents
 empty = record {
   rest = [];
+  place = 0;
   ended = false;
   later = [];
   end_pending = false;
@@ -50,6 +52,15 @@ abbrev pub IsShown : Bool → List ℕ → List (List ℕ) → List ℕ → Type
 IsShown true output given readable = (given ≢ []) × (output ≡ joined_answers given) × (readable ≡ [])
 IsShown false output given readable = (given ≡ []) × (readable ≡ output)
 
+-- After its first `place` bytes (`consumed`), the message goes on with `rest`. The message has the units that were executed, and then
+-- those of `rest`. If there is a rest, then `consumed` has exactly the units that were executed, whatever follows it (`behind`).
+pub record IsPlaced (place : ℕ) (rest message : List ℕ) (executed : List (List ℕ)) : Type 0 where
+  pub consumed : List ℕ
+  pub joined : message ≡ consumed ++ rest
+  pub size : place ≡ length consumed
+  pub units_left : units message ≡ executed ++ units rest
+  pub behind : rest ≢ [] → (more : List ℕ) → units (consumed ++ more) ≡ executed ++ units more
+
 -- The state stands for the acts. `message` is the current message, and `executed` lists the units of this message that were
 -- executed.
 pub record StandsFor (contents : Contents) (acts : List ExchangeAct) : Type 0 where
@@ -58,7 +69,7 @@ pub record StandsFor (contents : Contents) (acts : List ExchangeAct) : Type 0 wh
   pub text_left : drop (messages_finished acts) (messages (text acts)) ≡ message
       ∷ following contents.ended contents.later contents.end_pending
   pub size : contents.overlong ≡ nat_lt max_message (length message)
-  pub units_left : contents.overlong ≡ false → units message ≡ executed ++ units contents.rest
+  pub placed : contents.overlong ≡ false → IsPlaced contents.place contents.rest message executed
   pub count : length executed ≡ units_done (current acts)
   pub no_response : (units_done (current acts) == 0) ≡ false → response acts ≡ []
   pub whole : contents.ended ≡ false → contents.overlong ≡ false → message ≡ contents.rest

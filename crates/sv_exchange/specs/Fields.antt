@@ -22,6 +22,7 @@ after_accept contents bytes ended =
     let overlong = contents.overlong || nat_lt max_message (length contents.rest + first_size bytes) in
     record contents {
       rest = if overlong then [] else contents.rest ++ take (first_size bytes) bytes;
+      place = 0;
       ended = has_line bytes || ended;
       later = drop (second_at bytes) bytes;
       end_pending = has_line bytes && ended;
@@ -32,6 +33,7 @@ after_accept contents bytes ended =
 abbrev pub after_finish : Contents → Contents
 after_finish contents = record {
   rest = take (first_size contents.later) contents.later;
+  place = 0;
   ended = has_line contents.later || contents.end_pending;
   later = drop (second_at contents.later) contents.later;
   end_pending = has_line contents.later && contents.end_pending;
@@ -53,14 +55,15 @@ after_answer contents answer true = record contents { answering = true; output =
 after_answer contents answer false = record contents { answers_dropped = true; answering = false; output = [] }
 
 -- the contents that the fields represent
-abbrev pub contents_of : List ℕ → ℕ → ℕ → ℕ → Bool → Bool → Bool → Bool → Bool → Bool → List ℕ → ℕ → Contents
-contents_of text cursor end next_start ended end_pending overlong overrun_reported answers_dropped answering response read = record {
+abbrev pub contents_of : List ℕ → ℕ → ℕ → ℕ → Bool → Bool → Bool → Bool → Bool → Bool → List ℕ → ℕ → ℕ → Contents
+contents_of text cursor end next_start ended end_pending overlong reported answers_dropped answering response read executed = record {
   rest = slice_range text cursor end;
+  place = executed;
   ended = ended;
   later = drop next_start text;
   end_pending = end_pending;
   overlong = overlong;
-  overrun_reported = overrun_reported;
+  overrun_reported = reported;
   answers_dropped = answers_dropped;
   answering = answering;
   output = drop read response;

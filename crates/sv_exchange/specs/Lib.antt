@@ -6,3 +6,4 @@ pub mod Fields
 pub mod FirstUnit
 pub mod ReadGiven
 pub mod Ahead
+pub mod Place

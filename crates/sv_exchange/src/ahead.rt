@@ -70,6 +70,13 @@ impl Ahead {
         }
     }
 
+    /// Where the unit begins. Before the unit has begun, this is the number of bytes read.
+    pub(crate) fn start(&self) -> usize
+        ensures { result ≡ self.now.start }
+    {
+        self.start
+    }
+
     /// The unit with its header and parameters, or the error of the unit.
     pub(crate) fn lexed<'a>(&self, text: &'a [u8]) -> Result<Unit<'a>, Code>
         requires { IsLooked self.now text.now }

@@ -1,10 +1,11 @@
 //! Message exchange: program messages come in, and responses go out.
 
-ghost use Rattle.std.specs.Prelude.{◌≡◌, ℕ, ◌+◌, ◌*◌, ◌<◌, ◌≤◌, ◌==◌, Bool, true, false, not, List, [], ◌∷◌, ◌++◌, Option, length, take, drop, nat_lt, vec_len, vec_capacity, IsTrue, IfOk, if◌then◌else◌};
+ghost use Rattle.std.specs.Prelude.{◌≡◌, ℕ, ◌+◌, ◌*◌, ◌<◌, ◌≤◌, ◌==◌, Bool, true, false, not, ◌||◌, List, [], ◌∷◌, ◌++◌, Option, Some, None, option_map, length, take, drop, nat_lt, vec_len, vec_capacity, IsTrue, IfOk, if◌then◌else◌};
 ghost use Rattle.sv_lexer.specs.Unit.{IsLexed};
-ghost use Rattle.sv_exchange.specs.Exchange.{ExchangeAct, Accepted, TextDropped, Overran, UnitDone, UnitDue, Answered, AnswersDropped, Finished, Interrupted, ResponseRead, OverrunDue, InterruptDue, FinishDue, due, has_ended, answers, response, fits_response, is_something};
+ghost use Rattle.sv_exchange.specs.Exchange.{ExchangeAct, Accepted, TextDropped, Overran, UnitDone, UnitDue, Answered, AnswersDropped, Finished, Interrupted, ResponseRead, OverrunDue, InterruptDue, FinishDue, due, has_ended, is_long, message, next_unit, answers, joined_answers, response, fits_response, is_something};
 ghost use Rattle.sv_exchange.specs.Limits.{max_message, max_response};
 ghost use Rattle.sv_exchange.specs.ReadGiven.{IsReadOf};
+ghost use Rattle.sv_exchange.specs.Place.{IsPlaceOf};
 ghost use Rattle.sv_exchange.specs.Contents.{Contents, StandsFor, empty, is_open, shown_by, next_of, IsUnitDue, may_respond, exchange_measure, plain_next};
 ghost use Rattle.sv_exchange.specs.Fields.{after_accept, after_finish, after_answer, with_answer};
 
@@ -44,6 +45,8 @@ pub struct Exchange<A: Allocator = Global> {
     cursor: usize,
     /// Where the current message ends.
     end: usize,
+    /// How many bytes of the current message come before `cursor`. Their units were executed.
+    executed: usize,
     /// What was read so far of the unit that comes next after `cursor`.
     ahead: Ahead,
     /// Where the next message begins.
@@ -71,16 +74,19 @@ impl<A: Allocator> Model for Exchange<A> {
 
     ghost Value = { Contents };
 
-    ghost use Rattle.std.specs.Prelude.{vec_capacity, slice_range};
+    ghost use Rattle.std.specs.Prelude.{◌+◌, ◌≤◌, vec_capacity, slice_range};
     ghost use Rattle.sv_exchange.specs.Fields.{contents_of, IsValid};
     ghost use Rattle.sv_exchange.specs.Ahead.{IsLooked};
+    ghost use Rattle.sv_exchange.specs.Limits.{max_message};
 
     ghost view = { λ a. contents_of a.text.items a.cursor a.end a.next_start a.ended a.end_pending
-        a.overlong a.overrun_reported a.answers_dropped a.answering a.response.items a.read };
+        a.overlong a.overrun_reported a.answers_dropped a.answering a.response.items a.read
+        a.executed };
 
     ghost invariant = { λ a. IsValid a.text.items a.cursor a.end a.next_start a.ended
         (vec_capacity a.text) a.response.items a.read a.answering (vec_capacity a.response)
-        × IsLooked a.ahead (slice_range a.text.items a.cursor a.end) };
+        × IsLooked a.ahead (slice_range a.text.items a.cursor a.end)
+        × (a.executed + a.end ≤ a.cursor + max_message) };
 }
 
 impl<A: Allocator + Copy> Exchange<A> {
@@ -95,6 +101,7 @@ impl<A: Allocator + Copy> Exchange<A> {
         Ok(Exchange {
             text: Vec::with_capacity(alloc, MAX_TEXT)?,
             cursor: 0,
+            executed: 0,
             end: 0,
             ahead: Ahead::of(&[]),
             next_start: 0,
@@ -145,6 +152,7 @@ impl<A: Allocator> Exchange<A> {
         self.end_pending = cut.end_pending;
         self.overlong |= self.end > MAX_MESSAGE;
         self.cursor = if self.overlong { self.end } else { 0 };
+        self.executed = 0;
         self.ahead
             .look_on(&self.text[self.cursor..self.end], self.overlong);
     }
@@ -178,6 +186,66 @@ impl<A: Allocator> Exchange<A> {
         }
     }
 
+    /// The next unit of the current message; `None` if no unit remains, the message hasn't ended,
+    /// the message is too long, or its answers were dropped.
+    pub fn pending_unit(&self) -> Option<&[u8]>
+        ensures { (acts : List ExchangeAct) → StandsFor self.now acts
+            → option_map (λ unit. unit.now) result ≡ next_unit acts }
+    {
+        if !self.ended || self.overlong || self.answers_dropped {
+            return None;
+        }
+        match self.ahead.unit(&self.text[self.cursor..self.end]) {
+            Some((unit, _)) => Some(unit),
+            None => None,
+        }
+    }
+
+    /// How many bytes of the current message come before its next unit. If there is no next unit,
+    /// the number has no meaning.
+    pub fn unit_place(&self) -> u16
+        ensures { (acts : List ExchangeAct) (unit : List ℕ) → StandsFor self.now acts
+            → next_unit acts ≡ Some unit → IsPlaceOf result unit acts }
+    {
+        (self.executed + self.ahead.start()) as u16
+    }
+
+    /// How many bytes of a message came that hasn't ended yet; `None` if the current message has
+    /// ended, or is too long.
+    pub fn unended(&self) -> Option<u32>
+        ensures { (acts : List ExchangeAct) → StandsFor self.now acts
+            → result ≡ (if has_ended acts || is_long acts then None
+            else Some (length (message acts))) }
+    {
+        if self.ended || self.overlong {
+            return None;
+        }
+        Some((self.end - self.cursor) as u32)
+    }
+
+    /// How many bytes the answers of the current message have, joined.
+    pub fn gathered(&self) -> u32
+        ensures { (acts : List ExchangeAct) → StandsFor self.now acts
+            → result ≡ length (joined_answers (answers acts)) }
+    {
+        if self.answering {
+            self.response.len() as u32
+        } else {
+            0
+        }
+    }
+
+    /// How many bytes of the response can be read.
+    pub fn left(&self) -> u32
+        ensures { (acts : List ExchangeAct) → StandsFor self.now acts
+            → result ≡ length (response acts) }
+    {
+        if self.answering {
+            return 0;
+        }
+        (self.response.len() - self.read) as u32
+    }
+
     /// The unit that is due, with its header and parameters. The unit was read while its bytes
     /// came.
     ///
@@ -193,7 +261,10 @@ impl<A: Allocator> Exchange<A> {
     /// Removes the unit that is due, which was executed, from the current message.
     pub fn done(&mut self)
         requires { IsUnitDue (next_of self.old) }
-        ensures value { self.new ≡ record self.old { rest = self.new.rest } }
+        ensures value { self.new ≡ record self.old {
+          rest = self.new.rest;
+          place = self.new.place;
+        } }
         ensures measure { exchange_measure self.new < exchange_measure self.old }
         ensures stays_open { is_open self.new ≡ is_open self.old }
         ensures may_respond { IsTrue (may_respond self.new) }
@@ -202,6 +273,7 @@ impl<A: Allocator> Exchange<A> {
     {
         if let Some((_, count)) = self.ahead.unit(&self.text[self.cursor..self.end]) {
             self.cursor += count;
+            self.executed += count;
             self.ahead = Ahead::of(&self.text[self.cursor..self.end]);
         }
     }
@@ -244,6 +316,7 @@ impl<A: Allocator> Exchange<A> {
         end_response(&mut self.response, self.answering);
         let cut = first_message(&self.text[self.next_start..], self.end_pending);
         self.cursor = self.next_start;
+        self.executed = 0;
         self.end = self.next_start + cut.size;
         self.ahead = Ahead::of(&self.text[self.cursor..self.end]);
         self.next_start += cut.next_start;
@@ -357,6 +430,7 @@ impl<A: Allocator> Exchange<A> {
     {
         self.text.clear();
         self.cursor = 0;
+        self.executed = 0;
         self.end = 0;
         self.ahead = Ahead::of(&[]);
         self.next_start = 0;

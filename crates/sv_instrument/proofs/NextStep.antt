@@ -3,7 +3,7 @@ use Rattle.std.proofs.Common.{◌≡◌, ℕ, ◌+◌, ◌*◌, ◌<◌, ◌≤�
 use Rattle.std.specs.Prelude.{Option, Some, None}
 use Rattle.sv_errors.specs.declared.code.Code.{Code}
 use Rattle.sv_scan.specs.declared.setting.State.TheVariants.{Waiting, Scanning}
-use Rattle.sv_exchange.specs.Exchange.{Due, NothingDue, UnitDue, due, next_unit, is_something}
+use Rattle.sv_exchange.specs.Exchange.{Due, NothingDue, OverrunDue, InterruptDue, UnitDue, FinishDue, due, next_unit, is_something}
 use Rattle.sv_exchange.specs.Contents.{Contents, IsUnitDue, next_of, shown_by, exchange_measure}
 use Rattle.sv_exchange.proofs.Dues.{at_unit}
 use Rattle.sv_layers.specs.declared.change.Awaited.{Awaited}
@@ -12,7 +12,9 @@ use Rattle.sv_layers.specs.Condition.{is_idle}
 use Rattle.sv_layers.specs.Inside.Representation.{LayerState, state_by}
 use Rattle.sv_instrument.specs.HeldUnit.{held_unit}
 use Rattle.sv_instrument.specs.Path.{IsPath}
-use Rattle.sv_instrument.specs.Step.{StepOf, IsStep, Starts}
+use Rattle.sv_instrument.specs.Step.{StepOf, IsStep, Starts, is_held}
+use Rattle.sv_instrument.specs.Looking.{IsDue, IsNoneDue}
+use Rattle.sv_instrument.specs.declared.looking.Step.TheVariants as step
 use Rattle.sv_instrument.specs.Representation.{Kept, IsHeldRight, one_if_unheld, waits}
 use Rattle.sv_instrument.specs.Inside.Acted.{Behaves, Follows, StartsUnit}
 use Rattle.sv_instrument.proofs.Paths.{started_path}
@@ -38,6 +40,25 @@ pub none_while_busy : (log new : List Act) (awaited : Awaited) → Some awaited 
 none_while_busy log new awaited is busy step =
     let ended = subst (λ (h : Option Awaited). StepOf h (due (exchange_acts log)) log new) (sym is) step in
     differ (busy ∙ ended.0)
+
+-- no unit is held, and nothing is due: no step is
+pub none_while_free : (log : List Act) → None ≡ held_unit log → NothingDue ≡ due (exchange_acts log) → IsNoneDue log
+none_while_free log free is step.Release (held, idle) =
+    differ (ap (λ (h : Option Awaited). is_held h) free ∙ held)
+none_while_free log free is step.Overrun (none, so) = absurd (let z : NothingDue ≡ OverrunDue = is ∙ so in cc)
+none_while_free log free is (step.Interrupt place unit) (none, so, more, placed) =
+    absurd (let z : NothingDue ≡ InterruptDue = is ∙ so in cc)
+none_while_free log free is (step.Unit place unit) (none, so, more) = absurd (let z : NothingDue ≡ UnitDue unit.now = is ∙ so in cc)
+none_while_free log free is step.Finish (none, so) = absurd (let z : NothingDue ≡ FinishDue = is ∙ so in cc)
+
+-- a unit is held, and a measurement is under way: no step is due
+pub none_while_held : (log : List Act) (awaited : Awaited) → Some awaited ≡ held_unit log → false ≡ is_idle log → IsNoneDue log
+none_while_held log awaited is busy step.Release (held, idle) = differ (busy ∙ idle)
+none_while_held log awaited is busy step.Overrun (none, so) = absurd (let z : Some awaited ≡ None = is ∙ none in cc)
+none_while_held log awaited is busy (step.Interrupt place unit) (none, so, more, placed) =
+    absurd (let z : Some awaited ≡ None = is ∙ none in cc)
+none_while_held log awaited is busy (step.Unit place unit) (none, so, placed) = absurd (let z : Some awaited ≡ None = is ∙ none in cc)
+none_while_held log awaited is busy step.Finish (none, so) = absurd (let z : Some awaited ≡ None = is ∙ none in cc)
 
 -- a trigger that is refused is not waited for
 pub refused_none : {fault : Option Code} {code : Code} → fault ≡ Some code → fault ≡ None → ⊥

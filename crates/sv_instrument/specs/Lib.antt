@@ -9,3 +9,4 @@ pub mod Representation
 pub mod Stimulus
 pub mod Inside
 pub mod Laws
+pub mod Looking

@@ -10,6 +10,7 @@
 mod command;
 mod instrument;
 pub mod laws;
+mod looking;
 mod message_io;
 mod orders;
 mod polling;
@@ -25,3 +26,4 @@ mod unit_start;
 pub use command::order::Order;
 pub use command::read_unit;
 pub use instrument::Instrument;
+pub use looking::Step;

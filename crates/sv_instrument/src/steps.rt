@@ -7,6 +7,7 @@ ghost use Rattle.sv_exchange.specs.Contents.{IsUnitDue, next_of};
 ghost use Rattle.sv_layers.specs.Act.{Act, Exchanged, Reported};
 ghost use Rattle.sv_instrument.specs.Stimulus.{IsFired};
 ghost use Rattle.sv_instrument.specs.Step.{IsStep, after_interrupt};
+ghost use Rattle.sv_instrument.specs.Looking.{IsNoneDue};
 ghost use Rattle.sv_instrument.specs.Representation.{StandsFor, Takes, instrument_measure};
 ghost use Rattle.sv_instrument.specs.Inside.Acted.{Runs, StartsUnit, Steps};
 
@@ -43,6 +44,8 @@ impl<A: Allocator> Instrument<A> {
     pub fn step(&mut self) -> Option<u8>
         ensures steps { (log : List Act) → StandsFor self.old log
             → Takes IsStep self.new result log }
+        ensures due { (log : List Act) → StandsFor self.old log
+            → IfNone result (IsNoneDue log) }
         ensures measure { OnSome result (instrument_measure self.new
             < instrument_measure self.old) }
         ensures idle { IfNone result (self.new ≡ self.old) }

@@ -1,13 +1,13 @@
 //! The values of the status registers, as queries return them.
 
-ghost use Rattle.std.specs.Prelude.{◌≡◌, ◌↔◌, ℕ, List};
+ghost use Rattle.std.specs.Prelude.{◌≡◌, ◌↔◌, ℕ, true, List};
 ghost use Rattle.std.specs.Int.{bit_at};
 ghost use Rattle.sv_layers.specs.Act.{Act};
 ghost use Rattle.sv_layers.specs.Condition.{condition as condition_of};
 ghost use Rattle.sv_layers.specs.Filter.{rise as rise_of, fall as fall_of, enable as enable_of};
 ghost use Rattle.sv_layers.specs.Event.{EventStands};
-ghost use Rattle.sv_layers.specs.Standard.{Stands, enable as standard_enable_of};
-ghost use Rattle.sv_layers.specs.StatusByte.{MasterBit, service as service_of};
+ghost use Rattle.sv_layers.specs.Standard.{Stands, Waits, enable as standard_enable_of};
+ghost use Rattle.sv_layers.specs.StatusByte.{MasterBit, Request, service as service_of};
 ghost use Rattle.sv_layers.specs.Inside.Representation.{StandsFor};
 
 use crate::layers::Layers;
@@ -36,6 +36,20 @@ impl<A: Allocator> Layers<A> {
             → (bit_at result k ≡ 1) ↔ MasterBit k log }
     {
         self.status.status()
+    }
+
+    /// Returns whether a request for service is pending (IEEE 488.2, 11.3.3), without ending it.
+    pub fn has_request(&self) -> bool
+        ensures { (log : List Act) → StandsFor self.now log → (result ≡ true) ↔ Request log }
+    {
+        self.status.rqs()
+    }
+
+    /// Returns whether an `*OPC` is pending (IEEE 488.2, 12.5.2).
+    pub fn has_opc(&self) -> bool
+        ensures { (log : List Act) → StandsFor self.now log → (result ≡ true) ↔ Waits log }
+    {
+        self.waits
     }
 
     /// Returns the service request enable (IEEE 488.2, 11.3.2).

@@ -1,8 +1,8 @@
 -- The live links of a number or a connection, found among the slots.
-use Rattle.std.proofs.Common.{◌≡◌, ℕ, ◌+◌, ◌<◌, Bool, true, false, eqb, List, [], ◌∷◌, ◌++◌, Option, Some, None, refl, sym, ap, ◌∙◌, arith, inl, inr}
+use Rattle.std.proofs.Common.{◌≡◌, ℕ, ◌+◌, ◌<◌, Bool, true, false, eqb, List, [], ◌∷◌, ◌++◌, Option, Some, None, refl, sym, ap, subst, ◌∙◌, arith, inl, inr}
 use Rattle.std.specs.Prelude.{map, filter, find, option_map, min, fold}
 use Rattle.std.specs.List.{AllByRecursion, reduce}
-use Rattle.std.proofs.lemmas.Bool.{ne_eqb, cases_Bool, eqb-true}
+use Rattle.std.proofs.lemmas.Bool.{ne_eqb, eq-eqb, cases_Bool, eqb-true}
 use Rattle.slab.specs.Slab.{entries_from}
 use Rattle.sv_links.specs.declared.links.Link.{Link}
 use Rattle.sv_links.specs.Table.{IsKept, IsRising}
@@ -138,3 +138,63 @@ pub least_found : (test : Link → Bool) (key : ℕ) (slots : List (Option Link)
 least_found test key slots links n h rise =
     ap (reduce min) (filter-entries test key slots ∙ sym (ap lids (links-keep test slots)))
     ∙ least_kept (map (keep test) slots) (filter test links) n (kept-filter test slots links h) (rising-filter test links n rise)
+
+-- ---- the first link that passes a test
+
+passes : (test : Link → Bool) (links : List Link) (lid : ℕ) → find (λ n. true) (lids (filter test links)) ≡ Some lid
+    → (link : Link) × (find test links ≡ Some link) × (link.lid ≡ lid)
+passes test [] lid e = absurd cc
+passes test (x ∷ links) lid e = elim (cases_Bool (test x)) [
+  | inl k ↦ (x, rw k refl, let h : Some x.lid ≡ Some lid = rw k at e in cc)
+  | inr k ↦ let r = passes test links lid (rw k at e) in (r.0, rw k r.1, r.2)
+]
+
+pub none_passes : (test : Link → Bool) (links : List Link) → find (λ n. true) (lids (filter test links)) ≡ None → None ≡ find test links
+none_passes test [] e = refl
+none_passes test (x ∷ links) e = elim (cases_Bool (test x)) [
+  | inl k ↦ absurd (let h : Some x.lid ≡ None = rw k at e in cc)
+  | inr k ↦ rw k (none_passes test links (rw k at e))
+]
+
+found_all : (P : Link → Type 0) (test : Link → Bool) (links : List Link) (link : Link) → AllByRecursion P links
+    → find test links ≡ Some link → P link
+found_all P test [] link h e = absurd cc
+found_all P test (x ∷ links) link h e = elim (cases_Bool (test x)) [
+  | inl k ↦ let s : Some x ≡ Some link = rw k at e in let same : x ≡ link = cc in rw (← same) h.0
+  | inr k ↦ found_all P test links link h.1 (rw k at e)
+]
+
+-- it is the link of its number
+by_number : (test : Link → Bool) (links : List Link) (n : ℕ) (link : Link) → IsRising links n → find test links ≡ Some link
+    → find (λ other. eqb other.lid link.lid) links ≡ Some link
+by_number test [] n link h e = absurd cc
+by_number test (x ∷ links) n link h e = elim (cases_Bool (test x)) [
+  | inl k ↦ let s : Some x ≡ Some link = rw k at e in let same : x ≡ link = cc in rw (← same) (rw (eq-eqb x.lid x.lid refl) refl)
+  | inr k ↦
+      let there : find test links ≡ Some link = rw k at e in
+      let below : x.lid < link.lid = found_all (Below x) test links link h.1 there in
+      rw (ne_eqb x.lid link.lid (λ same. absurd (omega (arith, same, below)))) (by_number test links n link h.2 there)
+]
+
+pub after_found : (test : Link → Bool) (links : List Link) (n next conn : ℕ) → IsRising links n
+    → find (λ m. true) (lids (filter test links)) ≡ Some next
+    → Some conn ≡ option_map (λ link. link.conn) (find (λ link. eqb link.lid next) links)
+    → Some (record { lid = next; conn = conn }) ≡ find test links
+after_found test links n next conn h e own =
+    let (link, found, named) = passes test links next e in
+    let by : find (λ other. eqb other.lid next) links ≡ Some link =
+    subst (λ (m : ℕ). find (λ other. eqb other.lid m) links ≡ Some link) named (by_number test links n link h found) in
+    let owned : Some conn ≡ Some link.conn = own ∙ ap (option_map (λ (l : Link). l.conn)) by in
+    let same : conn ≡ link.conn = cc in
+    subst (λ (m : ℕ). Some (record { lid = m; conn = conn }) ≡ find test links) named
+    (subst (λ (k : ℕ). Some (record { lid = link.lid; conn = k }) ≡ find test links) (sym same) (sym found))
+
+pub after_lost : (test : Link → Bool) (links : List Link) (n next : ℕ) → IsRising links n
+    → find (λ m. true) (lids (filter test links)) ≡ Some next
+    → None ≡ option_map (λ link. link.conn) (find (λ link. eqb link.lid next) links) → None ≡ find test links
+after_lost test links n next h e own =
+    let (link, found, named) = passes test links next e in
+    let by : find (λ other. eqb other.lid next) links ≡ Some link =
+    subst (λ (m : ℕ). find (λ other. eqb other.lid m) links ≡ Some link) named (by_number test links n link h found) in
+    let owned : None ≡ Some link.conn = own ∙ ap (option_map (λ (l : Link). l.conn)) by in
+    absurd cc

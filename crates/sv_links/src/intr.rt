@@ -1,9 +1,9 @@
 //! Interrupt channels: which links have service requests enabled, and the bytes that wait to be
 //! sent on the channel of each connection.
 
-ghost use Rattle.std.specs.Prelude.{◌≡◌, ◌<◌, ◌≤◌, ◌==◌, ◌++◌, ℕ, List, [], ◌∷◌, map, length, filter, not, IfOk, OnOk, OnErr, false, true};
+ghost use Rattle.std.specs.Prelude.{◌≡◌, ◌<◌, ◌≤◌, ◌==◌, ◌++◌, ℕ, List, [], ◌∷◌, map, length, filter, not, slice_get, IfOk, OnOk, OnErr, false, true};
 ghost use Rattle.sv_links.specs.Limits.{max_connections, max_handle, max_queued};
-ghost use Rattle.sv_links.specs.Channels.{ChannelAct, SrqEnabled, SrqDisabled, ChannelOpened, ChannelClosed, Requested, ChannelTaken, is_channel_open, waiting};
+ghost use Rattle.sv_links.specs.Channels.{ChannelAct, SrqEnabled, SrqDisabled, ChannelOpened, ChannelClosed, Requested, ChannelTaken, is_channel_open, enabled_links, waiting};
 ghost use Rattle.sv_links.specs.ChannelRepresentation.{AreChannels, IsReady, HasRoomFor, bytes_of, without_links, of_others};
 
 use crate::channel::Channel;
@@ -166,6 +166,17 @@ impl<A: Allocator> Intr<A> {
         ensures ready { self.new.channels ≡ self.old.channels }
     {
         self.enabled.retain(|other| other.conn != conn);
+    }
+
+    /// The link with this index among the links that have service requests enabled, in the order of
+    /// their numbers: its number and its connection; `None` if fewer links have service requests
+    /// enabled.
+    pub fn enabled_link(&self, index: u8) -> Option<(u32, u8)>
+        ensures { (acts : List ChannelAct) → AreChannels self.now acts
+            → result ≡ slice_get (map (λ link. (link.lid, link.conn)) (enabled_links acts)) index }
+    {
+        let link = self.enabled.get(usize::from(index))?;
+        Some((link.lid, link.conn))
     }
 
     /// Raises a service request: goes through the links that have service requests enabled, in the

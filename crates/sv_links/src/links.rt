@@ -1,6 +1,6 @@
 //! Links: which links exist, which connection made each, and which link holds the lock.
 
-ghost use Rattle.std.specs.Prelude.{◌≡◌, ◌+◌, ◌<◌, ◌≤◌, ◌^◌, ◌↔◌, not, ℕ, List, [], ◌∷◌, ◌++◌, length, IfOk, OnOk, OnErr, IsOk, Some, Err, true, false};
+ghost use Rattle.std.specs.Prelude.{◌≡◌, ◌+◌, ◌<◌, ◌≤◌, ◌^◌, ◌↔◌, not, ℕ, List, [], ◌∷◌, ◌++◌, length, find, nat_lt, IfOk, OnOk, OnErr, IsOk, Some, Err, true, false};
 ghost use Rattle.sv_links.specs.Limits.{max_links};
 ghost use Rattle.sv_links.specs.Links.{LinkAct, Made, Destroyed, Locked, Unlocked, closing, links_made, live, lids_left, owner, may_make, lowest, holder, is_locked_out, is_this};
 ghost use Rattle.sv_links.specs.Table.{IsTable, count_of};
@@ -161,6 +161,26 @@ impl<A: Allocator> Links<A> {
             .filter(|(_key, link)| link.conn == conn)
             .map(|(_key, link)| link.lid)
             .min()
+    }
+
+    /// The link with the lowest number above `lid`; `None` if no link has a number above `lid`.
+    pub fn after(&self, lid: u32) -> Option<Link>
+        ensures { (acts : List LinkAct) → IsTable self.now acts
+            → result ≡ find (λ link. nat_lt lid link.lid) (live acts) }
+    {
+        match self
+            .links
+            .iter()
+            .filter(|(_key, link)| link.lid > lid)
+            .map(|(_key, link)| link.lid)
+            .min()
+        {
+            Some(next) => match self.owner(next) {
+                Some(conn) => Some(Link { lid: next, conn }),
+                None => None,
+            },
+            None => None,
+        }
     }
 
     /// Destroys a link; if the link holds the lock, the lock becomes free. If there is no such

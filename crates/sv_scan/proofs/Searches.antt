@@ -1,15 +1,19 @@
 -- What the searches of the acts find, by what the scanner holds.
-use Rattle.std.proofs.Common.{◌≡◌, ℕ, ◌+◌, ◌-◌, List, [], ◌∷◌, length, Some, None, Option, refl, ap, ◌∙◌, length-append, add-one}
-use Rattle.std.specs.Prelude.{false, ◌*◌, ◌==◌, slice_get, option_map}
+use Rattle.std.proofs.Common.{◌≡◌, ℕ, ◌+◌, ◌-◌, sym, List, [], ◌∷◌, length, Some, None, Option, refl, ap, ◌∙◌, length-append, add-one}
+use Rattle.std.specs.Prelude.{Bool, true, false, ◌*◌, ◌%◌, ◌==◌, cond, slice_get, option_map}
 use Rattle.sv_scan.specs.declared.setting.Reading.{Reading}
 use Rattle.sv_scan.specs.declared.acts.ScanAct.{ScanAct}
 use Rattle.sv_scan.specs.declared.acts.ScanAct.TheVariants.{Input, Configure, Init, Abort, Reset, Trigger, Sample}
 use Rattle.sv_scan.specs.Setting.{scan_list, count}
 use Rattle.std.specs.Option.{option_map_or}
 use Rattle.sv_scan.specs.declared.setting.State.{State}
-use Rattle.sv_scan.specs.declared.setting.State.TheVariants.{Idle}
-use Rattle.sv_scan.specs.Scan.{before_init, triggers, samples, state, state_by, is_complete, readings, reading, last_reading}
-use Rattle.sv_scan.specs.Stands.{Run, Contents, Holds, current_run}
+use Rattle.sv_scan.specs.declared.setting.State.TheVariants.{Idle, Waiting, Scanning}
+use Rattle.sv_scan.specs.declared.progress.Progress.{Progress}
+use Rattle.sv_scan.specs.declared.progress.Taken.{Taken}
+use Rattle.sv_scan.specs.Scan.{before_init, triggers, samples, state, state_by, is_complete, channel_at, readings, reading, last_reading}
+use Rattle.sv_scan.specs.Counted.{is_idle}
+use Rattle.sv_scan.specs.Progress.{progress, newest_reading}
+use Rattle.sv_scan.specs.Stands.{Run, Contents, Holds, current_run, progress_by}
 use Rattle.sv_scan.specs.Representation.{run_state, run_complete}
 
 -- there are as many readings as samples
@@ -70,3 +74,50 @@ list_of_run (Some before) had r e = let same : run_of had before ≡ r = cc in a
 
 pub list_is : (log : List ScanAct) (r : Run) → current_run log ≡ Some r → option_map_or scan_list (before_init log) [] ≡ r.channels
 list_is log r e = list_of_run (before_init log) (triggers log) r e
+
+-- how far a measurement is; `None` without one
+abbrev pub run_progress : Option Run → ℕ → Option Progress
+run_progress None samples = None
+run_progress (Some run) samples = progress_by run samples
+
+-- what is told of a measurement that is under way
+under_way : (all triggered : Bool) (told : Option Progress)
+    → cond all None told ≡ cond (is_idle (cond all Idle (cond triggered Waiting Scanning))) None told
+under_way true triggered told = refl
+under_way false true told = refl
+under_way false false told = refl
+
+-- how far it is, by the acts in front of its initiation
+abbrev progress_since : Option (List ScanAct) → ℕ → ℕ → Option Progress
+progress_since before had read = cond (is_idle (state_since before had read)) None (option_map (λ acts. record {
+  scan = had;
+  scans = count acts;
+  place = read % length (scan_list acts);
+  places = length (scan_list acts);
+}) before)
+
+progress_of_run : (before : Option (List ScanAct)) (had read : ℕ)
+    → run_progress (option_map (run_of had) before) read ≡ progress_since before had read
+progress_of_run None had read = refl
+progress_of_run (Some before) had read =
+    under_way (read == count before * length (scan_list before)) (read == had * length (scan_list before)) _
+
+pub progress_is : (contents : Contents) (log : List ScanAct) → Holds contents log
+    → run_progress contents.run (length contents.readings) ≡ progress log
+progress_is contents log is =
+    ap (λ (r : Option Run). run_progress r (length contents.readings)) is.run
+    ∙ ap (run_progress (current_run log)) (ap length is.readings ∙ length-readings log)
+    ∙ progress_of_run (before_init log) (triggers log) (samples log)
+
+-- the newest reading, with its channel
+pub newest_is : (contents : Contents) (log : List ScanAct) (r : Run) (reading_now : Reading) (channel : ℕ) → Holds contents log
+    → contents.run ≡ Some r → Some reading_now ≡ last_reading log → channel ≡ channel_at r.channels (length contents.readings - 1)
+    → Some (record { channel = channel; reading = reading_now }) ≡ newest_reading log
+newest_is contents log r reading_now channel is e told at =
+    let channels : option_map_or scan_list (before_init log) [] ≡ r.channels = list_is log r (sym is.run ∙ e) in
+    let many : length contents.readings ≡ samples log = ap length is.readings ∙ length-readings log in
+    let place : channel ≡ channel_at (option_map_or scan_list (before_init log) []) (samples log - 1) =
+    at ∙ ap (λ (n : ℕ). channel_at r.channels (n - 1)) many ∙ ap (λ (cs : List ℕ). channel_at cs (samples log - 1)) (sym channels) in
+    let made : ℕ → Reading → Taken = λ c x. record { channel = c; reading = x } in
+    ap (λ (c : ℕ). Some (made c reading_now)) place
+    ∙ ap (option_map (made (channel_at (option_map_or scan_list (before_init log) []) (samples log - 1)))) told

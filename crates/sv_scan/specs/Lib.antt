@@ -1,6 +1,7 @@
 pub mod Setting
 pub mod Scan
 pub mod Counted
+pub mod Progress
 pub mod Condition
 pub mod Touched
 pub mod Together

@@ -1,8 +1,9 @@
 -- The state of the scanner, and when it stands for a list of acts.
-use Rattle.std.specs.Prelude.{◌≡◌, ℕ, ◌-◌, ℤ, pos, Bool, true, List, Option, slice_index_or}
+use Rattle.std.specs.Prelude.{◌≡◌, ℕ, ◌-◌, ◌*◌, ◌%◌, ◌==◌, ℤ, pos, Bool, true, List, length, Option, Some, None, slice_index_or, if◌then◌else◌}
 use Rattle.std.specs.Prelude.{option_map}
 use Rattle.sv_scan.specs.declared.setting.Reading.{Reading}
 use Rattle.sv_errors.specs.declared.source.Source.{Source}
+use Rattle.sv_scan.specs.declared.progress.Progress.{Progress}
 use Rattle.sv_scan.specs.declared.acts.ScanAct.{ScanAct}
 use Rattle.sv_scan.specs.declared.touched.Touched.{Touched}
 use Rattle.sv_errors.specs.Limits.{is_channel}
@@ -16,6 +17,15 @@ pub record Run : Type 0 where
   pub channels : List ℕ
   pub scans : ℕ
   pub triggers : ℕ
+
+-- how far a measurement is after this many samples; `None` if each channel of each scan was read
+abbrev pub progress_by : Run → ℕ → Option Progress
+progress_by run samples = if samples == run.scans * length run.channels then None else Some (record {
+  scan = run.triggers;
+  scans = run.scans;
+  place = samples % length run.channels;
+  places = length run.channels;
+})
 
 -- the measurement that was initiated last; `None` if no measurement was initiated, or if an abort or a reset came later
 abbrev pub current_run : List ScanAct → Option Run

@@ -7,6 +7,7 @@
 mod acts;
 mod current;
 mod possible;
+mod progress;
 mod reading;
 mod run;
 mod scan_list;
@@ -18,6 +19,7 @@ mod touched;
 mod words;
 
 pub use acts::{ScanAct, ScanAnswer};
+pub use progress::{Progress, Taken};
 pub use scan_list::ScanList;
 pub use scanner::Scanner;
 pub use setting::{Reading, Setting, State};

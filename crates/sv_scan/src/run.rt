@@ -3,7 +3,9 @@
 ghost use Rattle.std.specs.Prelude.{◌≡◌, ◌+◌, ◌*◌, ◌<◌, ◌==◌, length};
 ghost use Rattle.sv_errors.specs.Limits.{most_scans};
 ghost use Rattle.sv_scan.specs.Scan.{state_by, channel_at};
+ghost use Rattle.sv_scan.specs.Stands.{progress_by};
 
+use crate::progress::Progress;
 use crate::scan_list::ScanList;
 use crate::setting::State;
 use std::marker::Model;
@@ -59,6 +61,23 @@ impl Run {
         ensures { result ≡ (samples == self.now.scans * length self.now.channels) }
     {
         samples == usize::from(self.scans) * self.list.channels().len()
+    }
+
+    /// How far the measurement is after this number of samples; `None` if it is complete.
+    pub(crate) fn progress(&self, samples: usize) -> Option<Progress>
+        requires { 0 < length self.now.channels }
+        ensures { result ≡ progress_by self.now samples }
+    {
+        if self.is_complete(samples) {
+            return None;
+        }
+        let places = self.list.channels().len();
+        Some(Progress {
+            scan: self.triggers,
+            scans: self.scans,
+            place: (samples % places) as u8,
+            places: places as u8,
+        })
     }
 
     /// The channel to read after this number of samples. After the last channel of the list, the

@@ -37,9 +37,9 @@ pub struct Scanner<A: Allocator = Global> {
     pub(crate) settings: Settings,
     /// The measurement that was initiated last; `None` if no measurement was initiated, or if an
     /// abort or a reset came later.
-    run: Option<Run>,
+    pub(crate) run: Option<Run>,
     /// The readings of the measurement, oldest first; none without a measurement.
-    readings: Vec<Reading, A>,
+    pub(crate) readings: Vec<Reading, A>,
     /// Which condition words of the status registers might have changed at the newest act that took
     /// effect.
     pub(crate) touched: Touched,
@@ -302,7 +302,7 @@ impl<A: Allocator> Scanner<A> {
     }
 
     /// The newest reading of the measurement; `None` if there is no reading.
-    fn last_reading(&self) -> Option<Reading>
+    pub(crate) fn last_reading(&self) -> Option<Reading>
         ensures { (acts : List ScanAct)
             → StandsFor self.now acts → result ≡ last_of (effective acts) }
     {

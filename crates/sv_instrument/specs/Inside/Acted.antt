@@ -12,6 +12,7 @@ use Rattle.sv_instrument.specs.HeldUnit.{held_unit}
 use Rattle.sv_instrument.specs.Path.{IsPath, units_begun}
 use Rattle.sv_instrument.specs.RequestCount.{Raises}
 use Rattle.sv_instrument.specs.Step.{Does, Starts, IsStep}
+use Rattle.sv_instrument.specs.Looking.{IsNoneDue}
 use Rattle.sv_instrument.specs.Representation.{Kept, StandsFor, one_if_unheld, instrument_measure, IsHeldRight}
 
 -- The layers stand for the log. The counter `requests` in `layers` is the number of requests for service that were raised since the log
@@ -77,4 +78,5 @@ pub record StartsUnit (start log : List Act) (kept : Kept) : Type 0 where
 abbrev pub Steps : Bool → Kept → Kept → Type 0
 Steps true before after = ((log : List Act) → StandsFor before log → (new : List Act) × IsStep log new × Runs log after new)
     × (instrument_measure after < instrument_measure before)
-Steps false before after = ((log : List Act) → StandsFor before log → (new : List Act) → IsStep log new → ⊥) × (after ≡ before)
+Steps false before after = ((log : List Act) → StandsFor before log → (new : List Act) → IsStep log new → ⊥)
+    × ((log : List Act) → StandsFor before log → IsNoneDue log) × (after ≡ before)

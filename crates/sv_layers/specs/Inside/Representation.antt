@@ -1,7 +1,6 @@
 -- The state of the instrument's layers, and when this state stands for a log of the instrument.
 use Rattle.std.specs.Prelude.{◌≡◌, ◌↔◌, ℕ, ◌+◌, min, Bool, true, List, [], ◌∷◌, length}
-use Rattle.sv_errors.specs.declared.code.Code.{Code}
-use Rattle.sv_errors.specs.ErrorQueue.{entries, StandsFor as Queues}
+use Rattle.sv_errors.specs.ErrorQueue.{entries, Queue, StandsFor as Queues}
 use Rattle.sv_status.specs.declared.register_name.RegisterName.{RegisterName}
 use Rattle.sv_status.specs.declared.register_name.RegisterName.TheVariants.{Operation, Questionable, Limit}
 use Rattle.sv_status.specs.Register.{Latches as RegisterLatches, Summary, StandsFor as Registers}
@@ -33,7 +32,7 @@ latches_of Limit all = all.limit
 
 pub record LayerState : Type 0 where
   pub exchange : Contents
-  pub errors : List Code
+  pub errors : Queue
   pub registers : ByName
   pub standard : StandardLatches
   pub status : StatusLatches

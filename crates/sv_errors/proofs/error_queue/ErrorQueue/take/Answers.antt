@@ -5,7 +5,7 @@ use Rattle.sv_errors.proofs.error_queue.ErrorQueue.take.Goals as goal
 
 pub returns-clause-stands : goal.returns-clause-stands
 returns-clause-stands g c = rw (c.pop_front.ensures.items, ← c.self.view_is)
-    (λ acts stands. StandsFor-taken c.self.inside.codes.items acts stands)
+    (λ acts stands. StandsFor-taken _ acts stands)
 
 pub returns-clause-answer : goal.returns-clause-answer
 returns-clause-answer g c = search rules

@@ -21,7 +21,8 @@ returns-clause-value g c =
     (accept_holds c.self.inside.text.items _ c.args.bytes.now _ _ _ c.self.inside.next_start _ _ _ c.self.inside.ended _
     c.self.inside.end_pending _ c.self.inside.overlong c.self.inside.overrun_reported c.self.inside.answers_dropped
     c.self.inside.answering _
-    c.self.inside.response.items c.self.inside.read all text_is before_is cut.size cut.next_start cut.ended cut.end_pending at_is)
+    c.self.inside.response.items c.self.inside.read c.self.inside.executed all text_is before_is cut.size cut.next_start cut.ended
+    cut.end_pending at_is)
 
 pub returns-clause-stands : goal.returns-clause-stands
 returns-clause-stands g c = λ acts s. accept_stands _ _ acts c.args.bytes.now c.args.ended c.requires.«open» (returns-clause-value g c) s

@@ -10,6 +10,6 @@ returns-in-Some-clause-stands g c =
     let holds =
     done_holds c.self.inside.text.items _ _ c.self.inside.next_start c.self.inside.ended c.self.inside.end_pending c.self.inside.overlong
     c.self.inside.overrun_reported c.self.inside.answers_dropped c.self.inside.answering c.self.inside.response.items c.self.inside.read
-    c.in-Some.count
+    c.self.inside.executed c.in-Some.count
     c.self.invariant.0.order.0 (omega (arith, c.self.invariant.0.order)) first.within.1 in
     rw (← c.self.view_is) (λ acts s. done_stands _ _ acts _ _ due first holds s)

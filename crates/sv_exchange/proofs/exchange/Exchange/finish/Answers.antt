@@ -11,7 +11,7 @@ returns-clause-value g c =
     let first = c.first_message-cut.ensures in
     let fields = finish_fields c.self.inside.text.items c.deref.result.now c.self.inside.cursor c.self.inside.end c.self.inside.next_start
     _ _ c.self.inside.ended c.self.inside.end_pending c.self.inside.overlong c.self.inside.overrun_reported
-    c.self.inside.answers_dropped c.self.inside.answering c.self.inside.response.items _ c.self.inside.read _ _
+    c.self.inside.answers_dropped c.self.inside.answering c.self.inside.response.items _ c.self.inside.read c.self.inside.executed _ _
     c.deref.ensures.value (first.size, first.next_start, first.ended, first.end_pending) c.end_response.ensures.items
     c.self.invariant.0.output in
     rw (← c.self.view_is) fields

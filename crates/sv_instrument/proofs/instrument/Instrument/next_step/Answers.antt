@@ -3,7 +3,7 @@ use Rattle.sv_exchange.specs.Exchange.{InterruptDue, OverrunDue, FinishDue}
 use Rattle.sv_exchange.specs.Contents.{next_of}
 use Rattle.sv_layers.specs.Act.{exchange_acts}
 use Rattle.sv_instrument.proofs.Counting.{runs_none}
-use Rattle.sv_instrument.proofs.NextStep.{step_of, unit_step, nothing_due}
+use Rattle.sv_instrument.proofs.NextStep.{step_of, unit_step, nothing_due, none_while_free}
 use Rattle.sv_instrument.proofs.instrument.Instrument.next_step.Goals as goal
 
 pub returns-in-Nothing : goal.returns-in-Nothing
@@ -12,6 +12,10 @@ returns-in-Nothing g c = (
       let s = rw (← c.self.view_is) at h in
       let is = c.in-Nothing.ensures.answer (exchange_acts log) (c.exchange.ensures.stands log s.layers.stands) in
       nothing_due log new (sym c.requires ∙ h.held) is,
+  λ log h.
+      let s = rw (← c.self.view_is) at h in
+      let is = c.in-Nothing.ensures.answer (exchange_acts log) (c.exchange.ensures.stands log s.layers.stands) in
+      none_while_free log (sym c.requires ∙ h.held) is,
   refl,
 )
 

@@ -5,7 +5,7 @@ use Rattle.sv_layers.specs.Act.{scan_acts, exchange_acts}
 use Rattle.sv_exchange.specs.Exchange.{due}
 use Rattle.sv_instrument.proofs.Counting.{runs_none}
 use Rattle.sv_instrument.proofs.Paths.{released_path}
-use Rattle.sv_instrument.proofs.NextStep.{step_of, none_while_busy}
+use Rattle.sv_instrument.proofs.NextStep.{step_of, none_while_busy, none_while_held}
 use Rattle.sv_instrument.proofs.instrument.Instrument.release.Goals as goal
 
 pub returns-in-Idle : goal.returns-in-Idle
@@ -29,6 +29,10 @@ returns-in-Waiting g c = (
       let s = rw (← c.self.view_is) at h in
       let state = c.in-Waiting.ensures.answer (scan_acts log) (c.scanner.ensures.stands log s.layers.stands) in
       none_while_busy log new _ (sym c.requires ∙ h.held) (ap (λ (state : State). is_idle state) state),
+  λ log h.
+      let s = rw (← c.self.view_is) at h in
+      let state = c.in-Waiting.ensures.answer (scan_acts log) (c.scanner.ensures.stands log s.layers.stands) in
+      none_while_held log _ (sym c.requires ∙ h.held) (ap (λ (state : State). is_idle state) state),
   refl,
 )
 
@@ -38,5 +42,9 @@ returns-in-Scanning g c = (
       let s = rw (← c.self.view_is) at h in
       let state = c.in-Scanning.ensures.answer (scan_acts log) (c.scanner.ensures.stands log s.layers.stands) in
       none_while_busy log new _ (sym c.requires ∙ h.held) (ap (λ (state : State). is_idle state) state),
+  λ log h.
+      let s = rw (← c.self.view_is) at h in
+      let state = c.in-Scanning.ensures.answer (scan_acts log) (c.scanner.ensures.stands log s.layers.stands) in
+      none_while_held log _ (sym c.requires ∙ h.held) (ap (λ (state : State). is_idle state) state),
   refl,
 )

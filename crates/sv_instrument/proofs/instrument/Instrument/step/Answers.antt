@@ -14,3 +14,12 @@ returns-else-take_step-clause-steps g c = c.if-take_step.ensures.0
 
 pub returns-else-take_step-clause-measure : goal.returns-else-take_step-clause-measure
 returns-else-take_step-clause-measure g c = tt
+
+pub returns-then-take_step-clause-due : goal.returns-then-take_step-clause-due
+returns-then-take_step-clause-due g c = λ log h. tt
+
+pub returns-else-take_step-clause-due : goal.returns-else-take_step-clause-due
+returns-else-take_step-clause-due g c = c.if-take_step.ensures.1
+
+pub returns-else-take_step-clause-idle : goal.returns-else-take_step-clause-idle
+returns-else-take_step-clause-idle g c = c.if-take_step.ensures.2
