@@ -1,0 +1,2 @@
+mod Printing
+pub mod Records

@@ -1,0 +1,12 @@
+use Rattle.std.specs.Prelude.{codes}
+use Rattle.sv_explain.specs.Lines.{numbers_line}
+use Rattle.sv_print.proofs.Taking.{prints_then}
+use Rattle.sv_explain.proofs.Printing.{prints_of}
+use Rattle.sv_explain.proofs.changes.put_scanner.Goals as goal
+
+pub returns : goal.returns
+returns g c =
+    prints_then _ _ _ _ _ _ _ _ c.put_settings.ensures
+    (prints_then _ _ _ _ _ _ _ _
+    (prints_of (numbers_line (codes "list")) _ _ _ _ _ _ _ _ c.as_slice.ensures.value c.as_slice-2.ensures.value c.put_numbers.ensures)
+    c.put_measurement.ensures)

@@ -1,0 +1,2 @@
+-- Texts by the types of the code.
+pub mod Names

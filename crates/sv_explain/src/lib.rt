@@ -1,0 +1,18 @@
+//! What `scanvolt explain` tells: all values of a server at one moment, the lines of those that
+//! changed, and the lines of events and steps. No server is in here. Allocates nothing.
+#![tactic(auto)]
+
+mod changes;
+mod lines;
+mod links;
+mod shown;
+mod step;
+mod value;
+
+pub use changes::{put_changes, put_conn};
+pub use shown::{
+    CONNECTIONS, CallShown, ConnShown, Listed, MOST_LINKS, MeasurementShown, MessageShown,
+    NEVER_OPENED, RegisterShown, SettingsShown, Shown, StatusShown,
+};
+pub use step::{Due, put_call, put_end, put_head, put_step};
+pub use value::{Value, Word};

@@ -1,0 +1,3 @@
+pub mod TakenByWriter
+pub mod Parts
+pub mod Printed

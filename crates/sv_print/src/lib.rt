@@ -1,0 +1,8 @@
+//! Text for a writer: bytes, numbers and hexadecimal, one part after the other. Allocates nothing.
+#![tactic(auto)]
+
+mod parts;
+mod writing;
+
+pub use parts::{Part, put, put_parts};
+pub use writing::WriteFault;
