@@ -31,7 +31,7 @@ MAN = $(DESTDIR)$(PREFIX)/share/man/man1
 DATA = $(DESTDIR)$(PREFIX)/share/scanvolt
 DOC = $(DESTDIR)$(PREFIX)/share/doc/scanvolt
 DATA_FILES := VERSION examples/bench.scenario examples/identity.replay examples/scan.replay
-DOC_FILES := LICENSE CHANGELOG.md docs/INSTRUMENT.md docs/REPLAY.md examples/identity.md examples/scan.md
+DOC_FILES := LICENSE CHANGELOG.md docs/INSTRUMENT.md docs/REPLAY.md docs/STEPS.md examples/identity.md examples/scan.md
 PICTURES := $(addprefix docs/,$(shell grep -oh 'pictures/[a-z-]*\.svg' $(DOC_FILES)))
 
 .PHONY: test lint rows check scanvolt run serve bench echo clients hostile soak python install uninstall dist packages

@@ -206,7 +206,7 @@ def believed(all_of_them):
     """What the promises of the server rest on, what its laws rest on in addition, and what all claims of the README rest on."""
     history = "Rattle.sv_history.specs."
     server = list(contracts("sv_server", r"impl<A: Allocator(?: \+ Copy)?> Server<A>|pub fn input_refusal"))
-    start = start_of(all_of_them, [one for one in server if one[0] != "replay"])
+    start = start_of(all_of_them, [one for one in server if one[0] not in ("replay", "explain", "explain_end")])
     start |= {(history + "History", "IsLogOf"), (history + "Settling", "IsSettled")}
     promises = closure(all_of_them, start, {"StandsFor"})
     start = {one for crate in ("sv_laws", "sv_driver_laws") for brought, text in laws(crate)

@@ -2,7 +2,7 @@
 import re
 
 from .lines import Reading, unquoted
-from .values import TextError
+from .values import TextError, bytes_of
 
 
 class Scripts(Reading):
@@ -58,6 +58,34 @@ class Scripts(Reading):
         if kind == "given":
             return "> " + self.given.pop(0)
         return line if kind == "refused" else unquoted(rest)
+
+
+class Explained(Scripts):
+    """The kind `explain`: a script, and what `scanvolt explain` prints for it.
+
+    `- call c0` means the last call that was sent on connection 0. The bytes of a unit may be in quotes.
+    """
+
+    WANTED = Scripts.WANTED + ("@", "-", "=")
+    UNIT = re.compile(r"(- (?:unit|interrupt) \d+) (\".*)")
+
+    def __init__(self, joined=False):
+        super().__init__(joined)
+        self.last = {}          # for each connection, the last call that was sent, after the words that tell it
+
+    def called(self, connection, line):
+        record, beside = super().called(connection, line)
+        self.last["- call c" + connection] = "- call c%s %s" % (connection, record[4:].hex())
+        return record, beside
+
+    def wanted(self, line, more=()):
+        """The line that is wanted."""
+        if line[0] not in "@-=":
+            return super().wanted(line, more)
+        unit = self.UNIT.fullmatch(line)
+        if unit:
+            return "%s %s" % (unit[1], bytes_of(unit[2]).hex())
+        return self.last.get(line, self.alone(line, more))
 
 
 class Driver(Reading):
@@ -133,4 +161,4 @@ class Parts(Reading):
 
 
 # The lines of a row by the first word of its kind.
-KINDS = {"sweeps": Driver, "peers": Driver, "pace": Driver, "sockets": Sockets, "parts": Parts}
+KINDS = {"explain": Explained, "sweeps": Driver, "peers": Driver, "pace": Driver, "sockets": Sockets, "parts": Parts}

@@ -14,14 +14,21 @@ REFUSALS = {"1": "out of memory", "2": "the connection is open", "3": "no such c
 NOTHING = "nothing more"
 
 
-def parts(text):
-    """The titles of an output, each with its lines; none if the program printed nothing."""
-    if not text:
-        return []
-    if not text.startswith("= "):
+def parts(text, known):
+    """The titles of an output, each with its lines; none if the program printed nothing. `known` are the rows by their titles.
+
+    What `explain` prints has lines `= NAME VALUE`. So a row that explains ends only before the title of a known row.
+    """
+    if text and not text.startswith("= "):
         raise ValueError("it doesn't begin with a title")
-    rows = [row.split("\n") for row in text[2:].rstrip("\n").split("\n= ")]
-    return [(row[0], row[1:]) for row in rows]
+    rows, explains = [], False
+    for line in text.rstrip("\n").split("\n") if text else []:
+        if line.startswith("= ") and (line[2:] in known or not explains):
+            rows.append((line[2:], []))
+            explains = line[2:] in known and known[line[2:]].kind.startswith("explain")
+        else:
+            rows[-1][1].append(line)
+    return rows
 
 
 def explained(line):
@@ -73,7 +80,7 @@ def context(row, index):
 
 
 def is_wanted(line):
-    return line.split(" ", 1)[0] in ("reply", "request", "refused", "given", "prints", "gets", ">", "and", "..")
+    return line.split(" ", 1)[0] in ("reply", "request", "refused", "given", "prints", "gets", ">", "and", "..", "@", "-", "=")
 
 
 def shown(lines):
@@ -112,9 +119,9 @@ def told(rows, title, wanted, came):
 def differences(rows, wanted, printed):
     """The rows that differ, each as the lines that show it. `rows` are the rows of the text."""
     known = {row.title: row for row in rows}
-    came = dict(parts(printed))
+    came = dict(parts(printed, known))
     found = []
-    for title, lines in parts(wanted):
+    for title, lines in parts(wanted, known):
         if title not in known:
             found.append(["%s: no row of the text has this title; make stdout anew with tools/rows" % title])
         elif title not in came:

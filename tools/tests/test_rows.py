@@ -10,7 +10,7 @@ TOP = os.path.dirname(os.path.dirname(os.path.dirname(os.path.abspath(__file__))
 sys.path[:0] = [TOP + "/tools", TOP + "/python"]
 
 from row_text import messages                                               # noqa: E402
-from row_text.dialects import Driver, Parts, Scripts, Sockets               # noqa: E402
+from row_text.dialects import Driver, Explained, Parts, Scripts, Sockets    # noqa: E402
 from row_text.files import rows_of, streams                                 # noqa: E402
 from row_text.lines import Telling, hex_of                                  # noqa: E402
 from row_text.singly import DONE                                            # noqa: E402
@@ -147,6 +147,11 @@ class Messages(Rows):
         self.assertEqual(sockets.read("reply a null"), (["a > %d" % (len(reply) // 2)], ["a " + reply]))
         self.assertEqual(Parts().read("queue take -> Taken(None)"), (["queue take"], ["-> Taken(None)"]))
         self.assertEqual(Parts().read("queue clear ->"), (["queue clear"], ["->"]))
+        explained = Explained()
+        self.assertEqual(explained.read("0 null"), (["bytes 0 " + Scripts().asked("0 null")[0][8:]], []))
+        for line, wanted in (("- call c0", "- call c0 " + null[8:]), ("- call c1 00", "- call c1 00"), ("@ 2 0", "@ 2 0"),
+                             ('- unit 4 "X 1"', "- unit 4 582031"), ("= stb 4", "= stb 4"), ("reply 0 null", "c0 " + reply)):
+            self.assertEqual(explained.read(line), ([], [wanted]))
         self.assertEqual(Telling(driver.numbering, always=True).told("write c0 " + reply), ["reply 0 null xid=1"])
 
 
@@ -218,6 +223,19 @@ class Differences(Rows):
         status, told = self.tool("row-diff", self.folder + "/two")
         self.assertEqual(status, 1)
         self.assertIn("  | queue take -> Taken(None)\n  wanted  -> Taken(None)\n  came    -> Cleared\n", told)
+
+    def test_a_value_that_differs_is_told_with_its_title(self):
+        path = self.write("two/rows/a.rows", "title a role\nkind explain\n0 open core\n@ 1 0\n= c0.role core\n@ end 0\n\n" + ROWS)
+        self.assertEqual(self.tool("rows", self.folder + "/two")[0], 0)
+        wanted = self.read("two/stdout")
+        self.write("two/out/stdout", wanted)
+        self.assertEqual(self.tool("row-diff", self.folder + "/two"), (0, ""))
+        self.write("two/out/stdout", wanted.replace("= c0.role core", "= c0.role abort"))
+        status, told = self.tool("row-diff", self.folder + "/two")
+        self.assertEqual(status, 1)
+        self.assertIn("%s:1: a role\n  kind explain\n  | 0 open core\n  | @ 1 0\n  wanted  = c0.role core\n  came    = c0.role abort\n"
+                      % path, told)
+        self.assertIn("1 of 4 rows differ", told)
 
     def test_a_line_less_a_line_more_and_an_end(self):
         self.assertIn("  came    nothing more", self.told(self.wanted.replace("refused 4\na b \n= s", "refused 4\n= s"))[1])

@@ -8,10 +8,11 @@ use std::env;
 use std::io::{self, BufWriter, Error, ErrorKind};
 use std::process::ExitCode;
 use sv_net::{ProgramFault, Words, read_words};
-use sv_replay::{RunFault, run_replay};
+use sv_replay::{RunFault, run_explain, run_replay};
 
 /// Runs the program. The command `replay` replays a script from the standard input; the command
-/// `serve` serves clients over sockets.
+/// `explain` does so too, and says what each step changes; the command `serve` serves clients over
+/// sockets.
 fn main(rt: HostRuntime) -> ExitCode {
     match program(&rt) {
         Ok(()) => ExitCode::SUCCESS,
@@ -27,6 +28,7 @@ fn program(rt: &HostRuntime) -> Result<(), ProgramFault> {
     let words = own_words(rt)?;
     match read_words(rt.alloc(), words.get(1..).unwrap_or(&[]))? {
         Words::Replay => Ok(replay(rt)?),
+        Words::Explain => Ok(explain(rt)?),
         Words::Server(serve) => serving::serve(rt, &serve),
     }
 }
@@ -51,4 +53,11 @@ fn replay(rt: &HostRuntime) -> Result<(), RunFault> {
     let alloc = rt.alloc();
     let mut writer = BufWriter::new(alloc, io::writer(rt)).map_err(|_| RunFault::Memory)?;
     run_replay(rt.alloc(), &mut rt.reader(), &mut writer)
+}
+
+/// Explains the script of the standard input. Prints to the standard output.
+fn explain(rt: &HostRuntime) -> Result<(), RunFault> {
+    let alloc = rt.alloc();
+    let mut writer = BufWriter::new(alloc, io::writer(rt)).map_err(|_| RunFault::Memory)?;
+    run_explain(rt.alloc(), &mut rt.reader(), &mut writer)
 }

@@ -6,7 +6,7 @@ use Rattle.sv_net.specs.declared.fault.ProgramFault.{ProgramFault}
 use Rattle.sv_net.specs.declared.fault.ProgramFault.TheVariants.{BadWords, Run, Socket}
 use Rattle.sv_net.specs.declared.words.Serve.{Serve}
 use Rattle.sv_net.specs.declared.words.Words.{Words}
-use Rattle.sv_net.specs.declared.words.Words.TheVariants.{Replay, Server}
+use Rattle.sv_net.specs.declared.words.Words.TheVariants.{Replay, Explain, Server}
 use Rattle.sv_net.specs.Words.{AsksFor, AsksToServe, ReadsWords}
 
 -- the first text is that of the first word
@@ -25,9 +25,14 @@ asks_server (t ∷ ts) serve e serves = (same_Some t _ e, serves)
 pub differ : codes "replay" ≡ codes "serve" → ⊥
 differ is = cc
 
+-- and so do `serve` and `explain`
+pub serves_not : codes "explain" ≡ codes "serve" → ⊥
+serves_not is = cc
+
 no_server : (texts : List Text) → slice_get texts 0 ≡ Some (codes "serve") → ((serve : Serve) → AsksToServe texts serve → ⊥)
     → (asked : Words) → AsksFor texts asked → ⊥
 no_server texts e none Replay is = differ (same_Some _ _ (sym (ap (λ ts. slice_get ts 0) is) ∙ e))
+no_server texts e none Explain is = serves_not (same_Some _ _ (sym (ap (λ ts. slice_get ts 0) is) ∙ e))
 no_server [] e none (Server serve) asks = asks
 no_server (t ∷ ts) e none (Server serve) asks = none serve asks.1
 
@@ -38,9 +43,9 @@ asks_fault texts BadWords e none = no_server texts e none
 asks_fault texts (Run fault) e is = is
 asks_fault texts Socket e never = never
 
--- the word `replay` alone
-pub asks_replay : {A : Type 0} (text : A → Text) (words : List A) → slice_get (map text words) 0 ≡ Some (codes "replay")
-    → length words ≡ 1 → map text words ≡ codes "replay" ∷ []
-asks_replay text [] e one = absurd (none-some _ e)
-asks_replay text (w ∷ []) e one = ap (λ w. w ∷ []) (same_Some (text w) _ e)
-asks_replay text (v ∷ w ∷ ws) e one = absurd (omega (arith, one))
+-- one word alone
+pub asks_alone : {A : Type 0} (text : A → Text) (words : List A) (word : Text) → slice_get (map text words) 0 ≡ Some word
+    → length words ≡ 1 → map text words ≡ word ∷ []
+asks_alone text [] word e one = absurd (none-some _ e)
+asks_alone text (w ∷ []) word e one = ap (λ w. w ∷ []) (same_Some (text w) _ e)
+asks_alone text (v ∷ w ∷ ws) word e one = absurd (omega (arith, one))

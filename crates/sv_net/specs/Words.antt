@@ -11,7 +11,7 @@ use Rattle.sv_net.specs.declared.fault.ProgramFault.{ProgramFault}
 use Rattle.sv_net.specs.declared.fault.ProgramFault.TheVariants.{BadWords, Run, Socket}
 use Rattle.sv_net.specs.declared.words.Serve.{Serve}
 use Rattle.sv_net.specs.declared.words.Words.{Words}
-use Rattle.sv_net.specs.declared.words.Words.TheVariants.{Replay, Server}
+use Rattle.sv_net.specs.declared.words.Words.TheVariants.{Replay, Explain, Server}
 
 -- The text is 1 to 10 decimal digits, and their value `n` is from 1 to `most`.
 abbrev pub IsCount : ℕ → Text → ℕ → Type 0
@@ -46,10 +46,11 @@ abbrev pub AsksToServe : List Text → Serve → Type 0
 AsksToServe words serve = (Contains words (codes "--") → ⊥) × (fault_of serve_command words ≡ [])
     × ServesBy (λ name. first_of name (matches_of serve_command words)) serve
 
--- The words of the command line tell the program to do this: for a replay, they are the single word `replay`; for a server, they are
--- `serve` and its options.
+-- The words of the command line tell the program to do this: for a replay, they are the single word `replay`; for an explained replay,
+-- the single word `explain`; for a server, they are `serve` and its options.
 abbrev pub AsksFor : List Text → Words → Type 0
 AsksFor words Replay = words ≡ codes "replay" ∷ []
+AsksFor words Explain = words ≡ codes "explain" ∷ []
 AsksFor [] (Server serve) = ⊥
 AsksFor (word ∷ words) (Server serve) = (word ≡ codes "serve") × AsksToServe (word ∷ words) serve
 

@@ -20,6 +20,8 @@ use sv_replay::RunFault;
 pub enum Words<'a> {
     /// Replay the script that comes on the standard input.
     Replay,
+    /// Replay the script, and explain what each step changes.
+    Explain,
     /// Run a server.
     Server(Serve<'a>),
 }
@@ -39,11 +41,11 @@ pub struct Serve<'a> {
     pub sweeps: u32,
 }
 
-/// Reads the words after the program's name. They are the single word `replay`; or `serve` and five
-/// options in any order, each exactly one time and with its value. The options are `--core`,
-/// `--abort` and `--portmap` with a port of 1 to 65535, `--scenario` with a path, and `--sweeps`
-/// with 1 to 4,294,967,295. A number has 1 to 10 decimal digits. No further word is allowed, and no
-/// `--`.
+/// Reads the words after the program's name. They are the single word `replay` or `explain`; or
+/// `serve` and five options in any order, each exactly one time and with its value. The options are
+/// `--core`, `--abort` and `--portmap` with a port of 1 to 65535, `--scenario` with a path, and
+/// `--sweeps` with 1 to 4,294,967,295. A number has 1 to 10 decimal digits. No further word is
+/// allowed, and no `--`.
 ///
 /// # Errors
 /// `Run(Memory)` if memory is refused; `BadWords` if the words are anything else.
@@ -59,6 +61,8 @@ pub fn read_words<'a, S: AsStr>(alloc: Global, words: &'a [S]) -> Result<Words<'
     }
     if (words.len() == 1) & (word == "replay") {
         Ok(Words::Replay)
+    } else if (words.len() == 1) & (word == "explain") {
+        Ok(Words::Explain)
     } else {
         Err(ProgramFault::BadWords)
     }

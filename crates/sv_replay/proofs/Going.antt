@@ -1,20 +1,21 @@
 -- What one turn of a run makes of a stage.
 use Rattle.std.proofs.Common.{◌≡◌, ℕ, ◌+◌, ◌<◌, true, false, Bool, List, [], ◌∷◌, ◌++◌, length, take, drop, Option, Some, None, refl, sym, ap, subst, ◌∙◌, inl, inr, append-nil, append_assoc, arith}
-use Rattle.std.specs.Prelude.{◌⊎◌, Result, Ok, Err, ⊤, IsErr, IsErrAnd, OnOk}
+use Rattle.std.specs.Prelude.{Result, Ok, Err, ⊤, IsErr, IsErrAnd}
 use Rattle.std.proofs.lemmas.List.{take_all}
 use Rattle.std.specs.Io.KnownBytes.{Consumes, Appends, Keeps, IsAtEnd}
 use Rattle.sv_server.specs.Server.State.{State, StandsFor}
-use Rattle.sv_server.proofs.OnReplay.Taking.{appends_none, appends_keeps, appends_then}
+use Rattle.sv_print.proofs.Taking.{appends_none, appends_keeps, appends_then}
+use Rattle.sv_replay.specs.declared.mode.Mode.{Mode}
 use Rattle.sv_replay.specs.declared.fault.RunFault.{RunFault}
-use Rattle.sv_replay.specs.declared.fault.RunFault.TheVariants.{BadLine, Input, Output, Memory}
+use Rattle.sv_replay.specs.declared.fault.RunFault.TheVariants.{BadLine, Input, Output}
 use Rattle.sv_replay.specs.Text.{first_end}
 use Rattle.sv_replay.specs.Script.{parts}
 use Rattle.sv_replay.specs.Run.{set_up, Runs}
-use Rattle.sv_replay.specs.Stage.{IsStage, Goes, Further}
+use Rattle.sv_replay.specs.Stage.{IsStage, IsDone, Goes, Further, StepsRun}
 use Rattle.sv_replay.proofs.Parts.{parts_found, parts_none, parts_never}
-use Rattle.sv_replay.proofs.Staged.{LineDone, stage_start, stage_line, stage_last, stage_stop, stage_read, stage_long, stage_output, output_instead, stage_input}
+use Rattle.sv_replay.proofs.Staged.{LineDone, stage_start, stage_line, stage_last, stage_stop, stage_read, stage_long, stage_output, stage_input}
 
-consumes_none : (old : Option (List ℕ)) → Consumes old old []
+pub consumes_none : (old : Option (List ℕ)) → Consumes old old []
 consumes_none None = tt
 consumes_none (Some xs) = refl
 
@@ -29,95 +30,101 @@ still : (fact : List ℕ → Type 0) (read more : List ℕ) → more ≡ [] → 
 still fact read more none holds = subst fact (sym (append-nil read) ∙ ap (λ (l : List ℕ). read ++ l) (sym none)) holds
 
 -- a fault that is passed on
-goes_err : (server : State) (left : List ℕ) (number : ℕ) (rest : Option (List ℕ)) (fault : RunFault) (result : Result Bool RunFault)
+goes_err : (mode : Mode) (server : State) (left : List ℕ) (number : ℕ) (rest : Option (List ℕ)) (fault : RunFault)
+    (result : Result Bool RunFault)
     (read text : List ℕ) → IsErr result → IsErrAnd result (λ e. e ≡ fault)
-    → Runs read rest (Err fault) text → Goes server left number rest result read text
-goes_err server left number rest fault (Ok more) read text failed is runs = absurd cc
-goes_err server left number rest fault (Err e) read text failed is runs =
-    subst (λ (f : RunFault). Runs read rest (Err f) text) (sym is) runs
+    → Runs mode read rest (Err fault) text → Goes mode server left number rest result read text
+goes_err mode server left number rest fault (Ok more) read text failed is runs = absurd cc
+goes_err mode server left number rest fault (Err e) read text failed is runs =
+    subst (λ (f : RunFault). Runs mode read rest (Err f) text) (sym is) runs
 
 -- what a turn makes of each stage
-abbrev pub Going : State → State → List ℕ → List ℕ → ℕ → ℕ → Option (List ℕ) → Option (List ℕ) → Option (List ℕ) → Option (List ℕ)
+abbrev pub Going : Mode → State → State → List ℕ → List ℕ → ℕ → ℕ → Option (List ℕ) → Option (List ℕ) → Option (List ℕ) → Option (List ℕ)
     → Result Bool RunFault → Type 0
-Going old new left rest number next reader after first last result =
-    Further reader after first last (IsStage old left number) (Goes new rest next after result)
+Going mode old new left rest number next reader after first last result =
+    Further reader after first last (IsStage mode old left number) (Goes mode new rest next after result)
 
-pub go_line : (old new : State) (left line rest : List ℕ) (len number next : ℕ) (reader first last : Option (List ℕ))
+pub go_line : (mode : Mode) (old new : State) (left line rest : List ℕ) (len number next : ℕ) (reader first last : Option (List ℕ))
     → first_end left ≡ Some len → line ≡ take len left → rest ≡ drop (len + 1) left
-    → next ≡ number + 1 → LineDone old new line next (Ok tt) first last
-    → Going old new left rest number next reader reader first last (Ok true)
-go_line old new left line rest len number next reader first last found cut is up does read text stage =
+    → next ≡ number + 1 → LineDone mode old new line next (Ok tt) first last
+    → Going mode old new left rest number next reader reader first last (Ok true)
+go_line mode old new left line rest len number next reader first last found cut is up does read text stage =
     let whole : parts left ≡ line ∷ parts rest = parts_found left len found ∙ ap (λ (l : List ℕ). l ∷ parts (drop (len + 1) left)) (sym cut)
     ∙ ap (λ (l : List ℕ). line ∷ parts l) (sym is) in
-    let (other, put, on) = stage_line old new left rest line number next read text first last whole up stage does in
-    ([], other, consumes_none reader, put, still (λ r. IsStage new rest next r (text ++ other)) read [] refl on)
+    let (other, put, on) = stage_line mode old new left rest line number next read text first last whole up stage does in
+    ([], other, consumes_none reader, put, still (λ r. IsStage mode new rest next r (text ++ other)) read [] refl on)
 
-pub go_line_stop : (old new : State) (left line rest : List ℕ) (len number next last_number : ℕ) (reader first last : Option (List ℕ))
+pub go_line_stop : (mode : Mode) (old new : State) (left line rest : List ℕ) (len number next last_number : ℕ) (reader first last : Option
+    (List ℕ))
     (fault : RunFault) (result : Result Bool RunFault) → first_end left ≡ Some len
     → line ≡ take len left → next ≡ number + 1 → IsErr result → IsErrAnd result (λ e. e ≡ fault)
-    → LineDone old new line next (Err fault) first last
-    → Going old new left rest number last_number reader reader first last result
-go_line_stop old new left line rest len number next last_number reader first last fault result found cut up failed is does read text stage =
+    → LineDone mode old new line next (Err fault) first last
+    → Going mode old new left rest number last_number reader reader first last result
+go_line_stop mode old new left line rest len number next last_number reader first last fault result found cut up failed is does read text
+    stage =
     let whole : parts left ≡ line ∷ parts (drop (len + 1) left) =
     parts_found left len found ∙ ap (λ (l : List ℕ). l ∷ parts (drop (len + 1) left)) (sym cut) in
-    let (other, put, runs) = stage_stop old new left line _ number next fault read text reader first last whole up
+    let (other, put, runs) = stage_stop mode old new left line _ number next fault read text reader first last whole up
     (inl (parts_never (drop (len + 1) left))) stage does in (
       [],
       other,
       consumes_none reader,
       put,
-      goes_err new rest last_number reader fault result (read ++ []) (text ++ other) failed is
-          (still (λ r. Runs r reader (Err fault) (text ++ other)) read [] refl runs),
+      goes_err mode new rest last_number reader fault result (read ++ []) (text ++ other) failed is
+          (still (λ r. Runs mode r reader (Err fault) (text ++ other)) read [] refl runs),
     )
 
-pub go_long : (old : State) (left : List ℕ) (number next : ℕ) (reader first : Option (List ℕ)) → first_end left ≡ None → 65536 < length left
+pub go_long : (mode : Mode) (old : State) (left : List ℕ) (number next : ℕ) (reader first : Option (List ℕ)) → first_end left ≡ None
+    → 65536 < length left
     → next ≡ number + 1
-    → Going old old left left number number reader reader first first (Err (BadLine next))
-go_long old left number next reader first none long up read text stage = (
+    → Going mode old old left left number number reader reader first first (Err (BadLine next))
+go_long mode old left number next reader first none long up read text stage = (
   [],
   [],
   consumes_none reader,
   appends_none first,
-  still (λ r. Runs r reader (Err (BadLine next)) (text ++ [])) read [] refl
-      (still (λ t. Runs read reader (Err (BadLine next)) t) text [] refl
-      (stage_long old left number next read text reader none long up stage)),
+  still (λ r. Runs mode r reader (Err (BadLine next)) (text ++ [])) read [] refl
+      (still (λ t. Runs mode read reader (Err (BadLine next)) t) text [] refl
+      (stage_long mode old left number next read text reader none long up stage)),
 )
 
-pub go_output : (old : State) (left : List ℕ) (number : ℕ) (reader first last : Option (List ℕ)) (fault : RunFault)
+pub go_output : (mode : Mode) (old : State) (left : List ℕ) (number : ℕ) (reader first last : Option (List ℕ)) (fault : RunFault)
     (result : Result Bool RunFault) → Keeps first last → fault ≡ Output
-    → IsErr result → IsErrAnd result (λ e. e ≡ fault) → Going old old left left number number reader reader first last result
-go_output old left number reader first last fault result kept told failed is read text stage = (
+    → IsErr result → IsErrAnd result (λ e. e ≡ fault) → Going mode old old left left number number reader reader first last result
+go_output mode old left number reader first last fault result kept told failed is read text stage = (
   [],
   [],
   consumes_none reader,
   appends_keeps first first last [] (appends_none first) kept,
-  goes_err old left number reader fault result (read ++ []) (text ++ []) failed is
-      (rw told (still (λ r. Runs r reader (Err Output) (text ++ [])) read [] refl
-      (still (λ t. Runs read reader (Err Output) t) text [] refl (stage_output old left number read text reader stage)))),
+  goes_err mode old left number reader fault result (read ++ []) (text ++ []) failed is
+      (rw told (still (λ r. Runs mode r reader (Err Output) (text ++ [])) read [] refl
+      (still (λ t. Runs mode read reader (Err Output) t) text [] refl (stage_output mode old left number read text reader stage)))),
 )
 
-pub go_input : (old : State) (left rest more : List ℕ) (number : ℕ) (reader after first last : Option (List ℕ))
+pub go_input : (mode : Mode) (old : State) (left rest more : List ℕ) (number : ℕ) (reader after first last : Option (List ℕ))
     (result : Result Bool RunFault) → first_end left ≡ None → Keeps first last → Consumes reader after more → more ≡ []
-    → IsErr result → IsErrAnd result (λ e. e ≡ Input) → Going old old left rest number number reader after first last result
-go_input old left rest more number reader after first last result none kept took given failed is read text stage = (
+    → IsErr result → IsErrAnd result (λ e. e ≡ Input) → Going mode old old left rest number number reader after first last result
+go_input mode old left rest more number reader after first last result none kept took given failed is read text stage = (
   more,
   [],
   took,
   appends_keeps first first last [] (appends_none first) kept,
-  goes_err old rest number after Input result (read ++ more) (text ++ []) failed is
-      (still (λ r. Runs r after (Err Input) (text ++ [])) read more given
-      (still (λ t. Runs read after (Err Input) t) text [] refl (stage_input old left number read text after none stage))),
+  goes_err mode old rest number after Input result (read ++ more) (text ++ []) failed is
+      (still (λ r. Runs mode r after (Err Input) (text ++ [])) read more given
+      (still (λ t. Runs mode read after (Err Input) t) text [] refl (stage_input mode old left number read text after none stage))),
 )
 
-pub go_read : (old : State) (left rest more : List ℕ) (number : ℕ) (reader after first last : Option (List ℕ)) → Keeps first last
+pub go_read : (mode : Mode) (old : State) (left rest more : List ℕ) (number : ℕ) (reader after first last : Option (List ℕ))
+    → Keeps first last
     → Consumes reader after more → rest ≡ left ++ more
-    → Going old old left rest number number reader after first last (Ok true)
-go_read old left rest more number reader after first last kept took is read text stage = (
+    → Going mode old old left rest number number reader after first last (Ok true)
+go_read mode old left rest more number reader after first last kept took is read text stage = (
   more,
   [],
   took,
   appends_keeps first first last [] (appends_none first) kept,
-  rw is (still (λ t. IsStage old (left ++ more) number (read ++ more) t) text [] refl (stage_read old left number read text more stage)),
+  rw is (still (λ t. IsStage mode old (left ++ more) number (read ++ more) t) text [] refl
+      (stage_read mode old left number read text more stage)),
 )
 
 -- the last line is all that is left
@@ -127,39 +134,40 @@ last_line left more rest line none is given cut =
     let same : rest ≡ left = is ∙ ap (λ (l : List ℕ). left ++ l) given ∙ append-nil left in
     parts_none left none ∙ ap (λ (l : List ℕ). l ∷ []) (sym (cut ∙ take_all (length rest) rest (omega arith) ∙ same))
 
-pub go_last_stop : (old new : State) (left rest line more : List ℕ) (number next last_number : ℕ)
+pub go_last_stop : (mode : Mode) (old new : State) (left rest line more : List ℕ) (number next last_number : ℕ)
     (reader after first mid last : Option (List ℕ)) (fault : RunFault) (result : Result Bool RunFault) → first_end left ≡ None
     → rest ≡ left ++ more → more ≡ [] → line ≡ take (length rest) rest → next ≡ number + 1 → Consumes reader after more → IsAtEnd after
     → Keeps first mid → IsErr result → IsErrAnd result (λ e. e ≡ fault)
-    → LineDone old new line next (Err fault) mid last → Going old new left rest number last_number reader after first last result
-go_last_stop old new left rest line more number next last_number reader after first mid last fault result none is given cut up took end kept
+    → LineDone mode old new line next (Err fault) mid last → Going mode old new left rest number last_number reader after first last result
+go_last_stop mode old new left rest line more number next last_number reader after first mid last fault result none is given cut up took
+    end kept
     failed told does read text stage =
-    let (other, put, runs) = stage_stop old new left line [] number next fault read text after mid last
+    let (other, put, runs) = stage_stop mode old new left line [] number next fault read text after mid last
     (last_line left more rest line none is given cut) up (inr end) stage does in (
       more,
       other,
       took,
       keeps_appends first mid last other kept put,
-      goes_err new rest last_number after fault result (read ++ more) (text ++ other) failed told
-          (still (λ r. Runs r after (Err fault) (text ++ other)) read more given runs),
+      goes_err mode new rest last_number after fault result (read ++ more) (text ++ other) failed told
+          (still (λ r. Runs mode r after (Err fault) (text ++ other)) read more given runs),
     )
 
-pub go_last : (old new : State) (left rest line more : List ℕ) (number next last_number : ℕ) (reader after first mid last : Option (List ℕ))
-    → first_end left ≡ None → rest ≡ left ++ more → more ≡ []
-    → line ≡ take (length rest) rest → Consumes reader after more → IsAtEnd after → Keeps first mid
-    → LineDone old new line next (Ok tt) mid last
-    → Going old new left rest number last_number reader after first last (Ok false)
-go_last old new left rest line more number next last_number reader after first mid last none is given cut took end kept does read text
-    stage =
-    let (other, put, runs) = stage_last old new left line number next read text after mid last
-    (last_line left more rest line none is given cut) stage does in (
+pub go_last : (mode : Mode) (old new : State) (left rest line more : List ℕ) (number next last_number : ℕ)
+    (reader after first mid last : Option (List ℕ)) → first_end left ≡ None → rest ≡ left ++ more → more ≡ []
+    → line ≡ take (length rest) rest → next ≡ number + 1 → Consumes reader after more → IsAtEnd after → Keeps first mid
+    → LineDone mode old new line next (Ok tt) mid last
+    → Going mode old new left rest number last_number reader after first last (Ok false)
+go_last mode old new left rest line more number next last_number reader after first mid last none is given cut up took end kept does read
+    text stage =
+    let (other, put, done) = stage_last mode old new left line number next read text mid last
+    (last_line left more rest line none is given cut) up stage does in (
       more,
       other,
       took,
       keeps_appends first mid last other kept put,
       (
         end,
-        still (λ r. Runs r after (Ok tt) (text ++ other)) read more given runs,
+        still (λ r. IsDone mode new r (text ++ other)) read more given done,
       ),
     )
 
@@ -173,26 +181,28 @@ consumes_then (Some xs) (Some ys) (Some zs) a b x y = x ∙ ap (λ (l : List ℕ
 abbrev pub SoFar : Option (List ℕ) → Option (List ℕ) → Option (List ℕ) → Option (List ℕ) → (List ℕ → List ℕ → Type 0) → Type 0
 SoFar reader after first last fact = (read text : List ℕ) × Consumes reader after read × Appends first last text × fact read text
 
-pub so_far_start : (server : State) (left : List ℕ) (number : ℕ) (reader first : Option (List ℕ)) → StandsFor server set_up [] → left ≡ []
+pub so_far_start : (mode : Mode) (server : State) (left : List ℕ) (number : ℕ) (reader first : Option (List ℕ))
+    → StandsFor server set_up [] → left ≡ []
     → number ≡ 0
-    → SoFar reader reader first first (λ read text. IsStage server left number read text)
-so_far_start server left number reader first s none zero_lines = (
+    → SoFar reader reader first first (λ read text. IsStage mode server left number read text)
+so_far_start mode server left number reader first s none zero_lines = (
   [],
   [],
   consumes_none reader,
   appends_none first,
-  subst (λ (l : List ℕ). IsStage server l number [] []) (sym none)
-      (subst (λ (n : ℕ). IsStage server [] n [] []) (sym zero_lines) (stage_start server s)),
+  subst (λ (l : List ℕ). IsStage mode server l number [] []) (sym none)
+      (subst (λ (n : ℕ). IsStage mode server [] n [] []) (sym zero_lines) (stage_start mode server s)),
 )
 
--- one turn more
-pub so_far_turn : (old new : State) (left rest : List ℕ) (number next : ℕ) (reader middle after first mid last : Option (List ℕ))
-    (result : Result Bool RunFault)
-    → SoFar reader middle first mid (λ read text. IsStage old left number read text)
-    → Going old new left rest number next middle after mid last result
-    → SoFar reader after first last (λ read text. Goes new rest next after result read text)
-so_far_turn old new left rest number next reader middle after first mid last result (read, text, took, put, stage) going =
-    let (more, other, took_more, put_more, goes) = going read text stage in (
+-- one turn more, in the same mode
+pub so_far_turn : (mode own : Mode) (old new : State) (left rest : List ℕ) (number next : ℕ)
+    (reader middle after first mid last : Option (List ℕ)) (result : Result Bool RunFault) → own ≡ mode
+    → SoFar reader middle first mid (λ read text. IsStage mode old left number read text)
+    → Going own old new left rest number next middle after mid last result
+    → SoFar reader after first last (λ read text. Goes mode new rest next after result read text)
+so_far_turn mode own old new left rest number next reader middle after first mid last result same (read, text, took, put, stage) going =
+    let (more, other, took_more, put_more, goes) =
+    subst (λ (m : Mode). Going m old new left rest number next middle after mid last result) same going read text stage in (
       read ++ more,
       text ++ other,
       consumes_then reader middle after read more took took_more,
@@ -200,56 +210,19 @@ so_far_turn old new left rest number next reader middle after first mid last res
       goes,
     )
 
-pub so_far_stop : (new : State) (rest : List ℕ) (next : ℕ) (reader after first last : Option (List ℕ)) (fault : RunFault)
+pub so_far_stop : (mode : Mode) (new : State) (rest : List ℕ) (next : ℕ) (reader after first last : Option (List ℕ)) (fault : RunFault)
     (result : Result ⊤ RunFault) → IsErr result → IsErrAnd result (λ e. e ≡ fault)
-    → SoFar reader after first last (λ read text. Goes new rest next after (Err fault) read text)
-    → SoFar reader after first last (λ read text. Runs read after result text)
-so_far_stop new rest next reader after first last fault (Ok all) failed is so = absurd cc
-so_far_stop new rest next reader after first last fault (Err e) failed is (read, text, took, put, runs) =
-    (read, text, took, put, subst (λ (f : RunFault). Runs read after (Err f) text) (sym is) runs)
+    → SoFar reader after first last (λ read text. Goes mode new rest next after (Err fault) read text)
+    → StepsRun mode new reader after first last result
+so_far_stop mode new rest next reader after first last fault (Ok all) failed is so = absurd cc
+so_far_stop mode new rest next reader after first last fault (Err e) failed is (read, text, took, put, runs) =
+    (read, text, took, put, subst (λ (f : RunFault). Runs mode read after (Err f) text) (sym is) runs)
 
-pub so_far_end : (new : State) (rest : List ℕ) (next : ℕ) (reader after first last : Option (List ℕ))
-    → SoFar reader after first last (λ read text. Goes new rest next after (Ok false) read text)
-    → SoFar reader after first last (λ read text. Runs read after (Ok tt) text)
-so_far_end new rest next reader after first last (read, text, took, put, (end, runs)) = (read, text, took, put, runs)
+pub so_far_end : (mode : Mode) (new : State) (rest : List ℕ) (next : ℕ) (reader after first last : Option (List ℕ))
+    → SoFar reader after first last (λ read text. Goes mode new rest next after (Ok false) read text)
+    → StepsRun mode new reader after first last (Ok tt)
+so_far_end mode new rest next reader after first last (read, text, took, put, (end, done)) = (read, text, took, put, done)
 
-pub so_far_at_end : (new : State) (rest : List ℕ) (next : ℕ) (reader after first last : Option (List ℕ))
-    → SoFar reader after first last (λ read text. Goes new rest next after (Ok false) read text) → IsAtEnd after
-so_far_at_end new rest next reader after first last (read, text, took, put, (end, runs)) = end
-
--- memory was refused at the start
-pub no_memory : (reader first : Option (List ℕ)) (result : Result ⊤ RunFault) → IsErr result → IsErrAnd result (λ e. e ≡ Memory)
-    → SoFar reader reader first first (λ read text. Runs read reader result text)
-no_memory reader first (Ok all) failed is = absurd cc
-no_memory reader first (Err e) failed is = (
-  [],
-  [],
-  consumes_none reader,
-  appends_none first,
-  subst (λ (f : RunFault). Runs [] reader (Err f) []) (sym is) (inl (refl, refl)),
-)
-
--- what was printed is passed on, and then the answer is told, or the output's fault
-pub so_far_told : (reader after first mid last : Option (List ℕ)) (answer result : Result ⊤ RunFault) → OnOk answer (IsAtEnd after)
-    → (result ≡ answer) ⊎ (result ≡ Err Output) → Keeps mid last
-    → SoFar reader after first mid (λ read text. Runs read after answer text)
-    → SoFar reader after first last (λ read text. Runs read after result text)
-so_far_told reader after first mid last answer result end (inl same) kept (read, text, took, put, runs) = (
-  read,
-  text,
-  took,
-  appends_keeps first mid last text put kept,
-  subst (λ (r : Result ⊤ RunFault). Runs read after r text) (sym same) runs,
-)
-so_far_told reader after first mid last answer result end (inr failed) kept (read, text, took, put, runs) = (
-  read,
-  text,
-  took,
-  appends_keeps first mid last text put kept,
-  subst (λ (r : Result ⊤ RunFault). Runs read after r text) (sym failed) (output_instead read text after answer end runs),
-)
-
-pub end_told : (after : Option (List ℕ)) (answer result : Result ⊤ RunFault) → OnOk answer (IsAtEnd after)
-    → (result ≡ answer) ⊎ (result ≡ Err Output) → OnOk result (IsAtEnd after)
-end_told after answer result end (inl same) = subst (λ (r : Result ⊤ RunFault). OnOk r (IsAtEnd after)) (sym same) end
-end_told after answer result end (inr failed) = subst (λ (r : Result ⊤ RunFault). OnOk r (IsAtEnd after)) (sym failed) tt
+pub so_far_at_end : (mode : Mode) (new : State) (rest : List ℕ) (next : ℕ) (reader after first last : Option (List ℕ))
+    → SoFar reader after first last (λ read text. Goes mode new rest next after (Ok false) read text) → IsAtEnd after
+so_far_at_end mode new rest next reader after first last (read, text, took, put, (end, done)) = end

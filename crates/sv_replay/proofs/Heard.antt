@@ -1,6 +1,6 @@
 -- What a reader was heard to give, and what a run answers.
 use Rattle.std.proofs.Common.{◌≡◌, ◌⊎◌, ℕ, Bool, List, Result, Ok, Err, subst, sym, inl, inr, IsErr, IsErrAnd}
-use Rattle.std.specs.Prelude.{⊤}
+use Rattle.std.specs.Prelude.{⊤, IfErr}
 use Rattle.sv_replay.specs.declared.fault.RunFault.{RunFault}
 use Rattle.sv_replay.specs.declared.fault.RunFault.TheVariants.{BadLine, Input, Output, Memory}
 use Rattle.sv_replay.specs.declared.input.InputFault.{InputFault}
@@ -47,3 +47,10 @@ pub read_out : {S : Type 0} (gives : S → Gave → S → Type 0) (first last : 
 read_out gives first last answer result (inl same) out = subst (λ (r : Result ⊤ RunFault). IsReadOut gives first last r) (sym same) out
 read_out gives first last answer result (inr failed) (reads, made, on) =
     subst (λ (r : Result ⊤ RunFault). IsReadOut gives first last r) (sym failed) (reads, made, tt)
+
+-- behind the lines of a run only the output fails
+pub read_end : {S : Type 0} (gives : S → Gave → S → Type 0) (first last : S) (result : Result ⊤ RunFault)
+    → IfErr result (λ e. e ≡ Output) → IsReadOut gives first last (Ok tt) → IsReadOut gives first last result
+read_end gives first last (Ok all) is out = out
+read_end gives first last (Err e) is (reads, made, on) =
+    subst (λ (f : RunFault). IsReadOut gives first last (Err f)) (sym is) (reads, made, tt)

@@ -8,6 +8,8 @@ pub mod Parts
 pub mod Staged
 pub mod Printed
 pub mod Going
+pub mod Ending
+mod Filter
 pub mod Entries
 pub mod Scenarios
 mod Heard

@@ -5,117 +5,131 @@ use Rattle.std.specs.Prelude.{Result, Ok, Err, ⊤, IsErr, IsErrAnd}
 use Rattle.sv_history.specs.declared.event.Config.{Config}
 use Rattle.sv_server.specs.declared.replay.ReplayFault.{ReplayFault}
 use Rattle.sv_history.specs.Event.{PlainEvent, Tick}
-use Rattle.sv_server.specs.Replay.Replays.{Replays}
-use Rattle.sv_replay.specs.Line.{Line, Says}
-use Rattle.sv_replay.specs.Script.{events_of, IsScript, Prints, Stops, Performs}
+use Rattle.sv_replay.specs.declared.mode.Mode.{Mode}
+use Rattle.sv_replay.specs.Line.{Line, Ticks, Says}
+use Rattle.sv_replay.specs.Script.{ScriptEvent, events_of, IsScript, PrintsOne, Prints, Stops, Performs}
 
-pub script_push : (lines : List (List ℕ)) (events : List PlainEvent) (line : List ℕ) (said : Line) → IsScript lines events
-    → length line ≤ 65536 → Says line said
-    → IsScript (lines ++ line ∷ []) (events ++ events_of said)
-script_push [] events line said is short says = (
+-- one line more: its number is that behind the lines before it
+pub script_push : (first : ℕ) (lines : List (List ℕ)) (events : List ScriptEvent) (line : List ℕ) (number : ℕ) (said : Line)
+    → number ≡ first + length lines → IsScript first lines events → length line ≤ 65536 → Says line said
+    → IsScript first (lines ++ line ∷ []) (events ++ events_of number said)
+script_push first [] events line number said at is short says = (
   said,
   [],
   short,
   says,
   refl,
-  ap (λ (es : List PlainEvent). es ++ events_of said) is ∙ sym (append-nil (events_of said)),
+  ap (λ (es : List ScriptEvent). es ++ events_of number said) is
+      ∙ ap (λ (n : ℕ). events_of n said) (omega (arith, at)) ∙ sym (append-nil (events_of first said)),
 )
-script_push (first ∷ lines) events line said (first_said, others, first_short, first_says, rest, is) short says = (
-  first_said,
-  others ++ events_of said,
-  first_short,
-  first_says,
-  script_push lines others line said rest short says,
-  ap (λ (es : List PlainEvent). es ++ events_of said) is ∙ append_assoc (events_of first_said) others (events_of said),
-)
-
-pub prints_then : (config : Config) (history : List PlainEvent) (events more : List PlainEvent) (text other : List ℕ)
-    (middle after : List PlainEvent) → Prints config history events text middle
-    → Prints config middle more other after → Prints config history (events ++ more) (text ++ other) after
-prints_then config history [] more text other middle after (none, same) second = rw (none, ← same) second
-prints_then config history (event ∷ events) more text other middle after (first, rest, next, replays, prints, is) second = (
-  first,
-  rest ++ other,
-  next,
-  replays,
-  prints_then config next events more rest other middle after prints second,
-  ap (λ (l : List ℕ). l ++ other) is ∙ append_assoc first rest other,
+script_push first (other ∷ lines) events line number said at (other_said, others, other_short, other_says, rest, is) short says = (
+  other_said,
+  others ++ events_of number said,
+  other_short,
+  other_says,
+  script_push (first + 1) lines others line number said (omega (arith, at)) rest short says,
+  ap (λ (es : List ScriptEvent). es ++ events_of number said) is
+      ∙ append_assoc (events_of first other_said) others (events_of number said),
 )
 
-pub prints_one : (config : Config) (history : List PlainEvent) (event : PlainEvent) (text : List ℕ) (after : List PlainEvent)
-    → Replays config history event (Ok tt) text after
-    → Prints config history (event ∷ []) text after
-prints_one config history event text after replays = (text, [], after, replays, (refl, refl), sym (append-nil text))
+module _ (mode : Mode) (config : Config) where
+  pub prints_then : (history : List PlainEvent) (events more : List ScriptEvent) (text other : List ℕ) (middle after : List PlainEvent)
+      → Prints mode config history events text middle → Prints mode config middle more other after
+      → Prints mode config history (events ++ more) (text ++ other) after
+  prints_then history [] more text other middle after (none, same) second = rw (none, ← same) second
+  prints_then history (said ∷ events) more text other middle after (first, rest, next, prints, others, is) second = (
+    first,
+    rest ++ other,
+    next,
+    prints,
+    prints_then next events more rest other middle after others second,
+    ap (λ (l : List ℕ). l ++ other) is ∙ append_assoc first rest other,
+  )
 
-pub stops_one : (config : Config) (history : List PlainEvent) (event : PlainEvent) (others : List PlainEvent) (fault : ReplayFault)
-    (text : List ℕ) (after : List PlainEvent)
-    → Replays config history event (Err fault) text after → Stops config history (event ∷ others) fault text after
-stops_one config history event others fault text after replays = ([], others, event, refl, [], text, history, (refl, refl), replays, refl)
+  pub prints_one : (history : List PlainEvent) (said : ScriptEvent) (text : List ℕ) (after : List PlainEvent)
+      → PrintsOne mode said.line config history said.event (Ok tt) text after → Prints mode config history (said ∷ []) text after
+  prints_one history said text after prints = (text, [], after, prints, (refl, refl), sym (append-nil text))
 
-pub stops_then : (config : Config) (history : List PlainEvent) (events more : List PlainEvent) (fault : ReplayFault) (text other : List ℕ)
-    (middle after : List PlainEvent) → Prints config history events text middle
-    → Stops config middle more fault other after → Stops config history (events ++ more) fault (text ++ other) after
-stops_then config history events more fault text other middle after first (
-  done,
-  others,
-  event,
-  split,
-  front,
-  last,
-  next,
-  prints,
-  replays,
-  is,
-) = (
-  events ++ done,
-  others,
-  event,
-  ap (λ (es : List PlainEvent). events ++ es) split ∙ sym (append_assoc events done (event ∷ others)),
-  text ++ front,
-  last,
-  next,
-  prints_then config history events done text front middle next first prints,
-  replays,
-  ap (λ (l : List ℕ). text ++ l) is ∙ sym (append_assoc text front last),
-)
+  pub stops_one : (history : List PlainEvent) (said : ScriptEvent) (others : List ScriptEvent) (fault : ReplayFault) (text : List ℕ)
+      (after : List PlainEvent) → PrintsOne mode said.line config history said.event (Err fault) text after
+      → Stops mode config history (said ∷ others) fault text after
+  stops_one history said others fault text after prints = ([], others, said, refl, [], text, history, (refl, refl), prints, refl)
 
--- the ticks around one of them
-replicate_split : (i n : ℕ) → i < n → (others : List PlainEvent) × (replicate n Tick ≡ replicate i Tick ++ Tick ∷ others)
-replicate_split zero zero h = absurd (omega arith)
-replicate_split (suc i) zero h = absurd (omega arith)
-replicate_split zero (suc n) h = (replicate n Tick, refl)
-replicate_split (suc i) (suc n) h = let (others, e) = replicate_split i n (omega arith) in
-    (others, ap (λ (es : List PlainEvent). Tick ∷ es) e)
+  pub stops_then : (history : List PlainEvent) (events more : List ScriptEvent) (fault : ReplayFault) (text other : List ℕ)
+      (middle after : List PlainEvent) → Prints mode config history events text middle
+      → Stops mode config middle more fault other after → Stops mode config history (events ++ more) fault (text ++ other) after
+  stops_then history events more fault text other middle after first (
+    done,
+    others,
+    said,
+    split,
+    front,
+    last,
+    next,
+    prints,
+    stops,
+    is,
+  ) = (
+    events ++ done,
+    others,
+    said,
+    ap (λ (es : List ScriptEvent). events ++ es) split ∙ sym (append_assoc events done (said ∷ others)),
+    text ++ front,
+    last,
+    next,
+    prints_then history events done text front middle next first prints,
+    stops,
+    ap (λ (l : List ℕ). text ++ l) is ∙ sym (append_assoc text front last),
+  )
 
-pub ticks_none : (config : Config) (history : List PlainEvent) → Prints config history (replicate 0 Tick) [] history
-ticks_none config history = (refl, refl)
+-- equal events around one of them
+replicate_split : (said : ScriptEvent) (i n : ℕ) → i < n
+    → (others : List ScriptEvent) × (replicate n said ≡ replicate i said ++ said ∷ others)
+replicate_split said zero zero h = absurd (omega arith)
+replicate_split said (suc i) zero h = absurd (omega arith)
+replicate_split said zero (suc n) h = (replicate n said, refl)
+replicate_split said (suc i) (suc n) h = let (others, e) = replicate_split said i n (omega arith) in
+    (others, ap (λ (es : List ScriptEvent). said ∷ es) e)
 
--- one tick more
-pub ticks_more : (config : Config) (history : List PlainEvent) (n next : ℕ) (text other : List ℕ) (middle after : List PlainEvent)
-    → next ≡ n + 1 → Prints config history (replicate n Tick) text middle
-    → Replays config middle Tick (Ok tt) other after → Prints config history (replicate next Tick) (text ++ other) after
-ticks_more config history n next text other middle after up prints replays =
-    rw (up, ← replicate_more n Tick) (prints_then config history (replicate n Tick) (Tick ∷ []) text other middle after prints
-    (prints_one config middle Tick other after replays))
+-- a tick of a line
+abbrev tick_of : ℕ → ScriptEvent
+tick_of number = record { line = number; event = Tick }
 
-pub ticks_stop : (config : Config) (history : List PlainEvent) (i n : ℕ) (fault : ReplayFault) (text other : List ℕ)
-    (middle after : List PlainEvent) → i < n → Prints config history (replicate i Tick) text middle
-    → Replays config middle Tick (Err fault) other after → Stops config history (replicate n Tick) fault (text ++ other) after
-ticks_stop config history i n fault text other middle after h prints replays =
-    let (others, e) = replicate_split i n h in
-    rw e (stops_then config history (replicate i Tick) (Tick ∷ others) fault text other middle after prints
-    (stops_one config middle Tick others fault other after replays))
+module _ (mode : Mode) (number : ℕ) (config : Config) (history : List PlainEvent) where
+  pub ticks_none : Prints mode config history (events_of number (Ticks 0)) [] history
+  ticks_none = (refl, refl)
+
+  -- one tick more
+  pub ticks_more : (n next : ℕ) (text other : List ℕ) (middle after : List PlainEvent) → next ≡ n + 1
+      → Prints mode config history (events_of number (Ticks n)) text middle
+      → PrintsOne mode number config middle Tick (Ok tt) other after
+      → Prints mode config history (events_of number (Ticks next)) (text ++ other) after
+  ticks_more n next text other middle after up prints one =
+      rw (up, ← replicate_more n (tick_of number)) (prints_then mode config history (replicate n (tick_of number)) (tick_of number ∷ [])
+      text other middle after prints (prints_one mode config middle (tick_of number) other after one))
+
+  pub ticks_stop : (i n : ℕ) (fault : ReplayFault) (text other : List ℕ) (middle after : List PlainEvent) → i < n
+      → Prints mode config history (events_of number (Ticks i)) text middle
+      → PrintsOne mode number config middle Tick (Err fault) other after
+      → Stops mode config history (events_of number (Ticks n)) fault (text ++ other) after
+  ticks_stop i n fault text other middle after h prints one =
+      let (others, e) = replicate_split (tick_of number) i n h in
+      rw e (stops_then mode config history (replicate i (tick_of number)) (tick_of number ∷ others) fault text other middle after prints
+      (stops_one mode config middle (tick_of number) others fault other after one))
 
 -- a fault that is passed on
-pub performs_stop : (config : Config) (history events : List PlainEvent) (fault : ReplayFault) (result : Result ⊤ ReplayFault)
-    (text : List ℕ) (after : List PlainEvent) → IsErr result
-    → IsErrAnd result (λ e. e ≡ fault) → Stops config history events fault text after → Performs config history events result text after
-performs_stop config history events fault (Ok all) text after failed is stops = absurd cc
-performs_stop config history events fault (Err e) text after failed is stops =
-    subst (λ (f : ReplayFault). Stops config history events f text after) (sym is) stops
+pub performs_stop : (mode : Mode) (config : Config) (history : List PlainEvent) (events : List ScriptEvent) (fault : ReplayFault)
+    (result : Result ⊤ ReplayFault) (text : List ℕ) (after : List PlainEvent) → IsErr result → IsErrAnd result (λ e. e ≡ fault)
+    → Stops mode config history events fault text after → Performs mode config history events result text after
+performs_stop mode config history events fault (Ok all) text after failed is stops = absurd cc
+performs_stop mode config history events fault (Err e) text after failed is stops =
+    subst (λ (f : ReplayFault). Stops mode config history events f text after) (sym is) stops
 
-pub performs_one : (config : Config) (history : List PlainEvent) (event : PlainEvent) (result : Result ⊤ ReplayFault) (text : List ℕ)
-    (after : List PlainEvent) → Replays config history event result text after
-    → Performs config history (event ∷ []) result text after
-performs_one config history event (Ok all) text after replays = prints_one config history event text after replays
-performs_one config history event (Err fault) text after replays = stops_one config history event [] fault text after replays
+pub performs_one : (mode : Mode) (number : ℕ) (config : Config) (history : List PlainEvent) (event : PlainEvent)
+    (result : Result ⊤ ReplayFault) (text : List ℕ) (after : List PlainEvent)
+    → PrintsOne mode number config history event result text after
+    → Performs mode config history ((record { line = number; event = event }) ∷ []) result text after
+performs_one mode number config history event (Ok all) text after prints =
+    prints_one mode config history (record { line = number; event = event }) text after prints
+performs_one mode number config history event (Err fault) text after prints =
+    stops_one mode config history (record { line = number; event = event }) [] fault text after prints

@@ -8,71 +8,77 @@ use Rattle.std.proofs.lemmas.List.{length-append}
 use Rattle.std.specs.Io.KnownBytes.{Appends, IsAtEnd}
 use Rattle.sv_history.specs.Event.{PlainEvent}
 use Rattle.sv_server.specs.Server.State.{State, StandsFor}
+use Rattle.sv_replay.specs.declared.mode.Mode.{Mode}
 use Rattle.sv_replay.specs.declared.fault.RunFault.{RunFault}
 use Rattle.sv_replay.specs.declared.fault.RunFault.TheVariants.{BadLine, Input, Output, Memory}
 use Rattle.sv_replay.specs.Text.{first_end}
 use Rattle.sv_replay.specs.Script.{parts, events_of, Stops}
 use Rattle.sv_replay.specs.Run.{set_up, run_fault, IsWhole, PrintedUpTo, Runs}
-use Rattle.sv_replay.specs.Stage.{IsStage, StopsAt, LineRuns}
+use Rattle.sv_replay.specs.Stage.{IsStage, IsDone, StopsAt, LineRuns}
 use Rattle.sv_replay.proofs.Parts.{parts_none, parts_more, parts_never}
 use Rattle.sv_replay.proofs.Printed.{script_push, prints_then, stops_then}
 
 -- at the start nothing was read or printed
-pub stage_start : (server : State) → StandsFor server set_up [] → IsStage server [] 0 [] []
-stage_start server s = ([], [], [], refl, refl, refl, (refl, refl), s)
+pub stage_start : (mode : Mode) (server : State) → StandsFor server set_up [] → IsStage mode server [] 0 [] []
+stage_start mode server s = ([], [], [], refl, refl, refl, (refl, refl), s)
 
 -- what a line does, for each history
-abbrev pub LineDone : State → State → List ℕ → ℕ → Result ⊤ RunFault → Option (List ℕ) → Option (List ℕ) → Type 0
-LineDone old new line number result first last = (history : List PlainEvent) → StandsFor old set_up history
-    → (text : List ℕ) × (after : List PlainEvent) × LineRuns line number history result text after
+abbrev pub LineDone : Mode → State → State → List ℕ → ℕ → Result ⊤ RunFault → Option (List ℕ) → Option (List ℕ) → Type 0
+LineDone mode old new line number result first last = (history : List PlainEvent) → StandsFor old set_up history
+    → (text : List ℕ) × (after : List PlainEvent) × LineRuns mode line number history result text after
     × StandsFor new set_up after × Appends first last text
 
 -- a line was done
-pub stage_line : (old new : State) (left rest line : List ℕ) (number next : ℕ) (read text : List ℕ) (first last : Option (List ℕ))
+pub stage_line : (mode : Mode) (old new : State) (left rest line : List ℕ) (number next : ℕ) (read text : List ℕ) (first last : Option
+    (List ℕ))
     → parts left ≡ line ∷ parts rest → next ≡ number + 1
-    → IsStage old left number read text → LineDone old new line next (Ok tt) first last
-    → (other : List ℕ) × Appends first last other × IsStage new rest next read (text ++ other)
-stage_line old new left rest line number next read text first last cut up (lines, events, history, is, count, script, prints, stands) does =
+    → IsStage mode old left number read text → LineDone mode old new line next (Ok tt) first last
+    → (other : List ℕ) × Appends first last other × IsStage mode new rest next read (text ++ other)
+stage_line mode old new left rest line number next read text first last cut up
+    (lines, events, history, is, count, script, prints, stands) does =
     let (other, after, (said, short, says, more), now, put) = does history stands in (
       other,
       put,
       (
         lines ++ line ∷ [],
-        events ++ events_of said,
+        events ++ events_of next said,
         after,
         is ∙ ap (λ (ps : List (List ℕ)). lines ++ ps) cut ∙ sym (append_assoc lines (line ∷ []) (parts rest)),
         omega (arith, length-append lines (line ∷ [])),
-        script_push lines events line said script short says,
-        prints_then set_up [] events (events_of said) text other history after prints more,
+        script_push 1 lines events line next said (omega (arith, up, count)) script short says,
+        prints_then mode set_up [] events (events_of next said) text other history after prints more,
         now,
       ),
     )
 
 -- the last line was done
-pub stage_last : (old new : State) (left line : List ℕ) (number next : ℕ) (read text : List ℕ) (tail first last : Option (List ℕ))
-    → parts left ≡ line ∷ []
-    → IsStage old left number read text → LineDone old new line next (Ok tt) first last
-    → (other : List ℕ) × Appends first last other × Runs read tail (Ok tt) (text ++ other)
-stage_last old new left line number next read text tail first last cut (lines, events, history, is, count, script, prints, stands) does =
+pub stage_last : (mode : Mode) (old new : State) (left line : List ℕ) (number next : ℕ) (read text : List ℕ) (first last : Option (List ℕ))
+    → parts left ≡ line ∷ [] → next ≡ number + 1
+    → IsStage mode old left number read text → LineDone mode old new line next (Ok tt) first last
+    → (other : List ℕ) × Appends first last other × IsDone mode new read (text ++ other)
+stage_last mode old new left line number next read text first last cut up
+    (lines, events, history, is, count, script, prints, stands) does =
     let (other, after, (said, short, says, more), now, put) = does history stands in (
       other,
       put,
       (
-        events ++ events_of said,
+        events ++ events_of next said,
         after,
-        rw (is, cut) (script_push lines events line said script short says),
-        prints_then set_up [] events (events_of said) text other history after prints more,
+        rw (is, cut) (script_push 1 lines events line next said (omega (arith, up, count)) script short says),
+        prints_then mode set_up [] events (events_of next said) text other history after prints more,
+        now,
       ),
     )
 
 -- the replay stopped at one of a line's events
-line_short : (old new : State) (left line : List ℕ) (behind : List (List ℕ)) (number : ℕ) (fault : ReplayFault) (read text : List ℕ)
-    (tail first last : Option (List ℕ)) → parts left ≡ line ∷ behind → IsWhole behind tail → IsStage old left number read text
+line_short : (mode : Mode) (old new : State) (left line : List ℕ) (behind : List (List ℕ)) (number next : ℕ) (fault : ReplayFault)
+    (read text : List ℕ) (tail first last : Option (List ℕ)) → parts left ≡ line ∷ behind → next ≡ number + 1 → IsWhole behind tail
+    → IsStage mode old left number read text
     → ((history : List PlainEvent) → StandsFor old set_up history → (other : List ℕ) × (after : List PlainEvent)
-    × StopsAt line history fault other after × StandsFor new set_up after × Appends first last other)
+    × StopsAt mode line next history fault other after × StandsFor new set_up after × Appends first last other)
     → (other : List ℕ) × Appends first last other × ((lines others : List (List ℕ)) × (parts read ≡ lines ++ others)
-    × IsWhole others tail × PrintedUpTo lines fault (text ++ other))
-line_short old new left line behind number fault read text tail first last cut whole
+    × IsWhole others tail × PrintedUpTo mode lines fault (text ++ other))
+line_short mode old new left line behind number next fault read text tail first last cut up whole
     (lines, events, history, is, count, script, prints, stands) does =
     let (other, after, (said, short, says, stops), now, put) = does history stands in (
       other,
@@ -83,20 +89,22 @@ line_short old new left line behind number fault read text tail first last cut w
         is ∙ ap (λ (ps : List (List ℕ)). lines ++ ps) cut ∙ sym (append_assoc lines (line ∷ []) behind),
         whole,
         (
-          events ++ events_of said,
+          events ++ events_of next said,
           after,
-          script_push lines events line said script short says,
-          stops_then set_up [] events (events_of said) fault text other history after prints stops,
+          script_push 1 lines events line next said (omega (arith, up, count)) script short says,
+          stops_then mode set_up [] events (events_of next said) fault text other history after prints stops,
         ),
       ),
     )
 
 -- a line stopped the run
-pub stage_stop : (old new : State) (left line : List ℕ) (behind : List (List ℕ)) (number next : ℕ) (fault : RunFault) (read text : List ℕ)
+pub stage_stop : (mode : Mode) (old new : State) (left line : List ℕ) (behind : List (List ℕ)) (number next : ℕ) (fault : RunFault)
+    (read text : List ℕ)
     (tail first last : Option (List ℕ)) → parts left ≡ line ∷ behind
-    → next ≡ number + 1 → IsWhole behind tail → IsStage old left number read text → LineDone old new line next (Err fault) first last
-    → (other : List ℕ) × Appends first last other × Runs read tail (Err fault) (text ++ other)
-stage_stop old new left line behind number next (BadLine n) read text tail first last cut up whole (
+    → next ≡ number + 1 → IsWhole behind tail → IsStage mode old left number read text
+    → LineDone mode old new line next (Err fault) first last
+    → (other : List ℕ) × Appends first last other × Runs mode read tail (Err fault) (text ++ other)
+stage_stop mode old new left line behind number next (BadLine n) read text tail first last cut up whole (
   lines,
   events,
   history,
@@ -120,7 +128,7 @@ stage_stop old new left line behind number next (BadLine n) read text tail first
         (events, history, script, rw (none, append-nil text) prints),
       ),
     )
-stage_stop old new left line behind number next Input read text tail first last cut up whole (
+stage_stop mode old new left line behind number next Input read text tail first last cut up whole (
   lines,
   events,
   history,
@@ -131,25 +139,28 @@ stage_stop old new left line behind number next Input read text tail first last 
   stands,
 ) does =
     let (other, after, impossible, now, put) = does history stands in elim impossible [ ]
-stage_stop old new left line behind number next Output read text tail first last cut up whole stage does =
+stage_stop mode old new left line behind number next Output read text tail first last cut up whole stage does =
     let (other, put, (lines, others, is, all, stops)) =
-    line_short old new left line behind number Write read text tail first last cut whole stage does in
+    line_short mode old new left line behind number next Write read text tail first last cut up whole stage does in
     (other, put, (lines, others, is, all, inr (Write, stops)))
-stage_stop old new left line behind number next Memory read text tail first last cut up whole stage does =
-    let (other, put, stops) = line_short old new left line behind number NoMemory read text tail first last cut whole stage does in
+stage_stop mode old new left line behind number next Memory read text tail first last cut up whole stage does =
+    let (other, put, stops) =
+    line_short mode old new left line behind number next NoMemory read text tail first last cut up whole stage does in
     (other, put, inr stops)
 
 -- more was read
-pub stage_read : (server : State) (left : List ℕ) (number : ℕ) (read text more : List ℕ) → IsStage server left number read text
-    → IsStage server (left ++ more) number (read ++ more) text
-stage_read server left number read text more (lines, events, history, is, count, script, prints, stands) =
+pub stage_read : (mode : Mode) (server : State) (left : List ℕ) (number : ℕ) (read text more : List ℕ)
+    → IsStage mode server left number read text
+    → IsStage mode server (left ++ more) number (read ++ more) text
+stage_read mode server left number read text more (lines, events, history, is, count, script, prints, stands) =
     (lines, events, history, parts_more read left more lines is, count, script, prints, stands)
 
 -- a line that is too long
-pub stage_long : (server : State) (left : List ℕ) (number next : ℕ) (read text : List ℕ) (tail : Option (List ℕ)) → first_end left ≡ None
-    → 65536 < length left → next ≡ number + 1 → IsStage server left number read text
-    → Runs read tail (Err (BadLine next)) text
-stage_long server left number next read text tail none long up (lines, events, history, is, count, script, prints, stands) = (
+pub stage_long : (mode : Mode) (server : State) (left : List ℕ) (number next : ℕ) (read text : List ℕ) (tail : Option (List ℕ))
+    → first_end left ≡ None
+    → 65536 < length left → next ≡ number + 1 → IsStage mode server left number read text
+    → Runs mode read tail (Err (BadLine next)) text
+stage_long mode server left number next read text tail none long up (lines, events, history, is, count, script, prints, stands) = (
   lines,
   [],
   left,
@@ -161,34 +172,38 @@ stage_long server left number next read text tail none long up (lines, events, h
 )
 
 -- the writer failed
-pub stage_output : (server : State) (left : List ℕ) (number : ℕ) (read text : List ℕ) (tail : Option (List ℕ))
-    → IsStage server left number read text → Runs read tail (Err Output) text
-stage_output server left number read text tail (lines, events, history, is, count, script, prints, stands) =
+pub stage_output : (mode : Mode) (server : State) (left : List ℕ) (number : ℕ) (read text : List ℕ) (tail : Option (List ℕ))
+    → IsStage mode server left number read text → Runs mode read tail (Err Output) text
+stage_output mode server left number read text tail (lines, events, history, is, count, script, prints, stands) =
     (lines, parts left, is, inl (parts_never left), inl (events, history, script, prints))
 
 -- and behind an answer
-pub output_instead : (read text : List ℕ) (tail : Option (List ℕ)) (answer : Result ⊤ RunFault) → OnOk answer (IsAtEnd tail)
-    → Runs read tail answer text → Runs read tail (Err Output) text
-output_instead read text tail (Ok all) end printed = (parts read, [], sym (append-nil (parts read)), inr end, inl printed)
-output_instead read text tail (Err (BadLine n)) end (lines, behind, line, is, count, bad, whole, printed) =
+pub output_instead : (mode : Mode) (read text : List ℕ) (tail : Option (List ℕ)) (answer : Result ⊤ RunFault) → OnOk answer (IsAtEnd tail)
+    → Runs mode read tail answer text → Runs mode read tail (Err Output) text
+output_instead mode read text tail (Ok all) end printed = (parts read, [], sym (append-nil (parts read)), inr end, inl printed)
+output_instead mode read text tail (Err (BadLine n)) end (lines, behind, line, is, count, bad, whole, printed) =
     (lines, line ∷ behind, is, inl (λ none. absurd cc), inl printed)
-output_instead read text tail (Err Input) end (lines, last, is, printed) = (lines, last ∷ [], is, inl (λ none. absurd cc), inl printed)
-output_instead read text tail (Err Output) end runs = runs
-output_instead read text tail (Err Memory) end (inl (nothing, unsaid)) =
+output_instead mode read text tail (Err Input) end (lines, last, is, printed) = (lines, last ∷ [], is, inl (λ none. absurd cc), inl printed)
+output_instead mode read text tail (Err Output) end runs = runs
+output_instead mode read text tail (Err Memory) end (inl (nothing, unsaid)) =
     ([], parts read, refl, inl (parts_never read), inl ([], [], refl, (unsaid, refl)))
-output_instead read text tail (Err Memory) end (inr (lines, behind, is, whole, stops)) = (lines, behind, is, whole, inr (NoMemory, stops))
+output_instead mode read text tail (Err Memory) end (inr (lines, behind, is, whole, stops)) =
+    (lines, behind, is, whole, inr (NoMemory, stops))
 
 -- the reader failed
-pub stage_input : (server : State) (left : List ℕ) (number : ℕ) (read text : List ℕ) (tail : Option (List ℕ)) → first_end left ≡ None
-    → IsStage server left number read text → Runs read tail (Err Input) text
-stage_input server left number read text tail none (lines, events, history, is, count, script, prints, stands) =
+pub stage_input : (mode : Mode) (server : State) (left : List ℕ) (number : ℕ) (read text : List ℕ) (tail : Option (List ℕ))
+    → first_end left ≡ None
+    → IsStage mode server left number read text → Runs mode read tail (Err Input) text
+stage_input mode server left number read text tail none (lines, events, history, is, count, script, prints, stands) =
     (lines, left, is ∙ ap (λ (ps : List (List ℕ)). lines ++ ps) (parts_none left none), (events, history, script, prints))
 
 -- a replay's fault is told as the run's
-pub line_stops : (line : List ℕ) (number : ℕ) (history : List PlainEvent) (said : Line) (fault : ReplayFault) (result : Result ⊤ RunFault)
+pub line_stops : (mode : Mode) (line : List ℕ) (number : ℕ) (history : List PlainEvent) (said : Line) (fault : ReplayFault)
+    (result : Result ⊤ RunFault)
     (text : List ℕ) (after : List PlainEvent) → length line ≤ 65536
-    → Says line said → IsErr result → IsErrAnd result (λ e. e ≡ run_fault fault) → Stops set_up history (events_of said) fault text after
-    → LineRuns line number history result text after
-line_stops line number history said fault (Ok all) text after short says failed is stops = absurd cc
-line_stops line number history said NoMemory (Err e) text after short says failed is stops = rw is (said, short, says, stops)
-line_stops line number history said Write (Err e) text after short says failed is stops = rw is (said, short, says, stops)
+    → Says line said → IsErr result → IsErrAnd result (λ e. e ≡ run_fault fault)
+    → Stops mode set_up history (events_of number said) fault text after
+    → LineRuns mode line number history result text after
+line_stops mode line number history said fault (Ok all) text after short says failed is stops = absurd cc
+line_stops mode line number history said NoMemory (Err e) text after short says failed is stops = rw is (said, short, says, stops)
+line_stops mode line number history said Write (Err e) text after short says failed is stops = rw is (said, short, says, stops)

@@ -1,8 +1,12 @@
--- Laws of lines and scenarios.
-use Rattle.std.specs.Prelude.{◌≡◌, ℕ, List}
+-- Laws of lines, scenarios and runs.
+use Rattle.std.specs.Prelude.{◌≡◌, ℕ, List, Option, Result, ⊤}
 use Rattle.sv_replay.specs.declared.entry.Entry.{Entry}
+use Rattle.sv_replay.specs.declared.fault.RunFault.{RunFault}
+use Rattle.sv_replay.specs.declared.mode.Mode.TheVariants.{Plain}
 use Rattle.sv_replay.specs.Line.{Line, Says}
 use Rattle.sv_replay.specs.Script.{parts}
+use Rattle.sv_replay.specs.Run.{Runs, RunsExplained}
+use Rattle.sv_replay.specs.Filtered.{filtered}
 use Rattle.sv_replay.specs.Scenario.{Tells, IsScenario}
 
 -- A line has at most one meaning.
@@ -17,3 +21,9 @@ OneScenario = (text : List ℕ) (a b : List Entry) → Tells 0 (parts text) a �
 -- it.
 abbrev pub ToldInOrder : Type 0
 ToldInOrder = (text : List ℕ) (entries : List Entry) → Tells 0 (parts text) entries → IsScenario 0 entries
+
+-- What an explained run prints, without the lines that begin with `@`, `-` or `=`, is what a replay prints for the same text. So it is for
+-- every result, also if the writer fails within a line.
+abbrev pub IsFiltered : Type 0
+IsFiltered = (read : List ℕ) (rest : Option (List ℕ)) (result : Result ⊤ RunFault) (text : List ℕ)
+    → RunsExplained read rest result text → Runs Plain read rest result (filtered text)

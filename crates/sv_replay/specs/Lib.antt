@@ -3,6 +3,7 @@ pub mod PlainLine
 pub mod Reading
 pub mod Laws
 pub mod Script
+pub mod Filtered
 pub mod Run
 pub mod Stage
 pub mod Reads

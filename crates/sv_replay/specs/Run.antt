@@ -1,13 +1,20 @@
 -- What a run of a script prints and returns, depending on the text that it read.
 use Rattle.std.specs.Prelude.{◌≡◌, ◌≢◌, ◌⊎◌, ℕ, ◌+◌, ◌<◌, List, [], ◌∷◌, ◌++◌, length, Option, Result, Ok, Err, ⊤}
 use Rattle.std.specs.Io.KnownBytes.{IsAtEnd}
+use Rattle.sv_print.specs.TakenByWriter.{IsFront}
 use Rattle.sv_history.specs.declared.event.Config.{Config}
+use Rattle.sv_history.specs.Event.{PlainEvent}
+use Rattle.sv_history.specs.Act.{Act}
+use Rattle.sv_history.specs.History.{IsLogOf}
+use Rattle.sv_explain.specs.Steps.{end_line}
 use Rattle.sv_server.specs.declared.replay.ReplayFault.{ReplayFault}
 use Rattle.sv_server.specs.declared.replay.ReplayFault.TheVariants.{NoMemory, Write}
-use Rattle.sv_history.specs.Event.{PlainEvent}
+use Rattle.sv_server.specs.Explain.Telling.{clock_at}
 use Rattle.sv_replay.specs.declared.fault.RunFault.{RunFault}
 use Rattle.sv_replay.specs.declared.fault.RunFault.TheVariants.{BadLine, Input, Output, Memory}
-use Rattle.sv_replay.specs.Script.{parts, IsScript, IsBad, Prints, Stops}
+use Rattle.sv_replay.specs.declared.mode.Mode.{Mode}
+use Rattle.sv_replay.specs.declared.mode.Mode.TheVariants.{Explained}
+use Rattle.sv_replay.specs.Script.{ScriptEvent, parts, IsScript, IsBad, Prints, Stops}
 
 -- the fault of a run, if the run stops because the replay of one event ended with this
 -- `ReplayFault`
@@ -19,13 +26,15 @@ run_fault Write = Output
 abbrev pub set_up : Config
 set_up = record { core = 4096; abort = 4097; clock = 0 }
 
--- The text is what a replay on a new server prints for the events of these lines.
-abbrev pub Printed : List (List ℕ) → List ℕ → Type 0
-Printed lines text = (events after : List PlainEvent) × IsScript lines events × Prints set_up [] events text after
+-- The text is what is printed on a new server for the events of these lines, which are numbered from 1.
+abbrev pub Printed : Mode → List (List ℕ) → List ℕ → Type 0
+Printed mode lines text =
+    (events : List ScriptEvent) × (after : List PlainEvent) × IsScript 1 lines events × Prints mode set_up [] events text after
 
--- The text is what a replay on a new server prints for the events of these lines, up to an event at which the replay stops with this fault.
-abbrev pub PrintedUpTo : List (List ℕ) → ReplayFault → List ℕ → Type 0
-PrintedUpTo lines fault text = (events after : List PlainEvent) × IsScript lines events × Stops set_up [] events fault text after
+-- The text is what is printed on a new server for the events of these lines, up to an event at which the replay stops with this fault.
+abbrev pub PrintedUpTo : Mode → List (List ℕ) → ReplayFault → List ℕ → Type 0
+PrintedUpTo mode lines fault text =
+    (events : List ScriptEvent) × (after : List PlainEvent) × IsScript 1 lines events × Stops mode set_up [] events fault text after
 
 -- A line is complete: either lines follow it, or the reader is at its end.
 abbrev pub IsWhole : List (List ℕ) → Option (List ℕ) → Type 0
@@ -35,13 +44,28 @@ IsWhole behind rest = (behind ≢ []) ⊎ IsAtEnd rest
 -- the reader failed: the output for all complete lines. If memory was refused or the writer failed: the output for some lines from the
 -- beginning of the text, perhaps for none; the output for the last of these lines can be incomplete. The writer can also fail after another
 -- fault has stopped the run.
-abbrev pub Runs : List ℕ → Option (List ℕ) → Result ⊤ RunFault → List ℕ → Type 0
-Runs read rest (Ok all) text = Printed (parts read) text
-Runs read rest (Err (BadLine n)) text = (lines behind : List (List ℕ)) × (line : List ℕ) × (parts read ≡ lines ++ line ∷ behind)
+abbrev pub Runs : Mode → List ℕ → Option (List ℕ) → Result ⊤ RunFault → List ℕ → Type 0
+Runs mode read rest (Ok all) text = Printed mode (parts read) text
+Runs mode read rest (Err (BadLine n)) text = (lines behind : List (List ℕ)) × (line : List ℕ) × (parts read ≡ lines ++ line ∷ behind)
     × (n ≡ length lines + 1) × IsBad line
-    × (IsWhole behind rest ⊎ (65536 < length line)) × Printed lines text
-Runs read rest (Err Input) text = (lines : List (List ℕ)) × (last : List ℕ) × (parts read ≡ lines ++ last ∷ []) × Printed lines text
-Runs read rest (Err Output) text = (lines behind : List (List ℕ)) × (parts read ≡ lines ++ behind) × IsWhole behind rest
-    × (Printed lines text ⊎ ((fault : ReplayFault) × PrintedUpTo lines fault text))
-Runs read rest (Err Memory) text = ((read ≡ []) × (text ≡ []))
-    ⊎ ((lines behind : List (List ℕ)) × (parts read ≡ lines ++ behind) × IsWhole behind rest × PrintedUpTo lines NoMemory text)
+    × (IsWhole behind rest ⊎ (65536 < length line)) × Printed mode lines text
+Runs mode read rest (Err Input) text =
+    (lines : List (List ℕ)) × (last : List ℕ) × (parts read ≡ lines ++ last ∷ []) × Printed mode lines text
+Runs mode read rest (Err Output) text = (lines behind : List (List ℕ)) × (parts read ≡ lines ++ behind) × IsWhole behind rest
+    × (Printed mode lines text ⊎ ((fault : ReplayFault) × PrintedUpTo mode lines fault text))
+Runs mode read rest (Err Memory) text = ((read ≡ []) × (text ≡ []))
+    ⊎ ((lines behind : List (List ℕ)) × (parts read ≡ lines ++ behind) × IsWhole behind rest × PrintedUpTo mode lines NoMemory text)
+
+-- An explained replay on a new server prints the text `front` for the events of these lines, and `last` is the line with the clock after
+-- all of them.
+abbrev pub PrintedToEnd : List (List ℕ) → List ℕ → List ℕ → Type 0
+PrintedToEnd lines front last = (events : List ScriptEvent) × (after : List PlainEvent) × (log : List Act) × IsScript 1 lines events
+    × Prints Explained set_up [] events front after × IsLogOf set_up after log × (last ≡ end_line (clock_at set_up log))
+
+-- What an explained run prints for the text that it read. On success: the output for all lines, and then the line with the clock. If the
+-- writer fails in that line: the output for all lines, and then a prefix of that line. Else what `Runs` says.
+abbrev pub RunsExplained : List ℕ → Option (List ℕ) → Result ⊤ RunFault → List ℕ → Type 0
+RunsExplained read rest (Ok all) text = (front last : List ℕ) × PrintedToEnd (parts read) front last × (text ≡ front ++ last)
+RunsExplained read rest (Err Output) text = Runs Explained read rest (Err Output) text
+    ⊎ ((front last part : List ℕ) × PrintedToEnd (parts read) front last × IsFront part last × IsAtEnd rest × (text ≡ front ++ part))
+RunsExplained read rest (Err fault) text = Runs Explained read rest (Err fault) text

@@ -1,6 +1,6 @@
-//! Laws of lines and scenarios. Each is the contract of a function that does nothing.
+//! Laws of lines, scenarios and runs. Each is the contract of a function that does nothing.
 
-ghost use Rattle.sv_replay.specs.Laws.{OneLine, OneScenario, ToldInOrder};
+ghost use Rattle.sv_replay.specs.Laws.{IsFiltered, OneLine, OneScenario, ToldInOrder};
 
 /// A line has at most one meaning.
 pub fn one_line()
@@ -16,4 +16,11 @@ pub fn one_scenario()
 /// and no tick is lower than the tick before it.
 pub fn told_in_order()
     ensures { ToldInOrder }
+{}
+
+/// What an explained run prints, without the lines that begin with `@`, `-` or `=`, is what a
+/// replay prints for the same text. So it is for every result, also if the writer fails within a
+/// line.
+pub fn filtered()
+    ensures { IsFiltered }
 {}

@@ -5,10 +5,11 @@
 
 mod entry;
 mod fault;
-mod hex;
+mod hex_digits;
 mod input;
 pub mod laws;
 mod line;
+mod mode;
 mod number;
 mod perform;
 mod run;
@@ -20,5 +21,6 @@ pub use entry::{Entry, Stimulus};
 pub use fault::RunFault;
 pub use input::{InputFault, Source};
 pub use line::{Line, read_line};
-pub use run::run_replay;
+pub use mode::Mode;
+pub use run::{run_explain, run_replay};
 pub use scenario::{ScenarioFault, read_scenario};

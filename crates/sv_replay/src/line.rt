@@ -6,7 +6,7 @@ ghost use Rattle.sv_replay.specs.PlainLine.{plain_line};
 ghost use Rattle.sv_replay.specs.Reading.{cut_at, numbered_at, role_at, ok_at, port_at, ticks_at, open_at, bytes_at, dialed_at, input_at, traffic_at, event_at, lone_at, words_at, line_at};
 ghost use Rattle.sv_history.specs.Event.{plain as plain_event};
 
-use crate::hex::decode;
+use crate::hex_digits::decode;
 use crate::number::{byte, plain, voltage};
 use sv_server::{Event, Port, Role};
 

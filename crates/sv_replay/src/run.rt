@@ -3,16 +3,23 @@
 ghost use Rattle.std.specs.Prelude.{◌≡◌, ◌≢◌, ◌⊎◌, ℕ, ◌-◌, ◌^◌, ◌<◌, List, [], length, Err, None, IfOk, IfErr, OnOk};
 ghost use Rattle.std.specs.Io.Buffered.{writer_buffer, writer_contents};
 ghost use Rattle.std.specs.Io.KnownBytes.{Consumes, Appends, Keeps, IsAtEnd};
+ghost use Rattle.sv_print.specs.TakenByWriter.{IsTakenByWriter};
+ghost use Rattle.sv_history.specs.declared.event.Config.{Config};
+ghost use Rattle.sv_history.specs.Act.{Act};
 ghost use Rattle.sv_history.specs.Event.{PlainEvent};
+ghost use Rattle.sv_history.specs.History.{IsLogOf};
+ghost use Rattle.sv_explain.specs.Steps.{end_line};
+ghost use Rattle.sv_server.specs.Explain.Telling.{clock_at};
 ghost use Rattle.sv_server.specs.Server.State.{StandsFor};
 ghost use Rattle.sv_replay.specs.Text.{first_end, nothing_held};
-ghost use Rattle.sv_replay.specs.Run.{set_up, Runs};
+ghost use Rattle.sv_replay.specs.Run.{set_up, Runs, RunsExplained};
 ghost use Rattle.sv_replay.specs.Reads.{Turns, IsReadOut, OnInput};
-ghost use Rattle.sv_replay.specs.Stage.{LineRuns, WhileGoing, Progress, Moves, ScriptRuns};
+ghost use Rattle.sv_replay.specs.Stage.{LineRuns, WhileGoing, Progress, Moves, StepsRun, ScriptRuns};
 
 use crate::fault::RunFault;
 use crate::input::Source;
 use crate::line::read_line;
+use crate::mode::Mode;
 use crate::perform::perform;
 use crate::run_state::{Run, start};
 use crate::text::LONGEST_LINE;
@@ -38,7 +45,7 @@ pub fn run_replay<A: Allocator + Copy, R: Source, W: Write + Drop, B: Allocator>
         × Consumes (R.remaining reader.old) (R.remaining reader.new) read
         × Appends (writer_contents W.contents writer.old)
         (writer_contents W.contents writer.new) text
-        × Runs read (R.remaining reader.new) result text }
+        × Runs Mode.Plain read (R.remaining reader.new) result text }
     ensures end { OnOk result (IsAtEnd (R.remaining reader.new)) }
     // The reader is read at most 4,294,967,294 times. The fault `Input` means that the last read
     // failed, or that the reader was read that many times.
@@ -46,8 +53,35 @@ pub fn run_replay<A: Allocator + Copy, R: Source, W: Write + Drop, B: Allocator>
     // Unless the output failed, no printed byte remains in the writer's buffer.
     ensures flushed { result ≢ Err RunFault.Output → writer_buffer writer.new ≡ [] }
 {
-    let answer = run_lines(alloc, reader, writer);
+    let answer = run_lines(alloc, Mode::Plain, reader, writer);
     pass_on(writer, answer)
+}
+
+/// Replays a script as [`run_replay`] does, and prints before the lines of each event which steps
+/// the server takes, and what each of them changes. If no fault stops the run, the last line tells
+/// the clock.
+///
+/// # Errors
+/// As for [`run_replay`].
+pub fn run_explain<A: Allocator + Copy, R: Source, W: Write + Drop, B: Allocator>(
+    alloc: A,
+    reader: &mut R,
+    writer: &mut BufWriter<W, B>,
+) -> Result<(), RunFault>
+    ensures runs { (read text : List ℕ)
+        × Consumes (R.remaining reader.old) (R.remaining reader.new) read
+        × Appends (writer_contents W.contents writer.old)
+        (writer_contents W.contents writer.new) text
+        × RunsExplained read (R.remaining reader.new) result text }
+    ensures end { OnOk result (IsAtEnd (R.remaining reader.new)) }
+    // The reader is read at most 4,294,967,294 times. The fault `Input` means that the last read
+    // failed, or that the reader was read that many times.
+    ensures reads { IsReadOut R.gives reader.old reader.new result }
+    // Unless the output failed, no printed byte remains in the writer's buffer.
+    ensures flushed { result ≢ Err RunFault.Output → writer_buffer writer.new ≡ [] }
+{
+    let told = run_lines(alloc, Mode::Explained, reader, writer);
+    pass_on(writer, told)
 }
 
 /// Flushes the writer. Returns `answer`, or `Output` if the flush fails.
@@ -66,19 +100,38 @@ fn pass_on<W: Write + Drop, B: Allocator>(
     }
 }
 
-/// Runs the replay, but doesn't flush the writer after the last lines.
+/// Runs the replay to its end, but doesn't flush the writer after the last lines.
 fn run_lines<A: Allocator + Copy, R: Source, W: Write>(
     alloc: A,
+    mode: Mode,
     reader: &mut R,
     writer: &mut W,
 ) -> Result<(), RunFault>
-    ensures runs { ScriptRuns (R.remaining reader.old) (R.remaining reader.new)
+    ensures runs { ScriptRuns mode (R.remaining reader.old) (R.remaining reader.new)
         (W.contents writer.old) (W.contents writer.new) result }
     ensures end { OnOk result (IsAtEnd (R.remaining reader.new)) }
     ensures reads { IsReadOut R.gives reader.old reader.new result }
 {
-    let mut run = start(alloc)?;
-    run.to_end(reader, writer)
+    let mut run = start(alloc, mode)?;
+    run.to_end(reader, writer)?;
+    match mode {
+        Mode::Plain => Ok(()),
+        Mode::Explained => put_end(&run.server, writer),
+    }
+}
+
+/// Writes the last line of an explained script.
+fn put_end<A: Allocator, W: Write>(server: &Server<A>, writer: &mut W) -> Result<(), RunFault>
+    ensures taken { (config : Config) (history : List PlainEvent) (log : List Act)
+        → StandsFor server.now config history → IsLogOf config history log
+        → IsTakenByWriter (W.contents writer.old) (W.contents writer.new) result
+        (end_line (clock_at config log)) }
+    ensures fault { IfErr result (λ fault. fault ≡ RunFault.Output) }
+{
+    match server.explain_end(writer) {
+        Ok(()) => Ok(()),
+        Err(_) => Err(RunFault::Output),
+    }
 }
 
 /// Flushes the writer.
@@ -97,6 +150,7 @@ fn do_line<A: Allocator, W: Write>(
     server: &mut Server<A>,
     line: &[u8],
     number: u64,
+    mode: Mode,
     bytes: &mut [u8],
     writer: &mut W,
 ) -> Result<(), RunFault>
@@ -104,7 +158,7 @@ fn do_line<A: Allocator, W: Write>(
     ensures input { OnInput result ⊥ }
     ensures runs { (history : List PlainEvent) → StandsFor server.old set_up history
         → (text : List ℕ) × (after : List PlainEvent)
-        × LineRuns line.now number history result text after
+        × LineRuns mode line.now number history result text after
         × StandsFor server.new set_up after
         × Appends (W.contents writer.old) (W.contents writer.new) text }
 {
@@ -113,7 +167,7 @@ fn do_line<A: Allocator, W: Write>(
     }
     match read_line(line, bytes) {
         Some(said) => {
-            perform(server, said, writer)?;
+            perform(server, said, mode, number, writer)?;
             Ok(())
         }
         None => Err(RunFault::BadLine(number)),
@@ -130,8 +184,8 @@ impl<A: Allocator> Run<A> {
     ) -> Result<(), RunFault>
         requires { StandsFor self.old.server set_up [] × (self.old.text ≡ nothing_held)
             × (self.old.lines ≡ 0) }
-        ensures runs { ScriptRuns (R.remaining reader.old) (R.remaining reader.new)
-            (W.contents writer.old) (W.contents writer.new) result }
+        ensures runs { StepsRun self.old.mode self.new.server (R.remaining reader.old)
+            (R.remaining reader.new) (W.contents writer.old) (W.contents writer.new) result }
         ensures end { OnOk result (IsAtEnd (R.remaining reader.new)) }
         ensures reads { IsReadOut R.gives reader.old reader.new result }
     {
@@ -163,6 +217,7 @@ impl<A: Allocator> Run<A> {
                     &mut self.server,
                     line,
                     self.lines + 1,
+                    self.mode,
                     &mut self.bytes,
                     writer,
                 )?;
@@ -198,6 +253,7 @@ impl<A: Allocator> Run<A> {
             &mut self.server,
             line,
             self.lines + 1,
+            self.mode,
             &mut self.bytes,
             writer,
         )?;

@@ -5,6 +5,7 @@ ghost use Rattle.sv_server.specs.Server.State.{StandsFor};
 ghost use Rattle.sv_replay.specs.Text.{nothing_held};
 ghost use Rattle.sv_replay.specs.Run.{set_up};
 
+use crate::mode::Mode;
 use crate::text::{LONGEST_LINE, Text};
 use std::alloc::{AllocError, Allocator};
 use sv_server::{Config, Server};
@@ -25,13 +26,15 @@ pub(crate) struct Run<A: Allocator> {
     pub(crate) bytes: Vec<u8, A>,
     /// How many lines were executed.
     pub(crate) lines: u64,
+    /// How the events are replayed.
+    pub(crate) mode: Mode,
     ghost room: { length bytes.items ≡ 65536 },
 }
 
 /// Makes a replay with a new server. It has read no line yet.
-pub(crate) fn start<A: Allocator + Copy>(alloc: A) -> Result<Run<A>, AllocError>
+pub(crate) fn start<A: Allocator + Copy>(alloc: A, mode: Mode) -> Result<Run<A>, AllocError>
     ensures { IfOk result (λ run. StandsFor run.server set_up [] × (run.text ≡ nothing_held)
-        × (run.lines ≡ 0)) }
+        × (run.lines ≡ 0) × (run.mode ≡ mode)) }
 {
     let text = Text::new(alloc)?;
     let bytes = vec![in alloc; 0; LONGEST_LINE]?;
@@ -40,5 +43,6 @@ pub(crate) fn start<A: Allocator + Copy>(alloc: A) -> Result<Run<A>, AllocError>
         text,
         bytes,
         lines: 0,
+        mode,
     })
 }

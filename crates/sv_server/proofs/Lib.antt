@@ -2,3 +2,4 @@ pub mod OnConnection
 pub mod OnDevice
 pub mod OnServer
 pub mod OnReplay
+pub mod OnShown

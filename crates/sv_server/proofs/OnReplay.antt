@@ -1,5 +1,6 @@
--- Lemmas of the replay: what is written, and what a writer took.
-pub mod Taking
+-- Lemmas of the replay: what is written and told.
 pub mod Ports
 pub mod Shown
 pub mod Replayed
+pub mod Telling
+pub mod Explained

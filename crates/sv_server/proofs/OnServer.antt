@@ -11,3 +11,4 @@ pub mod Turned
 pub mod Turning
 pub mod Refusals
 pub mod Calls
+pub mod Naming

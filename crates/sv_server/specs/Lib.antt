@@ -2,3 +2,4 @@ pub mod Connection
 pub mod Device
 pub mod Server
 pub mod Replay
+pub mod Explain

@@ -10,6 +10,7 @@ ghost use Rattle.sv_scan.specs.declared.acts.ScanAct.TheVariants.{Input};
 ghost use Rattle.sv_layers.specs.Act.{Scanned};
 ghost use Rattle.sv_instrument.specs.Stimulus.{IsFired, external_acts, tick_acts};
 ghost use Rattle.sv_instrument.specs.Step.{IsStep};
+ghost use Rattle.sv_instrument.specs.Looking.{IsNoneDue};
 ghost use Rattle.sv_instrument.specs.Representation.{instrument_measure};
 ghost use Rattle.sv_history.specs.declared.event.Config.{Config};
 ghost use Rattle.sv_links.specs.Channels.{ChannelClosed};
@@ -29,6 +30,7 @@ pub mod call_outcome;
 mod core_channel;
 pub mod error_results;
 mod interrupts;
+pub mod looking;
 pub mod resuming;
 
 use crate::conn::Conn;
@@ -270,6 +272,8 @@ impl<A: Allocator> Device<A> {
     pub fn exchange(&mut self) -> bool
         ensures steps { (config : Config) (acts : List DeviceAct) → IsDevice self.old config acts
             → InstrumentSteps IsStep result config acts self.old self.new }
+        ensures none { (config : Config) (acts : List DeviceAct) → IsDevice self.old config acts
+            → result ≡ false → IsNoneDue (instrument_acts acts) }
         ensures idle { result ≡ false → self.new ≡ self.old }
         ensures measure { IsTrue result
             → instrument_measure self.new.instrument < instrument_measure self.old.instrument }

@@ -9,6 +9,7 @@
 mod conn;
 mod connection;
 mod device;
+mod explain;
 mod replay;
 mod server;
 

@@ -12,15 +12,17 @@ ghost use Rattle.sv_history.specs.Act.{Act};
 ghost use Rattle.sv_server.specs.Server.State.{StandsFor};
 ghost use Rattle.sv_history.specs.Print.{port_of, is_no_memory};
 ghost use Rattle.sv_server.specs.Replay.Replays.{Replays};
-ghost use Rattle.sv_server.specs.Replay.Inside.Showing.{StandsBy, ShowsPort, ShowsAll};
+ghost use Rattle.sv_history.specs.History.{IsLogOf, Answers, history_after};
+ghost use Rattle.sv_server.specs.Replay.Inside.Showing.{StandsBy, ShowsPort, ShowsAll, Left};
 
 pub mod print;
 
-use crate::replay::print::{WriteFault, put_line, put_refusal};
+use crate::replay::print::{put_line, put_refusal};
 use crate::server::Server;
 use std::alloc::Allocator;
 use std::io::Write;
-use sv_history::{Event, Port, Refused};
+use sv_history::{Did, Event, Port, Refused};
+use sv_print::WriteFault;
 use thiserror::Error;
 
 /// Why a replay stopped.
@@ -60,7 +62,24 @@ impl<A: Allocator> Server<A> {
             × StandsFor self.new config after
             × Appends (W.contents writer.old) (W.contents writer.new) text }
     {
-        match self.apply(event) {
+        let did = self.apply(event);
+        self.print(did, writer)
+    }
+
+    /// Writes the lines for an event that was applied or refused, and drops the bytes that the
+    /// lines show. Says whether the replay goes on.
+    pub(crate) fn print<W: Write>(
+        &mut self,
+        did: Result<Did, Refused>,
+        writer: &mut W,
+    ) -> Result<(), ReplayFault>
+        ensures { (config : Config) (history : List PlainEvent) (event : PlainEvent)
+            (log : List Act) → IsLogOf config history log → Answers config event log did
+            → StandsFor self.old config (history_after event did history)
+            → Left config history event log did result self.new
+            (W.contents writer.old) (W.contents writer.new) }
+    {
+        match did {
             Ok(_) => {
                 self.show_all(writer)?;
                 Ok(())

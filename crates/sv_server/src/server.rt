@@ -409,7 +409,7 @@ impl<A: Allocator> Server<A> {
     }
 
     /// Applies an event, but doesn't take the steps that are due after it.
-    fn act(&mut self, event: Event<'_>) -> Result<Did, Refused>
+    pub(crate) fn act(&mut self, event: Event<'_>) -> Result<Did, Refused>
         ensures within { IsEvent (plain event.entry) }
         ensures acts { (config : Config) (log : List Act) → Represents self.old config log
             → Acts config (plain event.entry) log result self.new }

@@ -9,6 +9,9 @@
 //!
 //! - no such line: a script; prints what its replay prints, and the fault of the replay if there is
 //!   one;
+//! - `! explain`: a script; prints what happened step by step, as `scanvolt explain` does, and the
+//!   fault if there is one;
+//! - `! explain without TEXT`: as for `! explain`, but without the lines that end in this text;
 //! - `! line by line`: a script whose lines come one at each read; prints these lines, with a `>`
 //!   and a space before each, and the bytes that the output took, in the order in which they were
 //!   given and taken;
@@ -127,7 +130,10 @@ fn play_with<W: Write + Drop>(
     writer: &mut BufWriter<W>,
 ) -> io::Result<()> {
     if let Some(ending) = kind.strip_prefix("without ") {
-        return replays::play_without(alloc, ending, text, writer);
+        return replays::play_without(alloc, false, ending, text, writer);
+    }
+    if let Some(ending) = kind.strip_prefix("explain without ") {
+        return replays::play_without(alloc, true, ending, text, writer);
     }
     match kind.strip_prefix("peers ") {
         Some(count) => failing::play(alloc, count, text, writer),

@@ -1,5 +1,5 @@
 //! Replays scripts with a reader that gives few bytes or fails, with a writer that takes few bytes
-//! or fails, or with memory that is refused.
+//! or fails, or with memory that is refused. Explains scripts.
 
 use crate::streams::{Manner, Sink, Source};
 use crate::turns::each;
@@ -7,7 +7,7 @@ use crate::words::{bad, number};
 use failing_alloc::FailingAllocator;
 use std::alloc::Global;
 use std::io::{self, BufWriter, Write};
-use sv_replay::{RunFault, run_replay};
+use sv_replay::{RunFault, run_explain, run_replay};
 
 /// In a `! reads` row, one run of the replay reads from its input fewer times than this.
 const MOST_READS: u64 = 1_000;
@@ -36,6 +36,10 @@ fn manner_of(words: &str) -> io::Result<Manner> {
         }),
         "input fails" => Ok(Manner {
             input_fails: true,
+            ..ample
+        }),
+        "explain" => Ok(Manner {
+            explains: true,
             ..ample
         }),
         "memory" => Ok(ample),
@@ -101,7 +105,11 @@ fn read_out(
         was_interrupted: false,
     };
     let mut writer = BufWriter::new(alloc, sink)?;
-    let answer = run_replay(heap, &mut source, &mut writer);
+    let answer = if manner.explains {
+        run_explain(heap, &mut source, &mut writer)
+    } else {
+        run_replay(heap, &mut source, &mut writer)
+    };
     let narrow = manner.room < usize::MAX;
     let told = told(alloc, writer.get_ref().taken.as_slice(), narrow, answer)?;
     Ok((told, source.reads))
@@ -129,15 +137,21 @@ pub(crate) fn play<W: Write + Drop>(
     }
 }
 
-/// Replays a script. Prints the lines of the replay's output, except those that end in `ending`.
+/// Replays a script, or explains it. Prints the lines of the output, except those that end in
+/// `ending`.
 pub(crate) fn play_without<W: Write + Drop>(
     alloc: Global,
+    explains: bool,
     ending: &str,
     script: &str,
     writer: &mut BufWriter<W>,
 ) -> io::Result<()> {
     let heap = FailingAllocator::new(alloc);
-    let outcome = outcome(alloc, &heap, Manner::ample(), script)?;
+    let manner = Manner {
+        explains,
+        ..Manner::ample()
+    };
+    let outcome = outcome(alloc, &heap, manner, script)?;
     for line in outcome.lines() {
         if !line.ends_with(ending) {
             writeln!(writer, "{line}")?;

@@ -2,7 +2,7 @@
 
 use std::io::{Error, ErrorKind, Read, Result, Write};
 
-/// How a reader gives bytes, and how a writer takes bytes.
+/// How a reader gives bytes, how a writer takes bytes, and what is done with the script.
 #[derive(Clone, Copy)]
 pub(crate) struct Manner {
     /// Whether bytes are read and written one by one, with an interrupted read or write before each
@@ -16,10 +16,13 @@ pub(crate) struct Manner {
     pub(crate) room: usize,
     /// Whether a full writer reports no fault and takes no bytes. If false, a full writer fails.
     pub(crate) is_silent: bool,
+    /// Whether the script is explained. If false, it is replayed.
+    pub(crate) explains: bool,
 }
 
 impl Manner {
-    /// The `Manner` with which all bytes are read and written at once, and nothing fails.
+    /// The `Manner` with which all bytes are read and written at once, nothing fails, and the
+    /// script is replayed.
     pub(crate) fn ample() -> Manner {
         Manner {
             singly: false,
@@ -27,6 +30,7 @@ impl Manner {
             fails_at: 0,
             room: usize::MAX,
             is_silent: false,
+            explains: false,
         }
     }
 

@@ -77,3 +77,8 @@ pub idle_as : (kept new : Device) (instrument : Kept) (raised : Option ℕ) → 
     → (raised ≡ None → new ≡ record kept { instrument = instrument }) → is_some raised ≡ false → new ≡ kept
 idle_as kept new instrument None same stays e = stays refl ∙ ap (λ (k : Kept). record kept { instrument = k }) same
 idle_as kept new instrument (Some count) same stays e = absurd cc
+
+-- no step was taken: what holds where no step is due
+pub none_named : {A : Type 0} (taken : Option A) (IsSo : Type 0) → is_some taken ≡ false → IfNone taken IsSo → IsSo
+none_named None IsSo e so = so
+none_named (Some a) IsSo e so = absurd cc

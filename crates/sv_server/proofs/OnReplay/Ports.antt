@@ -1,22 +1,29 @@
 -- The lines of ports are written one after the other, and what one of them shows is not another's.
-use Rattle.std.proofs.Common.{◌≡◌, ℕ, zero, suc, ◌-◌, ◌<◌, ◌≤◌, List, [], ◌∷◌, ◌++◌, length, map, Option, refl, sym, ap, inl, inr, subst, ◌∙◌, append_assoc, append-nil, arith}
+use Rattle.std.proofs.Common.{◌≡◌, ℕ, zero, suc, ◌-◌, ◌<◌, ◌≤◌, ◌==◌, false, List, [], ◌∷◌, ◌++◌, length, map, Option, refl, sym, ap, inl, inr, subst, ◌∙◌, append_assoc, append-nil, arith}
 use Rattle.std.specs.Prelude.{Result, Ok, Err, ⊤, IsErr}
 use Rattle.std.specs.Io.KnownBytes.{Appends}
+use Rattle.hex.specs.Hex.{encode_lower}
 use Rattle.std.proofs.lemmas.Bool.{lt-ltb, le-ltb, cases_lt}
 use Rattle.std.proofs.lemmas.List.{map-append}
 use Rattle.sv_history.specs.declared.event.Config.{Config}
 use Rattle.sv_history.specs.declared.event.Port.{Port}
-use Rattle.sv_server.specs.declared.replay.print.WriteFault.{WriteFault}
+use Rattle.sv_print.specs.declared.writing.WriteFault.{WriteFault}
 use Rattle.sv_history.specs.Event.{PlainEvent}
 use Rattle.sv_links.specs.Channels.{ChannelAct}
 use Rattle.sv_history.specs.Act.{Act, BytesTaken, of}
 use Rattle.sv_history.specs.Connection.{waiting, waiting_on}
 use Rattle.sv_server.specs.Server.State.{State}
-use Rattle.sv_history.specs.Print.{port_of, below, ports, port_line, lines_of, with_took, with_tooks}
+use Rattle.sv_history.specs.Print.{port_of, below, ports, port_line, port_name, lines_of, with_took, with_tooks}
 use Rattle.sv_server.specs.Replay.Inside.Showing.{StandsBy, ShowsPort, ShowsAll, log_with_took, told_with_took}
 use Rattle.sv_history.proofs.Projections.{of_other}
 use Rattle.sv_server.proofs.OnDevice.Channels.{took_other}
-use Rattle.sv_server.proofs.OnReplay.Taking.{appends_then}
+use Rattle.sv_print.proofs.Taking.{appends_then}
+
+-- the line of a port on which bytes wait
+pub line_is : (port : Port) (bytes : List ℕ) → (length bytes == 0) ≡ false
+    → port_line port bytes ≡ port_name port ++ 32 ∷ (encode_lower bytes ++ 10 ∷ [])
+line_is port [] h = absurd cc
+line_is port (byte ∷ bytes) h = refl
 
 -- the first ports
 abbrev pub first_ports : ℕ → List Port

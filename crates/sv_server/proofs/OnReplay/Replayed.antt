@@ -1,12 +1,12 @@
 -- The replay of an event is its refusal's line, and then the lines of the ports.
-use Rattle.std.proofs.Common.{◌≡◌, ◌≢◌, ℕ, true, false, List, ◌++◌, Option, refl, sym, ap, inl, inr, subst, ◌∙◌, append-nil}
+use Rattle.std.proofs.Common.{◌≡◌, ◌≢◌, ℕ, true, false, List, ◌++◌, Option, refl, sym, ap, inl, inr, ◌∙◌, append-nil}
 use Rattle.std.specs.Prelude.{Result, Ok, Err, ⊤}
 use Rattle.std.specs.Io.KnownBytes.{Appends}
 use Rattle.sv_history.specs.declared.event.Config.{Config}
 use Rattle.sv_history.specs.declared.event.Did.{Did}
 use Rattle.sv_history.specs.declared.event.Refused.{Refused}
 use Rattle.sv_history.specs.declared.event.Refused.TheVariants as refused
-use Rattle.sv_server.specs.declared.replay.print.WriteFault.{WriteFault}
+use Rattle.sv_print.specs.declared.writing.WriteFault.{WriteFault}
 use Rattle.sv_server.specs.declared.replay.ReplayFault.{ReplayFault}
 use Rattle.sv_server.specs.declared.replay.ReplayFault.TheVariants.{NoMemory, Write}
 use Rattle.sv_history.specs.Event.{PlainEvent}
@@ -14,12 +14,12 @@ use Rattle.sv_links.specs.Channels.{ChannelAct}
 use Rattle.sv_history.specs.Act.{Act, device_acts}
 use Rattle.sv_history.specs.History.{IsLogOf, Answers, history_after}
 use Rattle.sv_server.specs.Server.State.{State, StandsFor}
-use Rattle.sv_server.specs.Replay.TakenByWriter.{IsTakenByWriter}
+use Rattle.sv_print.specs.TakenByWriter.{IsTakenByWriter}
 use Rattle.sv_history.specs.Print.{ports, ports_after, with_tooks, head_of, refusal_line, is_no_memory}
-use Rattle.sv_server.specs.Replay.Replays.{IsReplayWritten, Replays}
-use Rattle.sv_server.specs.Replay.Inside.Showing.{StandsBy, ShowsAll}
+use Rattle.sv_server.specs.Replay.Replays.{IsReplayWritten}
+use Rattle.sv_server.specs.Replay.Inside.Showing.{StandsBy, ShowsAll, Left}
 use Rattle.sv_server.proofs.OnServer.Steps.{told_now}
-use Rattle.sv_server.proofs.OnReplay.Taking.{appends_then}
+use Rattle.sv_print.proofs.Taking.{appends_then}
 
 -- what became of the writing is what is told
 abbrev pub Told : Result ⊤ WriteFault → Result ⊤ ReplayFault → Type 0
@@ -29,11 +29,6 @@ Told (Err e) fault = fault ≡ Err Write
 -- what a history answers to an event
 abbrev pub AnswersNow : Config → List PlainEvent → PlainEvent → Result Did Refused → Type 0
 AnswersNow config history event did = (log : List Act) × IsLogOf config history log × Answers config event log did
-
--- what a replay leaves
-abbrev pub Left : Config → List PlainEvent → PlainEvent → Result ⊤ ReplayFault → State → Option (List ℕ) → Option (List ℕ) → Type 0
-Left config history event fault new first last = (text : List ℕ) × (after : List PlainEvent) × Replays config history event fault text after
-    × StandsFor new config after × Appends first last text
 
 -- the lines that were written, behind a refusal's line
 writes_all : (did : Result Did Refused) (channel_log : List ChannelAct) (log : List Act) (history : List PlainEvent)
@@ -67,11 +62,11 @@ writes_all did channel_log log history (Err e) fault config new head text some s
 pub replay_shown : (config : Config) (history : List PlainEvent) (event : PlainEvent) (did : Result Did Refused) (mid new : State)
     (head : List ℕ) (first put last : Option (List ℕ)) (r : Result ⊤ WriteFault)
     (fault : Result ⊤ ReplayFault) → did ≢ Err refused.NoMemory → ports_after did ≡ ports → head ≡ head_of did → Told r fault
-    → AnswersNow config history event did
+    → (answers : AnswersNow config history event did)
     → StandsFor mid config (history_after event did history) → Appends first put head
     → ((h : List PlainEvent) (channel_log : List ChannelAct) (log : List Act) → StandsBy mid config h channel_log log
     → (text : List ℕ) × Appends put last text × ShowsAll config h channel_log log r new text)
-    → Left config history event fault new first last
+    → Left config history event answers.0 did fault new first last
 replay_shown config history event did mid new head first put last r fault some shown is came answers s begun shows =
     let (channel_log, tells) = told_now mid.device config (device_acts s.log) s.represents.device in
     let (text, more, all) = shows (history_after event did history) channel_log s.log (s.is_log, s.represents, s.settled, tells) in
@@ -90,6 +85,8 @@ replay_shown config history event did mid new head first put last r fault some s
         tells = tells;
         writes = writes;
       },
+      refl,
+      refl,
       record { log = now; is_log = stands.0; represents = stands.1; settled = stands.2 },
       appends_then first put last head text begun more,
     )
@@ -97,8 +94,9 @@ replay_shown config history event did mid new head first put last r fault some s
 -- a refusal's line alone, or a part of it
 pub replay_stopped : (config : Config) (history : List PlainEvent) (event : PlainEvent) (refusal : Refused) (mid : State)
     (first last : Option (List ℕ)) (e : WriteFault) (fault : Result ⊤ ReplayFault)
-    → fault ≡ Err Write → AnswersNow config history event (Err refusal) → StandsFor mid config history
-    → IsTakenByWriter first last (Err e) (refusal_line refusal) → Left config history event fault mid first last
+    → fault ≡ Err Write → (answers : AnswersNow config history event (Err refusal)) → StandsFor mid config history
+    → IsTakenByWriter first last (Err e) (refusal_line refusal)
+    → Left config history event answers.0 (Err refusal) fault mid first last
 replay_stopped config history event refusal mid first last e fault came answers s (part, front, begun) = (
   part,
   history,
@@ -113,33 +111,36 @@ replay_stopped config history event refusal mid first last e fault came answers 
     tells = (told_now mid.device config (device_acts s.log) s.represents.device).1;
     writes = rw came (inl (front, refl));
   },
+  refl,
+  refl,
   s,
   begun,
 )
 
 pub replay_no_memory : (config : Config) (history : List PlainEvent) (event : PlainEvent) (refusal : Refused) (mid : State)
-    (first last : Option (List ℕ)) → refusal ≡ refused.NoMemory
-    → AnswersNow config history event (Err refusal) → StandsFor mid config history → Appends first last (refusal_line refusal)
-    → Left config history event (Err NoMemory) mid first last
-replay_no_memory config history event refusal mid first last is answered s took =
-    let answers = subst (λ (r : Refused). AnswersNow config history event (Err r)) is answered in
-    let begun = subst (λ (r : Refused). Appends first last (refusal_line r)) is took in (
-      refusal_line refused.NoMemory,
-      history,
-      record {
-        before = answers.0;
-        is_before = answers.1;
-        did = Err refused.NoMemory;
-        answers = answers.2;
-        log = s.log;
-        is_log = s.is_log;
-        channel_log = (told_now mid.device config (device_acts s.log) s.represents.device).0;
-        tells = (told_now mid.device config (device_acts s.log) s.represents.device).1;
-        writes = (refl, sym (append-nil (refusal_line refused.NoMemory)), refl);
-      },
-      s,
-      begun,
-    )
+    (first last : Option (List ℕ)) → is_no_memory refusal ≡ true
+    → (answers : AnswersNow config history event (Err refusal)) → StandsFor mid config history → Appends first last (refusal_line refusal)
+    → Left config history event answers.0 (Err refusal) (Err NoMemory) mid first last
+replay_no_memory config history event refused.NoMemory mid first last is answers s took = (
+  refusal_line refused.NoMemory,
+  history,
+  record {
+    before = answers.0;
+    is_before = answers.1;
+    did = Err refused.NoMemory;
+    answers = answers.2;
+    log = s.log;
+    is_log = s.is_log;
+    channel_log = (told_now mid.device config (device_acts s.log) s.represents.device).0;
+    tells = (told_now mid.device config (device_acts s.log) s.represents.device).1;
+    writes = (refl, sym (append-nil (refusal_line refused.NoMemory)), refl);
+  },
+  refl,
+  refl,
+  s,
+  took,
+)
+replay_no_memory config history event _ mid first last is answers s took = absurd cc
 
 -- another refusal than want of memory
 abbrev pub refuses : Refused → Result Did Refused
@@ -149,8 +150,3 @@ pub other_refusal : (refusal : Refused) → is_no_memory refusal ≡ false
     → (refuses refusal ≢ refuses refused.NoMemory) × (ports_after (Err refusal) ≡ ports)
 other_refusal refused.NoMemory h = absurd cc
 other_refusal _ h = (λ e. cc, refl)
-
--- and want of memory
-pub is_that : (refusal : Refused) → is_no_memory refusal ≡ true → refusal ≡ refused.NoMemory
-is_that refused.NoMemory h = refl
-is_that _ h = absurd cc

@@ -22,11 +22,11 @@ use Rattle.sv_history.specs.Connection.{is_open, bytes_left, waiting, waiting_on
 use Rattle.sv_history.specs.History.{refusal, took_refusal, own_acts, wants_memory, is_shut, is_channel_shut}
 use Rattle.sv_server.specs.Server.State.{State, Represents}
 use Rattle.sv_server.specs.Server.Inside.Acting.{Acts, IsRefusal}
-use Rattle.sv_server.specs.declared.replay.print.WriteFault.{WriteFault}
+use Rattle.sv_print.specs.declared.writing.WriteFault.{WriteFault}
 use Rattle.std.specs.Io.KnownBytes.{Appends}
 use Rattle.sv_history.specs.Print.{with_took, port_line}
 use Rattle.sv_history.specs.Limits.{max_output}
-use Rattle.sv_server.specs.Replay.TakenByWriter.{IsFront, IsTakenByWriter}
+use Rattle.sv_print.specs.TakenByWriter.{IsFront, IsTakenByWriter}
 use Rattle.sv_server.specs.Replay.Inside.Showing.{StandsBy, ShowsPort, log_with_took, told_with_took}
 
 if_false : {A : Type 0} (b : Bool) (x y : A) → b ≡ false → cond b x y ≡ y

@@ -8,6 +8,7 @@ use Rattle.sv_history.specs.declared.event.Refused.TheVariants.{NoMemory, ConnIn
 use Rattle.sv_history.specs.declared.event.Port.TheVariants.{Conn, Intr}
 use Rattle.sv_history.specs.Event.{PlainEvent, IsEvent, Open, Bytes, Took}
 use Rattle.sv_history.specs.Act.{Act, Opened, Piece, BytesTaken, device_acts}
+use Rattle.sv_history.specs.PolledStatus.{IsPolled}
 use Rattle.sv_history.specs.Settling.{IsSettled, SettlesIn}
 use Rattle.sv_links.specs.Channels.{ChannelAct, ChannelTaken}
 use Rattle.sv_history.specs.Requests.{HearsOf}
@@ -21,6 +22,22 @@ nothing_due : (n : ℕ) (config : Config) (log new : List Act) → SettlesIn n c
 nothing_due zero config log new (none, same) = subst (λ (end : List Act). IsSettled config end) (sym same) none
 nothing_due (suc n) config log new (middle, next, more) = nothing_due n config middle new more
 
+-- an event was done, and the steps that are due after it
+pub stands_acted : (config : Config) (history : List PlainEvent) (event : PlainEvent) (old new : State) → (s : StandsFor old config history)
+    → IsEvent event → IsRefusal config event s.log None
+    → ((polled : ℕ) → IsPolled polled (device_acts s.log) → Settled config (own_acts config polled event s.log ++ s.log) new)
+    → StandsFor new config (event ∷ history)
+stands_acted config history event old new s is_event free settles =
+    let (polled, said) = polled_now old.device config (device_acts s.log) s.represents.device in
+    let (channel_log, tells) = told_now old.device config (device_acts s.log) s.represents.device in
+    let (last, steps, held) = settles polled said in
+    record {
+      log = last;
+      is_log = (s.log, polled, channel_log, is_event, s.is_log, tells, free channel_log tells, said, steps);
+      represents = held;
+      settled = nothing_due steps.0 config (own_acts config polled event s.log ++ s.log) last steps.1;
+    }
+
 stands_after : (config : Config) (history : List PlainEvent) (event : PlainEvent) (old mid new : State) (did : Did)
     → StandsFor old config history → IsEvent event
     → ((k : Config) (log : List Act) → Represents old k log → Acts k event log (Ok did) mid)
@@ -28,15 +45,8 @@ stands_after : (config : Config) (history : List PlainEvent) (event : PlainEvent
     → StandsFor new config (event ∷ history)
 stands_after config history event old mid new did s is_event acts settles =
     let (free, done, makes) = acts config s.log s.represents in
-    let (polled, said) = polled_now old.device config (device_acts s.log) s.represents.device in
-    let (channel_log, tells) = told_now old.device config (device_acts s.log) s.represents.device in
-    let (last, steps, held) = settles config (own_acts config polled event s.log ++ s.log) (makes polled said) in
-    record {
-      log = last;
-      is_log = (s.log, polled, channel_log, is_event, s.is_log, tells, free channel_log tells, said, steps);
-      represents = held;
-      settled = nothing_due steps.0 config (own_acts config polled event s.log ++ s.log) last steps.1;
-    }
+    stands_acted config history event old new s is_event free
+    (λ polled said. settles config (own_acts config polled event s.log ++ s.log) (makes polled said))
 
 -- an event that makes no step due leaves none
 quiet_settled : (config : Config) (polled : ℕ) (event : PlainEvent) (log : List Act) → is_quiet event ≡ true → IsSettled config log

@@ -13,7 +13,7 @@ use Rattle.sv_history.specs.Act.{Act, device_acts}
 use Rattle.sv_history.specs.Requests.{HearsOf}
 use Rattle.sv_history.specs.History.{IsLogOf, Answers, history_after}
 use Rattle.sv_history.specs.Print.{head_of, ports_after, lines_of, with_tooks, print_of}
-use Rattle.sv_server.specs.Replay.TakenByWriter.{IsFront}
+use Rattle.sv_print.specs.TakenByWriter.{IsFront}
 
 -- On success, all lines for the event were written, and the peers took all bytes that these lines show. If memory was refused, the line of
 -- the refusal was written, and the peers took nothing. If the writer failed in the line of the refusal, the peers took nothing. If the

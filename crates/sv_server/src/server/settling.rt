@@ -5,17 +5,20 @@ ghost use Rattle.sv_links.specs.Waiting.{waits};
 ghost use Rattle.sv_links.specs.Queue.{IsEntry, creates, creations, without, queue_measure};
 ghost use Rattle.sv_instrument.specs.Stimulus.{IsFired};
 ghost use Rattle.sv_instrument.specs.Step.{IsStep};
+ghost use Rattle.sv_instrument.specs.Looking.{IsNoneDue};
 ghost use Rattle.sv_instrument.specs.Representation.{instrument_measure};
 ghost use Rattle.sv_history.specs.declared.event.Config.{Config};
 ghost use Rattle.sv_history.specs.Event.{plain};
-ghost use Rattle.sv_history.specs.Act.{Act, of, device_acts, wait_acts};
+ghost use Rattle.sv_history.specs.Act.{Act, of, device_acts, wait_acts, instrument_acts};
 ghost use Rattle.sv_history.specs.Connection.{pending_call};
 ghost use Rattle.sv_history.specs.Request.{core_call_in};
 ghost use Rattle.sv_history.specs.PolledStatus.{IsPolled};
 ghost use Rattle.sv_history.specs.Effect.{acts_of};
 ghost use Rattle.sv_history.specs.Resuming.{resume_effect, failure_effect, late as late_error};
 ghost use Rattle.sv_history.specs.Settling.{CanResume, InstrumentDoes, Resumes, TimesOut, IsSettled};
+ghost use Rattle.sv_explain.specs.declared.step.Due.TheVariants as due;
 ghost use Rattle.sv_server.specs.Server.State.{Represents};
+ghost use Rattle.sv_server.specs.Explain.Telling.{Names, NextToResume, NextToExpire};
 ghost use Rattle.sv_server.specs.Device.Inside.WaitingCall.{IsKept};
 ghost use Rattle.sv_server.specs.Server.Inside.Acting.{TakesStep, Steps, GoesTo, Settled, is_quiet};
 
@@ -30,7 +33,7 @@ use sv_vxi::ErrorCode;
 
 /// Which step was taken.
 #[derive(Clone, Copy)]
-enum Stepped {
+pub(crate) enum Stepped {
     /// No step was due.
     Nothing,
     /// The instrument took a step: an immediate trigger, or a step of message exchange.
@@ -111,6 +114,8 @@ impl<A: Allocator> Server<A> {
     fn exchange(&mut self) -> bool
         ensures steps { (config : Config) (log : List Act) → Represents self.old config log
             → TakesStep (λ config. InstrumentDoes IsStep) result config log self.old self.new }
+        ensures none { (config : Config) (log : List Act) → Represents self.old config log
+            → result ≡ false → IsNoneDue (instrument_acts (device_acts log)) }
         ensures idle { result ≡ false → self.new ≡ self.old }
         ensures measure { IsTrue result
             → instrument_measure self.new.device.instrument
@@ -124,6 +129,8 @@ impl<A: Allocator> Server<A> {
     fn resume_oldest(&mut self) -> bool
         ensures steps { (config : Config) (log : List Act) → Represents self.old config log
             → TakesStep Resumes result config log self.old self.new }
+        ensures none { (config : Config) (log : List Act) → Represents self.old config log
+            → result ≡ false → NextToResume log None }
         ensures idle { result ≡ false → self.new ≡ self.old }
         ensures measure { IsTrue result
             → queue_measure self.new.device.waiting < queue_measure self.old.device.waiting }
@@ -142,6 +149,8 @@ impl<A: Allocator> Server<A> {
     fn give_up_oldest(&mut self) -> bool
         ensures steps { (config : Config) (log : List Act) → Represents self.old config log
             → TakesStep TimesOut result config log self.old self.new }
+        ensures none { (config : Config) (log : List Act) → Represents self.old config log
+            → result ≡ false → NextToExpire config log None }
         ensures idle { result ≡ false → self.new ≡ self.old }
         ensures measure { IsTrue result
             → queue_measure self.new.device.waiting < queue_measure self.old.device.waiting }
@@ -156,9 +165,11 @@ impl<A: Allocator> Server<A> {
     }
 
     /// Takes the step that is due, if a step is due.
-    fn step(&mut self) -> Stepped
+    pub(crate) fn step(&mut self) -> Stepped
         ensures steps { (config : Config) (log : List Act) → Represents self.old config log
             → Steps result config log self.new }
+        ensures nothing { (config : Config) (log : List Act) → Represents self.old config log
+            → result ≡ Stepped.Nothing → Names due.Nothing config log }
         ensures instrument { result ≡ Stepped.Instrument
             → instrument_measure self.new.device.instrument
             < instrument_measure self.old.device.instrument }
@@ -212,7 +223,7 @@ impl<A: Allocator> Server<A> {
     }
 
     /// Takes steps until no step is due.
-    fn settle(&mut self)
+    pub(crate) fn settle(&mut self)
         ensures { (config : Config) (log : List Act) → Represents self.old config log
             → Settled config log self.new }
     {

@@ -2,7 +2,7 @@ use Rattle.std.proofs.Common.{rules, ap, ◌∙◌, Some}
 use Rattle.std.proofs.lemmas.Slice.Eq.{bytes_eq-Decides}
 use Rattle.std.proofs.lemmas.Bool.{and_parts, eqb-true}
 use Rattle.std.proofs.lemmas.Result.{err_from_is_err_and}
-use Rattle.sv_net.proofs.Asked.{first_text, asks_server, asks_fault, asks_replay}
+use Rattle.sv_net.proofs.Asked.{first_text, asks_server, asks_fault, asks_alone}
 use Rattle.sv_net.proofs.words.read_words.Goals as goal
 
 pub returns-then-eq : goal.returns-then-eq
@@ -21,5 +21,12 @@ pub returns-then-words-eq : goal.returns-then-words-eq
 returns-then-words-eq g c =
     let both = and_parts _ _ c.if-words-eq.true in
     let replay = (bytes_eq-Decides _ _).0 (search (rules, both, c.eq-2.ensures)) in
-    asks_replay g.S.AsStr.text c.args.words.now (first_text g.S.AsStr.text c.args.words.now _ c.in-Some.ensures.value ∙ ap Some replay)
+    asks_alone g.S.AsStr.text c.args.words.now _ (first_text g.S.AsStr.text c.args.words.now _ c.in-Some.ensures.value ∙ ap Some replay)
+    (eqb-true _ _ both.0)
+
+pub returns-then-words-eq-2 : goal.returns-then-words-eq-2
+returns-then-words-eq-2 g c =
+    let both = and_parts _ _ c.if-words-eq-2.true in
+    let explain = (bytes_eq-Decides _ _).0 (search (rules, both, c.eq-else-words-eq.ensures)) in
+    asks_alone g.S.AsStr.text c.args.words.now _ (first_text g.S.AsStr.text c.args.words.now _ c.in-Some.ensures.value ∙ ap Some explain)
     (eqb-true _ _ both.0)

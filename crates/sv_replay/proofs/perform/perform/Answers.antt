@@ -1,6 +1,6 @@
 use Rattle.std.proofs.Common.{[], refl}
 use Rattle.sv_history.specs.Event.{plain}
-use Rattle.sv_server.proofs.OnReplay.Taking.{appends_none}
+use Rattle.sv_print.proofs.Taking.{appends_none}
 use Rattle.sv_replay.proofs.Printed.{performs_one}
 use Rattle.sv_replay.proofs.perform.perform.Goals as goal
 
@@ -9,8 +9,14 @@ returns-in-Blank g c = λ config history s. rw c.in-Blank.is ([], history, (refl
 
 pub returns-in-One : goal.returns-in-One
 returns-in-One g c = λ config history s.
-    let (text, after, replays, stands, put) = c.replay.ensures config history s in
-    rw c.in-One.is (text, after, performs_one config history (plain c.in-One.event) c.replay.result text after replays, stands, put)
+    let (text, after, prints, stands, put) = c.apply.ensures config history s in
+    rw c.in-One.is (
+      text,
+      after,
+      performs_one c.args.mode c.args.number config history (plain c.in-One.event) c.apply.result text after prints,
+      stands,
+      put,
+    )
 
 pub returns-in-Ticks : goal.returns-in-Ticks
 returns-in-Ticks g c = λ config history s. rw c.in-Ticks.is (c.pass.ensures config history s)

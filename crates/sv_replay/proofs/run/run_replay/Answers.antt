@@ -1,10 +1,11 @@
+use Rattle.sv_replay.specs.declared.mode.Mode.TheVariants.{Plain}
 use Rattle.sv_replay.proofs.Heard.{read_out}
-use Rattle.sv_replay.proofs.Going.{so_far_told, end_told}
+use Rattle.sv_replay.proofs.Ending.{run_told, end_told}
 use Rattle.sv_replay.proofs.run.run_replay.Goals as goal
 
 pub returns-clause-runs : goal.returns-clause-runs
 returns-clause-runs g c =
-    so_far_told _ _ _ _ _ c.run_lines-answer.result c.pass_on.result c.run_lines-answer.ensures.end c.pass_on.ensures.answer
+    run_told Plain _ _ _ _ _ c.run_lines-answer.result c.pass_on.result c.run_lines-answer.ensures.end c.pass_on.ensures.answer
     c.pass_on.ensures.kept c.run_lines-answer.ensures.runs
 
 pub returns-clause-end : goal.returns-clause-end

@@ -1,9 +1,12 @@
 -- How a replay writes a line for each port (a connection or an interrupt channel) on which bytes wait to be sent. The line shows these
 -- bytes.
-use Rattle.std.specs.Prelude.{◌≡◌, ℕ, List, [], ◌∷◌, ◌++◌, length, Result, Ok, Err, ⊤}
+use Rattle.std.specs.Prelude.{◌≡◌, ℕ, List, [], ◌∷◌, ◌++◌, length, Option, Result, Ok, Err, ⊤}
+use Rattle.std.specs.Io.KnownBytes.{Appends}
 use Rattle.sv_history.specs.declared.event.Config.{Config}
+use Rattle.sv_history.specs.declared.event.Did.{Did}
+use Rattle.sv_history.specs.declared.event.Refused.{Refused}
 use Rattle.sv_history.specs.declared.event.Port.{Port}
-use Rattle.sv_server.specs.declared.replay.print.WriteFault.{WriteFault}
+use Rattle.sv_print.specs.declared.writing.WriteFault.{WriteFault}
 use Rattle.sv_history.specs.Event.{PlainEvent}
 use Rattle.sv_history.specs.declared.event.Port.TheVariants.{Conn, Intr}
 use Rattle.sv_links.specs.Channels.{ChannelAct, ChannelTaken}
@@ -12,9 +15,11 @@ use Rattle.sv_history.specs.Requests.{HearsOf}
 use Rattle.sv_history.specs.Connection.{waiting_on}
 use Rattle.sv_history.specs.Settling.{IsSettled}
 use Rattle.sv_history.specs.History.{IsLogOf}
-use Rattle.sv_server.specs.Server.State.{State, Represents}
+use Rattle.sv_server.specs.declared.replay.ReplayFault.{ReplayFault}
+use Rattle.sv_server.specs.Server.State.{State, Represents, StandsFor}
+use Rattle.sv_server.specs.Replay.Replays.{Replays}
 use Rattle.sv_history.specs.Print.{ports, port_line, lines_of, with_took, with_tooks}
-use Rattle.sv_server.specs.Replay.TakenByWriter.{IsFront}
+use Rattle.sv_print.specs.TakenByWriter.{IsFront}
 
 -- The server stands for this history. `log` is the history's log, and `channel_log` is the log of the interrupt channels.
 abbrev pub StandsBy : State → Config → List PlainEvent → List ChannelAct → List Act → Type 0
@@ -53,3 +58,11 @@ ShowsAll config history channel_log log (Err fault) new text =
     (shown others : List Port) × (part : List ℕ) × (ports ≡ shown ++ others) × IsFront part (lines_of channel_log others log)
     × (text ≡ lines_of channel_log shown log ++ part) × (after : List ChannelAct) × (now : List Act)
     × StandsBy new config (with_tooks channel_log shown log history) after now
+
+-- What a replay of an event leaves, whose log before was `before`, and which was done or refused as `did` says.
+abbrev pub Left : Config → List PlainEvent → PlainEvent → List Act → Result Did Refused → Result ⊤ ReplayFault → State → Option (List ℕ)
+    → Option (List ℕ)
+    → Type 0
+Left config history event before did fault new first last = (text : List ℕ) × (after : List PlainEvent)
+    × (replays : Replays config history event fault text after) × (replays.before ≡ before) × (replays.did ≡ did)
+    × StandsFor new config after × Appends first last text

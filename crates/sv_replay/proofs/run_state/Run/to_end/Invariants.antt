@@ -9,7 +9,8 @@ abbrev pub invariant-loop : goal.invariant-loop
 invariant-loop g l =
     ((read text : List ℕ) × Consumes (g.R.Read.remaining l.fn.reader) (g.R.Read.remaining l.reader) read
     × Appends (g.W.Write.contents l.fn.writer) (g.W.Write.contents l.writer) text
-    × IsStage l.self.server l.self.text.text l.self.lines read text)
+    × IsStage l.fn.self.mode l.self.server l.self.text.text l.self.lines read text)
     × (l.self.lines + l.self.text.reads ≡ l.counter) × (l.self.lines + length l.self.text.text ≤ 131072 * l.self.text.reads)
     × (l.self.text.reads ≤ 4294967294)
     × ((reads : List Gave) × Made g.R.Source.gives l.fn.reader reads l.reader × (length reads ≡ l.self.text.reads))
+    × (l.self.mode ≡ l.fn.self.mode)

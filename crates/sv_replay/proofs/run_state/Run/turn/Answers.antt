@@ -7,7 +7,8 @@ use Rattle.sv_replay.proofs.run_state.Run.turn.Goals as goal
 
 pub returns-in_err-do_line-in-Some-clause-goes : goal.returns-in_err-do_line-in-Some-clause-goes
 returns-in_err-do_line-in-Some-clause-goes g c =
-    go_line_stop c.args.self.now.server c.do_line.new.server c.args.self.now.text.text c.front-line.result.now c.whole_line.new.self.text
+    go_line_stop c.args.self.now.mode c.args.self.now.server c.do_line.new.server c.args.self.now.text.text c.front-line.result.now
+    c.whole_line.new.self.text
     c.in-Some.len c.args.self.now.lines (c.args.self.now.lines + 1)
     c.args.self.now.lines _ _ _ c.in_err-do_line-in-Some.field-0.0 c.from_residual.result (sym c.in-Some.ensures.value)
     (c.front-line.ensures ∙ ap (λ (h : Held). take c.in-Some.len h.text) c.in-Some.ensures.same) refl c.from_residual.ensures.0
@@ -15,7 +16,8 @@ returns-in_err-do_line-in-Some-clause-goes g c =
 
 pub returns-in_ok-do_line-in-Some-clause-goes : goal.returns-in_ok-do_line-in-Some-clause-goes
 returns-in_ok-do_line-in-Some-clause-goes g c =
-    go_line c.args.self.now.server c.do_line.new.server c.args.self.now.text.text c.front-line.result.now c.drop_front.new.self.text
+    go_line c.args.self.now.mode c.args.self.now.server c.do_line.new.server c.args.self.now.text.text c.front-line.result.now
+    c.drop_front.new.self.text
     c.in-Some.len c.args.self.now.lines (c.args.self.now.lines + 1) _ _ _
     (sym c.in-Some.ensures.value) (c.front-line.ensures ∙ ap (λ (h : Held). take c.in-Some.len h.text) c.in-Some.ensures.same)
     (ap (λ (h : Held). h.text) c.drop_front.ensures
@@ -24,7 +26,8 @@ returns-in_ok-do_line-in-Some-clause-goes g c =
 pub returns-in-None-clause-goes : goal.returns-in-None-clause-goes
 returns-in-None-clause-goes g c = λ read text is.
     c.read_on.ensures.goes read text
-    (subst (λ (h : Held). IsStage c.args.self.now.server h.text c.args.self.now.lines read text) (sym c.in-None.ensures.same) is)
+    (subst (λ (h : Held). IsStage c.args.self.now.mode c.args.self.now.server h.text c.args.self.now.lines read text)
+    (sym c.in-None.ensures.same) is)
 
 pub returns-in_err-do_line-in-Some-clause-heard : goal.returns-in_err-do_line-in-Some-clause-heard
 returns-in_err-do_line-in-Some-clause-heard g c = λ first reads made as_many. (

@@ -1,5 +1,5 @@
 use Rattle.sv_history.specs.Act.{instrument_acts}
-use Rattle.sv_server.proofs.OnDevice.Raising.{instrument_steps, idle_as}
+use Rattle.sv_server.proofs.OnDevice.Raising.{instrument_steps, idle_as, none_named}
 use Rattle.sv_instrument.specs.Step.{IsStep}
 use Rattle.sv_server.proofs.device.Device.exchange.Goals as goal
 
@@ -14,3 +14,8 @@ returns-clause-steps g c = λ config acts old.
 pub returns-clause-idle : goal.returns-clause-idle
 returns-clause-idle g c = rw (← c.self.view_is, c.raise_if.ensures.answer)
     (λ e. idle_as _ _ c.step-stepped.new.self c.step-stepped.result c.step-stepped.ensures.idle c.raise_if.ensures.none e)
+
+pub returns-clause-none : goal.returns-clause-none
+returns-clause-none g c = λ config acts old e.
+    let is = rw (← c.self.view_is) at old in
+    none_named c.step-stepped.result _ (rw c.raise_if.ensures.answer at e) (c.step-stepped.ensures.due (instrument_acts acts) is.1)

@@ -19,3 +19,7 @@ returns-in-None-clause-steps g c = λ config log rep.
     let state = rw (← c.self.view_is) at rep in
     let none = c.in-None.ensures.answer config (device_acts log) state.device in
     (λ next step. none step.0 step.3.0, refl)
+
+pub returns-in-None-clause-none : goal.returns-in-None-clause-none
+returns-in-None-clause-none g c = λ config log rep e.
+    let state = rw (← c.self.view_is) at rep in c.in-None.ensures.answer config (device_acts log) state.device

@@ -7,7 +7,7 @@ use Rattle.sv_history.specs.Act.{Act}
 use Rattle.sv_links.specs.Channels.{ChannelAct}
 use Rattle.sv_server.specs.Server.State.{State}
 use Rattle.sv_server.specs.Replay.Inside.Showing.{StandsBy, ShowsPort}
-use Rattle.sv_server.proofs.OnReplay.Taking.{appends_none}
+use Rattle.sv_print.proofs.Taking.{appends_none}
 use Rattle.sv_server.proofs.OnReplay.Ports.{so_far_none, so_far_more, so_far_skip, so_far_all, so_far_stop}
 use Rattle.sv_server.proofs.server.Server.show_all.Goals.{then-number-ge16+in_ok-show, else-number-ge16+else-number-self}
 use Rattle.sv_server.proofs.server.Server.show_all.Goals as goal

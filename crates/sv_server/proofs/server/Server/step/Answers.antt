@@ -1,6 +1,7 @@
 use Rattle.std.proofs.Common.{◌∙◌, refl, sym, ap, subst, inl, inr}
 use Rattle.sv_server.specs.Server.State.{State, Represents}
 use Rattle.sv_server.proofs.OnServer.Steps.{none_next}
+use Rattle.sv_server.proofs.OnServer.Naming.{not_fired}
 use Rattle.sv_server.proofs.server.Server.step.Goals as goal
 
 pub returns-then-fire-clause-steps : goal.returns-then-fire-clause-steps
@@ -63,3 +64,17 @@ pub returns-clause-waiting : goal.returns-clause-waiting
 returns-clause-waiting g c = λ e. ap (λ (s : State). s.device.waiting)
     (c.if-give_up_oldest.ensures.idle refl ∙ c.if-exchange.ensures.idle refl ∙ c.if-resume_oldest.ensures.idle refl
     ∙ c.if-fire.ensures.idle refl)
+
+pub returns-clause-nothing : goal.returns-clause-nothing
+returns-clause-nothing g c = λ config log rep e.
+    let (none, same) = c.if-fire.ensures.steps config log rep in
+    let first = subst (λ (s : State). Represents s config log) (sym same) rep in
+    let (still, alike) = c.if-resume_oldest.ensures.steps config log first in
+    let second = subst (λ (s : State). Represents s config log) (sym alike) first in
+    let (idle, equal) = c.if-exchange.ensures.steps config log second in
+    let third = subst (λ (s : State). Represents s config log) (sym equal) second in (
+      not_fired log none,
+      c.if-resume_oldest.ensures.none config log first refl,
+      c.if-exchange.ensures.none config log second refl,
+      c.if-give_up_oldest.ensures.none config log third refl,
+    )

@@ -1,0 +1,126 @@
+-- How a run ends: behind its last line, and when what was printed is passed on.
+use Rattle.std.proofs.Common.{◌≡◌, ℕ, List, [], ◌++◌, Option, refl, sym, subst, inl, inr, append-nil}
+use Rattle.std.specs.Prelude.{◌⊎◌, Result, Ok, Err, ⊤, IsErr, IsErrAnd, OnOk, IfErr}
+use Rattle.std.specs.Io.KnownBytes.{Keeps, IsAtEnd}
+use Rattle.sv_print.specs.TakenByWriter.{IsTakenByWriter}
+use Rattle.sv_history.specs.declared.event.Config.{Config}
+use Rattle.sv_history.specs.Event.{PlainEvent}
+use Rattle.sv_history.specs.Act.{Act}
+use Rattle.sv_history.specs.History.{IsLogOf}
+use Rattle.sv_explain.specs.Steps.{end_line}
+use Rattle.sv_server.specs.Explain.Telling.{clock_at}
+use Rattle.sv_server.specs.Server.State.{State, StandsFor}
+use Rattle.sv_print.proofs.Taking.{appends_none, appends_keeps, appends_then}
+use Rattle.sv_replay.specs.declared.mode.Mode.{Mode}
+use Rattle.sv_replay.specs.declared.mode.Mode.TheVariants.{Plain, Explained}
+use Rattle.sv_replay.specs.declared.fault.RunFault.{RunFault}
+use Rattle.sv_replay.specs.declared.fault.RunFault.TheVariants.{BadLine, Input, Output, Memory}
+use Rattle.sv_replay.specs.Run.{set_up, Runs, RunsExplained}
+use Rattle.sv_replay.specs.Stage.{StepsRun, RunsIn, ScriptRuns}
+use Rattle.sv_replay.proofs.Going.{consumes_none}
+use Rattle.sv_replay.proofs.Staged.{output_instead}
+
+-- a fault of the lines is one of the run
+runs_fault : (mode : Mode) (read text : List ℕ) (rest : Option (List ℕ)) (fault : RunFault) → Runs mode read rest (Err fault) text
+    → RunsIn mode read rest (Err fault) text
+runs_fault Plain read text rest fault runs = runs
+runs_fault Explained read text rest (BadLine n) runs = runs
+runs_fault Explained read text rest Input runs = runs
+runs_fault Explained read text rest Output runs = inl runs
+runs_fault Explained read text rest Memory runs = runs
+
+-- memory was refused at the start
+pub no_memory : (mode : Mode) (reader first : Option (List ℕ)) (result : Result ⊤ RunFault) → IsErr result
+    → IsErrAnd result (λ e. e ≡ Memory) → ScriptRuns mode reader reader first first result
+no_memory mode reader first (Ok all) failed is = absurd cc
+no_memory mode reader first (Err e) failed is = (
+  [],
+  [],
+  consumes_none reader,
+  appends_none first,
+  subst (λ (f : RunFault). RunsIn mode [] reader (Err f) []) (sym is) (runs_fault mode [] [] reader Memory (inl (refl, refl))),
+)
+
+-- the lines stopped
+pub end_stop : (mode own : Mode) (server : State) (reader after first last : Option (List ℕ)) (fault : RunFault)
+    (result : Result ⊤ RunFault) → own ≡ mode → IsErr result → IsErrAnd result (λ e. e ≡ fault)
+    → StepsRun own server reader after first last (Err fault) → ScriptRuns mode reader after first last result
+end_stop mode own server reader after first last fault (Ok all) same failed is steps = absurd cc
+end_stop mode own server reader after first last fault (Err e) same failed is (read, text, took, put, runs) = (
+  read,
+  text,
+  took,
+  put,
+  subst (λ (f : RunFault). RunsIn mode read after (Err f) text) (sym is)
+      (runs_fault mode read text after fault (subst (λ (m : Mode). Runs m read after (Err fault) text) same runs)),
+)
+
+-- nothing comes behind the lines of a plain replay
+pub end_plain : (server : State) (reader after first last : Option (List ℕ)) → StepsRun Plain server reader after first last (Ok tt)
+    → ScriptRuns Plain reader after first last (Ok tt)
+end_plain server reader after first last (read, text, took, put, (events, history, script, prints, stands)) =
+    (read, text, took, put, (events, history, script, prints))
+
+-- the line of the clock comes behind the lines of an explained one
+pub end_explained : (server : State) (reader after first mid last : Option (List ℕ)) (result : Result ⊤ RunFault)
+    → IsAtEnd after → StepsRun Explained server reader after first mid (Ok tt)
+    → ((config : Config) (history : List PlainEvent) (log : List Act) → StandsFor server config history → IsLogOf config history log
+    → IsTakenByWriter mid last result (end_line (clock_at config log)))
+    → IfErr result (λ e. e ≡ Output) → ScriptRuns Explained reader after first last result
+end_explained server reader after first mid last (Ok all) end (read, text, took, put, done) taken is =
+    let (events, history, script, prints, stands) = done in (
+      read,
+      text ++ end_line (clock_at set_up stands.log),
+      took,
+      appends_then first mid last text _ put (taken set_up history stands.log stands stands.is_log),
+      (text, _, (events, history, stands.log, script, prints, stands.is_log, refl), refl),
+    )
+end_explained server reader after first mid last (Err e) end (read, text, took, put, done) taken is =
+    let (events, history, script, prints, stands) = done in
+    let (part, front, more) = taken set_up history stands.log stands stands.is_log in (
+      read,
+      text ++ part,
+      took,
+      appends_then first mid last text part put more,
+      subst (λ (f : RunFault). RunsExplained read after (Err f) (text ++ part)) (sym is)
+          (inr (text, _, part, (events, history, stands.log, script, prints, stands.is_log, refl), front, end, refl)),
+    )
+
+-- behind an answer, the output failed
+instead : (mode : Mode) (read text : List ℕ) (tail : Option (List ℕ)) (answer : Result ⊤ RunFault) → OnOk answer (IsAtEnd tail)
+    → RunsIn mode read tail answer text → RunsIn mode read tail (Err Output) text
+instead Plain read text tail answer end runs = output_instead Plain read text tail answer end runs
+instead Explained read text tail (Ok all) end (front, last, printed, is) =
+    inr (front, last, last, printed, ([], sym (append-nil last)), end, is)
+instead Explained read text tail (Err (BadLine n)) end runs = inl (output_instead Explained read text tail (Err (BadLine n)) end runs)
+instead Explained read text tail (Err Input) end runs = inl (output_instead Explained read text tail (Err Input) end runs)
+instead Explained read text tail (Err Output) end runs = runs
+instead Explained read text tail (Err Memory) end runs = inl (output_instead Explained read text tail (Err Memory) end runs)
+
+-- what was printed is passed on, and then the answer is told, or the output's fault
+pub run_told : (mode : Mode) (reader after first mid last : Option (List ℕ)) (answer result : Result ⊤ RunFault)
+    → OnOk answer (IsAtEnd after) → (result ≡ answer) ⊎ (result ≡ Err Output) → Keeps mid last
+    → ScriptRuns mode reader after first mid answer → ScriptRuns mode reader after first last result
+run_told mode reader after first mid last answer result end (inl same) kept (read, text, took, put, runs) = (
+  read,
+  text,
+  took,
+  appends_keeps first mid last text put kept,
+  subst (λ (r : Result ⊤ RunFault). RunsIn mode read after r text) (sym same) runs,
+)
+run_told mode reader after first mid last answer result end (inr failed) kept (read, text, took, put, runs) = (
+  read,
+  text,
+  took,
+  appends_keeps first mid last text put kept,
+  subst (λ (r : Result ⊤ RunFault). RunsIn mode read after r text) (sym failed) (instead mode read text after answer end runs),
+)
+
+pub end_told : (after : Option (List ℕ)) (answer result : Result ⊤ RunFault) → OnOk answer (IsAtEnd after)
+    → (result ≡ answer) ⊎ (result ≡ Err Output) → OnOk result (IsAtEnd after)
+end_told after answer result end (inl same) = subst (λ (r : Result ⊤ RunFault). OnOk r (IsAtEnd after)) (sym same) end
+end_told after answer result end (inr failed) = subst (λ (r : Result ⊤ RunFault). OnOk r (IsAtEnd after)) (sym failed) tt
+
+pub end_holds : (after : Option (List ℕ)) (result : Result ⊤ RunFault) → IsAtEnd after → OnOk result (IsAtEnd after)
+end_holds after (Ok all) end = end
+end_holds after (Err e) end = tt

@@ -1,0 +1,16 @@
+use Rattle.sv_replay.specs.declared.mode.Mode.TheVariants.{Explained}
+use Rattle.sv_replay.proofs.Heard.{read_out}
+use Rattle.sv_replay.proofs.Ending.{run_told, end_told}
+use Rattle.sv_replay.proofs.run.run_explain.Goals as goal
+
+pub returns-clause-runs : goal.returns-clause-runs
+returns-clause-runs g c =
+    run_told Explained _ _ _ _ _ c.run_lines-told.result c.pass_on.result c.run_lines-told.ensures.end c.pass_on.ensures.answer
+    c.pass_on.ensures.kept c.run_lines-told.ensures.runs
+
+pub returns-clause-end : goal.returns-clause-end
+returns-clause-end g c = end_told _ c.run_lines-told.result c.pass_on.result c.run_lines-told.ensures.end c.pass_on.ensures.answer
+
+pub returns-clause-reads : goal.returns-clause-reads
+returns-clause-reads g c =
+    read_out _ _ _ c.run_lines-told.result c.pass_on.result c.pass_on.ensures.answer c.run_lines-told.ensures.reads

@@ -1,0 +1,12 @@
+use Rattle.std.proofs.Common.{◌≡◌, List, length, map, take}
+use Rattle.sv_errors.specs.declared.error_queue.QueueAct.{QueueAct}
+use Rattle.sv_errors.specs.Code.{number_of}
+use Rattle.sv_errors.specs.ErrorQueue.{queue_codes, StandsFor}
+use Rattle.sv_server.proofs.explain.shown.errors_shown.Given as goal
+
+-- the numbers so far are those of the first errors
+abbrev pub invariant-loop-index : goal.invariant-loop-index
+invariant-loop-index g l = record {
+  count : length l.found.items ≡ l.index;
+  are : (acts : List QueueAct) → StandsFor l.queue acts → l.found.items ≡ map number_of (take l.index (queue_codes acts));
+}

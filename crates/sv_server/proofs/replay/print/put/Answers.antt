@@ -1,7 +1,0 @@
-use Rattle.sv_server.proofs.OnReplay.Taking.{took_more}
-use Rattle.sv_server.proofs.replay.print.put.Goals as goal
-
-pub loop-preserved : goal.loop-preserved
-loop-preserved g c =
-    took_more c.args.bytes.now c.loop.invariant.0 c.loop.rest.now c.in_ok-count.count _ _ _ c.loop.invariant.1 c.in_ok-count.ensures.within
-    c.loop.invariant.2 c.in_ok-count.ensures.taken

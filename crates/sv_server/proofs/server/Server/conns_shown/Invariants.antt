@@ -1,0 +1,14 @@
+use Rattle.std.proofs.Common.{◌≡◌, ℕ, ◌<◌, List, length, slice_index_or}
+use Rattle.sv_history.specs.declared.event.Config.{Config}
+use Rattle.sv_history.specs.Act.{Act}
+use Rattle.sv_server.specs.Server.State.{Represents}
+use Rattle.sv_explain.specs.Shown.{IsConn, never_opened}
+use Rattle.sv_server.proofs.server.Server.conns_shown.Given as goal
+
+-- what is told of the connections so far
+abbrev pub invariant-loop-number : goal.invariant-loop-number
+invariant-loop-number g l = record {
+  count : length l.found ≡ 16;
+  are : (config : Config) (log : List Act) → Represents l.self config log → (c : ℕ) → c < l.number
+      → IsConn c (slice_index_or l.found c never_opened) log;
+}

@@ -1,0 +1,13 @@
+use Rattle.std.proofs.Common.{◌≡◌}
+use Rattle.sv_instrument.specs.Representation.{instrument_measure}
+use Rattle.sv_server.proofs.OnReplay.Telling.{AnyTold}
+use Rattle.sv_server.proofs.server.Server.tell_to_call.Given as goal
+
+-- the steps until now were told, whatever the log, and no call resumed or timed out
+abbrev pub invariant-loop-self : goal.invariant-loop-self
+invariant-loop-self g l = AnyTold l.fn.self l.self l.fn.shown l.shown (g.W.Write.contents l.fn.writer) l.fn.failed
+    (g.W.Write.contents l.writer) l.failed
+    × (l.self.device.waiting ≡ l.fn.self.device.waiting)
+
+abbrev pub decreases-loop-self : goal.decreases-loop-self
+decreases-loop-self g l = instrument_measure l.self.device.instrument

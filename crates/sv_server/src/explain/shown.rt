@@ -1,0 +1,290 @@
+//! What is told of a server.
+
+ghost use Rattle.std.specs.Prelude.{◌≡◌, ◌<◌, ℕ, List, map, pos, slice_index_or, MatchOption, None, Some};
+ghost use Rattle.sv_errors.specs.declared.error_queue.QueueAct.{QueueAct};
+ghost use Rattle.sv_errors.specs.Code.{number_of};
+ghost use Rattle.sv_errors.specs.ErrorQueue.{queue_codes, StandsFor as Queues};
+ghost use Rattle.sv_scan.specs.declared.acts.ScanAct.{ScanAct};
+ghost use Rattle.sv_scan.specs.Counted.{effective};
+ghost use Rattle.sv_scan.specs.Setting.{scan_list};
+ghost use Rattle.sv_scan.specs.Stands.{StandsFor as Scans};
+ghost use Rattle.sv_layers.specs.Act.{Act as InstrumentAct};
+ghost use Rattle.sv_layers.specs.Inside.Representation.{AllRead};
+ghost use Rattle.sv_instrument.specs.Representation.{StandsFor};
+ghost use Rattle.sv_history.specs.declared.event.Config.{Config};
+ghost use Rattle.sv_history.specs.Act.{Act};
+ghost use Rattle.sv_server.specs.Server.State.{Represents};
+ghost use Rattle.sv_explain.specs.Shown.{IsStatus, IsRegister, source_word, settings_of, state_word, measurement_of, newest_value, held_word, message_of, wait_word, call_of, role_word, IsConn, never_opened, IsShown};
+
+use crate::conn::Conn;
+use crate::server::Server;
+use arrayvec::ArrayVec;
+use std::alloc::Allocator;
+use sv_errors::{ErrorQueue, Source};
+use sv_explain::{
+    CONNECTIONS, CallShown, ConnShown, MeasurementShown, MessageShown, NEVER_OPENED, RegisterShown,
+    SettingsShown, Shown, StatusShown, Value, Word,
+};
+use sv_history::{Port, Role};
+use sv_instrument::Instrument;
+use sv_layers::{Awaited, Layers};
+use sv_links::{Entry, Wait};
+use sv_scan::{Reading, Scanner, State, Taken};
+use sv_status::RegisterName;
+
+/// What is told of the standard events and the status byte.
+fn status_shown<A: Allocator>(layers: &Layers<A>) -> StatusShown
+    ensures { (log : List InstrumentAct) → AllRead layers.now log → IsStatus result log }
+{
+    StatusShown {
+        opc: layers.has_opc(),
+        enable: layers.standard_enable(),
+        events: layers.standard_events(),
+        service: layers.service(),
+        byte: layers.status_byte(),
+        request: layers.has_request(),
+    }
+}
+
+/// What is told of a status register.
+fn register_shown<A: Allocator>(layers: &Layers<A>, name: RegisterName) -> RegisterShown
+    ensures { (log : List InstrumentAct) → AllRead layers.now log → IsRegister name result log }
+{
+    RegisterShown {
+        enable: layers.enabled(name),
+        rise: layers.rise(name),
+        fall: layers.fall(name),
+        condition: layers.condition(name),
+        events: layers.events(name),
+    }
+}
+
+/// The word of a source of triggers.
+fn source_word(source: Source) -> Word
+    ensures { result ≡ source_word source }
+{
+    match source {
+        Source::Immediate => Word::Immediate,
+        Source::Bus => Word::Bus,
+        Source::External => Word::External,
+    }
+}
+
+/// What is told of the settings, without the scan list.
+fn settings_shown<A: Allocator>(scanner: &Scanner<A>) -> SettingsShown
+    ensures { (acts : List ScanAct) → Scans scanner.now acts
+        → result ≡ settings_of (effective acts) }
+{
+    SettingsShown {
+        source: source_word(scanner.source()),
+        count: scanner.count(),
+        range: scanner.range(),
+        monitor: scanner.monitor(),
+        upper: scanner.upper(),
+        lower: scanner.lower(),
+        limits: scanner.limits(),
+    }
+}
+
+/// The channels of the scan list.
+fn list_shown<A: Allocator>(scanner: &Scanner<A>) -> ArrayVec<i16, 128>
+    ensures { (acts : List ScanAct) → Scans scanner.now acts
+        → result.items ≡ map pos (scan_list (effective acts)) }
+{
+    let mut found = ArrayVec::new();
+    for channel in scanner.list() {
+        found.push(i16::from(*channel));
+    }
+    found
+}
+
+/// The word of a state of the trigger system.
+fn state_word(state: State) -> Word
+    ensures { result ≡ state_word state }
+{
+    match state {
+        State::Idle => Word::Idle,
+        State::Waiting => Word::Waiting,
+        State::Scanning => Word::Scanning,
+    }
+}
+
+/// The newest reading; its number is how many readings there are.
+fn newest_value(number: u16, newest: Option<Taken>) -> Value
+    ensures { result ≡ newest_value number newest }
+{
+    match newest {
+        Some(taken) => match taken.reading {
+            Reading::Value(microvolts) => Value::Reading(number, taken.channel, microvolts),
+            Reading::Over => Value::Overload(number, taken.channel, Word::Over),
+            Reading::Under => Value::Overload(number, taken.channel, Word::Under),
+        },
+        None => Value::Word(Word::None),
+    }
+}
+
+/// What is told of the measurement.
+fn measurement_shown<A: Allocator>(scanner: &Scanner<A>) -> MeasurementShown
+    ensures { (acts : List ScanAct) → Scans scanner.now acts
+        → result ≡ measurement_of (effective acts) }
+{
+    let readings = scanner.readings_so_far().len() as u16;
+    MeasurementShown {
+        state: state_word(scanner.state()),
+        progress: scanner.progress(),
+        readings,
+        newest: newest_value(readings, scanner.newest_reading()),
+    }
+}
+
+/// The word of what a held unit will answer.
+fn held_word(held: Option<Awaited>) -> Word
+    ensures { result ≡ held_word held }
+{
+    match held {
+        None => Word::None,
+        Some(Awaited::Nothing) => Word::Nothing,
+        Some(Awaited::One) => Word::One,
+        Some(Awaited::Readings) => Word::Readings,
+    }
+}
+
+/// What is told of message exchange.
+fn message_shown<A: Allocator>(instrument: &Instrument<A>) -> MessageShown
+    ensures { (log : List InstrumentAct) → StandsFor instrument.now log
+        → result ≡ message_of log }
+{
+    let layers = instrument.layers();
+    let exchange = layers.exchange();
+    MessageShown {
+        text: exchange.unended(),
+        held: held_word(instrument.held()),
+        answers: exchange.gathered(),
+        response: exchange.left(),
+        lost: layers.errors().lost(),
+    }
+}
+
+/// The numbers of the errors in a queue, the oldest first.
+fn errors_shown<A: Allocator>(queue: &ErrorQueue<A>) -> ArrayVec<i16, 64>
+    ensures { (acts : List QueueAct) → Queues queue.now acts
+        → result.items ≡ map number_of (queue_codes acts) }
+{
+    let mut found = ArrayVec::new();
+    for index in 0..queue.count() {
+        match queue.entry(index) {
+            Some(code) => found.push(code.number()),
+            None => return found,
+        }
+    }
+    found
+}
+
+/// The word of what a suspended call waits for.
+fn wait_word(wait: Wait) -> Word
+    ensures { result ≡ wait_word wait }
+{
+    match wait {
+        Wait::Lock => Word::Lock,
+        Wait::Input => Word::Input,
+        Wait::Response => Word::Response,
+        Wait::Dial => Word::Dial,
+    }
+}
+
+/// What is told of a suspended call.
+fn call_shown(entry: Option<Entry>) -> Option<CallShown>
+    ensures { MatchOption entry (result ≡ None)
+        (λ entry. result ≡ call_of (Some entry.wait) entry.lid entry.deadline) }
+{
+    match entry {
+        Some(entry) => Some(CallShown {
+            wait: wait_word(entry.wait),
+            lid: entry.lid,
+            deadline: entry.deadline,
+        }),
+        None => None,
+    }
+}
+
+/// The word of a connection's role.
+fn role_word(role: Option<Role>) -> Word
+    ensures { result ≡ role_word role }
+{
+    match role {
+        None => Word::Closed,
+        Some(Role::Core) => Word::Core,
+        Some(Role::Abort) => Word::Abort,
+        Some(Role::Portmap) => Word::Portmap,
+    }
+}
+
+impl<A: Allocator> Server<A> {
+    /// What is told of the server.
+    pub(crate) fn shown(&self) -> Shown
+        ensures { (config : Config) (log : List Act) → Represents self.now config log
+            → IsShown result log }
+    {
+        let instrument = self.device.instrument();
+        let layers = instrument.layers();
+        let scanner = layers.scanner();
+        Shown {
+            status: status_shown(layers),
+            operation: register_shown(layers, RegisterName::Operation),
+            questionable: register_shown(layers, RegisterName::Questionable),
+            limit: register_shown(layers, RegisterName::Limit),
+            settings: settings_shown(scanner),
+            list: list_shown(scanner),
+            measurement: measurement_shown(scanner),
+            message: message_shown(instrument),
+            errors: errors_shown(layers.errors()),
+            lock: self.device.lock_holder(),
+            links: self.device.all_links(),
+            asking: self.device.asking_links(),
+            conns: self.conns_shown(),
+        }
+    }
+
+    /// What is told of the connections. Each is looked at, also one that was never opened: the
+    /// contract is about each log, even one in which such a connection has an interrupt channel.
+    fn conns_shown(&self) -> [ConnShown; CONNECTIONS]
+        ensures { (config : Config) (log : List Act) → Represents self.now config log
+            → (c : ℕ) → c < 16 → IsConn c (slice_index_or result c never_opened) log }
+    {
+        let mut found = [NEVER_OPENED; CONNECTIONS];
+        for number in 0..16 {
+            if let Some(conn) = Conn::new(number) {
+                found[conn.index()] = self.conn_shown(conn);
+            }
+        }
+        found
+    }
+
+    /// What is told of a connection.
+    pub(crate) fn conn_shown(&self, conn: Conn) -> ConnShown
+        ensures { (config : Config) (log : List Act) → Represents self.now config log
+            → IsConn conn.number result log }
+    {
+        let call = call_shown(self.device.waiting_call(conn));
+        let has_channel = self.device.has_channel(conn);
+        let requests = self.outgoing(Port::Intr(conn.number)).len() as u32;
+        match self.connection(conn.number) {
+            Some(connection) => ConnShown {
+                role: role_word(connection.role()),
+                faulted: connection.is_faulted(),
+                call,
+                output: connection.waiting().len() as u32,
+                has_channel,
+                requests,
+            },
+            None => ConnShown {
+                role: Word::Closed,
+                faulted: false,
+                call,
+                output: 0,
+                has_channel,
+                requests,
+            },
+        }
+    }
+}
