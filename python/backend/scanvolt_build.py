@@ -22,6 +22,7 @@ Value = Union[str, List[str], Dict[str, str]]
 Files = List[Tuple[str, bytes]]
 PACKAGES = ("scanvolt", "pyvisa_scanvolt")
 OLDEST = 315532800          # 1 January 1980, the first date that a wheel can have
+SUFFIXES = (".py", ".html", ".css", ".js")      # of the packages' files
 TAG = "py3-none-any"
 WHEEL = "Wheel-Version: 1.0\nGenerator: scanvolt_build\nRoot-Is-Purelib: true\nTag: %s\n" % TAG
 
@@ -72,7 +73,7 @@ def _licence() -> Files:
 def _sources() -> Files:
     """The files of the packages."""
     paths = [path for package in PACKAGES for path in pathlib.Path(package).rglob("*")
-             if path.suffix == ".py" or path.name == "py.typed"]
+             if path.suffix in SUFFIXES or path.name == "py.typed"]
     return [(path.as_posix(), path.read_bytes()) for path in paths]
 
 

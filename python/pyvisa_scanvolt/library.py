@@ -11,7 +11,7 @@ from scanvolt.virtual import Meter
 
 from . import attributes
 from .session import Session
-from .statuses import FAULTS, Refusal, status_of
+from .statuses import FAULTS, Refusal, VisaIOError, status_of
 
 __tracebackhide__ = True        # pytest shows the line that calls the package, and not these frames
 Value = TypeVar("Value")
@@ -80,12 +80,16 @@ class ScanvoltLibrary(highlevel.VisaLibraryBase):
         """Does an action of a session, and returns its result. A fault is raised as VisaIOError."""
         session = self.sessions.get(number)
         status = StatusCode.error_invalid_object
+        cause: Optional[Exception] = None
         if session is not None:
             try:
                 return action(session)
             except FAULTS as fault:
-                status = status_of(fault)
-        self.handle_return_value(number, status)
+                status, cause = status_of(fault), fault
+        try:
+            self.handle_return_value(number, status)
+        except errors.VisaIOError as error:
+            raise error if cause is None else VisaIOError(error.error_code, cause) from None
         raise AssertionError("a status that is no error: %s" % status)
 
     def _told(self, number: Any, action: Callable[[Session], StatusCode]) -> StatusCode:

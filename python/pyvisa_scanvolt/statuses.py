@@ -1,6 +1,7 @@
 """VISA's statuses for what the instrument and its connection return."""
-from typing import Dict, Tuple, Type
+from typing import Dict, List, Tuple, Type
 
+from pyvisa import errors
 from pyvisa.constants import StatusCode
 
 from scanvolt.vxi11 import DeviceError, RpcError
@@ -25,6 +26,20 @@ class Refusal(Exception):
     def __init__(self, status: StatusCode) -> None:
         super().__init__(status)
         self.status = status
+
+
+class VisaIOError(errors.VisaIOError):
+    """VISA's exception for a fault of the instrument. Its notes are those of the fault: why the call ended so."""
+
+    def __init__(self, status: int, fault: Exception) -> None:
+        super().__init__(status)
+        self.fault = fault
+
+    @property
+    def __notes__(self) -> List[str]:
+        """The lines that a traceback shows below the error."""
+        found: List[str] = getattr(self.fault, "__notes__", [])
+        return found
 
 
 FAULTS: Tuple[Type[Exception], ...] = (Refusal, DeviceError, RpcError, ConnectionError)

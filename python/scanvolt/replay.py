@@ -8,7 +8,7 @@ import os
 import select
 import subprocess
 import zlib
-from typing import Iterator, List, Optional, Tuple
+from typing import Iterator, List, Optional, Sequence, Tuple
 
 from .program import ProgramError, check_fits, started
 
@@ -22,6 +22,7 @@ LONGEST_ASK = 50000         # milliseconds that pass before the program has to a
 STEPS = 64                  # single milliseconds that are tried before longer steps, the cells
 CELLS = 64                  # cells that are tried at once
 FIRST_CELL, LAST_CELL = 16, 1024    # milliseconds of the first cells, and of the longest
+Moment = Tuple[int, int]    # of a session: entries of the log, and milliseconds after them
 LOG_MOST = 4000000          # bytes of lines that are kept for a second program, which takes about 20 ms to read them
 
 
@@ -144,6 +145,19 @@ class Replay:
     def do(self, lines: bytes) -> bytes:
         """Executes events, given as lines. Returns what they print."""
         return self._kept(lines, self.program.ask(lines + PROBE)[:-len(SEEN)])
+
+    def moment(self) -> Moment:
+        """Where the session is: how many entries its log has, and how many milliseconds passed after them."""
+        return len(self.log or ()), self.since
+
+    def script(self, moment: Optional[Moment] = None) -> Sequence[str]:
+        """The lines of a script that repeats the session, until now or until a moment of it. Raises ProgramError if it became
+        too long to be kept.
+        """
+        if self.log is None:
+            raise ProgramError("the session is too long to be told: its lines have more than %d bytes" % LOG_MOST)
+        count, since = self.moment() if moment is None else moment
+        return (b"".join(self.log[:count]) + ticks(since)).decode().splitlines()
 
     def pass_time(self, milliseconds: int) -> bytes:
         """Lets time pass in one go. Returns what is printed meanwhile, without the moment at which it was."""

@@ -7,14 +7,16 @@ program computes, and always ends in the same way.
 import collections
 import contextlib
 import functools
+import itertools
 import queue
 import threading
-from typing import Callable, ContextManager, Deque, Dict, Generic, List, Optional, Type, TypeVar, cast
+import weakref
+from typing import TYPE_CHECKING, Callable, ContextManager, Deque, Dict, Generic, List, Optional, Type, TypeVar, cast
 
 from . import vxi11
 from .keeping_time import keeping_time
 from .program import Name, ProgramError, find_program
-from .replay import Replay
+from .replay import Moment, Replay
 from .stimulus import Entry, Volts, input_line, read_scenario
 from .vxi11 import DeviceError, Link, RequestStream, ServiceRequest, calls
 from .vxi11.calls import Call
@@ -24,16 +26,22 @@ from .vxi11.rpc import Records
 from .vxi11.timeouts import Milliseconds
 from .vxi11.timeouts import milliseconds as checked
 
+if TYPE_CHECKING:
+    from .explaining.explanation import Explanation
+
 __tracebackhide__ = True        # pytest shows the line that calls the package, and not these frames
 Value = TypeVar("Value")
 Itself = TypeVar("Itself", bound="Connection")
 ROLES = ("core", "abort", "portmap")
 PLACES = 16             # connections that the instrument has room for
+METERS: "weakref.WeakValueDictionary[int, Meter]" = weakref.WeakValueDictionary()       # those that there are, in their order
+_numbers = itertools.count()
 PATIENCE = 600000       # milliseconds of virtual time that a call may wait
+SHORT = 10000           # milliseconds of patience that take no longer to pass than to be explained
 
 
 class NoAnswer(Exception):
-    """A call has waited for longer than the meter's patience."""
+    """A call has waited for longer than the meter's patience, or nothing is due that could answer it."""
 
 
 class Pending(Generic[Value]):
@@ -60,8 +68,10 @@ class Pending(Generic[Value]):
         return self.clock is not None
 
     def wait(self) -> None:
-        """Advances time until the call is answered, or its connection ended."""
+        """Advances time until the call is answered, or its connection ended. Raises NoAnswer if that can't be."""
         meter = self.connection.meter
+        if not self.done:
+            meter.check_hope(cast("Pending[object]", self))
         if not meter.until(lambda: self.done, meter.patience):
             raise NoAnswer("%s waits for more than %d ms of virtual time; see patience of Meter" % (
                 self.call.name, meter.patience))
@@ -76,11 +86,18 @@ class Pending(Generic[Value]):
         except DeviceError as fault:
             assert self.clock is not None and self.turned is not None
             fault.waited, fault.clock = self.clock - self.turned, self.clock
+            fault.tell = functools.partial(_notes, self, self.connection.meter.replay.moment())
             raise
 
     def end(self, clock: int, body: bytes = b"", fault: Optional[Exception] = None) -> None:
         """Ends the call: it was answered, or can't be any more."""
         self.clock, self.body, self.fault = clock, body, fault
+
+
+def _notes(pending: Pending[Value], moment: Moment) -> List[str]:
+    """The notes of the error with which a call ended at a moment of the session."""
+    from .explaining import meters
+    return meters.notes(pending.connection.meter, pending.connection.number, pending.xid, moment)
 
 
 class Requests:
@@ -93,9 +110,7 @@ class Requests:
         self.stream = RequestStream()
 
     def wait(self, milliseconds: int) -> ServiceRequest:
-        """The next service request of the queue. Advances time until there is one. Raises TimeoutError after
-        this many milliseconds.
-        """
+        """The next service request of the queue. Advances time until there is one; after this long raises TimeoutError."""
         most = checked(milliseconds, "wait")
         if not self.connection.meter.until(lambda: not self.queue.empty(), most):
             raise TimeoutError("no service request within %d ms of virtual time" % most)
@@ -208,6 +223,7 @@ class Meter:
         self.guard = threading.RLock()
         self.ended: Optional[Exception] = None      # why the meter is off
         self.replay = Replay(find_program() if program is None else str(program))
+        METERS[next(_numbers)] = self
         with self.guard:
             self._play()
 
@@ -316,15 +332,35 @@ class Meter:
         """
         return keeping_time(self)
 
+    def explain(self) -> "Explanation":
+        """What the instrument saw until now, as another program tells it. Raises ProgramError if it can't, or if the session has
+        become too long to be kept.
+        """
+        from .explaining.explanation import Explanation
+        with self.guard:
+            script = self.replay.script()
+        return Explanation(script, self.replay.path)
+
+    def check_hope(self, pending: "Pending[object]") -> None:
+        """Raises NoAnswer at once if a call can't be answered, since nothing is due within the meter's patience. It isn't
+        asked if the patience is short, or if the call's timeouts are.
+        """
+        with self.guard:
+            first = pending.connection.pending[0] if pending.connection.pending else pending
+            if self.patience <= SHORT or first.call.wait <= self.patience:
+                return
+            from .explaining import meters
+            why = meters.why_no_answer(self, pending)
+        if why is not None:
+            raise NoAnswer(why)
+
     @property
     def has_channel(self) -> bool:
         """Whether there is an interrupt channel: if not, nothing happens on this side while time passes."""
         return any(one.has_channel for one in self.connections.values())
 
     def _pass(self, most: int) -> None:
-        """Lets at most this many milliseconds pass, and no more than up to the first at which something
-        happens.
-        """
+        """Lets at most this many milliseconds pass, and no more than up to the first at which something happens."""
         if self.ahead:
             most = min(most, self.ahead[0].clock - self.clock)
         if self._is_quiet():
@@ -395,9 +431,7 @@ class Meter:
         return self._take(self._asked(lambda: self.replay.do(lines)))
 
     def _take(self, printed: bytes) -> List[int]:
-        """Handles what was printed, and lets the instrument take further calls. Returns the reasons of the
-        events that were refused.
-        """
+        """Handles what was printed, and lets the instrument take further calls. Returns the reasons of refused events."""
         refused: List[int] = []
         while printed:
             answered: List[Connection] = []

@@ -133,6 +133,7 @@ class Building(InAFolder):
         self.assertRegex(found["WHEEL"], "^Wheel-Version: 1.0\nGenerator: .*\nRoot-Is-Purelib: true\nTag: py3-none-any\n$")
         self.assertEqual(found["entry_points.txt"], """[console_scripts]
 scanvolt-capture = scanvolt.capturing.command:main
+scanvolt-explain = scanvolt.explaining.command:main
 scanvolt-portmap = scanvolt.portmap:main
 scanvolt-scenario = scanvolt.scenario.command:main
 

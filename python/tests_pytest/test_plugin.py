@@ -1,11 +1,15 @@
 """The fixtures of the plugin, each used by tests that pytest runs on its own."""
 import pathlib
 import re
+import shutil
+import subprocess
+import time
 from importlib.util import find_spec
 
 import pytest
 
 from scanvolt import __version__
+from scanvolt.explaining.explanation import Explanation
 from scanvolt.program import find_program
 
 TOP = pathlib.Path(__file__).resolve().parent.parent
@@ -232,3 +236,147 @@ def test_a_test_that_is_interrupted(pytester: pytest.Pytester) -> None:
     result = pytester.runpytest_subprocess(*PLUGIN, "-s")
     number = [line.split()[-1] for line in result.outlines if "process" in line][0]
     assert not pathlib.Path("/proc", number).exists()
+
+
+OLD = '#!/bin/sh\n[ "$1" = replay ] && exec %s replay\necho scanvolt: bad words >&2\nexit 2\n'
+FAILING = """
+    import pytest
+    from scanvolt.vxi11 import DeviceError
+
+    def test_passes(meter):
+        meter.connect().create_link().write("*CLS")
+
+    @pytest.mark.parametrize("number", range(4))
+    def test_fails(meter, number):
+        link = meter.connect().create_link(io_timeout=100)
+        link.write("*CLS;*ESE 1;*SRE 16")
+        for number in range(30):
+            link.write("*SRE %d" % number)
+            meter.advance(1)
+        link.write("CONF:VOLT (@1:3);:TRIG:SOUR EXT;:INIT;*OPC?")
+        link.read()
+
+    def test_without_a_meter():
+        assert False
+"""
+
+
+def test_what_the_instrument_saw(pytester: pytest.Pytester) -> None:
+    """Each failed test that used `meter` has a section: the last lines, and the end. No other test has one."""
+    pytester.makepyfile(FAILING)
+    result = pytester.runpytest_subprocess(*PLUGIN, "-rP")
+    result.assert_outcomes(passed=1, failed=5)
+    assert result.stdout.str().count("- what the instrument saw -") == 4
+    result.stdout.fnmatch_lines([
+        "*- what the instrument saw -*", "* lines before",
+        '* c0 link 1  device_read .. waits for a response, until 130 ms at most',
+        "*<c0 link 1  device_read -> error 15, I/O timeout   after 100 ms", "at the end, 130 ms:", "  no call waits",
+        "  held      unit `[*]OPC[?]` since 30 ms: every device_write and device_read will wait",
+        "            would end it: 1 EXTernal trigger, at 133 ms; or device_clear of any link, at 130 ms",
+        "(--scanvolt-trace=DIR keeps all of it, as a script, a text and a page)"])
+    result.stdout.fnmatch_lines(["E*device_read on link 1: I/O timeout (15)*",
+                                 "E*c0 link 1: device_read waited since 30 ms for a response",
+                                 "E*because unit `[*]OPC[?]` waits until the scan is idle: the scan waits for *"])
+
+
+def test_any_meter(pytester: pytest.Pytester) -> None:
+    """Also a meter that the test makes by itself, or that another fixture keeps; but not one that the test doesn't use."""
+    pytester.makepyfile("""
+        import pytest
+        from scanvolt.virtual import Meter
+
+        @pytest.fixture(scope="module")
+        def kept():
+            with Meter() as meter:
+                yield meter
+
+        def test_first(kept):
+            kept.advance(1)
+            assert False
+
+        def test_second():
+            assert False
+
+        def test_third(kept):
+            with Meter() as meter:
+                meter.advance(2)
+                kept.advance(3)
+                assert False
+    """)
+    result = pytester.runpytest_subprocess(*PLUGIN)
+    result.assert_outcomes(failed=3)
+    told = [line for line in result.stdout.lines if line.startswith("at the end")]
+    assert told == ["at the end, 1 ms:", "at the end, 4 ms:", "at the end, 2 ms:"]
+
+
+@pytest.mark.skipif(find_spec("xdist") is None, reason="Debian's python3-pytest-xdist isn't there")
+def test_what_is_kept(pytester: pytest.Pytester) -> None:
+    """Script, text and page of each, also of four at once. The script repeats the session."""
+    pytester.makepyfile(FAILING)
+    result = pytester.runpytest_subprocess(*PLUGIN, "-n", "4", "--scanvolt-trace=trace")
+    result.assert_outcomes(passed=1, failed=5)
+    assert result.stdout.str().count("- what the instrument saw -") == 4
+    names = sorted(path.name for path in pytester.path.joinpath("trace").iterdir())
+    assert names == ["test_what_is_kept.py_test_fails_%d_%s" % (number, ending) for number in range(4)
+                     for ending in (".html", ".replay", ".txt")]
+    result.stdout.fnmatch_lines(["kept: trace/test_what_is_kept.py_test_fails_0_.replay, .txt, .html"])
+    text = pytester.path.joinpath("trace", "test_what_is_kept.py_test_fails_0_.txt").read_text()
+    script = pytester.path.joinpath("trace", "test_what_is_kept.py_test_fails_0_.replay").read_text().splitlines()
+    assert Explanation(script, find_program()).text() + "\n" == text
+
+
+OVER_SOCKETS = """
+    from scanvolt.vxi11 import Client
+
+    def test_fails(scanvolt_server):
+        with Client(port=scanvolt_server.core) as client, client.create_link() as link:
+            link.write("*SRE 4;FOO")
+            assert link.query("SYST:ERR?") == "0"
+
+    def test_passes(scanvolt_server):
+        pass
+"""
+
+
+def test_over_sockets(pytester: pytest.Pytester) -> None:
+    """Without a capture the section says how to have one. A capture that can't be read fails no report."""
+    pytester.makepyfile(OVER_SOCKETS)
+    for more, told in ((), "over sockets it is told from a capture: tshark *"), \
+            (("--scanvolt-capture=none",), "it can't be told: *No such file or directory: 'none'"):
+        result = pytester.runpytest_subprocess(*PLUGIN, *more)
+        result.assert_outcomes(passed=1, failed=1)
+        assert result.stdout.str().count("- what the instrument saw -") == 1
+        result.stdout.fnmatch_lines(["*- what the instrument saw -*", told])
+
+
+@pytest.mark.skipif(shutil.which("tshark") is None, reason="tshark isn't there")
+def test_from_a_capture(pytester: pytest.Pytester) -> None:
+    """Of sockets, by tshark, while it is written."""
+    pytester.makepyfile(OVER_SOCKETS)
+    capture = str(pytester.path / "session.pcapng")
+    with subprocess.Popen(["tshark", "-i", "lo", "-f", "tcp", "-w", capture], stderr=subprocess.PIPE, text=True) as tshark:
+        assert tshark.stderr is not None
+        try:
+            if not any("Capturing" in line for line in tshark.stderr):
+                pytest.skip("tshark may not capture here")
+            while not pathlib.Path(capture).exists():
+                time.sleep(0.1)
+            result = pytester.runpytest_subprocess(*PLUGIN, "--scanvolt-capture=" + capture, "--scanvolt-trace=trace")
+        finally:
+            tshark.terminate()
+            tshark.communicate()
+    result.stdout.fnmatch_lines(["*- what the instrument saw -*", '* FOO  * error -113 "Undefined header"*', "at the end, * ms:",
+                                 "kept: trace/test_from_a_capture.py_test_fails_server.replay, .txt, .html"])
+
+
+def test_it_never_fails_a_report(pytester: pytest.Pytester, monkeypatch: pytest.MonkeyPatch) -> None:
+    """With a program that can't explain, the section says that."""
+    old = pytester.makefile(".sh", old=OLD % find_program())
+    old.chmod(0o755)
+    monkeypatch.setenv("SCANVOLT", str(old))
+    pytester.makepyfile(FAILING)
+    result = pytester.runpytest_subprocess(*PLUGIN, "--scanvolt-trace=trace")
+    result.assert_outcomes(passed=1, failed=5)
+    result.stdout.fnmatch_lines(["*- what the instrument saw -*",
+                                 "it can't be told: * has no `explain`: it is an earlier release, or no scanvolt"])
+    assert not pytester.path.joinpath("trace").exists()

@@ -182,6 +182,16 @@ class Messages(WithResource):
         self.resource.timeout = None
         self.assertRaises(NoAnswer, self.resource.read)
 
+    def test_the_notes_of_an_error(self) -> None:
+        """VisaIOError says what the call waited for, and why."""
+        self.resource.write("TRIG:SOUR EXT;:INIT;*OPC?")
+        self.resource.timeout = 50
+        with self.assertRaises(pyvisa.VisaIOError) as caught:
+            self.resource.read()
+        first, second = getattr(caught.exception, "__notes__")
+        self.assertRegex(first, "device_read .*waited since 0 ms for a response")
+        self.assertIn("the scan waits for an EXTernal trigger (scan 1 of 1)", second)
+
     def test_clear(self) -> None:
         self.resource.write("*IDN?")
         self.resource.clear()

@@ -186,6 +186,18 @@ class Comparing(unittest.TestCase):
         self.assertEqual(status, 0, text)
         self.assertIn("1 connection, 5 calls, 5 replies,", text)
 
+    def test_a_session_explained(self) -> None:
+        """As a script, and as the capture itself. A capture that is cut short is a fault."""
+        status, text = self.compared(self.replies(), mode="explain")
+        self.assertEqual(status, 0, text)
+        self.assertIn('c0 link 1  device_write "*IDN?\\n" -> 6 bytes', text)
+        self.assertIn("no call waits", text)
+        status, text = self.compared(self.replies(), "--why", "RQS", mode="explain")
+        self.assertEqual((status, text.split("\n")[0]), (0, "STB.RQS is clear, and was so at power on"))
+        with mock.patch(__name__ + ".PCAP", PCAP[:-4]), contextlib.redirect_stderr(io.StringIO()) as told:
+            self.assertEqual(self.compared(self.replies(), mode="explain")[0], 2)
+        self.assertRegex(told.getvalue(), "^scanvolt-capture explain: .*\n$")
+
     def test_a_session_again_in_virtual_time(self) -> None:
         status, text = self.compared(self.replies(), mode="virtual")
         self.assertEqual(status, 0, text)

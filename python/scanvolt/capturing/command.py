@@ -3,13 +3,15 @@
     scanvolt-capture compare CAPTURE [--scenario FILE] [--start SECONDS]
     scanvolt-capture virtual CAPTURE [--scenario FILE] [--start SECONDS]
     scanvolt-capture script CAPTURE > session.replay
+    scanvolt-capture explain CAPTURE [OPTIONS OF scanvolt-explain]
 
 CAPTURE is a pcap or pcapng file, as `tshark -i lo -f tcp -w CAPTURE` writes it; start that before the
 server. `script` writes the script of docs/REPLAY.md with which `scanvolt replay` repeats the session.
 `compare` replays it and compares each reply, and each call on an interrupt channel, byte by byte. It shows
 the first reply or call that differs: the bytes around the place, and their text. `virtual` does what
 `compare` does, and then makes the same calls by `scanvolt.virtual`: the replies have to be the same bytes,
-and the service requests the same ones in the same order. All three need `tshark`, from Debian's package of
+and the service requests the same ones in the same order. `explain` says what happened, as `scanvolt-explain`
+does; `scanvolt-capture explain --help` has its options. All four need `tshark`, from Debian's package of
 that name; it also puts the bytes of each connection together.
 
 These are exact: the bytes of each connection, the order of calls and replies, and who closes what. Ports in
@@ -59,7 +61,7 @@ def words(given: Optional[List[str]]) -> argparse.Namespace:
     """The arguments of the command line."""
     parser = argparse.ArgumentParser(
         prog=NAME, description=__doc__, formatter_class=argparse.RawDescriptionHelpFormatter)
-    parser.add_argument("mode", choices=("script", "compare", "virtual"))
+    parser.add_argument("mode", choices=("script", "compare", "virtual", "explain"))
     parser.add_argument("capture", metavar="CAPTURE")
     parser.add_argument("--program", help="the scanvolt that replays. Without it, `compare` and `virtual` take the one "
                         "that SCANVOLT, PATH or the checkout has, and `script` moves no ticks; with it, `script` "
@@ -122,6 +124,10 @@ def again(session: Session, ticks: List[int], given: argparse.Namespace) -> int:
 
 def main(given_words: Optional[List[str]] = None) -> int:
     """Runs the command. Returns its status."""
+    own = sys.argv[1:] if given_words is None else given_words
+    if own[:1] == ["explain"]:
+        from ..explaining.command import main as explain
+        return explain(own[1:], NAME + " explain")
     given = words(given_words)
     try:
         entries = scenario(given.scenario) if given.scenario else []

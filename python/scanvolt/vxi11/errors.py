@@ -1,5 +1,5 @@
 """The errors of VXI-11 (revision 1.0, table B.2)."""
-from typing import Optional
+from typing import Callable, List, Optional, Tuple
 
 __tracebackhide__ = True        # pytest shows the line that calls the package, and not these frames
 NAMES = {
@@ -20,7 +20,8 @@ class DeviceError(Exception):
 
     `call` is the call and its link, in words. If the error is that of a timeout, `timeout` is the timeout. `waited`
     is for how long the call waited, and `clock` when it was answered, by the clock of a meter in virtual time; all
-    are in milliseconds. What isn't known is None.
+    are in milliseconds. What isn't known is None. `tell` makes the notes of a virtual instrument, which tracebacks show:
+    why the call ended so. They are made when they are first asked for.
     """
 
     def __init__(self, number: int, name: str = "") -> None:
@@ -30,7 +31,21 @@ class DeviceError(Exception):
         self.timeout: Optional[int] = None
         self.waited: Optional[float] = None
         self.clock: Optional[int] = None
+        self.tell: Optional[Callable[[], List[str]]] = None
+        self._notes: Optional[List[str]] = None
         super().__init__(number, self.name)
+
+    @property
+    def __notes__(self) -> List[str]:
+        """The lines that a traceback shows below the error."""
+        if self._notes is None:
+            self._notes = [] if self.tell is None else self.tell()
+            self.tell = None
+        return self._notes
+
+    def __reduce__(self) -> Tuple[object, ...]:
+        """A copy in another process has no meter to ask."""
+        return type(self), (self.number, self.name), {**self.__dict__, "tell": None}
 
     def __str__(self) -> str:
         if self.call is None:

@@ -1,0 +1,75 @@
+"""Who did a step: a unit and its message, a call, the time that passes, or the script."""
+from typing import Optional
+
+from .lines import Moment, Step
+from .story import Call, call_words
+from .telling import Telling
+from .words import millis, reading, unit, volts
+
+STEPS = {"finish": "message ends", "fire": "trigger IMM", "overrun": "message too long"}
+UNIT_MOST, EVENT_MOST = 40, 40      # characters of a unit and of an event that are shown
+
+
+class Doers:
+    """Names who did what in a session."""
+
+    def __init__(self, telling: Telling) -> None:
+        self.telling, self.story, self.lines = telling, telling.story, telling.lines
+
+    def label(self, step: Step) -> str:
+        """What a step is, in a word or two."""
+        if step.is_unit:
+            return unit(step.text) or "(empty unit)"
+        if step.kind == "release":
+            held = self.story.held_at(step)
+            return unit(held.text, 20) if held else "held unit"
+        if step.conn is not None:
+            call = self.story.call_of(step)
+            return "%s %s" % (call.who if call else "c%d" % step.conn, "resumes" if step.kind == "resume" else "times out")
+        return STEPS.get(step.kind, "")
+
+    def by(self, step: Step) -> str:
+        """Who did a step: its millisecond, its line, and what it is."""
+        return "%s, line %d: %s" % (millis(step.moment.clock), step.moment.line, self.what(step))
+
+    def what(self, step: Step) -> str:
+        """What a step is, with the call that it comes from."""
+        call = self.story.call_of(step)
+        if step.is_unit:
+            return "unit `%s`%s" % (unit(step.text, UNIT_MOST), of(call))
+        if step.kind == "finish":
+            return "end of the message%s" % of(call)
+        if step.kind == "release":
+            held = self.story.held_at(step)
+            return "held unit `%s` was answered%s" % (unit(held.text, UNIT_MOST) if held else "?",
+                                                      of(self.story.call_of(held) if held else None))
+        if step.kind == "fire":
+            return "the IMMediate trigger"
+        if step.kind == "overrun":
+            return "the message was too long%s" % of(call)
+        if step.kind in ("resume", "timeout"):
+            return "%s %s" % (call_words(call), "resumed" if step.kind == "resume" else "timed out")
+        return call_words(call) if call else self.event(step.moment)
+
+    def event(self, moment: Moment) -> str:
+        """What an event is that takes no call."""
+        words = moment.words
+        if words[0] == "tick":
+            change = moment.steps[0].of("reading")
+            return reading(change.new) if change is not None and change.new != "none" else "1 ms passes"
+        if words[0] == "input" and len(words) > 2:
+            return "input %s = %s" % (words[1], volts(int(words[2])))
+        if words[0] == "external":
+            return "EXTernal trigger"
+        if words[0] == "open":
+            return "c%s opens, %s" % (words[1], {"core": "core channel", "abort": "abort channel"}.get(words[2], "port mapper"))
+        if words[0] == "close":
+            return "%s closes" % words[1] if words[1][0] == "c" else "interrupt channel of c%s closes" % words[1][1:]
+        if words[0] == "dialed":
+            return "interrupt channel of c%s: connecting %s" % (words[1], "succeeded" if words[2] == "ok" else "failed")
+        return " ".join(words)[:EVENT_MOST]
+
+
+def of(call: Optional[Call]) -> str:
+    """Of which call something is; nothing if that isn't known."""
+    return "" if call is None else " of %s" % call_words(call)

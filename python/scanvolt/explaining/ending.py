@@ -1,0 +1,124 @@
+"""The end: each call that waits, why, what would end that and what is due; and what is left behind."""
+import itertools
+from typing import List, Optional, Sequence, Tuple
+
+from .lines import as_number
+from .reasons import Reasons
+from .story import Call, call_list
+from .telling import numbers
+from .tries import TIME, Tried
+from .words import counted, long, millis, shown_bits, unit
+
+LEFT = 14       # columns of a label
+
+
+class Ending:
+    """Tells the end of a session. `tried` is what ended the waits when it was tried."""
+
+    def __init__(self, reasons: Reasons, tried: Optional[Tried] = None) -> None:
+        self.reasons, self.tried = reasons, tried
+        self.story, self.telling, self.lines = reasons.story, reasons.telling, reasons.lines
+
+    def text(self) -> List[str]:
+        """The end, in lines."""
+        found = ["at the end, %s:" % millis(self.story.clock)]
+        in_line: List[Call] = []        # that wait for the lock
+        for call in self.story.waiting():
+            if call.waits[-1].what == "lock":
+                in_line.append(call)
+            found += self._in_line(call, len(in_line)) if call.waits[-1].what == "lock" and len(in_line) > 1 else self._call(call)
+        if not self.story.waiting():
+            found.append("  no call waits")
+        return found + self._held() + self._state()
+
+    def first_lines(self) -> List[str]:
+        """What an exception says of it: what waits and why, or else what is held, in two lines."""
+        found = self.text()
+        if self.story.waiting():
+            return [found[1].strip(), " ".join(found[2].split())]
+        return [one.strip() for one in found[1:3]]
+
+    def _labelled(self, label: str, lines: Sequence[str]) -> List[str]:
+        return ["    %-*s%s" % (LEFT, label if place == 0 else "", line) for place, line in enumerate(lines)]
+
+    def _in_line(self, call: Call, place: int) -> List[str]:
+        """A call that waits for the lock behind others, in a line."""
+        wait, behind = call.waits[-1], self.story.behind(call)
+        most = "until %s at most" % millis(wait.deadline) if wait.deadline is not None else "without a limit"
+        after = "; behind it %s" % call_list(behind) if behind else ""
+        return ["  %s  %s waits for the lock too, since %s, place %d in line, %s%s" % (
+            call.who, call.words, millis(wait.begin.moment.clock), place, most, after)]
+
+    def _call(self, call: Call) -> List[str]:
+        """A call that waits."""
+        wait, behind = call.waits[-1], self.story.behind(call)
+        found = ["  %s  %s" % (call.who, self.reasons.headline(call, wait))]
+        reasons = self.reasons.why(wait, self.story.end)
+        found += self._labelled("because", ["  " * depth + why for depth, why in enumerate(reasons)])
+        if self.tried is not None:
+            found += self._labelled("would end it", self._ends(call))
+            others = [one.what for one in self.tried.of(call) if not one.is_end]
+            found += self._labelled("would not", [", ".join(others)] if others else [])
+            left = self.tried.left_of(call)
+            found += self._labelled("not tried", [", ".join(left)] if left else [])
+        found += self._labelled("due", [self.due(call)])
+        if behind:
+            found += self._labelled("behind it", ["%s: not taken before it is answered" % call_list(behind)])
+        return found
+
+    def _ends(self, call: Call) -> List[str]:
+        """What ended the wait when it was tried: when, and with which reply."""
+        assert self.tried is not None
+        rows = [(one.what, "at %s: %s" % (millis(one.clock), one.words)) for one in self.tried.of(call) if one.is_end]
+        wide = max((len(what) for what, _ in rows), default=0)
+        return ["%-*s  %s" % (wide, what, seen) for what, seen in rows]
+
+    def due(self, call: Call) -> str:
+        """What ends the wait by itself as time passes, if anything does."""
+        wait, clock = call.waits[-1], self.story.clock
+        scan = self.reasons.due(self.story.end)
+        found = []
+        if wait.what in ("input", "response") and scan is not None:
+            found.append("this scan, in %s" % millis(scan))
+        if wait.deadline is not None:
+            found.append("its timeout at %s, in %s" % (millis(wait.deadline), long(wait.deadline - clock)))
+        return "; ".join(found) or "nothing: however much time passes, it waits"
+
+    def _held(self) -> List[str]:
+        """A unit that is held while no call waits for it."""
+        held = self.story.held_at(self.lines.steps[-1]) if self.lines.steps and self.story.value("held") != "none" else None
+        if held is None or any(call.waits[-1].what in ("input", "response") for call in self.story.waiting()):
+            return []
+        since = "unit `%s` since %s" % (unit(held.text), millis(held.moment.clock))
+        found = [since + ": every device_write and device_read will wait",
+                 self.reasons.scan(self.story.end)]
+        ends = [] if self.tried is None else ["%s, at %s" % (one.what, millis(one.clock)) for one in self.tried.of_held()]
+        found += ["would end it: " + "; or ".join(ends)] if ends else []
+        left = [] if self.tried is None else [one.what for one in self.tried.left if one.what != TIME]
+        found += ["not tried: " + ", ".join(left)] if left else []
+        return ["  %-10s%s" % ("held" if place == 0 else "", line) for place, line in enumerate(found)]
+
+    def _state(self) -> List[str]:
+        """Errors, lock, status byte, and what can be read."""
+        value = self.story.value
+        errors, taken = numbers(value("errors")), self.lines.last("lock", self.story.end)
+        held = "free" if value("lock") == "none" or taken is None else "%s, since %s" % (
+            self.telling.link(int(str(value("lock")))), self.reasons.doers.by(taken.step))
+        registers: List[Tuple[str, str]] = [("STB", "poll"), ("SRE", "sre"), ("ESR", "esr"), ("ESE", "ese")]
+        shown = ["%s %s" % (label, shown_bits(name, as_number(value(name)))) for label, name in registers]
+        found = ["  errors    " + (folded(errors) or "none"), "  lock      " + held, "  status    " + "; ".join(shown)]
+        if value("response"):
+            found.append("  response  %s bytes unread" % value("response"))
+        if as_number(value("text")):
+            found.append("  text      %s bytes of a message that hasn't ended" % value("text"))
+        return found + ["  c%-9d%s of a call that isn't whole" % (conn, counted(count, "byte"))
+                        for conn, count in self.story.unfinished()]
+
+
+def folded(errors: Sequence[int]) -> str:
+    """The numbers of errors; the same one in a row is said once."""
+    found = []
+    for number, row in itertools.groupby(errors):
+        count = len(list(row))
+        found.append(str(number) if count == 1 else "%d (%d times)" % (number, count))
+    return ", ".join(found)

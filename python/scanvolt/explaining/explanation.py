@@ -1,0 +1,73 @@
+"""A session explained: the timeline, the end, the causes of a value, and a page."""
+import functools
+import html
+from typing import List, Optional, Sequence
+
+from . import text
+from .blocks import Blocks
+from .doers import Doers
+from .ending import Ending
+from .reasons import Reasons
+from .running import lines_of
+from .story import Story
+from .telling import Telling
+from .tries import Tried, tried
+from .why import Why, drawn
+
+FRAME = '<iframe style="width:100%%;height:640px;border:0" sandbox="allow-scripts" srcdoc="%s"></iframe>'
+
+
+class Explanation:
+    """What an instrument saw. `str` of it is the end. The methods return text.
+
+    `script` is the lines of a replay, `program` the path of the program, and `patience` how many seconds it may take.
+    Raises ProgramError if the program can't explain the script.
+    """
+
+    def __init__(self, script: Sequence[str], program: str, patience: Optional[float] = None) -> None:
+        self.script, self.program = script, program
+        self.story = Story(lines_of(script, program, patience))
+        self.reasons = Reasons(Doers(Telling(self.story)))
+
+    def __repr__(self) -> str:
+        return "<Explanation of %d calls, until %d ms>" % (len(self.story.calls), self.story.clock)
+
+    def __str__(self) -> str:
+        return self.end()
+
+    def _repr_html_(self) -> str:
+        """The page, as a notebook shows it."""
+        return FRAME % html.escape(self.page())
+
+    @functools.cached_property
+    def tried(self) -> Tried:
+        """What would end each wait at the end. It is tried once, when it is needed."""
+        return tried(self.story, self.program)
+
+    def lines(self, last: Optional[int] = None, everything: bool = False, colour: bool = False) -> List[str]:
+        """The lines of the timeline; only the last ones if `last` is given, with all noise if `everything`."""
+        reasons = Reasons(Doers(Telling(self.story, everything))) if everything else self.reasons
+        found = text.timeline(Blocks(reasons), colour)
+        return found if last is None else text.newest(found, last)
+
+    def text(self, last: Optional[int] = None, everything: bool = False) -> str:
+        """The timeline and the end."""
+        return "\n".join(self.lines(last, everything) + self.end_lines())
+
+    def end_lines(self) -> List[str]:
+        """The end, in lines."""
+        return Ending(self.reasons, self.tried).text()
+
+    def end(self) -> str:
+        """What waits at the end, why, and what would end it."""
+        return "\n".join(self.end_lines())
+
+    def why(self, name: str) -> str:
+        """Why a value is what it is: `RQS`, `ESR.CME@1200`, `error`, `wait c0`. Raises Unknown for a name that no value has."""
+        waits = name.lower().startswith("wait") and "@" not in name
+        return "\n".join(drawn(Why(self.reasons, self.tried if waits else None).tree(name)))
+
+    def page(self, title: str = "session") -> str:
+        """A page of HTML that needs nothing else."""
+        from .page import page
+        return page(self, title)

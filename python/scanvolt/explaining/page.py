@@ -1,0 +1,76 @@
+"""A session as one page that needs nothing else: lanes over an axis of steps or of time, a table, and the causes of each value.
+
+The page has its data, its style and its scripts in itself. Its policy forbids all requests, and all scripts but its own.
+"""
+import base64
+import hashlib
+import html
+import json
+import pathlib
+import re
+from typing import TYPE_CHECKING, Dict, List
+
+from .blocks import Blocks
+from .lanes import Lanes
+from .slots import Slots
+from .table import ending, table
+from .telling import numbers
+from .words import counted, millis
+
+if TYPE_CHECKING:
+    from .explanation import Explanation
+
+HERE = pathlib.Path(__file__).resolve().parent
+LEAST = 8               # characters of a millisecond in the table, for which there is room
+SCRIPTS = ("axis.js", "drawing.js", "looking.js")
+POLICY = "default-src 'none'; style-src 'unsafe-inline'; script-src 'sha256-%s'; base-uri 'none'; form-action 'none'"
+
+
+def page(found: "Explanation", title: str) -> str:
+    """The page of a session."""
+    slots = Slots(found.story)
+    script = "\n".join(_part(name) for name in SCRIPTS)
+    checksum = base64.b64encode(hashlib.sha256(script.encode()).digest()).decode()
+    values: Dict[str, str] = {
+        "TITLE": html.escape(title), "POLICY": POLICY % checksum, "FACTS": html.escape(" · ".join(_facts(found, slots))),
+        "CLOCK": str(max(LEAST, len(millis(found.story.clock)))), "TABLE": table(Blocks(found.reasons), slots),
+        "END": ending(found.end_lines()), "DATA": _data(found, slots),
+        "CSS": _part("page.css"), "JS": script}
+    # In one pass, since values may have braces.
+    return re.sub(r"\{\{(\w+)\}\}", lambda place: values[place[1]], _part("page.html"))
+
+
+def _part(name: str) -> str:
+    return (HERE / name).read_text(encoding="utf-8")
+
+
+def _data(found: "Explanation", slots: Slots) -> str:
+    """What the scripts draw, as JSON. `<` is escaped, since `<!--<script>` in a unit would end the page."""
+    lanes, doers = Lanes(found.reasons, slots), found.reasons.doers
+    rows: List[List[object]] = []
+    for step in slots.found:
+        call = found.story.call_of(step)
+        label = (call.words if call else doers.event(step.moment)) if step.kind == "event" else doers.label(step)
+        rows.append([step.moment.clock, step.moment.line, step.kind, label])
+    folded = [[moment.clock, change.new] for moment in found.story.moments if moment.number in slots.folded
+              and moment.number >= slots.first
+              for change in [moment.steps[0].of("readings")] if change is not None]
+    data = {"clock": found.story.clock, "slots": rows, "calls": [lanes.call(one) for one in lanes.calls()],
+            "links": lanes.places(),
+            "signals": lanes.signals(), "units": lanes.units(), "requests": lanes.requests(), "folded": folded}
+    return json.dumps(data, separators=(",", ":")).replace("<", "\\u003c")
+
+
+def _facts(found: "Explanation", slots: Slots) -> List[str]:
+    """A few numbers about the session."""
+    story = found.story
+    errors = sum(1 for one in story.calls if one.answer and one.answer.is_fault)
+    queued = sum(max(0, len(numbers(one.new)) - len(numbers(one.old))) for one in story.lines.history.get("errors", ()))
+    facts = [millis(story.clock), counted(len(story.calls), "call")]
+    if slots.first:
+        shown = sum(1 for one in story.calls if one.arrived.number >= slots.first)
+        facts.append("only the last %s are shown" % counted(shown, "call"))
+    facts += ["%d returned an error" % errors] if errors else []
+    facts += [counted(queued, "instrument error")] if queued else []
+    waiting = len(story.waiting())
+    return facts + ["%d still wait%s" % (waiting, "s" if waiting == 1 else "") if waiting else "none waits"]

@@ -1,0 +1,49 @@
+"""Runs `scanvolt explain` over a script."""
+import subprocess
+from typing import Optional, Sequence
+
+from ..lifeline import Tied
+from ..program import ProgramError, in_a_line
+from ..replay import ticks
+from .lines import Lines, Unreadable
+from .words import unit
+
+SHOWN = 60              # characters of a bad line that are shown
+BAD_LINE = "scanvolt: bad line "
+OLD = "%s has no `explain`: it is an earlier release, or no scanvolt"
+
+
+def lines_of(script: Sequence[str], program: str, patience: Optional[float] = None) -> Lines:
+    """What the program says about a script. Raises ProgramError if it can't, or doesn't end within this many seconds."""
+    given = "".join(line + "\n" for line in script).encode("latin-1")
+    try:
+        with Tied([program, "explain"], subprocess.PIPE, 0) as tied:
+            told, fault = tied.process.communicate(given, patience)
+            status = tied.process.returncode
+    except OSError as error:
+        raise ProgramError("the program can't be run: %s: %s" % (program, error.strerror)) from None
+    except subprocess.TimeoutExpired:
+        raise ProgramError("%s takes more than %g s to explain the session" % (program, patience or 0)) from None
+    if status:
+        said = in_a_line(fault)
+        raise ProgramError(why_not(said, script, program) or "%s ended with status %d" % (program, status))
+    try:
+        return Lines(script).read(told.decode("ascii", "replace"))
+    except Unreadable as error:
+        raise ProgramError("%s: %s" % (program, error)) from None
+
+
+def why_not(said: str, script: Sequence[str], program: str) -> str:
+    """What the program says of its fault, for people."""
+    if said == "scanvolt: bad words":
+        return OLD % program
+    number = said[len(BAD_LINE):]
+    if said.startswith(BAD_LINE) and number.isdigit() and 0 < int(number) <= len(script):
+        line = unit(script[int(number) - 1].encode("latin-1"), SHOWN)
+        return "line %s isn't one of a replay script (docs/REPLAY.md): %s" % (number, line)
+    return said
+
+
+def script_of(log: bytes, since: int) -> Sequence[str]:
+    """The lines of a script that was kept, and of the time that passed after it."""
+    return (log + ticks(since)).decode("latin-1").splitlines()

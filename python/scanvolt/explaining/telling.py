@@ -1,0 +1,143 @@
+"""What changed, in words. What is noise to people isn't told, unless everything is wanted."""
+from typing import Callable, Dict, Optional, Tuple
+
+from .lines import Change, Step, as_number
+from .story import Story
+from .words import LABELS, NAMES, SOURCES, a, channels, counted, error, known, millis, moved, pair, reading, volts
+
+NOISE = ("stb", "rqs", "oper.cond", "answers", "scan", "place", "readings")     # said by another value, or of no use
+FLAGS = ("esr", "oper.event", "ques.event", "lim.event", "ques.cond", "lim.cond")      # whose numbers say less than their bits
+LONG = 60       # characters of moved bits that are too many to be told
+AWAITED = {"lock": "the lock", "input": "the message under way to end", "response": "a response",
+           "dial": "the interrupt channel to be connected"}
+
+
+class Telling:
+    """Tells changes of a session."""
+
+    def __init__(self, story: Story, everything: bool = False) -> None:
+        self.story, self.lines, self.everything = story, story.lines, everything
+        self.by_name: Dict[str, Callable[[Change], Optional[str]]] = {
+            "poll": self._poll, "errors": self._errors, "lost": self._lost, "lock": self._lock, "held": self._held,
+            "state": self._state,
+            "source": lambda one: "trigger source %s" % SOURCES[str(one.new)], "reading": self._reading, "text": self._text,
+            "response": self._response, "opc": lambda one: "*OPC pending" if one.new else None,
+            "count": lambda one: "count of scans %s" % one.new, "list": lambda one: "scan list %s" % channels(one.new),
+            "range": lambda one: "range %s" % volts(as_number(one.new)), "monitor": lambda one: "monitored channel %s" % one.new,
+            "upper": lambda one: "upper limit %s" % volts(as_number(one.new)),
+            "lower": lambda one: "lower limit %s" % volts(as_number(one.new)),
+            "limits": lambda one: "limits %s" % ("on" if one.new else "off"),
+        }
+        self.by_tail: Dict[str, Callable[[Change], Optional[str]]] = {"wait": self._wait, "open": self._open,
+                                                                      "faulted": self._faulted}
+        self.by_head: Dict[str, Callable[[Change], Optional[str]]] = {
+            "link": lambda one: "link %s ended" % one.name[5:] if one.new == "none" else None,
+            "srq": lambda one: "service requests of link %s %s" % (one.name[4:], one.new)}
+
+    def change(self, change: Change) -> Optional[str]:
+        """A change in words; None if it is noise."""
+        head, _, tail = change.name.partition(".")
+        how = self.by_name.get(change.name) or self.by_tail.get(tail) or self.by_head.get(head)
+        if how is None and change.name in NAMES and change.name not in NOISE:
+            how = self._bits
+        found = None if how is None else how(change)
+        if found is None and self.everything:
+            return "%s %s -> %s" % (change.name, shown(change.old), shown(change.new))
+        return found
+
+    def at(self, name: str, step: Step) -> str:
+        """A word after a step."""
+        return str(self.lines.at(name, step.number))
+
+    def link(self, number: int) -> str:
+        """A link, with its connection."""
+        conn = self.story.owners.get(number)
+        return "link %d" % number + ("" if conn is None else " (c%d)" % conn)
+
+    def holder(self, step: Step) -> str:
+        """The link that holds the lock after a step."""
+        found = self.at("lock", step)
+        return "nobody" if found == "none" else self.link(int(found))
+
+    def _poll(self, change: Change) -> str:
+        old, new = as_number(change.old), as_number(change.new)
+        return "STB %d -> %d (%s)" % (old, new, moved("poll", old, new))
+
+    def _bits(self, change: Change) -> Optional[str]:
+        name, old, new = change.name, as_number(change.old), as_number(change.new)
+        if name == "oper.event" and not (old ^ new) & self.lines.bits("oper.enable", change.step.number):
+            return None
+        if name in FLAGS:
+            return "%s %s" % (LABELS[name], moved(name, old, new))
+        named = moved(name, known(name, old), known(name, new))
+        return "%s %d -> %d%s" % (LABELS[name], old, new, " (%s)" % named if named and len(named) < LONG else "")
+
+    def _errors(self, change: Change) -> str:
+        old, new = numbers(change.old), numbers(change.new)
+        if not new:
+            return "error %s taken: queue empty" % error(old[0]) if len(old) == 1 else "error queue cleared (%d)" % len(old)
+        if new == old[1:]:
+            return "error %s taken, %d left" % (error(old[0]), len(new))
+        added = new[len(old):] if new[:len(old)] == old else new[-1:]
+        return "error " + ", ".join(map(error, added)) + ("" if len(new) == len(added) else " (%d in the queue)" % len(new))
+
+    def _lost(self, change: Change) -> Optional[str]:
+        count = as_number(change.new) - as_number(change.old)
+        return "%s lost: the queue is full" % counted(count, "error") if count > 0 else None
+
+    def _lock(self, change: Change) -> str:
+        return "lock freed by link %s" % change.old if change.new == "none" else "lock: %s" % self.link(int(str(change.new)))
+
+    def _held(self, change: Change) -> str:
+        if change.new != "none":
+            return "waits until the scan is idle"
+        return "is done" if change.step.kind == "release" else "the held unit is dropped"
+
+    def _state(self, change: Change) -> str:
+        scan, of = pair(self.lines.at("scan", change.step.number))
+        if change.new == "waiting":
+            scan += 1
+        where = " (scan %d of %d)" % (scan, of) if of > 1 else ""
+        if change.new == "waiting":
+            return "scan: waiting for %s trigger%s" % (a(SOURCES[self.at("source", change.step)]), where)
+        return "scan: %s%s" % (change.new, where)
+
+    def _reading(self, change: Change) -> Optional[str]:
+        return reading(change.new) if change.new != "none" else "readings dropped"
+
+    def _text(self, change: Change) -> Optional[str]:
+        if change.new in (0, "ended"):
+            dropped = change.new == 0 and isinstance(change.old, int) and change.step.kind in ("event", "resume")
+            return "unfinished message of %s dropped" % counted(as_number(change.old), "byte") if dropped else None
+        return "%s of a message that hasn't ended" % counted(as_number(change.new), "byte")
+
+    def _response(self, change: Change) -> Optional[str]:
+        old, new, call = as_number(change.old), as_number(change.new), self.story.call_of(change.step)
+        if new > old:
+            return "response of %s ready" % counted(new, "byte")
+        if new == 0 and call is not None and call.name == "device_read" and change.step.kind != "interrupt":
+            return None
+        return "response dropped, %s" % counted(old, "byte") if new == 0 else "%d of %d bytes left" % (new, old)
+
+    def _wait(self, change: Change) -> Optional[str]:
+        if change.new == "none":
+            return None
+        what, _, deadline = str(change.new).split()
+        most = ", until %s at most" % millis(int(deadline)) if deadline != "never" else ""
+        return "waits for %s%s%s" % (AWAITED[what], ", held by %s" % self.holder(change.step) if what == "lock" else "", most)
+
+    def _open(self, change: Change) -> str:
+        return "interrupt channel of c%s %s" % (change.name[1:].split(".")[0], "open" if change.new else "closed")
+
+    def _faulted(self, change: Change) -> Optional[str]:
+        return "c%s takes no further call" % change.name[1:].split(".")[0] if change.new else None
+
+
+def numbers(value: object) -> Tuple[int, ...]:
+    """The numbers of a value that is a list of them; none of any other."""
+    return value if isinstance(value, tuple) else ()
+
+
+def shown(value: object) -> str:
+    """A value as the program prints it."""
+    return (" ".join(map(str, value)) or "none") if isinstance(value, tuple) else str(value)

@@ -1,0 +1,84 @@
+"""The timeline as text."""
+from typing import Callable, List, Sequence
+
+from .blocks import Block, Blocks, Row
+from .words import millis
+
+DIM, BOLD, RED, GREEN, YELLOW, BLUE, RESET = "\x1b[2m", "\x1b[1m", "\x1b[31m", "\x1b[32m", "\x1b[33m", "\x1b[34m", "\x1b[0m"
+WIDTH, INDENT, LABEL = 120, 24, 26      # columns of a line, before what changed, and of a step's name
+Paint = Callable[[str, str], str]
+
+
+def plain(text: str, _colour: str) -> str:
+    """A text without colour."""
+    return text
+
+
+def coloured(text: str, colour: str) -> str:
+    """A text in a colour of a terminal."""
+    return colour + text + RESET if text and colour else text
+
+
+def wrapped(words: str, room: int, indent: int) -> str:
+    """Changes in lines of at most this many columns."""
+    found: List[str] = []
+    line = ""
+    for part in words.split("; "):
+        if line and len(line) + 2 + len(part) > room:
+            found.append(line + ";")
+            line = part
+        else:
+            line = line + "; " + part if line else part
+    return ("\n" + " " * indent).join(found + [line])
+
+
+def row_text(row: Row, paint: Paint) -> str:
+    """What a step changed."""
+    label = row.label if row.kind != "event" else ""
+    if label:
+        indent = INDENT + LABEL + 2
+        body = "%-*s  %s" % (LABEL, label, wrapped(row.words, WIDTH - indent, indent))
+    else:
+        body = wrapped(row.words, WIDTH - INDENT, INDENT)
+    return " " * INDENT + paint(body.rstrip(), YELLOW if row.kind == "request" else "")
+
+
+def readings(block: Block) -> str:
+    """One reading, or how many until when."""
+    if block.times == 1:
+        return block.rows[-1].words if block.rows else block.head
+    return "%d readings, until %s; the last: %s" % (block.times, millis(block.last), block.rows[-1].words)
+
+
+def block_text(block: Block, clock: str, paint: Paint) -> List[str]:
+    """The lines of a block."""
+    start = "%s %s" % (paint("%8s" % clock, DIM), "<" if block.kind == "answer" else " ")
+    if block.kind == "reading":
+        return [start + "%s %s" % (paint("%-10s" % block.who, BLUE), readings(block))]
+    waits = block.kind in ("waits", "queued")
+    arrow = "" if not block.reply else " .. " if waits else " -> "
+    reply = paint(block.reply, RED if block.is_fault else YELLOW if waits else GREEN)
+    times = paint("   %d times, until %s" % (block.times, millis(block.last)), DIM) if block.times > 1 else ""
+    found = [start + "%s %s%s%s%s" % (paint("%-10s" % block.who, BLUE), paint(block.head, BOLD), arrow, reply, times)]
+    found += [row_text(row, paint) for row in block.rows if row.label or row.words]
+    return [line for one in found for line in one.split("\n")]
+
+
+def timeline(blocks: Blocks, colour: bool = False) -> List[str]:
+    """The timeline, in lines. `"` stands for the millisecond of the line above."""
+    found: List[str] = []
+    last = -1
+    for block in blocks.all():
+        clock = "{:,}".format(block.clock) if block.clock != last else '"'
+        found += block_text(block, clock, coloured if colour else plain)
+        last = block.last if block.times > 1 else block.clock
+    return found
+
+
+def newest(lines: Sequence[str], count: int) -> List[str]:
+    """The last lines of a timeline, and how many there are before them; none if none are wanted."""
+    if count == 0:
+        return []
+    if len(lines) <= count:
+        return list(lines)
+    return ["%8s  %d lines before" % ("..", len(lines) - count)] + list(lines[len(lines) - count:])

@@ -1,0 +1,102 @@
+"""What must hold of each explained session. The rules are those of docs/INSTRUMENT.md, written down apart from the package."""
+import collections
+from typing import Counter, Iterator, List
+
+from scanvolt.explaining.explanation import Explanation
+from scanvolt.explaining.lines import Step, as_number
+from scanvolt.explaining.running import lines_of
+from scanvolt.explaining.story import Call, Story
+from scanvolt.explaining.why import Why
+
+FLAGS = ("poll", "esr", "oper.event", "ques.event", "lim.event", "oper.cond", "ques.cond", "lim.cond")
+WEAK = "that was so for a moment"
+
+
+def status_byte(story: Story, number: int) -> int:
+    """The status byte, as *STB? returns it, from the registers after a step."""
+    def at(name: str) -> int:
+        return story.lines.bits(name, number)
+
+    byte = 128 * bool(at("oper.event") & at("oper.enable")) + 32 * bool(at("esr") & at("ese")) + 16 * bool(at("response"))
+    byte += 8 * bool(at("ques.event") & at("ques.enable")) + 4 * bool(story.lines.at("errors", number))
+    return byte + 64 * bool(byte & at("sre"))
+
+
+class Checks:
+    """The faults of an explanation, and how much was looked at."""
+
+    def __init__(self, found: Explanation) -> None:
+        self.found, self.story, self.lines = found, found.story, found.story.lines
+        self.counts: Counter[str] = collections.Counter()
+        self.faults: List[str] = [*self.steps(), *self.calls(), *self.flips()]
+
+    def steps(self) -> Iterator[str]:
+        """The status byte at each step, and the writer of each unit."""
+        for step in self.lines.steps:
+            self.counts["steps"] += 1
+            byte, told = status_byte(self.story, step.number), self.lines.bits("stb", step.number)
+            if byte != told:
+                yield "status byte %d and not %d at %s" % (told, byte, where(step))
+            if self.lines.bits("ques.cond", step.number) >> 9 & 1 != bool(
+                    self.lines.bits("lim.event", step.number) & self.lines.bits("lim.enable", step.number)):
+                yield "summary of the limits at %s" % where(step)
+            if step.is_unit:
+                self.counts["units"] += 1
+                call = self.story.call_of(step)
+                if call is None or step.text[:1] not in call.arguments.data:
+                    yield "no writer of %r at %s" % (step.text, where(step))
+
+    def calls(self) -> Iterator[str]:
+        """The reply of each call that was taken, what polls return, and why calls wait."""
+        for call in self.story.calls:
+            self.counts["calls"] += 1
+            if call.turned and call.is_open and not call.waits:
+                yield "no reply to %s" % call.words
+            if call.name == "device_readstb" and call.answer and call.answer.error == 0:
+                self.counts["polls"] += 1
+                before = (call.waits[-1].end if call.waits else call.turned and call.turned.steps[0])
+                if before is None or self.lines.bits("poll", before.number - 1) != call.answer.value:
+                    yield "a poll returned %s at %s" % (call.answer.words, before and where(before))
+            for wait in call.waits:
+                self.counts["waits"] += 1
+                if not self.found.reasons.why(wait, wait.begin.number):
+                    yield "no reason of %s for the wait for %s" % (call.words, wait.what)
+
+    def flips(self) -> Iterator[str]:
+        """The causes of each bit that flipped."""
+        model = Why(self.found.reasons).model
+        for name in FLAGS:
+            for change in self.lines.history.get(name, ()):
+                for bit in range(16):
+                    new = as_number(change.new) >> bit & 1
+                    if new == as_number(change.old) >> bit & 1:
+                        continue
+                    self.counts["flips"] += 1
+                    causes = model.causes(name, bit, new, change, 1)
+                    self.counts["weak flips"] += any(one.text.startswith(WEAK) for one in causes)
+                    if not causes or not all(one.text for one in causes):
+                        yield "no cause of bit %d of %s at %s" % (bit, name, where(change.step))
+
+    def ends(self) -> Iterator[str]:
+        """Whatever is said to end a wait does so: the lines of the try, given to another program, end it at that millisecond."""
+        tried = self.found.tried
+        for what, lines in tried.logs.items():
+            again = Story(lines_of([*self.story.script, *lines], self.found.program))
+            for call in self.story.waiting():
+                self.counts["tries"] += 1
+                seen = next((one for one in [tried.ended[what].get(call.number)] if one), None)
+                if seen is not None and (seen[0], seen[1]) != ended(again.calls[call.number]):
+                    yield "%s: %s ends otherwise: %s" % (what, call.words, ended(again.calls[call.number]))
+                if seen is None and ended(again.calls[call.number]) is not None:
+                    yield "%s: %s ends, and that isn't said" % (what, call.words)
+
+
+def ended(call: Call) -> object:
+    """When and how a call ended."""
+    if call.gone is not None:
+        return call.gone.clock, "no reply, its connection is closed"
+    return None if call.ended is None else (call.ended.clock, call.reply.words)
+
+
+def where(step: Step) -> str:
+    return "line %d, %s %r" % (step.moment.line, step.kind, step.text)
