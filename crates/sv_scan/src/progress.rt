@@ -17,7 +17,7 @@ pub struct Progress {
     pub scan: u8,
     /// How many scans it has.
     pub scans: u8,
-    /// How many channels of the newest scan were read; 0 before the first, and when all were read.
+    /// How many channels of the scan under way were read; 0 while it waits for its trigger.
     pub place: u8,
     /// How many channels each scan reads.
     pub places: u8,
