@@ -33,7 +33,7 @@ use Rattle.sv_layers.specs.StatusByte.{MasterBit, Request, service}
 use Rattle.sv_instrument.specs.HeldUnit.{held_unit}
 use Rattle.sv_history.specs.declared.event.Role.{Role}
 use Rattle.sv_history.specs.declared.event.Role.TheVariants as role
-use Rattle.sv_history.specs.Act.{Act, of, device_acts, link_acts, wait_acts, instrument_acts}
+use Rattle.sv_history.specs.Act.{Act, DeviceAct, of, device_acts, link_acts, wait_acts, instrument_acts}
 use Rattle.sv_history.specs.Connection.{open_role, is_faulted, waiting}
 use Rattle.sv_history.specs.Interrupts.{has_channel}
 use Rattle.sv_history.specs.Requests.{HearsOf}
@@ -48,6 +48,10 @@ use Rattle.sv_explain.specs.declared.shown.MeasurementShown.{MeasurementShown}
 use Rattle.sv_explain.specs.declared.shown.MessageShown.{MessageShown}
 use Rattle.sv_explain.specs.declared.shown.CallShown.{CallShown}
 use Rattle.sv_explain.specs.declared.shown.ConnShown.{ConnShown}
+use Rattle.sv_explain.specs.declared.shown.LinksShown.{LinksShown}
+use Rattle.sv_explain.specs.declared.shown.ScannerShown.{ScannerShown}
+use Rattle.sv_explain.specs.declared.shown.ExchangeShown.{ExchangeShown}
+use Rattle.sv_explain.specs.declared.shown.StatusesShown.{StatusesShown}
 use Rattle.sv_explain.specs.declared.shown.Shown.{Shown}
 
 -- ---- the status
@@ -176,21 +180,41 @@ pub record IsConn (c : ℕ) (shown : ConnShown) (log : List Act) : Type 0 where
 abbrev pub never_opened : ConnShown
 never_opened = record { role = word.Closed; faulted = false; call = None; output = 0; has_channel = false; requests = 0 }
 
+-- all connections; those that a list leaves out were never opened
+abbrev pub AreConns : List ConnShown → List Act → Type 0
+AreConns conns log = (c : ℕ) → c < 16 → IsConn c (slice_index_or conns c never_opened) log
+
 -- ---- all together
+
+-- the links by rising number, the lock, and the links that have service requests enabled
+pub record AreLinks (shown : LinksShown) (acts : List DeviceAct) : Type 0 where
+  pub links : shown.links.items ≡ map (λ link. record { lid = link.lid; conn = link.conn }) (live (link_acts acts))
+  pub lock : shown.lock ≡ holder (link_acts acts)
+  pub asking : (channel_log : List ChannelAct) → HearsOf acts channel_log
+      → shown.asking.items ≡ map (λ link. record { lid = link.lid; conn = link.conn }) (enabled_links channel_log)
+
+-- the scanner: its settings, its scan list, and its measurement
+pub record IsScanner (shown : ScannerShown) (log : List InstrumentAct) : Type 0 where
+  pub settings : shown.settings ≡ settings_of (effective_acts log)
+  pub list : shown.list.items ≡ map pos (scan_list (effective_acts log))
+  pub measurement : shown.measurement ≡ measurement_of (effective_acts log)
+
+-- message exchange, and the errors in the queue
+pub record IsExchange (shown : ExchangeShown) (log : List InstrumentAct) : Type 0 where
+  pub message : shown.message ≡ message_of log
+  pub errors : shown.errors.items ≡ map number_of (queue_codes (queue_acts log))
+
+-- the status registers, and the standard events with the status byte
+pub record AreStatuses (shown : StatusesShown) (log : List InstrumentAct) : Type 0 where
+  pub limit : IsRegister Limit shown.limit log
+  pub questionable : IsRegister Questionable shown.questionable log
+  pub operation : IsRegister Operation shown.operation log
+  pub standard : IsStatus shown.standard log
 
 -- Everything that is told of a server is what the log gives.
 pub record IsShown (shown : Shown) (log : List Act) : Type 0 where
-  pub status : IsStatus shown.status (instrument_acts (device_acts log))
-  pub operation : IsRegister Operation shown.operation (instrument_acts (device_acts log))
-  pub questionable : IsRegister Questionable shown.questionable (instrument_acts (device_acts log))
-  pub limit : IsRegister Limit shown.limit (instrument_acts (device_acts log))
-  pub settings : shown.settings ≡ settings_of (effective_acts (instrument_acts (device_acts log)))
-  pub list : shown.list.items ≡ map pos (scan_list (effective_acts (instrument_acts (device_acts log))))
-  pub measurement : shown.measurement ≡ measurement_of (effective_acts (instrument_acts (device_acts log)))
-  pub message : shown.message ≡ message_of (instrument_acts (device_acts log))
-  pub errors : shown.errors.items ≡ map number_of (queue_codes (queue_acts (instrument_acts (device_acts log))))
-  pub lock : shown.lock ≡ holder (link_acts (device_acts log))
-  pub links : shown.links.items ≡ map (λ link. record { lid = link.lid; conn = link.conn }) (live (link_acts (device_acts log)))
-  pub asking : (channel_log : List ChannelAct) → HearsOf (device_acts log) channel_log
-      → shown.asking.items ≡ map (λ link. record { lid = link.lid; conn = link.conn }) (enabled_links channel_log)
-  pub conns : (c : ℕ) → c < 16 → IsConn c (slice_index_or shown.conns c never_opened) log
+  pub conns : AreConns shown.conns.items log
+  pub links : AreLinks shown.links (device_acts log)
+  pub scanner : IsScanner shown.scanner (instrument_acts (device_acts log))
+  pub exchange : IsExchange shown.exchange (instrument_acts (device_acts log))
+  pub statuses : AreStatuses shown.statuses (instrument_acts (device_acts log))

@@ -1,24 +1,22 @@
 //! The lines of everything that changed between two moments.
 
-ghost use Rattle.std.specs.Prelude.{[], ◌∷◌, codes};
+ghost use Rattle.std.specs.Prelude.{◌≡◌, [], ◌∷◌, codes};
 ghost use Rattle.sv_print.specs.Printed.{Prints};
 ghost use Rattle.sv_explain.specs.declared.value.Word.TheVariants.{None as none};
 ghost use Rattle.sv_explain.specs.Lines.{lines_of};
 ghost use Rattle.sv_explain.specs.Values.{channel_values, conn_values, measurement_values, message_values, number_or_word, settings_values, status_values};
-ghost use Rattle.sv_explain.specs.Changes.{all_links_lines, changes, conn_lines, conns_lines, exchange_lines, register_lines, scanner_lines, status_lines};
+ghost use Rattle.sv_explain.specs.Changes.{all_links_lines, conn_lines, exchange_lines, register_lines, scanner_lines, status_lines};
 ghost use Rattle.sv_explain.specs.Inside.Names.{owner_text};
 
 use crate::lines::{Owner, put_numbers, put_values};
 use crate::links::{ListOf, put_links};
 use crate::shown::{
-    CONNECTIONS, ConnShown, MeasurementShown, MessageShown, RegisterShown, SettingsShown, Shown,
-    StatusShown, number_or_word,
+    ConnShown, ExchangeShown, LinksShown, Listed, MOST_LINKS, MeasurementShown, MessageShown,
+    RegisterShown, ScannerShown, SettingsShown, StatusShown, StatusesShown, number_or_word,
 };
 use crate::value::Word;
+use arrayvec::ArrayVec;
 use std::io::Write;
-
-/// The number of connections, as the type of their numbers.
-const CONNS: u8 = 16;
 
 /// The names of the values of `Shown::status`.
 const STATUS: [&[u8]; 6] = [b"opc", b"ese", b"esr", b"sre", b"stb", b"rqs"];
@@ -42,18 +40,6 @@ const CONN: [&[u8]; 4] = [b"role", b"faulted", b"wait", b"output"];
 
 /// The names of the values of an interrupt channel.
 const CHANNEL: [&[u8]; 2] = [b"open", b"output"];
-
-/// Writes the lines of all values that changed from `old` to `new`.
-pub fn put_changes<W: Write>(writer: &mut W, failed: &mut bool, old: &Shown, new: &Shown)
-    ensures { Prints (W.contents writer.old) failed.old
-        (W.contents writer.new) failed.new (changes old.now new.now) }
-{
-    put_conns(writer, failed, &old.conns, &new.conns);
-    put_all_links(writer, failed, old, new);
-    put_scanner(writer, failed, old, new);
-    put_exchange(writer, failed, old, new);
-    put_statuses(writer, failed, old, new)
-}
 
 /// Writes the lines of what changed of a connection and of its interrupt channel.
 pub fn put_conn<W: Write>(
@@ -113,22 +99,6 @@ fn put_channel<W: Write>(
     put_values(writer, failed, owner, &CHANNEL, &before, &now)
 }
 
-/// Writes the lines of all connections and their interrupt channels.
-fn put_conns<W: Write>(
-    writer: &mut W,
-    failed: &mut bool,
-    old: &[ConnShown; CONNECTIONS],
-    new: &[ConnShown; CONNECTIONS],
-)
-    ensures { Prints (W.contents writer.old) failed.old (W.contents writer.new) failed.new
-        (conns_lines old.now new.now) }
-{
-    for conn in 0..CONNS {
-        let place = usize::from(conn);
-        put_conn(writer, failed, conn, old[place], new[place]);
-    }
-}
-
 /// Writes the lines of the settings that changed.
 fn put_settings<W: Write>(writer: &mut W, failed: &mut bool, old: SettingsShown, new: SettingsShown)
     ensures { Prints (W.contents writer.old) failed.old (W.contents writer.new) failed.new
@@ -136,8 +106,10 @@ fn put_settings<W: Write>(writer: &mut W, failed: &mut bool, old: SettingsShown,
         ∷ codes "upper" ∷ codes "lower" ∷ codes "limits" ∷ [])
         (settings_values old) (settings_values new)) }
 {
-    let (before, now) = (old.values(), new.values());
-    put_values(writer, failed, Owner::Instrument, &SETTINGS, &before, &now)
+    if !old.is_same(new) {
+        let (before, now) = (old.values(), new.values());
+        put_values(writer, failed, Owner::Instrument, &SETTINGS, &before, &now)
+    }
 }
 
 /// Writes the lines of what changed of the measurement.
@@ -152,15 +124,17 @@ fn put_measurement<W: Write>(
         ∷ codes "reading" ∷ [])
         (measurement_values old) (measurement_values new)) }
 {
-    let (before, now) = (old.values(), new.values());
-    put_values(
-        writer,
-        failed,
-        Owner::Instrument,
-        &MEASUREMENT,
-        &before,
-        &now,
-    )
+    if !old.is_same(new) {
+        let (before, now) = (old.values(), new.values());
+        put_values(
+            writer,
+            failed,
+            Owner::Instrument,
+            &MEASUREMENT,
+            &before,
+            &now,
+        )
+    }
 }
 
 /// Writes the lines of what changed of message exchange.
@@ -217,63 +191,90 @@ fn put_lock<W: Write>(writer: &mut W, failed: &mut bool, old: Option<u32>, new: 
     put_values(writer, failed, Owner::Instrument, &[b"lock"], &before, &now)
 }
 
-/// Writes the lines of the links, of the lock, and of the links that have service requests enabled.
-fn put_all_links<W: Write>(writer: &mut W, failed: &mut bool, old: &Shown, new: &Shown)
-    ensures { Prints (W.contents writer.old) failed.old (W.contents writer.new) failed.new
-        (all_links_lines old.now new.now) }
-{
-    put_links(
-        writer,
-        failed,
-        ListOf::Links,
-        old.links.as_slice(),
-        new.links.as_slice(),
-    );
-    put_lock(writer, failed, old.lock, new.lock);
-    put_links(
-        writer,
-        failed,
-        ListOf::Asking,
-        old.asking.as_slice(),
-        new.asking.as_slice(),
+impl LinksShown {
+    /// Writes the lines of what changed of the links, of the lock, and of the links that have
+    /// service requests enabled; and keeps what is new.
+    pub fn update<W: Write>(
+        &mut self,
+        links: ArrayVec<Listed, MOST_LINKS>,
+        lock: Option<u32>,
+        asking: ArrayVec<Listed, MOST_LINKS>,
+        writer: &mut W,
+        failed: &mut bool,
     )
+        ensures value { self.new ≡ record { links = links; lock = lock; asking = asking } }
+        ensures lines { Prints (W.contents writer.old) failed.old
+            (W.contents writer.new) failed.new (all_links_lines self.old self.new) }
+    {
+        let (old, new) = (self.links.as_slice(), links.as_slice());
+        put_links(writer, failed, ListOf::Links, old, new);
+        put_lock(writer, failed, self.lock, lock);
+        let (old, new) = (self.asking.as_slice(), asking.as_slice());
+        put_links(writer, failed, ListOf::Asking, old, new);
+        self.links = links;
+        self.lock = lock;
+        self.asking = asking;
+    }
 }
 
-/// Writes the lines of the scanner: its settings, its scan list, and its measurement.
-fn put_scanner<W: Write>(writer: &mut W, failed: &mut bool, old: &Shown, new: &Shown)
-    ensures { Prints (W.contents writer.old) failed.old (W.contents writer.new) failed.new
-        (scanner_lines old.now new.now) }
-{
-    put_settings(writer, failed, old.settings, new.settings);
-    put_numbers(
-        writer,
-        failed,
-        b"list",
-        old.list.as_slice(),
-        new.list.as_slice(),
-    );
-    put_measurement(writer, failed, old.measurement, new.measurement)
-}
-
-/// Writes the lines of message exchange and of the errors.
-fn put_exchange<W: Write>(writer: &mut W, failed: &mut bool, old: &Shown, new: &Shown)
-    ensures { Prints (W.contents writer.old) failed.old (W.contents writer.new) failed.new
-        (exchange_lines old.now new.now) }
-{
-    put_message(writer, failed, old.message, new.message);
-    put_numbers(
-        writer,
-        failed,
-        b"errors",
-        old.errors.as_slice(),
-        new.errors.as_slice(),
+impl ScannerShown {
+    /// Writes the lines of what changed of the scanner: its settings, its scan list, and its
+    /// measurement; and keeps what is new.
+    pub fn update<W: Write>(
+        &mut self,
+        settings: SettingsShown,
+        list: ArrayVec<i16, 128>,
+        measurement: MeasurementShown,
+        writer: &mut W,
+        failed: &mut bool,
     )
+        ensures value { self.new
+            ≡ record { settings = settings; list = list; measurement = measurement } }
+        ensures lines { Prints (W.contents writer.old) failed.old
+            (W.contents writer.new) failed.new (scanner_lines self.old self.new) }
+    {
+        put_settings(writer, failed, self.settings, settings);
+        let (old, new) = (self.list.as_slice(), list.as_slice());
+        put_numbers(writer, failed, b"list", old, new);
+        put_measurement(writer, failed, self.measurement, measurement);
+        self.settings = settings;
+        self.list = list;
+        self.measurement = measurement;
+    }
 }
 
-/// Writes the lines of the limit, questionable and operation registers, and of the standard status.
-fn put_statuses<W: Write>(writer: &mut W, failed: &mut bool, old: &Shown, new: &Shown)
+impl ExchangeShown {
+    /// Writes the lines of what changed of message exchange and of the errors; and keeps what is
+    /// new.
+    pub fn update<W: Write>(
+        &mut self,
+        message: MessageShown,
+        errors: ArrayVec<i16, 64>,
+        writer: &mut W,
+        failed: &mut bool,
+    )
+        ensures value { self.new ≡ record { message = message; errors = errors } }
+        ensures lines { Prints (W.contents writer.old) failed.old
+            (W.contents writer.new) failed.new (exchange_lines self.old self.new) }
+    {
+        put_message(writer, failed, self.message, message);
+        let (old, new) = (self.errors.as_slice(), errors.as_slice());
+        put_numbers(writer, failed, b"errors", old, new);
+        self.message = message;
+        self.errors = errors;
+    }
+}
+
+/// Writes the lines of what changed of the limit, questionable and operation registers, and of the
+/// standard status.
+pub fn put_statuses<W: Write>(
+    writer: &mut W,
+    failed: &mut bool,
+    old: StatusesShown,
+    new: StatusesShown,
+)
     ensures { Prints (W.contents writer.old) failed.old (W.contents writer.new) failed.new
-        (status_lines old.now new.now) }
+        (status_lines old new) }
 {
     put_register(writer, failed, Owner::Limit, old.limit, new.limit);
     put_register(
@@ -290,5 +291,5 @@ fn put_statuses<W: Write>(writer: &mut W, failed: &mut bool, old: &Shown, new: &
         old.operation,
         new.operation,
     );
-    put_status(writer, failed, old.status, new.status)
+    put_status(writer, failed, old.standard, new.standard)
 }

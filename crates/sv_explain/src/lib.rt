@@ -7,12 +7,14 @@ mod lines;
 mod links;
 mod shown;
 mod step;
+mod text;
 mod value;
 
-pub use changes::{put_changes, put_conn};
+pub use changes::{put_conn, put_statuses};
 pub use shown::{
-    CONNECTIONS, CallShown, ConnShown, Listed, MOST_LINKS, MeasurementShown, MessageShown,
-    NEVER_OPENED, RegisterShown, SettingsShown, Shown, StatusShown,
+    CONNECTIONS, CallShown, ConnShown, ExchangeShown, LinksShown, Listed, MOST_LINKS,
+    MeasurementShown, MessageShown, NEVER_OPENED, RegisterShown, ScannerShown, SettingsShown,
+    Shown, StatusShown, StatusesShown,
 };
 pub use step::{Due, put_call, put_end, put_head, put_step};
 pub use value::{Value, Word};

@@ -1,14 +1,14 @@
 //! The lines of values that changed.
 
-ghost use Rattle.std.specs.Prelude.{◌≡◌, ◌++◌, ◌∷◌, [], map, decimal, if◌then◌else◌};
+ghost use Rattle.std.specs.Prelude.{◌++◌, ◌∷◌, [], map, codes, decimal, if◌then◌else◌};
 ghost use Rattle.std.specs.List.{concat};
 ghost use Rattle.std.specs.Fmt.{signed_decimal};
-ghost use Rattle.sv_print.specs.Parts.{parts_text};
 ghost use Rattle.sv_print.specs.Printed.{Prints};
 ghost use Rattle.sv_explain.specs.Value.{same_value, value_text};
 ghost use Rattle.sv_explain.specs.Lines.{lines_of, numbers_line, numbers_text, value_line};
 ghost use Rattle.sv_explain.specs.Inside.Names.{owner_text, texts_of};
 
+use crate::text::put_text;
 use crate::value::Value;
 use std::io::Write;
 use sv_print::{Part, put};
@@ -30,32 +30,35 @@ pub(crate) enum Owner {
     Channel(u8),
 }
 
-impl Owner {
-    /// The parts of the owner's text.
-    fn parts(self) -> [Part<'static>; 3]
-        ensures { parts_text result ≡ owner_text self }
-    {
-        let nothing = Part::Bytes(b"");
-        match self {
-            Owner::Instrument => [nothing, nothing, nothing],
-            Owner::Operation => [Part::Bytes(b"oper."), nothing, nothing],
-            Owner::Questionable => [Part::Bytes(b"ques."), nothing, nothing],
-            Owner::Limit => [Part::Bytes(b"lim."), nothing, nothing],
-            Owner::Conn(conn) => of_conn(b"c", conn),
-            Owner::Channel(conn) => of_conn(b"i", conn),
-        }
+/// Writes what stands before the name of a value: a `=`, and whose value it is.
+fn put_owner<W: Write>(writer: &mut W, failed: &mut bool, owner: Owner)
+    ensures { Prints (W.contents writer.old) failed.old (W.contents writer.new) failed.new
+        (codes "= " ++ owner_text owner) }
+{
+    match owner {
+        Owner::Instrument => put(writer, failed, &[Part::Bytes(b"= ")]),
+        Owner::Operation => put(writer, failed, &[Part::Bytes(b"= oper.")]),
+        Owner::Questionable => put(writer, failed, &[Part::Bytes(b"= ques.")]),
+        Owner::Limit => put(writer, failed, &[Part::Bytes(b"= lim.")]),
+        Owner::Conn(conn) => put_numbered(writer, failed, b"= c", conn),
+        Owner::Channel(conn) => put_numbered(writer, failed, b"= i", conn),
     }
 }
 
-/// A letter, the number of a connection, and a dot.
-fn of_conn(letter: &'static [u8], conn: u8) -> [Part<'static>; 3]
-    ensures { parts_text result ≡ letter.now ++ (decimal conn ++ 46 ∷ []) }
+/// Writes these bytes, the number of a connection, and a dot.
+fn put_numbered<W: Write>(writer: &mut W, failed: &mut bool, start: &[u8], conn: u8)
+    ensures { Prints (W.contents writer.old) failed.old (W.contents writer.new) failed.new
+        (start.now ++ (decimal conn ++ 46 ∷ [])) }
 {
-    [
-        Part::Bytes(letter),
-        Part::Number(u64::from(conn)),
-        Part::Bytes(b"."),
-    ]
+    put(
+        writer,
+        failed,
+        &[
+            Part::Bytes(start),
+            Part::Number(u64::from(conn)),
+            Part::Bytes(b"."),
+        ],
+    )
 }
 
 /// Writes the line of a value.
@@ -63,14 +66,13 @@ fn put_line<W: Write>(writer: &mut W, failed: &mut bool, owner: Owner, name: &[u
     ensures { Prints (W.contents writer.old) failed.old (W.contents writer.new) failed.new
         (value_line (owner_text owner ++ name.now) (value_text value)) }
 {
-    put(writer, failed, &[Part::Bytes(b"= ")]);
-    put(writer, failed, &owner.parts());
+    put_owner(writer, failed, owner);
     put(writer, failed, &[Part::Bytes(name), Part::Bytes(b" ")]);
-    put(writer, failed, &value.parts());
-    put(writer, failed, &[Part::Bytes(b"\n")])
+    put_text(writer, failed, value)
 }
 
 /// Writes the line of a value, if the value changed.
+#[inline(always)]
 fn put_value<W: Write>(
     writer: &mut W,
     failed: &mut bool,
@@ -89,6 +91,7 @@ fn put_value<W: Write>(
 }
 
 /// Writes the lines of those values that changed.
+#[inline(always)]
 pub(crate) fn put_values<W: Write>(
     writer: &mut W,
     failed: &mut bool,

@@ -129,35 +129,63 @@ pub struct ConnShown {
     pub requests: u32,
 }
 
-/// What is told of a server.
+/// What is told of the links.
 #[derive(Drop)]
-pub struct Shown {
-    /// The standard events and the status byte.
-    pub status: StatusShown,
-    /// The operation register.
-    pub operation: RegisterShown,
-    /// The questionable register.
-    pub questionable: RegisterShown,
-    /// The limit register.
-    pub limit: RegisterShown,
+pub struct LinksShown {
+    /// The links, by rising number.
+    pub links: ArrayVec<Listed, MOST_LINKS>,
+    /// The link that holds the lock; `None` if the lock is free.
+    pub lock: Option<u32>,
+    /// The links that have service requests enabled, by rising number.
+    pub asking: ArrayVec<Listed, MOST_LINKS>,
+}
+
+/// What is told of the scanner.
+#[derive(Drop)]
+pub struct ScannerShown {
     /// The settings, without the scan list.
     pub settings: SettingsShown,
     /// The scan list.
     pub list: ArrayVec<i16, 128>,
     /// The measurement.
     pub measurement: MeasurementShown,
+}
+
+/// What is told of message exchange and of the error queue.
+#[derive(Drop)]
+pub struct ExchangeShown {
     /// Message exchange, and lost errors.
     pub message: MessageShown,
     /// The numbers of the errors in the queue, the oldest first.
     pub errors: ArrayVec<i16, 64>,
-    /// The link that holds the lock; `None` if the lock is free.
-    pub lock: Option<u32>,
-    /// The links, by rising number.
-    pub links: ArrayVec<Listed, MOST_LINKS>,
-    /// The links that have service requests enabled, by rising number.
-    pub asking: ArrayVec<Listed, MOST_LINKS>,
-    /// The connections, by their numbers.
-    pub conns: [ConnShown; CONNECTIONS],
+}
+
+/// What is told of the status registers and of the status byte.
+#[derive(Clone, Copy, Debug)]
+pub struct StatusesShown {
+    /// The limit register.
+    pub limit: RegisterShown,
+    /// The questionable register.
+    pub questionable: RegisterShown,
+    /// The operation register.
+    pub operation: RegisterShown,
+    /// The standard events and the status byte.
+    pub standard: StatusShown,
+}
+
+/// What is told of a server.
+#[derive(Drop)]
+pub struct Shown {
+    /// The connections, by their numbers; those that are left out were never opened.
+    pub conns: ArrayVec<ConnShown, CONNECTIONS>,
+    /// The links and the lock.
+    pub links: LinksShown,
+    /// The scanner.
+    pub scanner: ScannerShown,
+    /// Message exchange and the errors.
+    pub exchange: ExchangeShown,
+    /// The status registers and the status byte.
+    pub statuses: StatusesShown,
 }
 
 /// What is told of a connection that was never opened.
@@ -170,7 +198,14 @@ pub const NEVER_OPENED: ConnShown = ConnShown {
     requests: 0,
 };
 
+impl Default for ConnShown {
+    fn default() -> ConnShown {
+        NEVER_OPENED
+    }
+}
+
 /// 1 for true, 0 for false.
+#[inline(always)]
 fn flag(on: bool) -> Value
     ensures { result ≡ flag on }
 {
@@ -178,6 +213,7 @@ fn flag(on: bool) -> Value
 }
 
 /// A number; or this word.
+#[inline(always)]
 pub(crate) fn number_or_word(word: Word, number: Option<u32>) -> Value
     ensures { result ≡ number_or_word word number }
 {
@@ -188,6 +224,7 @@ pub(crate) fn number_or_word(word: Word, number: Option<u32>) -> Value
 }
 
 /// So many of so many; `none` without a measurement.
+#[inline(always)]
 fn share_value(share: Option<(u8, u8)>) -> Value
     ensures { result ≡ share_value share }
 {
@@ -198,6 +235,7 @@ fn share_value(share: Option<(u8, u8)>) -> Value
 }
 
 /// A suspended call; `none` if there is none.
+#[inline(always)]
 fn call_value(call: Option<CallShown>) -> Value
     ensures { result ≡ call_value call }
 {
@@ -209,6 +247,7 @@ fn call_value(call: Option<CallShown>) -> Value
 
 impl StatusShown {
     /// The values, in the order in which they are printed.
+    #[inline(always)]
     pub(crate) fn values(self) -> [Value; 6]
         ensures { result ≡ status_values self }
     {
@@ -225,6 +264,7 @@ impl StatusShown {
 
 impl RegisterShown {
     /// The values, in the order in which they are printed.
+    #[inline(always)]
     pub(crate) fn values(self) -> [Value; 5]
         ensures { result ≡ register_values self }
     {
@@ -239,7 +279,24 @@ impl RegisterShown {
 }
 
 impl SettingsShown {
+    /// Whether nothing changed.
+    pub(crate) fn is_same(self, other: SettingsShown) -> bool
+        ensures { result ≡ true → self ≡ other }
+    {
+        if self.source != other.source || self.count != other.count {
+            return false;
+        }
+        if self.range != other.range || self.monitor != other.monitor {
+            return false;
+        }
+        if self.upper != other.upper || self.lower != other.lower {
+            return false;
+        }
+        self.limits == other.limits
+    }
+
     /// The values, in the order in which they are printed.
+    #[inline(always)]
     pub(crate) fn values(self) -> [Value; 7]
         ensures { result ≡ settings_values self }
     {
@@ -256,7 +313,18 @@ impl SettingsShown {
 }
 
 impl MeasurementShown {
+    /// Whether nothing changed.
+    pub(crate) fn is_same(self, other: MeasurementShown) -> bool
+        ensures { result ≡ true → self ≡ other }
+    {
+        if self.state != other.state || self.readings != other.readings {
+            return false;
+        }
+        is_same_progress(self.progress, other.progress) && self.newest.is_same(other.newest)
+    }
+
     /// The values, in the order in which they are printed.
+    #[inline(always)]
     pub(crate) fn values(self) -> [Value; 5]
         ensures { result ≡ measurement_values self }
     {
@@ -272,6 +340,7 @@ impl MeasurementShown {
 
 impl MessageShown {
     /// The values, in the order in which they are printed.
+    #[inline(always)]
     pub(crate) fn values(self) -> [Value; 5]
         ensures { result ≡ message_values self }
     {
@@ -282,6 +351,17 @@ impl MessageShown {
             Value::Number(u64::from(self.response)),
             Value::Number(u64::from(self.lost)),
         ]
+    }
+}
+
+/// Whether two measurements are as far as each other.
+fn is_same_progress(old: Option<Progress>, new: Option<Progress>) -> bool
+    ensures { result ≡ true → old ≡ new }
+{
+    match (old, new) {
+        (None, None) => true,
+        (Some(old), Some(new)) => old == new,
+        (None, Some(_)) | (Some(_), None) => false,
     }
 }
 
@@ -311,6 +391,7 @@ impl ConnShown {
     }
 
     /// The values of the connection, in the order in which they are printed.
+    #[inline(always)]
     pub(crate) fn conn(self) -> [Value; 4]
         ensures { result ≡ conn_values self }
     {
@@ -323,6 +404,7 @@ impl ConnShown {
     }
 
     /// The values of the interrupt channel, in the order in which they are printed.
+    #[inline(always)]
     pub(crate) fn channel(self) -> [Value; 2]
         ensures { result ≡ channel_values self }
     {

@@ -1,11 +1,7 @@
 //! A value that is told, and its text.
 
-ghost use Rattle.std.specs.Prelude.{◌≡◌, decimal};
-ghost use Rattle.std.specs.Option.{option_map_or};
-ghost use Rattle.sv_print.specs.Parts.{part_text, parts_text};
-ghost use Rattle.sv_explain.specs.Value.{same_value, value_text, word_text};
-
-use sv_print::Part;
+ghost use Rattle.std.specs.Prelude.{◌≡◌, true};
+ghost use Rattle.sv_explain.specs.Value.{same_value, word_text};
 
 /// A word that is told.
 #[derive(Clone, Copy, Debug, PartialEq, Eq)]
@@ -107,8 +103,10 @@ impl Word {
 
 impl Value {
     /// Whether two values are the same.
+    #[inline(always)]
     pub(crate) fn is_same(self, other: Value) -> bool
-        ensures { result ≡ same_value self other }
+        ensures value { result ≡ same_value self other }
+        ensures same { result ≡ true → self ≡ other }
     {
         match (self, other) {
             (Value::Number(a), Value::Number(b)) => a == b,
@@ -120,57 +118,5 @@ impl Value {
             (Value::Overload(a, b, c), Value::Overload(d, e, f)) => { a == d && b == e && c == f }
             _ => false,
         }
-    }
-
-    /// The parts of the value's text; parts that aren't needed are empty.
-    pub(crate) fn parts(self) -> [Part<'static>; 5]
-        ensures { parts_text result ≡ value_text self }
-    {
-        let space = Part::Bytes(b" ");
-        let nothing = Part::Bytes(b"");
-        match self {
-            Value::Number(number) => [Part::Number(number), nothing, nothing, nothing, nothing],
-            Value::Voltage(value) => [Part::Signed(value), nothing, nothing, nothing, nothing],
-            Value::Word(word) => [Part::Bytes(word.text()), nothing, nothing, nothing, nothing],
-            Value::Share(done, whole) => [decimal(done), space, decimal(whole), nothing, nothing],
-            Value::Call(what, lid, deadline) => [
-                Part::Bytes(what.text()),
-                space,
-                number_or(b"none", lid),
-                space,
-                number_or(b"never", deadline),
-            ],
-            Value::Reading(number, channel, value) => [
-                Part::Number(u64::from(number)),
-                space,
-                decimal(channel),
-                space,
-                Part::Signed(value),
-            ],
-            Value::Overload(number, channel, word) => [
-                Part::Number(u64::from(number)),
-                space,
-                decimal(channel),
-                space,
-                Part::Bytes(word.text()),
-            ],
-        }
-    }
-}
-
-/// A number in decimal.
-fn decimal(number: u8) -> Part<'static>
-    ensures { part_text result ≡ decimal number }
-{
-    Part::Number(u64::from(number))
-}
-
-/// A number in decimal; else these bytes.
-fn number_or(none: &'static [u8], number: Option<u64>) -> Part<'static>
-    ensures { part_text result ≡ option_map_or decimal number none.now }
-{
-    match number {
-        Some(number) => Part::Number(number),
-        None => Part::Bytes(none),
     }
 }

@@ -22,6 +22,7 @@ pub enum Part<'a> {
 }
 
 /// Writes a part.
+#[inline(always)]
 fn put_part<W: Write>(writer: &mut W, part: Part<'_>) -> Result<(), WriteFault>
     ensures { IsTakenByWriter (W.contents writer.old) (W.contents writer.new) result
         (part_text part.entry) }

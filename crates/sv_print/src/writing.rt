@@ -16,6 +16,7 @@ pub struct WriteFault;
 
 /// Writes a prefix of these bytes, and returns the prefix's length; 0 if a signal interrupted the
 /// write.
+#[inline(always)]
 fn put_some<W: Write>(writer: &mut W, bytes: &[u8]) -> Result<usize, WriteFault>
     ensures within { IfOk result (λ n. n ≤ length bytes.now) }
     ensures taken { MatchResult result
@@ -33,6 +34,7 @@ fn put_some<W: Write>(writer: &mut W, bytes: &[u8]) -> Result<usize, WriteFault>
 }
 
 /// Writes all of these bytes.
+#[inline(always)]
 pub(crate) fn put_bytes<W: Write>(writer: &mut W, bytes: &[u8]) -> Result<(), WriteFault>
     ensures { IsTakenByWriter (W.contents writer.old) (W.contents writer.new) result bytes.now }
 {

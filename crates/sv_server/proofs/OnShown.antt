@@ -3,3 +3,4 @@ pub mod Lists
 pub mod Links
 pub mod Calls
 pub mod Conns
+pub mod Never

@@ -182,6 +182,7 @@ impl<A: Allocator> Device<A> {
     }
 
     /// The oldest suspended call that can resume; `None` if no call can resume.
+    #[inline(always)]
     pub fn oldest_able(&self) -> Option<Entry>
         ensures answer { (config : Config) (acts : List DeviceAct) → IsDevice self.now config acts
             → IsOldest (wait_acts acts) (CanResume acts) (option_map (λ entry. entry.conn) result) }

@@ -11,14 +11,15 @@ ghost use Rattle.sv_history.specs.Act.{Act};
 ghost use Rattle.sv_history.specs.Event.{PlainEvent, Bytes, Turn, IsEvent, plain};
 ghost use Rattle.sv_history.specs.History.{IsLogOf};
 ghost use Rattle.sv_explain.specs.Shown.{IsShown};
-ghost use Rattle.sv_explain.specs.Changes.{changes};
 ghost use Rattle.sv_explain.specs.Steps.{end_line};
 ghost use Rattle.sv_server.specs.Server.State.{Represents, StandsFor};
 ghost use Rattle.sv_server.specs.Explain.Telling.{Explains, IsStillTick, Tells, ToldOf, clock_at};
 ghost use Rattle.sv_server.specs.Explain.Inside.Steps.{Ends, IsActed, TellsSome, lines_before, tick_line};
 
+mod conns;
 mod due;
 mod shown;
+mod tell;
 
 use crate::conn::Conn;
 use crate::replay::ReplayFault;
@@ -26,7 +27,7 @@ use crate::server::Server;
 use crate::server::settling::Stepped;
 use std::alloc::Allocator;
 use std::io::Write;
-use sv_explain::{Shown, put_call, put_changes, put_conn, put_end, put_head, put_step};
+use sv_explain::{Shown, put_call, put_conn, put_end, put_head, put_step};
 use sv_history::{Did, Event, Refused};
 use sv_print::WriteFault;
 
@@ -250,17 +251,5 @@ impl<A: Allocator> Server<A> {
                 Stepped::Nothing => return false,
             }
         }
-    }
-
-    /// Writes what changed since `shown`, and updates `shown`.
-    fn tell<W: Write>(&self, shown: &mut Shown, writer: &mut W, failed: &mut bool)
-        ensures { (config : Config) (log : List Act) → Represents self.now config log
-            → IsShown shown.new log
-            × Prints (W.contents writer.old) failed.old (W.contents writer.new) failed.new
-            (changes shown.old shown.new) }
-    {
-        let now = self.shown();
-        put_changes(writer, failed, shown, &now);
-        *shown = now;
     }
 }

@@ -409,6 +409,7 @@ impl<A: Allocator> Server<A> {
     }
 
     /// Applies an event, but doesn't take the steps that are due after it.
+    #[inline(always)]
     pub(crate) fn act(&mut self, event: Event<'_>) -> Result<Did, Refused>
         ensures within { IsEvent (plain event.entry) }
         ensures acts { (config : Config) (log : List Act) → Represents self.old config log
@@ -446,6 +447,7 @@ impl<A: Allocator> Server<A> {
     /// If no check fails, a Turn may still be refused with `NoMemory`, but only if its call makes a
     /// link, waits for the lock to make a link, or asks for an interrupt channel. The same Turn may
     /// be tried again.
+    #[inline(always)]
     pub fn apply(&mut self, event: Event<'_>) -> Result<Did, Refused>
         ensures answers { (config : Config) (history : List PlainEvent)
             → StandsFor self.old config history

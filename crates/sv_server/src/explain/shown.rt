@@ -12,9 +12,9 @@ ghost use Rattle.sv_layers.specs.Act.{Act as InstrumentAct};
 ghost use Rattle.sv_layers.specs.Inside.Representation.{AllRead};
 ghost use Rattle.sv_instrument.specs.Representation.{StandsFor};
 ghost use Rattle.sv_history.specs.declared.event.Config.{Config};
-ghost use Rattle.sv_history.specs.Act.{Act};
+ghost use Rattle.sv_history.specs.Act.{Act, device_acts, instrument_acts};
 ghost use Rattle.sv_server.specs.Server.State.{Represents};
-ghost use Rattle.sv_explain.specs.Shown.{IsStatus, IsRegister, source_word, settings_of, state_word, measurement_of, newest_value, held_word, message_of, wait_word, call_of, role_word, IsConn, never_opened, IsShown};
+ghost use Rattle.sv_explain.specs.Shown.{IsStatus, IsRegister, source_word, settings_of, state_word, measurement_of, newest_value, held_word, message_of, wait_word, call_of, role_word, IsConn, never_opened, AreLinks, IsScanner, IsExchange, AreStatuses, IsShown};
 
 use crate::conn::Conn;
 use crate::server::Server;
@@ -22,8 +22,8 @@ use arrayvec::ArrayVec;
 use std::alloc::Allocator;
 use sv_errors::{ErrorQueue, Source};
 use sv_explain::{
-    CONNECTIONS, CallShown, ConnShown, MeasurementShown, MessageShown, NEVER_OPENED, RegisterShown,
-    SettingsShown, Shown, StatusShown, Value, Word,
+    ExchangeShown, LinksShown, MeasurementShown, MessageShown, RegisterShown, ScannerShown,
+    SettingsShown, Shown, StatusShown, StatusesShown, Value, Word,
 };
 use sv_history::{Port, Role};
 use sv_instrument::Instrument;
@@ -71,7 +71,7 @@ fn source_word(source: Source) -> Word
 }
 
 /// What is told of the settings, without the scan list.
-fn settings_shown<A: Allocator>(scanner: &Scanner<A>) -> SettingsShown
+pub(crate) fn settings_shown<A: Allocator>(scanner: &Scanner<A>) -> SettingsShown
     ensures { (acts : List ScanAct) → Scans scanner.now acts
         → result ≡ settings_of (effective acts) }
 {
@@ -87,7 +87,7 @@ fn settings_shown<A: Allocator>(scanner: &Scanner<A>) -> SettingsShown
 }
 
 /// The channels of the scan list.
-fn list_shown<A: Allocator>(scanner: &Scanner<A>) -> ArrayVec<i16, 128>
+pub(crate) fn list_shown<A: Allocator>(scanner: &Scanner<A>) -> ArrayVec<i16, 128>
     ensures { (acts : List ScanAct) → Scans scanner.now acts
         → result.items ≡ map pos (scan_list (effective acts)) }
 {
@@ -124,7 +124,7 @@ fn newest_value(number: u16, newest: Option<Taken>) -> Value
 }
 
 /// What is told of the measurement.
-fn measurement_shown<A: Allocator>(scanner: &Scanner<A>) -> MeasurementShown
+pub(crate) fn measurement_shown<A: Allocator>(scanner: &Scanner<A>) -> MeasurementShown
     ensures { (acts : List ScanAct) → Scans scanner.now acts
         → result ≡ measurement_of (effective acts) }
 {
@@ -150,7 +150,7 @@ fn held_word(held: Option<Awaited>) -> Word
 }
 
 /// What is told of message exchange.
-fn message_shown<A: Allocator>(instrument: &Instrument<A>) -> MessageShown
+pub(crate) fn message_shown<A: Allocator>(instrument: &Instrument<A>) -> MessageShown
     ensures { (log : List InstrumentAct) → StandsFor instrument.now log
         → result ≡ message_of log }
 {
@@ -166,7 +166,7 @@ fn message_shown<A: Allocator>(instrument: &Instrument<A>) -> MessageShown
 }
 
 /// The numbers of the errors in a queue, the oldest first.
-fn errors_shown<A: Allocator>(queue: &ErrorQueue<A>) -> ArrayVec<i16, 64>
+pub(crate) fn errors_shown<A: Allocator>(queue: &ErrorQueue<A>) -> ArrayVec<i16, 64>
     ensures { (acts : List QueueAct) → Queues queue.now acts
         → result.items ≡ map number_of (queue_codes acts) }
 {
@@ -180,111 +180,73 @@ fn errors_shown<A: Allocator>(queue: &ErrorQueue<A>) -> ArrayVec<i16, 64>
     found
 }
 
-/// The word of what a suspended call waits for.
-fn wait_word(wait: Wait) -> Word
-    ensures { result ≡ wait_word wait }
-{
-    match wait {
-        Wait::Lock => Word::Lock,
-        Wait::Input => Word::Input,
-        Wait::Response => Word::Response,
-        Wait::Dial => Word::Dial,
-    }
-}
-
-/// What is told of a suspended call.
-fn call_shown(entry: Option<Entry>) -> Option<CallShown>
-    ensures { MatchOption entry (result ≡ None)
-        (λ entry. result ≡ call_of (Some entry.wait) entry.lid entry.deadline) }
-{
-    match entry {
-        Some(entry) => Some(CallShown {
-            wait: wait_word(entry.wait),
-            lid: entry.lid,
-            deadline: entry.deadline,
-        }),
-        None => None,
-    }
-}
-
-/// The word of a connection's role.
-fn role_word(role: Option<Role>) -> Word
-    ensures { result ≡ role_word role }
-{
-    match role {
-        None => Word::Closed,
-        Some(Role::Core) => Word::Core,
-        Some(Role::Abort) => Word::Abort,
-        Some(Role::Portmap) => Word::Portmap,
-    }
-}
-
 impl<A: Allocator> Server<A> {
     /// What is told of the server.
     pub(crate) fn shown(&self) -> Shown
         ensures { (config : Config) (log : List Act) → Represents self.now config log
             → IsShown result log }
     {
-        let instrument = self.device.instrument();
-        let layers = instrument.layers();
-        let scanner = layers.scanner();
         Shown {
-            status: status_shown(layers),
-            operation: register_shown(layers, RegisterName::Operation),
-            questionable: register_shown(layers, RegisterName::Questionable),
-            limit: register_shown(layers, RegisterName::Limit),
+            conns: self.conns_shown(),
+            links: self.links_shown(),
+            scanner: self.scanner_shown(),
+            exchange: self.exchange_shown(),
+            statuses: self.statuses_shown(),
+        }
+    }
+
+    /// What is told of the links and the lock.
+    #[inline(always)]
+    pub(crate) fn links_shown(&self) -> LinksShown
+        ensures { (config : Config) (log : List Act) → Represents self.now config log
+            → AreLinks result (device_acts log) }
+    {
+        LinksShown {
+            links: self.device.all_links(),
+            lock: self.device.lock_holder(),
+            asking: self.device.asking_links(),
+        }
+    }
+
+    /// What is told of the scanner.
+    #[inline(always)]
+    pub(crate) fn scanner_shown(&self) -> ScannerShown
+        ensures { (config : Config) (log : List Act) → Represents self.now config log
+            → IsScanner result (instrument_acts (device_acts log)) }
+    {
+        let scanner = self.device.instrument().layers().scanner();
+        ScannerShown {
             settings: settings_shown(scanner),
             list: list_shown(scanner),
             measurement: measurement_shown(scanner),
+        }
+    }
+
+    /// What is told of message exchange and of the errors.
+    #[inline(always)]
+    pub(crate) fn exchange_shown(&self) -> ExchangeShown
+        ensures { (config : Config) (log : List Act) → Represents self.now config log
+            → IsExchange result (instrument_acts (device_acts log)) }
+    {
+        let instrument = self.device.instrument();
+        ExchangeShown {
             message: message_shown(instrument),
-            errors: errors_shown(layers.errors()),
-            lock: self.device.lock_holder(),
-            links: self.device.all_links(),
-            asking: self.device.asking_links(),
-            conns: self.conns_shown(),
+            errors: errors_shown(instrument.layers().errors()),
         }
     }
 
-    /// What is told of the connections. Each is looked at, also one that was never opened: the
-    /// contract is about each log, even one in which such a connection has an interrupt channel.
-    fn conns_shown(&self) -> [ConnShown; CONNECTIONS]
+    /// What is told of the status registers and of the status byte.
+    #[inline(always)]
+    pub(crate) fn statuses_shown(&self) -> StatusesShown
         ensures { (config : Config) (log : List Act) → Represents self.now config log
-            → (c : ℕ) → c < 16 → IsConn c (slice_index_or result c never_opened) log }
+            → AreStatuses result (instrument_acts (device_acts log)) }
     {
-        let mut found = [NEVER_OPENED; CONNECTIONS];
-        for number in 0..16 {
-            if let Some(conn) = Conn::new(number) {
-                found[conn.index()] = self.conn_shown(conn);
-            }
-        }
-        found
-    }
-
-    /// What is told of a connection.
-    pub(crate) fn conn_shown(&self, conn: Conn) -> ConnShown
-        ensures { (config : Config) (log : List Act) → Represents self.now config log
-            → IsConn conn.number result log }
-    {
-        let call = call_shown(self.device.waiting_call(conn));
-        let has_channel = self.device.has_channel(conn);
-        let requests = self.outgoing(Port::Intr(conn.number)).len() as u32;
-        match self.connection(conn.number) {
-            Some(connection) => ConnShown {
-                role: role_word(connection.role()),
-                faulted: connection.is_faulted(),
-                call,
-                output: connection.waiting().len() as u32,
-                has_channel,
-                requests,
-            },
-            None => ConnShown {
-                role: Word::Closed,
-                faulted: false,
-                call,
-                output: 0,
-                has_channel,
-                requests,
-            },
+        let layers = self.device.instrument().layers();
+        StatusesShown {
+            limit: register_shown(layers, RegisterName::Limit),
+            questionable: register_shown(layers, RegisterName::Questionable),
+            operation: register_shown(layers, RegisterName::Operation),
+            standard: status_shown(layers),
         }
     }
 }

@@ -165,6 +165,7 @@ impl<A: Allocator> Server<A> {
     }
 
     /// Takes the step that is due, if a step is due.
+    #[inline(always)]
     pub(crate) fn step(&mut self) -> Stepped
         ensures steps { (config : Config) (log : List Act) → Represents self.old config log
             → Steps result config log self.new }

@@ -7,7 +7,4 @@ use Rattle.sv_explain.proofs.lines.put_line.Goals as goal
 pub returns : goal.returns
 returns g c =
     prints_as _ _ _ _ _ _ (line_text (owner_text c.args.owner) c.args.name.now (value_text c.args.value))
-    (prints_then _ _ _ _ _ _ _ _ c.put.ensures
-    (prints_then _ _ _ _ _ _ _ _ (prints_as _ _ _ _ _ _ c.parts.ensures c.put-2.ensures)
-    (prints_then _ _ _ _ _ _ _ _ c.put-3.ensures
-    (prints_then _ _ _ _ _ _ _ _ (prints_as _ _ _ _ _ _ c.parts-2.ensures c.put-4.ensures) c.put-5.ensures))))
+    (prints_then _ _ _ _ _ _ _ _ c.put_owner.ensures (prints_then _ _ _ _ _ _ _ _ c.put.ensures c.put_text.ensures))

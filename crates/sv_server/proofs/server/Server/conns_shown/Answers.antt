@@ -1,28 +1,26 @@
-use Rattle.std.proofs.Common.{◌≡◌, ◌∙◌, ℕ, List, length, sym, ap, subst, arith}
-use Rattle.std.proofs.lemmas.List.{length-set}
-use Rattle.std.specs.Prelude.{slice_set, slice_index_or}
-use Rattle.sv_explain.specs.declared.shown.ConnShown.{ConnShown}
-use Rattle.sv_explain.specs.Shown.{IsConn, never_opened}
-use Rattle.sv_server.proofs.OnShown.Conns.{conns_more}
+use Rattle.std.proofs.Common.{◌≡◌, ℕ, ◌+◌, max, arith}
+use Rattle.sv_server.specs.Explain.Inside.Conns.{IsPut}
+use Rattle.sv_server.proofs.OnShown.Conns.{conns_more, conns_end}
 use Rattle.sv_server.proofs.server.Server.conns_shown.Goals as goal
 use Rattle.sv_server.proofs.server.Server.conns_shown.Goals.{in-Some, in_default}
+
+one_longer : (a b n : ℕ) → b ≡ max a (n + 1) → a ≡ n → b ≡ n + 1
+one_longer a b n e f = grind arith
 
 pub loop-number-preserved : goal.loop-number-preserved
 loop-number-preserved g c = elim c.match-new.branch [
   | in-Some w ↦
-      let at : w.index.result ≡ c.loop-number.number = w.index.ensures ∙ w.in-Some.ensures in
-      let new : c.match-new.found ≡ slice_set c.loop-number.found c.loop-number.number w.conn_shown.result =
-      w.found-is ∙ ap (λ (n : ℕ). slice_set c.loop-number.found n w.conn_shown.result) at in
+      let put : IsPut c.loop-number.number w.conn_shown.result c.loop-number.found.items c.match-new.found.items =
+      rw (← w.in-Some.ensures, w.found-is) w.put_in.ensures.put in
       record {
-        count = ap (λ (l : List ConnShown). length l) new ∙ length-set c.loop-number.found c.loop-number.number w.conn_shown.result
-            ∙ c.loop-number.invariant.count;
-        are = λ config log rep n lt. subst (λ (l : List ConnShown). IsConn n (slice_index_or l n never_opened) log) (sym new)
-            (conns_more c.loop-number.found c.loop-number.number w.conn_shown.result log
-            (omega (arith, c.loop-number.invariant.count, c.loop-number-test.true)) (c.loop-number.invariant.are config log rep)
-            (rw (← w.in-Some.ensures) (w.conn_shown.ensures config log rep)) n lt);
+        count = one_longer _ _ _ put.2 c.loop-number.invariant.count;
+        are = λ config log rep. conns_more _ _ _ w.conn_shown.result log put (c.loop-number.invariant.are config log rep)
+            (rw (← w.in-Some.ensures) (w.conn_shown.ensures config log rep));
       }
-  | in_default w ↦ absurd (omega (arith, w.in_default.ensures, c.loop-number-test.true))
+  | in_default w ↦ absurd (omega (arith, w.in_default.ensures, c.loop-number-test.true, c.conns_to_tell-number-end.ensures.bounded))
 ]
 
 pub returns : goal.returns
-returns g c = λ config log rep n lt. c.loop-number.invariant.are config log rep n (omega (arith, lt, c.loop-number-test.false))
+returns g c = λ config log rep.
+    conns_end _ c.loop-number.number log (omega (arith, c.loop-number.invariant.count)) (c.loop-number.invariant.are config log rep)
+    (λ k le. c.conns_to_tell-number-end.ensures.never config log rep k (omega (arith, le, c.loop-number-test.false)))

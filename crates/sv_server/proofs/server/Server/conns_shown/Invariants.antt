@@ -8,7 +8,7 @@ use Rattle.sv_server.proofs.server.Server.conns_shown.Given as goal
 -- what is told of the connections so far
 abbrev pub invariant-loop-number : goal.invariant-loop-number
 invariant-loop-number g l = record {
-  count : length l.found ≡ 16;
+  count : length l.found.items ≡ l.number;
   are : (config : Config) (log : List Act) → Represents l.self config log → (c : ℕ) → c < l.number
-      → IsConn c (slice_index_or l.found c never_opened) log;
+      → IsConn c (slice_index_or l.found.items c never_opened) log;
 }
