@@ -8,7 +8,7 @@ use std::env;
 use std::io::{self, BufWriter, Error, ErrorKind};
 use std::process::ExitCode;
 use sv_net::{ProgramFault, Words, read_words};
-use sv_replay::{RunFault, run_explain, run_replay};
+use sv_replay::{Ports, RunFault, run_explain, run_replay};
 
 /// Runs the program. The command `replay` replays a script from the standard input; the command
 /// `explain` does so too, and says what each step changes; the command `serve` serves clients over
@@ -27,8 +27,8 @@ fn main(rt: HostRuntime) -> ExitCode {
 fn program(rt: &HostRuntime) -> Result<(), ProgramFault> {
     let words = own_words(rt)?;
     match read_words(rt.alloc(), words.get(1..).unwrap_or(&[]))? {
-        Words::Replay => Ok(replay(rt)?),
-        Words::Explain => Ok(explain(rt)?),
+        Words::Replay(ports) => Ok(replay(rt, ports)?),
+        Words::Explain(ports) => Ok(explain(rt, ports)?),
         Words::Server(serve) => serving::serve(rt, &serve),
     }
 }
@@ -49,15 +49,15 @@ fn words_fault(error: &Error) -> ProgramFault {
 }
 
 /// Replays the script of the standard input. Prints to the standard output.
-fn replay(rt: &HostRuntime) -> Result<(), RunFault> {
+fn replay(rt: &HostRuntime, ports: Ports) -> Result<(), RunFault> {
     let alloc = rt.alloc();
     let mut writer = BufWriter::new(alloc, io::writer(rt)).map_err(|_| RunFault::Memory)?;
-    run_replay(rt.alloc(), &mut rt.reader(), &mut writer)
+    run_replay(alloc, ports, &mut rt.reader(), &mut writer)
 }
 
 /// Explains the script of the standard input. Prints to the standard output.
-fn explain(rt: &HostRuntime) -> Result<(), RunFault> {
+fn explain(rt: &HostRuntime, ports: Ports) -> Result<(), RunFault> {
     let alloc = rt.alloc();
     let mut writer = BufWriter::new(alloc, io::writer(rt)).map_err(|_| RunFault::Memory)?;
-    run_explain(rt.alloc(), &mut rt.reader(), &mut writer)
+    run_explain(alloc, ports, &mut rt.reader(), &mut writer)
 }

@@ -26,18 +26,18 @@ use Rattle.sv_replay.specs.declared.entry.Entry.{Entry}
 use Rattle.sv_replay.specs.declared.entry.Stimulus.{Stimulus}
 use Rattle.sv_replay.specs.declared.entry.Stimulus.TheVariants as stimuli
 use Rattle.sv_serve.specs.DriverView.{ForEach, ◌then◌}
-use Rattle.sv_serve.specs.Steps.{Given, Accepts, ReadsFrom, RefusesIf, EndsTurn, TurnsIf, Turns, Dials, WritesTo, Ends}
-use Rattle.sv_serve.specs.Sweep.{PlaysOne, Plays, IsNoneDue, Counts, TicksOnce, Passes, Sweeps}
+use Rattle.sv_serve.specs.Steps.{Given, IsApplied, Accepts, ReadsFrom, RefusesIf, EndsTurn, TurnsIf, Turns, Dials, WritesTo, Ends}
+use Rattle.sv_serve.specs.Sweep.{PlaysOne, Plays, IsNoneDue, Counts, TicksOnce, Passes, Stimulates, Sweeps, Handed, Passing, Stimulated}
 use Rattle.sv_driver_laws.specs.Determined.{MemoryDiffers}
 use Rattle.sv_driver_laws.proofs.Parts.{grows_each, accepts_grows, reads_grows, turns_grows, dials_grows, passes_grows, writes_grows, ends_grows}
 use Rattle.sv_driver_laws.proofs.Serving.{sweep_once}
 use Rattle.sv_driver_laws.proofs.Recorded.{Records, lift_each, lift_accepts, lift_reads, lift_turns, lift_dials, lift_writes, lift_ends, lift_passes}
 use Rattle.sv_driver_laws.proofs.Keeps.{Subject}
-use Rattle.sv_driver_laws.proofs.Peers.{dials, passes}
+use Rattle.sv_driver_laws.proofs.Peers.{dials, passes, stimulates}
 use Rattle.sv_driver_laws.proofs.Carrying.{accepts, reads, turns, writes, ends}
 use Rattle.sv_history.specs.Event.{port_number}
 use Rattle.sv_history.specs.declared.event.Port.{Port}
-use Rattle.sv_driver_laws.proofs.Alike.{Told, told_by, each_told, View, Outcome, Extends, next_of, each_of, same_then, through_records, Any, extends_by, same_answer, accepts_alike, reads_alike, dials_alike, writes_alike, same_ends}
+use Rattle.sv_driver_laws.proofs.Alike.{Told, told_by, each_told, View, Outcome, Extends, next_of, each_of, same_then, through_records, Any, extends_by, same_answer, same_applied, accepts_alike, reads_alike, dials_alike, writes_alike, same_ends}
 
 -- ---- calls are taken
 
@@ -250,6 +250,18 @@ pub same_passes : (ticks : ℕ) (config : Config) (a b c : View) → Passes tick
 same_passes ticks config a b c x y =
     same_then (ForEach ticks (λ i. Plays then TicksOnce)) Plays config a b c (same_passing config ticks a) (same_plays config) x y
 
+-- ---- a stimulus is handed in
+
+same_stimulates : (stimulus : Stimulus) (config : Config) (a b c : View) → Stimulates stimulus config a b → Stimulates stimulus config a c
+    → b ≡ c
+same_stimulates stimulus config a b c x y = same_then Plays (IsApplied (stimulus_event stimulus)) config a b c (same_plays config a)
+    (λ m b c. same_applied (stimulus_event stimulus) config m b c) x y
+
+stimulus_extends : (stimulus : Stimulus) (config : Config) (a b : View) → Stimulates stimulus config a b → Extends a b
+stimulus_extends stimulus config a b h =
+    let k = stimulates Records (λ s. ⊤) config stimulus a b h in
+    (k.piece, k.events, through_records k.piece a.wire b.wire k.through, k.grown)
+
 -- ---- sweeps
 
 pub sweeps_alike : (ticks : ℕ) (config : Config) (a b c : View) → Told a → Sweeps Records ticks config a b → Sweeps Records ticks config a c
@@ -349,19 +361,27 @@ sweep_extends ticks config a b h =
     let k = (sweep_once Records config ticks a b h).k in (k.piece, k.events, through_records k.piece a.wire b.wire k.through, k.grown)
 
 -- a run over a trace
-abbrev pub Runs : Config → List ℕ → View → View → Type 0
+abbrev pub Runs : Config → List Handed → View → View → Type 0
 Runs config [] start now = now ≡ start
-Runs config (ticks ∷ passed) start now = (between : View) × Runs config passed start between × Sweeps Records ticks config between now
+Runs config (Passing ticks ∷ handed) start now = (between : View) × Runs config handed start between
+    × Sweeps Records ticks config between now
+Runs config (Stimulated stimulus ∷ handed) start now = (between : View) × Runs config handed start between
+    × Stimulates stimulus config between now
 
-runs_told : (config : Config) (passed : List ℕ) (start now : View) → Told start → Runs config passed start now → Told now
+runs_told : (config : Config) (handed : List Handed) (start now : View) → Told start → Runs config handed start now → Told now
 runs_told config [] start now told is = subst Told (sym is) told
-runs_told config (ticks ∷ passed) start now told (m, x, s) =
-    told_by config m now (sweep_once Records config ticks m now s).k (runs_told config passed start m told x)
+runs_told config (Passing ticks ∷ handed) start now told (m, x, s) =
+    told_by config m now (sweep_once Records config ticks m now s).k (runs_told config handed start m told x)
+runs_told config (Stimulated stimulus ∷ handed) start now told (m, x, s) =
+    told_by config m now (stimulates Records (λ s. ⊤) config stimulus m now s) (runs_told config handed start m told x)
 
-pub runs_alike : (config : Config) (passed : List ℕ) (start now end : View) → Told start → Runs config passed start now
-    → Runs config passed start end
+pub runs_alike : (config : Config) (handed : List Handed) (start now end : View) → Told start → Runs config handed start now
+    → Runs config handed start end
     → Outcome now end
 runs_alike config [] start now end told x y = inl (x ∙ sym y)
-runs_alike config (ticks ∷ passed) start now end told (m, x, s) (k, y, t) =
+runs_alike config (Passing ticks ∷ handed) start now end told (m, x, s) (k, y, t) =
     next_of (Sweeps Records ticks) config m k now end (sweeps_alike ticks config) (sweep_extends ticks config)
-    (runs_told config passed start m told x) (runs_alike config passed start m k told x y) s t
+    (runs_told config handed start m told x) (runs_alike config handed start m k told x y) s t
+runs_alike config (Stimulated stimulus ∷ handed) start now end told (m, x, s) (k, y, t) =
+    next_of (Stimulates stimulus) config m k now end (λ x y z told h k. inl (same_stimulates stimulus config x y z h k))
+    (stimulus_extends stimulus config) (runs_told config handed start m told x) (runs_alike config handed start m k told x y) s t

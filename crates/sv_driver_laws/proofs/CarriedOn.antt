@@ -1,11 +1,12 @@
 -- What any number of sweeps carries.
-use Rattle.std.proofs.Common.{◌≡◌, ℕ, ◌≤◌, Bool, true, false, List, [], ◌∷◌, ◌++◌, filter, flat_map, nat_lt, ◌⊎◌, inl, inr, Option, None, refl, sym, ap, subst, ◌∙◌}
+use Rattle.std.proofs.Common.{◌≡◌, ℕ, ◌≤◌, ◌-◌, Bool, true, false, List, [], ◌∷◌, ◌++◌, filter, flat_map, nat_lt, ◌⊎◌, inl, inr, Option, None, refl, sym, ap, subst, ◌∙◌}
 use Rattle.std.specs.Prelude.{not, ◌||◌}
 use Rattle.std.proofs.lemmas.List.{append_cancel_right}
 use Rattle.sv_links.specs.Channels.{ChannelAct, is_channel_open, bytes_taken as channel_taken, calls}
 use Rattle.sv_history.specs.declared.event.Config.{Config}
 use Rattle.sv_history.specs.declared.event.Dial.{Dial}
 use Rattle.sv_replay.specs.declared.entry.Entry.{Entry}
+use Rattle.sv_replay.specs.declared.entry.Stimulus.{Stimulus}
 use Rattle.sv_history.specs.Interrupts.{has_channel}
 use Rattle.sv_history.specs.Requests.{HearsOf}
 use Rattle.sv_history.proofs.Telling.{has_channel_told}
@@ -13,25 +14,27 @@ use Rattle.sv_history.specs.declared.event.Port.{Port}
 use Rattle.sv_history.specs.declared.event.Port.TheVariants.{Conn, Intr}
 use Rattle.sv_history.specs.Event.{PlainEvent}
 use Rattle.sv_history.specs.Act.{Act, ConnAct, of, device_acts}
-use Rattle.sv_history.specs.Connection.{is_open, sent_on, waiting, waiting_on, bytes_sent, total}
+use Rattle.sv_history.specs.Connection.{is_open, sent_on, waiting, waiting_on, bytes_sent}
 use Rattle.sv_history.specs.History.{is_port_shut, last_clock, IsLogOf}
 use Rattle.sv_history.proofs.AlwaysTold.{some_told}
 use Rattle.sv_replay.specs.Scenario.{IsScenario}
 use Rattle.sv_server.specs.Server.State.{StandsFor}
-use Rattle.sv_driver_laws.proofs.Timing.{Played, begins, behind}
+use Rattle.sv_driver_laws.specs.Timed.{handed_ticks, with_handed}
+use Rattle.sv_driver_laws.proofs.Timing.{Played, begins, behind, handed_in}
 use Rattle.sv_serve.specs.Heard.{Heard, Through}
-use Rattle.sv_serve.specs.DriverView.{DriverState, DriverView, driver_view}
+use Rattle.sv_serve.specs.DriverView.{DriverState, DriverView, Stands, driver_view}
 use Rattle.sv_driver_laws.specs.Served.{event_of, is_outer}
 use Rattle.sv_driver_laws.specs.Determined.{SameUntil, Determined}
 use Rattle.sv_driver_laws.specs.Carried.{ClosesAtOnce, IsCarried, InSweeps, Carried}
-use Rattle.sv_serve.specs.Sweep.{Swept, Sweeps}
+use Rattle.sv_serve.specs.Sweep.{Handed, Passing, Stimulated, Swept, Stimulates, Sweeps}
 use Rattle.sv_driver_laws.proofs.Ports.{Holds, Both, Keeping, came, went, left_bytes}
 use Rattle.sv_driver_laws.proofs.Reasons.{HasReasons, told_more, once_join}
 use Rattle.sv_driver_laws.proofs.Handing.{HandsOver}
 use Rattle.sv_driver_laws.proofs.LettingGo.{LetsGoRightly}
-use Rattle.sv_driver_laws.proofs.Keeps.{through_join}
+use Rattle.sv_driver_laws.proofs.Keeps.{Subject, AllMay, through_join}
+use Rattle.sv_driver_laws.proofs.Peers.{stimulates}
 use Rattle.sv_driver_laws.proofs.Serving.{SweptOnce, sweep_once, serves}
-use Rattle.sv_driver_laws.proofs.Recorded.{Records, onto, lift_sweep}
+use Rattle.sv_driver_laws.proofs.Recorded.{Records, onto, lift_stimulates, lift_sweep}
 use Rattle.sv_driver_laws.proofs.Alike.{View, Forks, through_records}
 use Rattle.sv_driver_laws.proofs.AlikeSweeps.{Runs, runs_alike}
 
@@ -41,21 +44,21 @@ keeping_none c log channel_log none hears_of =
     let untold : channel_log ≡ [] = rw none at hears_of in
     rw (none, untold) ((refl, (λ opened. absurd cc)), (λ opened. absurd cc))
 
-record Over {W : Type 0} (hears : W → Heard → W → Type 0) (config : Config) (passed : List ℕ) (start now : DriverState W)
-    (swept : Swept hears passed start now) : Type 0 where
+record Over {W J : Type 0} (hears : W → Heard → W → Type 0) (notes : J → List PlainEvent → J → Type 0) (config : Config)
+    (passed : List Handed) (start now : DriverState W J) (swept : Swept hears notes passed start now) : Type 0 where
   pub trace : List Heard
   pub history : List PlainEvent
   pub through : Through hears trace start.wire now.wire
-  pub stands : StandsFor now.server config history
+  pub stands : Stands (notes start.journal) now config history
   pub told : filter is_outer history ≡ flat_map event_of trace
   pub keeping : Keeping config history trace
   pub once : ClosesAtOnce None trace
   pub reasons : HasReasons config history trace
   pub hands : HandsOver config history trace
   pub lets : LetsGoRightly config history trace
-  pub parts : InSweeps hears config start passed now swept history trace
+  pub parts : InSweeps hears notes config start passed now swept history trace
   pub time : config.clock ≤ last_clock → start.ticks ≡ 0 → IsScenario 0 start.ahead
-      → Played config start.ahead (total passed) (driver_view now history)
+      → Played config (with_handed (last_clock - config.clock) passed start.ahead) (handed_ticks passed) (driver_view now history)
   pub runs : Runs config passed (onto (driver_view start []) []) (onto (driver_view now history) trace)
 
 open_by : (far opened : Bool) → (far || not opened) ≡ false → opened ≡ true
@@ -76,13 +79,14 @@ sends_all (Intr c) log channel_log trace tells all free =
     ∙ open_by (nat_lt 15 c) (has_channel c (device_acts log)) free in
     rw (opened, left_bytes (channel_taken c channel_log) (calls c channel_log)) ((all c).1 opened).0
 
-is_carried : {W : Type 0} (hears : W → Heard → W → Type 0) (config : Config) (passed : List ℕ) (start now : DriverState W)
-    (swept : Swept hears passed start now) (all : Over hears config passed start now swept) → IsCarried config all.history all.trace
-is_carried hears config passed start now swept all =
-    let log = all.stands.log in
+is_carried : {W J : Type 0} (hears : W → Heard → W → Type 0) (notes : J → List PlainEvent → J → Type 0) (config : Config)
+    (passed : List Handed) (start now : DriverState W J) (swept : Swept hears notes passed start now)
+    (all : Over hears notes config passed start now swept) → IsCarried config all.history all.trace
+is_carried hears notes config passed start now swept all =
+    let log = all.stands.0.log in
     let channel_log = some_told (device_acts log) in record {
       events = all.told;
-      streams = λ c. (log, all.stands.is_log, sym (all.keeping log channel_log.0 all.stands.is_log channel_log.1 c).0.0);
+      streams = λ c. (log, all.stands.0.is_log, sym (all.keeping log channel_log.0 all.stands.0.is_log channel_log.1 c).0.0);
       sends = λ port log channel_log is_log tells free. sends_all port log channel_log all.trace tells
           (all.keeping log channel_log is_log tells) free;
       hands = all.hands;
@@ -114,13 +118,31 @@ traced hears config ticks x y trace h =
       through = subst (λ l. Through hears l x.wire y.wire) (append_cancel_right piece swept.k.piece trace (sym is ∙ all)) through;
     }
 
-over : {W : Type 0} (hears : W → Heard → W → Type 0) (config : Config) (passed : List ℕ) (start now : DriverState W)
-    → StandsFor start.server config [] → (swept : Swept hears passed start now) → Over hears config passed start now swept
-over hears config [] start now stands is = record {
+abbrev Nothing : Subject → Type 0
+Nothing subject = ⊥
+
+-- nothing is heard
+no_peers : (piece : List Heard) → AllMay Nothing piece → piece ≡ []
+no_peers [] may = refl
+no_peers (heard ∷ piece) may = absurd may.0
+
+-- a stimulus, as one over the trace
+stimulus_onto : {W : Type 0} (hears : W → Heard → W → Type 0) (config : Config) (stimulus : Stimulus) (x y : DriverView W)
+    (trace : List Heard) → Stimulates stimulus config x y → Stimulates stimulus config (onto x trace) (onto y trace)
+stimulus_onto hears config stimulus x y trace h =
+    let (later, along, same) = lift_stimulates hears stimulus config x y trace h in
+    let k = stimulates Records Nothing config stimulus (onto x trace) (onto y later) same in
+    let is : later ≡ trace = through_records k.piece trace later k.through ∙ ap (λ (l : List Heard). l ++ trace) (no_peers k.piece k.may) in
+    subst (λ (l : List Heard). Stimulates stimulus config (onto x trace) (onto y l)) is same
+
+over : {W J : Type 0} (hears : W → Heard → W → Type 0) (notes : J → List PlainEvent → J → Type 0) (config : Config) (passed : List Handed)
+    (start now : DriverState W J) → Stands (notes start.journal) start config [] → (swept : Swept hears notes passed start now)
+    → Over hears notes config passed start now swept
+over hears notes config [] start now stands is = record {
   trace = [];
   history = [];
   through = ap (λ d. d.wire) is;
-  stands = subst (λ d. StandsFor d.server config []) (sym is) stands;
+  stands = subst (λ d. Stands (notes start.journal) d config []) (sym is) stands;
   told = refl;
   keeping = λ log channel_log none hears_of c. keeping_none c log channel_log none.1 hears_of;
   once = tt;
@@ -131,9 +153,9 @@ over hears config [] start now stands is = record {
   time = λ clock zero rising. subst (λ d. Played config start.ahead 0 (driver_view d [])) (sym is) (begins config start clock zero rising);
   runs = ap (λ d. onto (driver_view d []) []) is;
 }
-over hears config (ticks ∷ passed) start now stands (between, swept, goes) =
-    let was = over hears config passed start between stands swept in
-    let now_so = goes config was.history was.stands in
+over hears notes config (Passing ticks ∷ passed) start now stands (between, swept, goes) =
+    let was = over hears notes config passed start between stands swept in
+    let now_so = goes start.journal config was.history was.stands in
     let t = traced hears config ticks (driver_view between was.history) (driver_view now now_so.0) was.trace now_so.2 in
     let s = t.swept in
     record {
@@ -153,23 +175,25 @@ over hears config (ticks ∷ passed) start now stands (between, swept, goes) =
         was.trace,
         s.k.piece,
         was.parts,
-        is_carried hears config passed start between swept was,
+        is_carried hears notes config passed start between swept was,
         s.k.grown,
         refl,
         (
-          was.stands,
-          subst (λ h. StandsFor now.server config h) s.k.grown now_so.1,
+          was.stands.0,
+          subst (λ h. StandsFor now.server config h) s.k.grown now_so.1.0,
           t.through,
           s.k.told,
-          λ c lt. serves config c was.history s.k.events s.k.piece now_so.1.log
-              (subst (λ h. IsLogOf config h now_so.1.log) s.k.grown now_so.1.is_log) (s.offered c lt),
-          s.whole now_so.1.log now_so.1.is_log,
+          λ c lt. serves config c was.history s.k.events s.k.piece now_so.1.0.log
+              (subst (λ h. IsLogOf config h now_so.1.0.log) s.k.grown now_so.1.0.is_log) (s.offered c lt),
+          s.whole now_so.1.0.log now_so.1.0.is_log,
         ),
-        λ clock zero rising. (behind hears config start.ahead passed ticks (driver_view between was.history)
+        λ clock zero rising. (behind hears config (with_handed (last_clock - config.clock) passed start.ahead) passed ticks
+            (driver_view between was.history)
             (driver_view now now_so.0) now_so.2
             (was.time clock zero rising)).1,
       );
-      time = λ clock zero rising. (behind hears config start.ahead passed ticks (driver_view between was.history)
+      time = λ clock zero rising. (behind hears config (with_handed (last_clock - config.clock) passed start.ahead) passed ticks
+          (driver_view between was.history)
           (driver_view now now_so.0) now_so.2
           (was.time clock zero rising)).0;
       runs = (
@@ -179,11 +203,48 @@ over hears config (ticks ∷ passed) start now stands (between, swept, goes) =
             (driver_view now now_so.0) l)) t.is t.sweeps,
       );
     }
+over hears notes config (Stimulated stimulus ∷ passed) start now stands (between, swept, accepted, goes) =
+    let was = over hears notes config passed start between stands swept in
+    let now_so = goes start.journal config was.history was.stands in
+    let k = stimulates hears Nothing config stimulus (driver_view between was.history) (driver_view now now_so.0) now_so.2 in
+    let none : k.piece ≡ [] = no_peers k.piece k.may in
+    let same : k.piece ++ was.trace ≡ was.trace = ap (λ (l : List Heard). l ++ was.trace) none in
+    record {
+      trace = was.trace;
+      history = now_so.0;
+      through = subst (λ t. Through hears t start.wire now.wire) same
+          (through_join hears was.trace k.piece start.wire between.wire now.wire was.through k.through);
+      stands = now_so.1;
+      told = ap (filter is_outer) k.grown ∙ told_more k.events was.history k.piece was.trace k.told was.told
+          ∙ ap (flat_map event_of) same;
+      keeping = subst (λ t. Keeping config now_so.0 t) same (k.keeps was.trace was.keeping);
+      once = was.once;
+      reasons = subst (λ t. HasReasons config now_so.0 t) same (k.closing.reasons was.trace was.told was.reasons);
+      hands = subst (λ t. HandsOver config now_so.0 t) same (k.hands was.trace was.told was.hands);
+      lets = subst (λ t. LetsGoRightly config now_so.0 t) same (k.lets was.trace was.told was.lets);
+      parts = (
+        was.history,
+        k.events,
+        was.parts,
+        is_carried hears notes config passed start between swept was,
+        k.grown,
+        k.told ∙ ap (flat_map event_of) none,
+        λ clock zero rising. (handed_in config (with_handed (last_clock - config.clock) passed start.ahead) (handed_ticks passed)
+            (driver_view between was.history) (driver_view now now_so.0) stimulus accepted now_so.2 (was.time clock zero rising)).1,
+      );
+      time = λ clock zero rising. (handed_in config (with_handed (last_clock - config.clock) passed start.ahead) (handed_ticks passed)
+          (driver_view between was.history) (driver_view now now_so.0) stimulus accepted now_so.2 (was.time clock zero rising)).0;
+      runs = (
+        onto (driver_view between was.history) was.trace,
+        was.runs,
+        stimulus_onto hears config stimulus (driver_view between was.history) (driver_view now now_so.0) was.trace now_so.2,
+      );
+    }
 
-pub carried : {W : Type 0} (hears : W → Heard → W → Type 0) → Carried hears
-carried hears config passed start now stands swept =
-    let all = over hears config passed start now stands swept in
-    (all.trace, all.history, all.through, all.stands, is_carried hears config passed start now swept all, all.parts)
+pub carried : {W J : Type 0} (hears : W → Heard → W → Type 0) (notes : J → List PlainEvent → J → Type 0) → Carried hears notes
+carried hears notes config passed start now stands swept =
+    let all = over hears notes config passed start now stands swept in
+    (all.trace, all.history, all.through, all.stands, is_carried hears notes config passed start now swept all, all.parts)
 
 -- two runs, up to what differs first
 same_until : (one two : View) → (one ≡ two) ⊎ Forks one two → SameUntil one.wire one.history two.wire two.history
@@ -193,10 +254,11 @@ same_until one two (inr forks) = inr forks
 abbrev start_at : List (Option Dial) → List Entry → ℕ → View
 start_at called ahead ticks = record { wire = []; history = []; called = called; ahead = ahead; ticks = ticks }
 
-pub determined : {W V : Type 0} (hears : W → Heard → W → Type 0) (hearing : V → Heard → V → Type 0) → Determined hears hearing
-determined hears hearing config passed start now begin end stands begun called ahead ticks swept sweeps =
-    let one = over hears config passed start now stands swept in
-    let two = over hearing config passed begin end begun sweeps in
+pub determined : {W V J K : Type 0} (hears : W → Heard → W → Type 0) (notes : J → List PlainEvent → J → Type 0)
+    (hearing : V → Heard → V → Type 0) (noting : K → List PlainEvent → K → Type 0) → Determined hears notes hearing noting
+determined hears notes hearing noting config handed start now begin end stands begun called ahead ticks swept sweeps =
+    let one = over hears notes config handed start now stands swept in
+    let two = over hearing noting config handed begin end begun sweeps in
     let same : onto (driver_view start []) [] ≡ onto (driver_view begin []) [] =
     ap (λ (c : List (Option Dial)). start_at c start.ahead start.ticks) called
     ∙ ap (λ (l : List Entry). start_at begin.called l start.ticks) ahead
@@ -207,8 +269,8 @@ determined hears hearing config passed start now begin end stands begun called a
       two.trace,
       one.history,
       two.history,
-      (one.through, one.stands, is_carried hears config passed start now swept one, one.parts),
-      (two.through, two.stands, is_carried hearing config passed begin end sweeps two, two.parts),
-      same_until end_one end_two (runs_alike config passed (onto (driver_view begin []) []) end_one end_two refl
-          (subst (λ (v : View). Runs config passed v end_one) same one.runs) two.runs),
+      (one.through, one.stands, is_carried hears notes config handed start now swept one, one.parts),
+      (two.through, two.stands, is_carried hearing noting config handed begin end sweeps two, two.parts),
+      same_until end_one end_two (runs_alike config handed (onto (driver_view begin []) []) end_one end_two refl
+          (subst (λ (v : View). Runs config handed v end_one) same one.runs) two.runs),
     )

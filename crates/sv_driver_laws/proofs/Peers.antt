@@ -6,6 +6,7 @@ use Rattle.sv_links.specs.Channels.{ChannelAct}
 use Rattle.sv_history.specs.declared.event.Config.{Config}
 use Rattle.sv_history.specs.declared.event.Dial.{Dial}
 use Rattle.sv_history.specs.declared.event.Did.{Did}
+use Rattle.sv_history.specs.declared.event.Did.TheVariants.{Done}
 use Rattle.sv_history.specs.declared.event.Refused.{Refused}
 use Rattle.sv_history.specs.declared.event.Port.{Port}
 use Rattle.sv_history.specs.declared.event.Port.TheVariants.{Conn, Intr}
@@ -28,7 +29,7 @@ use Rattle.sv_serve.specs.declared.wire.Answer.TheVariants.{Got, Pending, Failed
 use Rattle.sv_serve.specs.Heard.{Heard, WasDialed, PeerAnswered, WasClosed, Through}
 use Rattle.sv_serve.specs.DriverView.{DriverView, ◌then◌}
 use Rattle.sv_serve.specs.Steps.{IsApplied, called_of, is_wanted, KeepsCall, CancelsUnwanted, ConnectResult, PollResult, CallsFor, Dials}
-use Rattle.sv_serve.specs.Sweep.{PlaysOne, Plays, Counts, TicksOnce, Passes}
+use Rattle.sv_serve.specs.Sweep.{PlaysOne, Plays, Counts, TicksOnce, Passes, Stimulates}
 use Rattle.sv_driver_laws.specs.Served.{event_of, is_outer}
 use Rattle.sv_driver_laws.specs.Carried.{begins, read, taken_bytes}
 use Rattle.sv_driver_laws.specs.Carried.{ends_port}
@@ -267,3 +268,11 @@ passes hears May config ticks before after (between, each, last) = keeps_then he
     (keeps_each hears May config (λ i. Plays then TicksOnce) ticks (λ c a b lt h. keeps_then hears May config a h.0 b
     (plays hears May config a h.0 h.1) (ticks_once hears May config h.0 b h.2)) before between each)
     (plays hears May config between after last)
+
+pub stimulates : {W : Type 0} (hears : W → Heard → W → Type 0) (May : Subject → Type 0) (config : Config) (stimulus : Stimulus)
+    (before after : DriverView W)
+    → Stimulates stimulus config before after → Keeps hears May config before after
+stimulates hears May config stimulus before after (between, first, applied) = keeps_then hears May config before between after
+    (plays hears May config before between first)
+    (inner_applies hears May config (stimulus_event stimulus) between after (stimulus_inner stimulus)
+    (stimulus_none stimulus) (stimulus_untold stimulus) (Ok Done, applied))

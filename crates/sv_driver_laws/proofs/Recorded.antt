@@ -12,13 +12,15 @@ use Rattle.sv_history.specs.declared.event.Port.{Port}
 use Rattle.sv_history.specs.declared.event.Port.TheVariants.{Conn, Intr}
 use Rattle.sv_history.specs.Event.{PlainEvent, Turn, Tick, Close, Dialed}
 use Rattle.sv_history.specs.Print.{is_no_memory}
+use Rattle.sv_replay.specs.Entry.{stimulus_event}
+use Rattle.sv_replay.specs.declared.entry.Stimulus.{Stimulus}
 use Rattle.sv_serve.specs.declared.wire.Answer.{Answer}
 use Rattle.sv_serve.specs.declared.wire.Answer.TheVariants.{Got, Pending, Failed}
 use Rattle.sv_serve.specs.Heard.{Heard, WasClosed, Through}
 use Rattle.sv_serve.specs.DriverView.{DriverView, ForEach, ◌then◌}
 use Rattle.sv_serve.specs.Asked.{IsLowest}
 use Rattle.sv_serve.specs.Steps.{Hears, Given, IsApplied, Remembers, called_of, is_wanted, Opens, Accepts, ClosesChannelOn, ClosesChannel, Closes, ClosesIf, Comes, Drops, ProbesIf, ReadsFrom, RefusesIf, EndsTurn, TurnsIf, Turns, KeepsCall, CancelsUnwanted, LetsGo, ConnectResult, PollResult, CallsFor, Calls, Dials, BreaksOff, EndsWrite, WritesTo, EndsIf, Ends}
-use Rattle.sv_serve.specs.Sweep.{PlaysOne, Plays, Counts, TicksOnce, Passes, Sweeps}
+use Rattle.sv_serve.specs.Sweep.{PlaysOne, Plays, Counts, TicksOnce, Passes, Stimulates, Sweeps}
 use Rattle.sv_driver_laws.proofs.Keeps.{through_join}
 
 -- a wire that is its own trace
@@ -307,6 +309,12 @@ lift_passes hears ticks config a b trace (m, each, last) =
     (λ c x y t h. lift_then hears Plays TicksOnce config x h.0 y t (lift_plays hears config x h.0 t h.1)
     (λ u. lift_tick hears config h.0 y u h.2)) a m trace each)
     (λ t. lift_plays hears config m b t last)
+
+pub lift_stimulates : {W : Type 0} (hears : W → Heard → W → Type 0) (stimulus : Stimulus) (config : Config) (a b : DriverView W)
+    (trace : List Heard) → Stimulates stimulus config a b → Lifts hears (Stimulates stimulus) config a b trace
+lift_stimulates hears stimulus config a b trace (m, played, applied) =
+    lift_then hears Plays (IsApplied (stimulus_event stimulus)) config a m b trace (lift_plays hears config a m trace played)
+    (λ t. lift_given hears (stimulus_event stimulus) (Ok Done) config m b t applied)
 
 -- ---- a sweep
 

@@ -450,19 +450,19 @@ serves config c history events piece log is t =
       t.offers front.0 front.1,
     )
 
-pub served : {W : Type 0} (hears : W → Heard → W → Type 0) → Served hears
-served hears config ticks history old new stands goes =
-    let now = goes config history stands in
+pub served : {W J : Type 0} (hears : W → Heard → W → Type 0) (notes : J → List PlainEvent → J → Type 0) → Served hears notes
+served hears notes config ticks history old new first stands goes =
+    let now = goes first config history stands in
     let s = sweep_once hears config ticks (driver_view old history) (driver_view new now.0) now.2 in
-    let there : StandsFor new.server config (s.k.events ++ history) = subst (λ h. StandsFor new.server config h) s.k.grown now.1 in (
+    let there : StandsFor new.server config (s.k.events ++ history) = subst (λ h. StandsFor new.server config h) s.k.grown now.1.0 in (
       s.k.events,
       s.k.piece,
       (
-        stands,
+        stands.0,
         there,
         s.k.through,
         s.k.told,
         λ c lt. serves config c history s.k.events s.k.piece there.log there.is_log (s.offered c lt),
-        s.whole now.1.log now.1.is_log,
+        s.whole now.1.0.log now.1.0.is_log,
       ),
     )

@@ -1,10 +1,9 @@
 -- What time brings.
-use Rattle.std.proofs.Common.{◌≡◌, ℕ, zero, suc, ◌+◌, ◌-◌, ◌<◌, ◌≤◌, min, eqb, true, false, List, [], ◌∷◌, ◌++◌, length, filter, Result, Ok, Err, refl, sym, ap, subst, ◌∙◌, inl, inr, append_assoc, append-nil, arith, eq-eqb}
+use Rattle.std.proofs.Common.{◌≡◌, ℕ, zero, suc, ◌+◌, ◌-◌, ◌<◌, ◌≤◌, min, eqb, true, false, List, [], ◌∷◌, ◌++◌, length, filter, Result, Ok, Err, refl, sym, ap, subst, ◌∙◌, inl, inr, append_assoc, append-nil, arith, eq-eqb, nat_lt, lt-ltb, le-ltb}
 use Rattle.std.specs.Prelude.{◌==◌, ⊤, if◌then◌else◌}
 use Rattle.std.proofs.Math.Nat.{eq-or-lt_of_le}
-use Rattle.std.proofs.lemmas.Bool.{ne_eqb}
+use Rattle.std.proofs.lemmas.Bool.{ne_eqb, cond_both}
 use Rattle.sv_links.specs.Channels.{ChannelAct}
-use Rattle.sv_history.specs.Connection.{total}
 use Rattle.sv_history.specs.declared.event.Config.{Config}
 use Rattle.sv_history.specs.declared.event.Did.{Did}
 use Rattle.sv_history.specs.declared.event.Did.TheVariants.{Done}
@@ -25,9 +24,9 @@ use Rattle.sv_laws.proofs.Brought.{is_tick}
 use Rattle.sv_laws.proofs.TicksTaken.{ticks_taken}
 use Rattle.sv_serve.specs.Heard.{Heard}
 use Rattle.sv_serve.specs.DriverView.{DriverState, DriverView, driver_view, ForEach, ◌then◌}
-use Rattle.sv_serve.specs.Steps.{ReadsFrom, Turns, Dials, WritesTo, Ends}
-use Rattle.sv_serve.specs.Sweep.{PlaysOne, IsNoneDue, Plays, most_ticks, Counts, TicksOnce, Passes, Sweeps}
-use Rattle.sv_driver_laws.specs.Timed.{is_timed, entry_events, time_events}
+use Rattle.sv_serve.specs.Steps.{IsApplied, ReadsFrom, Turns, Dials, WritesTo, Ends}
+use Rattle.sv_serve.specs.Sweep.{PlaysOne, IsNoneDue, Plays, most_ticks, Counts, TicksOnce, Passes, Sweeps, Handed, Passing, Stimulates}
+use Rattle.sv_driver_laws.specs.Timed.{is_timed, entry_events, time_events, handed_ticks, with_entry}
 use Rattle.sv_driver_laws.proofs.Keeps.{applied}
 use Rattle.sv_driver_laws.proofs.Idling.{Idles, idles_same, idles_then, idles_each, accepts_idles, reads_idles, turns_idles, dials_idles, writes_idles, ends_idles}
 
@@ -285,7 +284,8 @@ sweep_timed hears config s k ticks m0 m10
     }
 
 -- in front of the first sweep
-pub begins : {W : Type 0} (config : Config) (start : DriverState W) → config.clock ≤ last_clock → start.ticks ≡ 0 → IsScenario 0 start.ahead
+pub begins : {W J : Type 0} (config : Config) (start : DriverState W J) → config.clock ≤ last_clock → start.ticks ≡ 0
+    → IsScenario 0 start.ahead
     → Played config start.ahead 0 (driver_view start [])
 begins config start clock zero_ticks rising = record {
   n = 0;
@@ -303,12 +303,78 @@ begins config start clock zero_ticks rising = record {
 }
 
 -- and behind one
-pub behind : {W : Type 0} (hears : W → Heard → W → Type 0) (config : Config) (s : List Entry) (passed : List ℕ) (ticks : ℕ)
-    (a b : DriverView W) → Sweeps hears ticks config a b → Played config s (total passed) a
-    → Played config s (total (ticks ∷ passed)) b × (filter is_timed b.history ≡ time_events (min (total (ticks ∷ passed))
-    (last_clock - config.clock)) s)
+pub behind : {W : Type 0} (hears : W → Heard → W → Type 0) (config : Config) (s : List Entry) (passed : List Handed) (ticks : ℕ)
+    (a b : DriverView W) → Sweeps hears ticks config a b → Played config s (handed_ticks passed) a
+    → Played config s (handed_ticks (Passing ticks ∷ passed)) b × (filter is_timed b.history
+    ≡ time_events (min (handed_ticks (Passing ticks ∷ passed)) (last_clock - config.clock)) s)
 behind hears config s passed ticks a b sweeps p =
-    let r = sweep_timed hears config s (total passed) ticks a b sweeps p in (
+    let r = sweep_timed hears config s (handed_ticks passed) ticks a b sweeps p in (
       record { n = r.n; play = r.play },
-      timed_here config s r.n (total passed + ticks) b r.play r.none ∙ ap (λ (i : ℕ). time_events i s) r.play.reached,
+      timed_here config s r.n (handed_ticks passed + ticks) b r.play r.none ∙ ap (λ (i : ℕ). time_events i s) r.play.reached,
     )
+
+-- ---- a stimulus is handed in
+
+-- the entry stands behind all that is past, in front of all that is ahead
+with_entry_here : (n : ℕ) (past ahead : List Entry) (entry : Entry) → entry.tick ≡ n → AllUpTo n past → IsNoneDue n ahead
+    → with_entry entry (past ++ ahead) ≡ (past ++ entry ∷ []) ++ ahead
+with_entry_here n [] [] entry at upto none = refl
+with_entry_here n [] (other ∷ ahead) entry at upto none = rw (lt-ltb entry.tick other.tick (omega (arith, at, none))) refl
+with_entry_here n (x ∷ past) ahead entry at upto none =
+    let le = upto.0 in
+    rw (le-ltb entry.tick x.tick (omega (arith, at, le)))
+    (ap (λ (l : List Entry). x ∷ l) (with_entry_here n past ahead entry at upto.1 none))
+
+-- it adds nothing to the other milliseconds
+entry_other : (j : ℕ) (s : List Entry) (entry : Entry) → eqb entry.tick j ≡ false → entry_events j (with_entry entry s) ≡ entry_events j s
+entry_other j [] entry ne = rw ne refl
+entry_other j (x ∷ xs) entry ne = cond_both (nat_lt entry.tick x.tick) (entry ∷ x ∷ xs) (x ∷ with_entry entry xs)
+    (λ (l : List Entry). entry_events j l ≡ entry_events j (x ∷ xs)) (λ e. rw ne (append-nil (entry_events j (x ∷ xs))))
+    (λ e. ap (λ (l : List PlainEvent). l ++ (if x.tick == j then stimulus_event x.stimulus ∷ [] else [])) (entry_other j xs entry ne))
+
+time_other : (i : ℕ) (s : List Entry) (entry : Entry) → i < entry.tick → time_events i (with_entry entry s) ≡ time_events i s
+time_other zero s entry lt = entry_other zero s entry (ne_eqb entry.tick zero (λ e. absurd (omega (arith, lt, e))))
+time_other (suc i) s entry lt =
+    ap (λ (l : List PlainEvent). l ++ Tick ∷ time_events i (with_entry entry s))
+    (entry_other (suc i) s entry (ne_eqb entry.tick (suc i) (λ e. absurd (omega (arith, lt, e)))))
+    ∙ ap (λ (l : List PlainEvent). entry_events (suc i) s ++ Tick ∷ l) (time_other i s entry (omega (arith, lt)))
+
+base_other : (n : ℕ) (s : List Entry) (entry : Entry) → entry.tick ≡ n → base n (with_entry entry s) ≡ base n s
+base_other zero s entry at = refl
+base_other (suc i) s entry at = ap (λ (l : List PlainEvent). Tick ∷ l) (time_other i s entry (omega (arith, at)))
+
+stimulated : {W : Type 0} (config : Config) (s : List Entry) (n k : ℕ) (a b : DriverView W) (stimulus : Stimulus)
+    → IsAccepted stimulus → IsApplied (stimulus_event stimulus) config a b → InPlay config s n k a → IsNoneDue n a.ahead
+    → InPlay config (with_entry (record { tick = n; stimulus = stimulus }) s) n k b
+stimulated config s n k a b stimulus accepted (log, was, answers, to) p none =
+    let event = stimulus_event stimulus in
+    let entry : Entry = record { tick = n; stimulus = stimulus } in
+    let history : b.history ≡ event ∷ a.history = ap (λ m. m.history) to in
+    let own : entry_events n (p.past ++ entry ∷ []) ≡ event ∷ entry_events n p.past = played_join n p.past (entry ∷ []) ∙ rw
+    (eq-eqb n n refl) refl in
+    record {
+      past = p.past ++ entry ∷ [];
+      split = ap (with_entry entry) p.split ∙ with_entry_here n p.past a.ahead entry refl p.upto none
+          ∙ ap (λ l. (p.past ++ entry ∷ []) ++ l) (sym (ap (λ m. m.ahead) to));
+      rising = subst (λ l. IsScenario n l) (sym (ap (λ m. m.ahead) to)) p.rising;
+      upto = upto_one n p.past entry p.upto (omega arith);
+      is = ap (filter is_timed) history ∙ rw (stimulus_timed stimulus).0 (ap (λ (l : List PlainEvent). event ∷ l) p.is)
+          ∙ ap (λ (l : List PlainEvent). l ++ base n s) (sym own)
+          ∙ ap (λ (l : List PlainEvent). entry_events n (p.past ++ entry ∷ []) ++ l) (sym (base_other n s entry refl));
+      ticks = ap (λ m. m.ticks) to ∙ p.ticks;
+      count = ap (λ h. length (filter is_tick h)) history ∙ rw (stimulus_timed stimulus).1 p.count;
+      within = p.within;
+      reached = p.reached;
+    }
+
+pub handed_in : {W : Type 0} (config : Config) (s : List Entry) (k : ℕ) (a b : DriverView W) (stimulus : Stimulus)
+    → IsAccepted stimulus → Stimulates stimulus config a b → Played config s k a
+    → let next = with_entry (record { tick = min k (last_clock - config.clock); stimulus = stimulus }) s in
+    Played config next k b × (filter is_timed b.history ≡ time_events (min k (last_clock - config.clock)) next)
+handed_in config s k a b stimulus accepted (m, played_so, applied) p =
+    let r = plays config s p.n k a m played_so p.play in
+    let q = stimulated config s r.n k m b stimulus accepted applied r.play r.none in
+    let none : IsNoneDue r.n b.ahead = subst (λ l. IsNoneDue r.n l) (sym (ap (λ m. m.ahead) applied.3)) r.none in
+    subst (λ (i : ℕ). let next = with_entry (record { tick = i; stimulus = stimulus }) s in
+    Played config next k b × (filter is_timed b.history ≡ time_events i next)) r.play.reached
+    (record { n = r.n; play = q }, timed_here config _ r.n k b q none)

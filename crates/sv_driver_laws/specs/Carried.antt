@@ -7,18 +7,18 @@ use Rattle.sv_history.specs.declared.event.Port.{Port}
 use Rattle.sv_history.specs.declared.event.Port.TheVariants.{Conn, Intr}
 use Rattle.sv_history.specs.Event.{PlainEvent}
 use Rattle.sv_history.specs.Act.{Act, of, device_acts}
-use Rattle.sv_history.specs.Connection.{sent_on, waiting_on, waiting, is_faulted, stream, total}
+use Rattle.sv_history.specs.Connection.{sent_on, waiting_on, waiting, is_faulted, stream}
 use Rattle.sv_history.specs.Requests.{HearsOf}
 use Rattle.sv_history.specs.History.{is_port_shut, last_clock, IsLogOf}
 use Rattle.sv_replay.specs.Scenario.{IsScenario}
-use Rattle.sv_server.specs.Server.State.{StandsFor}
+use Rattle.sv_replay.specs.declared.entry.Entry.{Entry}
 use Rattle.sv_history.specs.Queries.{WaitOn, Answered}
 use Rattle.sv_serve.specs.declared.wire.Answer.{Answer}
 use Rattle.sv_serve.specs.declared.wire.Answer.TheVariants.{Got, Failed}
 use Rattle.sv_serve.specs.Heard.{Heard, WasAccepted, WasRead, WasProbed, WasWritten, WasDialed, PeerAnswered, WasClosed, Through}
-use Rattle.sv_serve.specs.DriverView.{DriverState}
-use Rattle.sv_serve.specs.Sweep.{Swept}
-use Rattle.sv_driver_laws.specs.Timed.{is_timed, time_events}
+use Rattle.sv_serve.specs.DriverView.{DriverState, Stands}
+use Rattle.sv_serve.specs.Sweep.{Handed, Passing, Stimulated, Swept}
+use Rattle.sv_driver_laws.specs.Timed.{is_timed, time_events, handed_ticks, with_handed}
 use Rattle.sv_driver_laws.specs.Served.{event_of, is_outer, IsServed}
 
 -- whether two ports are the same
@@ -103,22 +103,36 @@ pub record IsCarried (config : Config) (history : List PlainEvent) (trace : List
   pub lets_go : EachHeard (λ heard older. (c : ℕ) → heard ≡ WasClosed (Intr c) → Follows (ends_port (Intr c)) older ⊎ Once (λ earlier.
       (log : List Act) × IsLogOf config earlier log × (is_port_shut (Intr c) log ≡ true)) history older) trace
 
--- Each sweep serves each connection. A sweep adds its own events to the history. To the trace it adds the answers that the wire gave
--- during the sweep. The history's timed events are exactly these: a Tick for each millisecond that the sweeps were given, up to the end
--- of the clock; and the event of each entry of the scenario that was due. What is said of the timed events has three premises: the
--- clock is in range; the driver had counted no millisecond at the start; and the scenario is valid.
-abbrev pub InSweeps : {W : Type 0} (hears : W → Heard → W → Type 0) → Config → (start : DriverState W) (passed : List ℕ)
-    (now : DriverState W) → Swept hears passed start now → List PlainEvent → List Heard → Type 0
-InSweeps hears config start [] now swept history trace = (history ≡ []) × (trace ≡ [])
-InSweeps hears config start (ticks ∷ passed) now (between, swept, goes) history trace = (earlier events : List PlainEvent)
-    × (older piece : List Heard) × InSweeps hears config start passed between swept earlier older × IsCarried config earlier older
-    × (history ≡ events ++ earlier) × (trace ≡ piece ++ older) × IsServed hears config between now earlier events piece
-    × (config.clock ≤ last_clock → start.ticks ≡ 0 → IsScenario 0 start.ahead
-    → filter is_timed history ≡ time_events (min (total (ticks ∷ passed)) (last_clock - config.clock)) start.ahead)
+-- The history's timed events are exactly these: a Tick for each millisecond that the sweeps were given, up to the end of the clock; the
+-- event of each entry of the scenario that was due; and the event of each stimulus that was handed in, where it stands as if it were an
+-- entry of the scenario (`with_handed`). This has three premises: the clock is in range; the driver had counted no millisecond at the
+-- start; and the scenario is valid.
+abbrev pub IsTimely : Config → ℕ → List Entry → List Handed → List PlainEvent → Type 0
+IsTimely config ticks entries handed history = let most = last_clock - config.clock in
+    config.clock ≤ last_clock → ticks ≡ 0 → IsScenario 0 entries
+    → filter is_timed history ≡ time_events (min (handed_ticks handed) most) (with_handed most handed entries)
 
--- A driver whose server is new makes any number of sweeps, over any wire. Then there are a trace and a history for which `IsCarried`
--- and `InSweeps` hold.
-abbrev pub Carried : {W : Type 0} → (W → Heard → W → Type 0) → Type 0
-Carried hears = (config : Config) (passed : List ℕ) (start now : DriverState _) → StandsFor start.server config []
-    → (swept : Swept hears passed start now) → (trace : List Heard) × (history : List PlainEvent) × Through hears trace start.wire now.wire
-    × StandsFor now.server config history × IsCarried config history trace × InSweeps hears config start passed now swept history trace
+-- Each sweep serves each connection. A sweep adds its own events to the history. To the trace it adds the answers that the wire gave
+-- during the sweep. A stimulus that is handed in between two sweeps adds events to the history, none of them from the wire, and nothing
+-- to the trace. For the timed events, `IsTimely` holds.
+abbrev pub InSweeps : {W J : Type 0} (hears : W → Heard → W → Type 0) (notes : J → List PlainEvent → J → Type 0) → Config
+    → (start : DriverState W J) (handed : List Handed) (now : DriverState W J)
+    → Swept hears notes handed start now → List PlainEvent → List Heard → Type 0
+InSweeps hears notes config start [] now swept history trace = (history ≡ []) × (trace ≡ [])
+InSweeps hears notes config start (Passing ticks ∷ handed) now (between, swept, goes) history trace = (earlier events : List PlainEvent)
+    × (older piece : List Heard) × InSweeps hears notes config start handed between swept earlier older × IsCarried config earlier older
+    × (history ≡ events ++ earlier) × (trace ≡ piece ++ older) × IsServed hears config between now earlier events piece
+    × IsTimely config start.ticks start.ahead (Passing ticks ∷ handed) history
+InSweeps hears notes config start (Stimulated stimulus ∷ handed) now (between, swept, accepted, goes) history trace =
+    (earlier events : List PlainEvent) × InSweeps hears notes config start handed between swept earlier trace
+    × IsCarried config earlier trace × (history ≡ events ++ earlier) × (filter is_outer events ≡ [])
+    × IsTimely config start.ticks start.ahead (Stimulated stimulus ∷ handed) history
+
+-- A driver whose server is new makes any number of sweeps, over any wire, and any stimuli are handed in between them. Then there are a
+-- trace and a history for which `IsCarried` and `InSweeps` hold. The events of this history lead the journal from its state at the start
+-- to its state now (`notes`).
+abbrev pub Carried : {W J : Type 0} → (W → Heard → W → Type 0) → (J → List PlainEvent → J → Type 0) → Type 0
+Carried hears notes = (config : Config) (handed : List Handed) (start now : DriverState _ _) → Stands (notes start.journal) start config []
+    → (swept : Swept hears notes handed start now) → (trace : List Heard) × (history : List PlainEvent)
+    × Through hears trace start.wire now.wire × Stands (notes start.journal) now config history × IsCarried config history trace
+    × InSweeps hears notes config start handed now swept history trace

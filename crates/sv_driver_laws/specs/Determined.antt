@@ -4,12 +4,11 @@ use Rattle.std.specs.Prelude.{◌≡◌, ◌≢◌, ◌⊎◌, ℕ, List, [], �
 use Rattle.std.specs.List.{AllByRecursion}
 use Rattle.sv_history.specs.declared.event.Config.{Config}
 use Rattle.sv_history.specs.Event.{PlainEvent, Turn, Refuse}
-use Rattle.sv_server.specs.Server.State.{StandsFor}
 use Rattle.sv_serve.specs.declared.wire.Answer.{Answer}
 use Rattle.sv_serve.specs.declared.wire.Answer.TheVariants.{Got, Pending, Failed}
 use Rattle.sv_serve.specs.Heard.{Heard, WasAccepted, WasRead, WasProbed, WasWritten, WasDialed, PeerAnswered, WasClosed, Through}
-use Rattle.sv_serve.specs.DriverView.{DriverState}
-use Rattle.sv_serve.specs.Sweep.{Swept}
+use Rattle.sv_serve.specs.DriverView.{DriverState, Stands}
+use Rattle.sv_serve.specs.Sweep.{Handed, Swept}
 use Rattle.sv_driver_laws.specs.Served.{event_of, is_outer}
 use Rattle.sv_driver_laws.specs.Carried.{IsCarried, InSweeps}
 
@@ -42,21 +41,25 @@ abbrev pub SameUntil : List Heard → List PlainEvent → List Heard → List Pl
 SameUntil trace history other also = ((trace ≡ other) × (history ≡ also)) ⊎ AnswersDiffer trace history other also
     ⊎ MemoryDiffers trace history other also ⊎ MemoryDiffers other also trace history
 
--- This is what the wire was asked and answered in a run of sweeps, and the history of its server.
-abbrev pub IsRun : {W : Type 0} (hears : W → Heard → W → Type 0) → Config → (start : DriverState W) (passed : List ℕ) (now : DriverState W)
-    → Swept hears passed start now → List Heard → List PlainEvent → Type 0
-IsRun hears config start passed now swept trace history = Through hears trace start.wire now.wire × StandsFor now.server config history
-    × IsCarried config history trace × InSweeps hears config start passed now swept history trace
+-- This is what the wire was asked and answered in a run of sweeps, and the history of its server and of its journal.
+abbrev pub IsRun : {W J : Type 0} (hears : W → Heard → W → Type 0) (notes : J → List PlainEvent → J → Type 0) → Config
+    → (start : DriverState W J) (handed : List Handed) (now : DriverState W J)
+    → Swept hears notes handed start now → List Heard → List PlainEvent → Type 0
+IsRun hears notes config start handed now swept trace history = Through hears trace start.wire now.wire
+    × Stands (notes start.journal) now config history × IsCarried config history trace
+    × InSweeps hears notes config start handed now swept history trace
 
--- Two drivers whose servers are new make as many sweeps, with as many milliseconds in each, over any two wires, with the same configuration
--- and the same scenario. Then what they ask, and what their servers get, is the same until a wire answers differently, or memory for a call
--- is refused.
-abbrev pub Determined : {W V : Type 0} → (W → Heard → W → Type 0) → (V → Heard → V → Type 0) → Type 0
-Determined hears hearing = (config : Config) (passed : List ℕ) (start now : DriverState _) (begin end : DriverState _)
-    → StandsFor start.server config [] → StandsFor begin.server config [] → start.called ≡ begin.called → start.ahead ≡ begin.ahead
-    → start.ticks ≡ begin.ticks → (swept : Swept hears passed start now) → (sweeps : Swept hearing passed begin end)
-    → (trace other : List Heard) × (history also : List PlainEvent) × IsRun hears config start passed now swept trace history
-    × IsRun hearing config begin passed end sweeps other also × SameUntil trace history other also
+-- Two drivers whose servers are new are handed the same in the same order: milliseconds, each time for a sweep, and stimuli. They have the
+-- same configuration and the same scenario; their wires and their journals are any two. Then what they ask, and what their servers get, is
+-- the same until a wire answers differently, or memory for a call is refused.
+abbrev pub Determined : {W V J K : Type 0} → (W → Heard → W → Type 0) → (J → List PlainEvent → J → Type 0) → (V → Heard → V → Type 0)
+    → (K → List PlainEvent → K → Type 0) → Type 0
+Determined hears notes hearing noting = (config : Config) (handed : List Handed) (start now : DriverState _ _) (begin end : DriverState _ _)
+    → Stands (notes start.journal) start config [] → Stands (noting begin.journal) begin config [] → start.called ≡ begin.called
+    → start.ahead ≡ begin.ahead → start.ticks ≡ begin.ticks → (swept : Swept hears notes handed start now)
+    → (sweeps : Swept hearing noting handed begin end) → (trace other : List Heard) × (history also : List PlainEvent)
+    × IsRun hears notes config start handed now swept trace history × IsRun hearing noting config begin handed end sweeps other also
+    × SameUntil trace history other also
 
 -- the answer with its value replaced by a list, so that the answers of all methods have one type
 abbrev pub listed : {A : Type 0} → (A → List ℕ) → Answer A → Answer (List ℕ)

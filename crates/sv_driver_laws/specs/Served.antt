@@ -19,7 +19,7 @@ use Rattle.sv_server.specs.Server.State.{StandsFor}
 use Rattle.sv_serve.specs.declared.wire.Answer.{Answer}
 use Rattle.sv_serve.specs.declared.wire.Answer.TheVariants.{Got, Failed}
 use Rattle.sv_serve.specs.Heard.{Heard, WasAccepted, WasRead, WasWritten, WasDialed, PeerAnswered, WasClosed, Through}
-use Rattle.sv_serve.specs.DriverView.{DriverState, Steps}
+use Rattle.sv_serve.specs.DriverView.{DriverState, Steps, Stands}
 use Rattle.sv_serve.specs.Sweep.{Sweeps}
 use Rattle.sv_driver_laws.specs.Timed.{is_timed}
 
@@ -104,14 +104,15 @@ IsWhole config history events piece = ((c : ℕ) → length (filter (takes_call 
 
 -- A sweep has these events and these answers of the wire. Its events from the wire are exactly those that the answers cause, and the
 -- sweep serves each connection, and is whole (`IsWhole`).
-abbrev pub IsServed : {W : Type 0} → (W → Heard → W → Type 0) → Config → DriverState W → DriverState W → List PlainEvent → List PlainEvent
-    → List Heard → Type 0
+abbrev pub IsServed : {W J : Type 0} → (W → Heard → W → Type 0) → Config → DriverState W J → DriverState W J → List PlainEvent
+    → List PlainEvent → List Heard → Type 0
 IsServed hears config old new history events piece = StandsFor old.server config history × StandsFor new.server config (events ++ history)
     × Through hears piece old.wire new.wire × (filter is_outer events ≡ flat_map event_of piece)
     × ((c : ℕ) → c < 16 → Serves config c history events piece) × IsWhole config history events piece
 
 -- For every sweep, whatever happened before it, there are events and answers of the wire for which `IsServed` holds.
-abbrev pub Served : {W : Type 0} → (W → Heard → W → Type 0) → Type 0
-Served hears = (config : Config) (ticks : ℕ) (history : List PlainEvent) (old new : DriverState _) → StandsFor old.server config history
-    → Steps (Sweeps hears ticks) old new → (done : List PlainEvent) × (piece : List Heard)
+abbrev pub Served : {W J : Type 0} → (W → Heard → W → Type 0) → (J → List PlainEvent → J → Type 0) → Type 0
+Served hears notes = (config : Config) (ticks : ℕ) (history : List PlainEvent) (old new : DriverState _ _)
+    → (first : _) → Stands (notes first) old config history → Steps notes (Sweeps hears ticks) old new
+    → (done : List PlainEvent) × (piece : List Heard)
     × IsServed hears config old new history done piece

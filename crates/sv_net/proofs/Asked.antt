@@ -1,13 +1,14 @@
 -- What words ask for, by the first of them.
-use Rattle.std.proofs.Common.{◌≡◌, ◌∙◌, ap, sym, map, List, [], ◌∷◌, Some, Err, length, codes, slice_get, arith}
+use Rattle.std.proofs.Common.{◌≡◌, ◌∙◌, ap, sym, map, List, [], ◌∷◌, Some, Err, codes, slice_get}
 use Rattle.std.proofs.lemmas.Option.{none-some, same_Some}
 use Rattle.clap.specs.Words.{Text}
+use Rattle.sv_replay.specs.declared.ports.Ports.{Ports}
 use Rattle.sv_net.specs.declared.fault.ProgramFault.{ProgramFault}
 use Rattle.sv_net.specs.declared.fault.ProgramFault.TheVariants.{BadWords, Run, Socket}
 use Rattle.sv_net.specs.declared.words.Serve.{Serve}
 use Rattle.sv_net.specs.declared.words.Words.{Words}
 use Rattle.sv_net.specs.declared.words.Words.TheVariants.{Replay, Explain, Server}
-use Rattle.sv_net.specs.Words.{AsksFor, AsksToServe, ReadsWords}
+use Rattle.sv_net.specs.Words.{AsksFor, AsksToReplay, AsksToServe, ReadsWords}
 
 -- the first text is that of the first word
 pub first_text : {A : Type 0} (text : A → Text) (words : List A) (word : A) → Some word ≡ slice_get words 0
@@ -21,31 +22,65 @@ pub asks_server : (texts : List Text) (serve : Serve) → slice_get texts 0 ≡ 
 asks_server [] serve e serves = absurd (none-some _ e)
 asks_server (t ∷ ts) serve e serves = (same_Some t _ e, serves)
 
--- the words `serve` and `replay` differ
-pub differ : codes "replay" ≡ codes "serve" → ⊥
-differ is = cc
+-- the word `replay`, with what asks for ports
+pub asks_replay : (texts : List Text) (ports : Ports) → slice_get texts 0 ≡ Some (codes "replay") → AsksToReplay texts ports
+    → AsksFor texts (Replay ports)
+asks_replay [] ports e asks = absurd (none-some _ e)
+asks_replay (t ∷ ts) ports e asks = (same_Some t _ e, asks)
 
--- and so do `serve` and `explain`
-pub serves_not : codes "explain" ≡ codes "serve" → ⊥
-serves_not is = cc
+-- and the word `explain`
+pub asks_explain : (texts : List Text) (ports : Ports) → slice_get texts 0 ≡ Some (codes "explain") → AsksToReplay texts ports
+    → AsksFor texts (Explain ports)
+asks_explain [] ports e asks = absurd (none-some _ e)
+asks_explain (t ∷ ts) ports e asks = (same_Some t _ e, asks)
 
-no_server : (texts : List Text) → slice_get texts 0 ≡ Some (codes "serve") → ((serve : Serve) → AsksToServe texts serve → ⊥)
+-- the three words differ
+replay_serve : codes "replay" ≡ codes "serve" → ⊥
+replay_serve is = cc
+
+explain_serve : codes "explain" ≡ codes "serve" → ⊥
+explain_serve is = cc
+
+explain_replay : codes "explain" ≡ codes "replay" → ⊥
+explain_replay is = cc
+
+-- no words are asked for, by the first of them
+pub none_asked : (texts : List Text)
+    → ((ports : Ports) → slice_get texts 0 ≡ Some (codes "replay") → AsksToReplay texts ports → ⊥)
+    → ((ports : Ports) → slice_get texts 0 ≡ Some (codes "explain") → AsksToReplay texts ports → ⊥)
+    → ((serve : Serve) → slice_get texts 0 ≡ Some (codes "serve") → AsksToServe texts serve → ⊥)
     → (asked : Words) → AsksFor texts asked → ⊥
-no_server texts e none Replay is = differ (same_Some _ _ (sym (ap (λ ts. slice_get ts 0) is) ∙ e))
-no_server texts e none Explain is = serves_not (same_Some _ _ (sym (ap (λ ts. slice_get ts 0) is) ∙ e))
-no_server [] e none (Server serve) asks = asks
-no_server (t ∷ ts) e none (Server serve) asks = none serve asks.1
+none_asked [] replay explain serve asked asks = asks
+none_asked (t ∷ ts) replay explain serve (Replay ports) asks = replay ports (ap Some asks.0) asks.1
+none_asked (t ∷ ts) replay explain serve (Explain ports) asks = explain ports (ap Some asks.0) asks.1
+none_asked (t ∷ ts) replay explain serve (Server server) asks = serve server (ap Some asks.0) asks.1
 
 -- the word `serve`, with what asks for no server
-pub asks_fault : (texts : List Text) (fault : ProgramFault) → slice_get texts 0 ≡ Some (codes "serve")
+pub serve_fault : (texts : List Text) (fault : ProgramFault) → slice_get texts 0 ≡ Some (codes "serve")
     → ReadsWords (AsksToServe texts) (Err fault) → ReadsWords (AsksFor texts) (Err fault)
-asks_fault texts BadWords e none = no_server texts e none
-asks_fault texts (Run fault) e is = is
-asks_fault texts Socket e never = never
+serve_fault texts BadWords e none = none_asked texts (λ ports is asks. replay_serve (same_Some _ _ (sym is ∙ e)))
+    (λ ports is asks. explain_serve (same_Some _ _ (sym is ∙ e))) (λ serve is asks. none serve asks)
+serve_fault texts (Run fault) e is = is
+serve_fault texts Socket e never = never
 
--- one word alone
-pub asks_alone : {A : Type 0} (text : A → Text) (words : List A) (word : Text) → slice_get (map text words) 0 ≡ Some word
-    → length words ≡ 1 → map text words ≡ word ∷ []
-asks_alone text [] word e one = absurd (none-some _ e)
-asks_alone text (w ∷ []) word e one = ap (λ w. w ∷ []) (same_Some (text w) _ e)
-asks_alone text (v ∷ w ∷ ws) word e one = absurd (omega (arith, one))
+-- the word `replay`, with what asks for no ports
+pub replay_fault : (texts : List Text) (fault : ProgramFault) → slice_get texts 0 ≡ Some (codes "replay")
+    → ReadsWords (AsksToReplay texts) (Err fault) → ReadsWords (AsksFor texts) (Err fault)
+replay_fault texts BadWords e none = none_asked texts (λ ports is asks. none ports asks)
+    (λ ports is asks. explain_replay (same_Some _ _ (sym is ∙ e))) (λ serve is asks. replay_serve (same_Some _ _ (sym e ∙ is)))
+replay_fault texts (Run fault) e is = is
+replay_fault texts Socket e never = never
+
+-- and the word `explain`
+pub explain_fault : (texts : List Text) (fault : ProgramFault) → slice_get texts 0 ≡ Some (codes "explain")
+    → ReadsWords (AsksToReplay texts) (Err fault) → ReadsWords (AsksFor texts) (Err fault)
+explain_fault texts BadWords e none = none_asked texts (λ ports is asks. explain_replay (same_Some _ _ (sym e ∙ is)))
+    (λ ports is asks. none ports asks) (λ serve is asks. explain_serve (same_Some _ _ (sym e ∙ is)))
+explain_fault texts (Run fault) e is = is
+explain_fault texts Socket e never = never
+
+-- another word
+pub other_word : (texts : List Text) (word : Text) → slice_get texts 0 ≡ Some word → (word ≡ codes "replay" → ⊥)
+    → (word ≡ codes "explain" → ⊥) → (word ≡ codes "serve" → ⊥) → (asked : Words) → AsksFor texts asked → ⊥
+other_word texts word e replay explain serve = none_asked texts (λ ports is asks. replay (same_Some _ _ (sym e ∙ is)))
+    (λ ports is asks. explain (same_Some _ _ (sym e ∙ is))) (λ server is asks. serve (same_Some _ _ (sym e ∙ is)))

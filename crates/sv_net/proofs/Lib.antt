@@ -3,4 +3,4 @@ mod Pausing
 mod Running
 mod Among
 mod Asked
-mod ServeRead
+mod OptionsRead

@@ -3,10 +3,11 @@ use Rattle.std.proofs.Common.{◌≡◌, ℕ, Bool, true, false, List, [], ◌�
 use Rattle.std.specs.Prelude.{Option, Result, Ok, Err, IfOk, OnErr}
 use Rattle.std.specs.Duration.{as_nanos}
 use Rattle.std.specs.declared.time.Duration.{Duration}
+use Rattle.sv_history.specs.Event.{PlainEvent}
 use Rattle.sv_serve.specs.Heard.{Heard}
 use Rattle.sv_serve.specs.DriverView.{DriverState}
 use Rattle.sv_net.specs.Sleep.{MaySleep}
-use Rattle.sv_net.specs.Serving.{Doing, MadeSweep, Waited, Told, is_fresh, is_told}
+use Rattle.sv_net.specs.Serving.{Doing, MadeSweep, Waited, Told, Asked, is_fresh, is_told}
 use Rattle.sv_net.specs.Inside.Pausing.{is_quiet, Running, Pauses, Fails}
 
 told_where_quiet : {W : Type 0} (doings : List (Doing W)) → is_quiet doings ≡ true → is_told doings ≡ true
@@ -15,18 +16,21 @@ told_where_quiet (MadeSweep ∷ doings) quiet = absurd (let z : false ≡ true =
 told_where_quiet (Waited limit true ended ∷ doings) quiet = quiet
 told_where_quiet (Waited limit false ended ∷ doings) quiet = quiet
 told_where_quiet (Told wire ∷ doings) quiet = refl
+told_where_quiet (Asked answer ∷ doings) quiet = absurd (let z : false ≡ true = quiet in cc)
 
 fresh_where_quiet : {W : Type 0} (doings : List (Doing W)) → is_quiet doings ≡ true → is_fresh doings ≡ true
 fresh_where_quiet [] quiet = refl
 fresh_where_quiet (MadeSweep ∷ doings) quiet = quiet
 fresh_where_quiet (Waited limit reported ended ∷ doings) quiet = refl
 fresh_where_quiet (Told wire ∷ doings) quiet = quiet
+fresh_where_quiet (Asked answer ∷ doings) quiet = absurd (let z : false ≡ true = quiet in cc)
 
-module _ {W M : Type 0} (hears : W → Heard → W → Type 0) (answers : M → Doing W → M → Type 0) (driver : DriverState W) where
-  also : {is_so is_such : List (Doing W) → Bool} {sweeps many swept time : ℕ} {start : DriverState W} {first now : M}
+module _ {W J M : Type 0} (hears : W → Heard → W → Type 0) (notes : J → List PlainEvent → J → Type 0)
+    (answers : M → Doing W → M → Type 0) (driver : DriverState W J) where
+  also : {is_so is_such : List (Doing W) → Bool} {sweeps many swept time : ℕ} {start : DriverState W J} {first now : M}
       → ((doings : List (Doing W)) → is_so doings ≡ true → is_such doings ≡ true)
-      → Running hears answers is_so sweeps many swept time start driver first now
-      → Running hears answers is_such sweeps many swept time start driver first now
+      → Running hears notes answers is_so sweeps many swept time start driver first now
+      → Running hears notes answers is_such sweeps many swept time start driver first now
   also step r = record {
     doings = r.doings;
     made = r.made;
@@ -40,7 +44,7 @@ module _ {W M : Type 0} (hears : W → Heard → W → Type 0) (answers : M → 
   -- a wait that may be so long
   pub one_wait : (left swept began time : ℕ) (limit : Option Duration) (reported : Bool) (old now : M)
       → MaySleep left swept began limit driver → answers old (Waited limit reported time) now
-      → Pauses hears answers driver is_told is_fresh left swept began time old now
+      → Pauses hears notes answers driver is_told is_fresh left swept began time old now
   one_wait left swept began time limit reported old now may waited = record {
     goes = λ sweeps many start first remain r. record {
       doings = Waited limit reported time ∷ r.doings;
@@ -55,13 +59,14 @@ module _ {W M : Type 0} (hears : W → Heard → W → Type 0) (answers : M → 
 
   -- one that takes no time
   pub one_look : (left swept began time : ℕ) (limit : Duration) (reported : Bool) (old now : M) → as_nanos limit ≡ 0
-      → answers old (Waited (Some limit) reported time) now → Pauses hears answers driver is_told is_fresh left swept began time old now
+      → answers old (Waited (Some limit) reported time) now
+      → Pauses hears notes answers driver is_told is_fresh left swept began time old now
   one_look left swept began time limit reported old now none waited =
       one_wait left swept began time (Some limit) reported old now (inl (omega (arith, none))) waited
 
   -- and one in which nothing is reported
   pub in_vain : (left swept began time : ℕ) (limit : Duration) (old now : M) → as_nanos limit ≡ 0
-      → answers old (Waited (Some limit) false time) now → Pauses hears answers driver is_told is_quiet left swept began time old now
+      → answers old (Waited (Some limit) false time) now → Pauses hears notes answers driver is_told is_quiet left swept began time old now
   in_vain left swept began time limit old now none waited = record {
     goes = λ sweeps many start first remain r. record {
       doings = Waited (Some limit) false time ∷ r.doings;
@@ -74,32 +79,37 @@ module _ {W M : Type 0} (hears : W → Heard → W → Type 0) (answers : M → 
     };
   }
 
-  pub no_wait : (left swept time : ℕ) (now : M) → Pauses hears answers driver is_quiet is_quiet left swept time time now now
+  pub no_wait : (left swept time : ℕ) (now : M) → Pauses hears notes answers driver is_quiet is_quiet left swept time time now now
   no_wait left swept time now = record { goes = λ sweeps many start first remain r. r }
 
-pub from_quiet : {W M : Type 0} {hears : W → Heard → W → Type 0} {answers : M → Doing W → M → Type 0} {driver : DriverState W}
+pub from_quiet : {W J M : Type 0} {hears : W → Heard → W → Type 0} {notes : J → List PlainEvent → J → Type 0}
+    {answers : M → Doing W → M → Type 0} {driver : DriverState W J}
     {is_so : List (Doing W) → Bool} {left swept began time : ℕ} {old now : M}
-    → Pauses hears answers driver is_told is_so left swept began time old now
-    → Pauses hears answers driver is_quiet is_so left swept began time old now
-from_quiet {hears = hears} {answers = answers} {driver = driver} pauses =
+    → Pauses hears notes answers driver is_told is_so left swept began time old now
+    → Pauses hears notes answers driver is_quiet is_so left swept began time old now
+from_quiet {hears = hears} {notes = notes} {answers = answers} {driver = driver} pauses =
     record {
-      goes = λ sweeps many start first remain r. pauses.goes sweeps many start first remain (also hears answers driver told_where_quiet r);
+      goes = λ sweeps many start first remain r. pauses.goes sweeps many start first remain
+          (also hears notes answers driver told_where_quiet r);
     }
 
-pub to_fresh : {W M : Type 0} {hears : W → Heard → W → Type 0} {answers : M → Doing W → M → Type 0} {driver : DriverState W}
+pub to_fresh : {W J M : Type 0} {hears : W → Heard → W → Type 0} {notes : J → List PlainEvent → J → Type 0}
+    {answers : M → Doing W → M → Type 0} {driver : DriverState W J}
     {was : List (Doing W) → Bool} {left swept began time : ℕ} {old now : M}
-    → Pauses hears answers driver was is_quiet left swept began time old now
-    → Pauses hears answers driver was is_fresh left swept began time old now
-to_fresh {hears = hears} {answers = answers} {driver = driver} pauses =
+    → Pauses hears notes answers driver was is_quiet left swept began time old now
+    → Pauses hears notes answers driver was is_fresh left swept began time old now
+to_fresh {hears = hears} {notes = notes} {answers = answers} {driver = driver} pauses =
     record {
-      goes = λ sweeps many start first remain r. also hears answers driver fresh_where_quiet (pauses.goes sweeps many start first remain r);
+      goes = λ sweeps many start first remain r. also hears notes answers driver fresh_where_quiet
+          (pauses.goes sweeps many start first remain r);
     }
 
-pub and_then : {W M : Type 0} {hears : W → Heard → W → Type 0} {answers : M → Doing W → M → Type 0} {driver : DriverState W}
+pub and_then : {W J M : Type 0} {hears : W → Heard → W → Type 0} {notes : J → List PlainEvent → J → Type 0}
+    {answers : M → Doing W → M → Type 0} {driver : DriverState W J}
     {was between is_so : List (Doing W) → Bool} {left swept began at time : ℕ} {old mid now : M}
-    → Pauses hears answers driver was between left swept began at old mid
-    → Pauses hears answers driver between is_so left swept at time mid now
-    → Pauses hears answers driver was is_so left swept began time old now
+    → Pauses hears notes answers driver was between left swept began at old mid
+    → Pauses hears notes answers driver between is_so left swept at time mid now
+    → Pauses hears notes answers driver was is_so left swept began time old now
 and_then one other = record {
   goes = λ sweeps many start first remain r. other.goes sweeps many start first remain (one.goes sweeps many start first remain r);
 }
@@ -109,34 +119,41 @@ if_ok (Ok a) p more = more a p
 if_ok (Err e) p more = p
 
 -- the first wait fails
-pub fails_at_once : {W M : Type 0} {hears : W → Heard → W → Type 0} {answers : M → Doing W → M → Type 0}
+pub fails_at_once : {W J M : Type 0} {hears : W → Heard → W → Type 0} {notes : J → List PlainEvent → J → Type 0}
+    {answers : M → Doing W → M → Type 0}
     {fails : M → Option Duration → M → Type 0}
-    {driver : DriverState W} {left swept began : ℕ} {old now : M} (limit : Option Duration) → MaySleep left swept began limit driver
-    → fails old limit now → Fails hears answers fails driver is_told left swept began old now
+    {driver : DriverState W J} {left swept began : ℕ} {old now : M} (limit : Option Duration) → MaySleep left swept began limit driver
+    → fails old limit now → Fails hears notes answers fails driver is_told left swept began old now
 fails_at_once {began = began} {old = old} limit may failed =
     record { goes = λ sweeps many start first remain r. (began, old, limit, may, failed, r) }
 
 -- a poll fails
-pub poll_fails : {W M : Type 0} {hears : W → Heard → W → Type 0} {answers : M → Doing W → M → Type 0}
+pub poll_fails : {W J M : Type 0} {hears : W → Heard → W → Type 0} {notes : J → List PlainEvent → J → Type 0}
+    {answers : M → Doing W → M → Type 0}
     {fails : M → Option Duration → M → Type 0}
-    {driver : DriverState W} {left swept began : ℕ} {old now : M} (limit : Duration) → as_nanos limit ≡ 0
-    → fails old (Some limit) now → Fails hears answers fails driver is_told left swept began old now
+    {driver : DriverState W J} {left swept began : ℕ} {old now : M} (limit : Duration) → as_nanos limit ≡ 0
+    → fails old (Some limit) now → Fails hears notes answers fails driver is_told left swept began old now
 poll_fails limit none failed = fails_at_once (Some limit) (inl (omega (arith, none))) failed
 
-pub fails_from_quiet : {W M : Type 0} {hears : W → Heard → W → Type 0} {answers : M → Doing W → M → Type 0}
-    {fails : M → Option Duration → M → Type 0} {driver : DriverState W} {left swept began : ℕ} {old now : M}
-    → Fails hears answers fails driver is_told left swept began old now → Fails hears answers fails driver is_quiet left swept began old now
-fails_from_quiet {hears = hears} {answers = answers} {driver = driver} failing =
+pub fails_from_quiet : {W J M : Type 0} {hears : W → Heard → W → Type 0} {notes : J → List PlainEvent → J → Type 0}
+    {answers : M → Doing W → M → Type 0}
+    {fails : M → Option Duration → M → Type 0} {driver : DriverState W J} {left swept began : ℕ} {old now : M}
+    → Fails hears notes answers fails driver is_told left swept began old now
+    → Fails hears notes answers fails driver is_quiet left swept began old now
+fails_from_quiet {hears = hears} {notes = notes} {answers = answers} {driver = driver} failing =
     record {
-      goes = λ sweeps many start first remain r. failing.goes sweeps many start first remain (also hears answers driver told_where_quiet r);
+      goes = λ sweeps many start first remain r. failing.goes sweeps many start first remain
+          (also hears notes answers driver told_where_quiet r);
     }
 
 -- waits that don't fail, before those of which one fails
-pub then_fails : {W M : Type 0} {hears : W → Heard → W → Type 0} {answers : M → Doing W → M → Type 0}
+pub then_fails : {W J M : Type 0} {hears : W → Heard → W → Type 0} {notes : J → List PlainEvent → J → Type 0}
+    {answers : M → Doing W → M → Type 0}
     {fails : M → Option Duration → M → Type 0}
-    {driver : DriverState W} {was between : List (Doing W) → Bool} {left swept began at : ℕ} {old mid now : M}
-    → Pauses hears answers driver was between left swept began at old mid
-    → Fails hears answers fails driver between left swept at mid now → Fails hears answers fails driver was left swept began old now
+    {driver : DriverState W J} {was between : List (Doing W) → Bool} {left swept began at : ℕ} {old mid now : M}
+    → Pauses hears notes answers driver was between left swept began at old mid
+    → Fails hears notes answers fails driver between left swept at mid now
+    → Fails hears notes answers fails driver was left swept began old now
 then_fails one other = record {
   goes = λ sweeps many start first remain r. other.goes sweeps many start first remain (one.goes sweeps many start first remain r);
 }

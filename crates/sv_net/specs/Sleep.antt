@@ -10,12 +10,12 @@ use Rattle.sv_serve.specs.DriverView.{DriverState, driver_view}
 use Rattle.sv_serve.specs.Still.{StaysStill}
 
 -- No connection has a call to take, for any history that the server stands for.
-abbrev pub NoneReady : {W : Type 0} → DriverState W → Type 0
+abbrev pub NoneReady : {W J : Type 0} → DriverState W J → Type 0
 NoneReady driving = (config : Config) (history : List PlainEvent) → StandsFor driving.server config history
     → (c : ℕ) → IsReady c config (driver_view driving history) false
 
 -- No connection has a call to take, and nothing becomes due within `most` milliseconds.
-abbrev pub IsIdle : {W : Type 0} → ℕ → DriverState W → Type 0
+abbrev pub IsIdle : {W J : Type 0} → ℕ → DriverState W J → Type 0
 IsIdle most driving = NoneReady driving × ((config : Config) (history : List PlainEvent) → StandsFor driving.server config history
     → StaysStill most config (driver_view driving history) true)
 
@@ -30,7 +30,7 @@ left_until ticks swept now = ticks * 1000000 - (now - swept / 1000000 * 1000000)
 -- bits: VXI-11 revision 1.0, B.4.4). If it is idle for the next 100 milliseconds, it may sleep at most until 100 milliseconds after the
 -- start of the millisecond in which the last sweep began. Else it may sleep at most until the end of the millisecond in which the last
 -- sweep began.
-abbrev pub MaySleep : {W : Type 0} → ℕ → ℕ → ℕ → Option Duration → DriverState W → Type 0
+abbrev pub MaySleep : {W J : Type 0} → ℕ → ℕ → ℕ → Option Duration → DriverState W J → Type 0
 MaySleep left swept now None driving = (1000000 < left) × (driving.ahead ≡ []) × IsIdle 4294967295 driving
 MaySleep left swept now (Some limit) driving =
     (as_nanos limit ≤ left_until 1 swept now) ⊎ ((as_nanos limit ≤ left_until 100 swept now) × IsIdle 100 driving)

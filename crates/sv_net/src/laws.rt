@@ -10,6 +10,7 @@ use crate::net::Net;
 use crate::stream::Stream;
 use std::alloc::Allocator;
 use std::net::Net as Network;
+use sv_serve::Journal;
 
 /// Each connection and each interrupt channel has a socket of its own.
 pub fn own_sockets()
@@ -20,8 +21,8 @@ pub fn own_sockets()
 /// The law `carried` of `sv_driver_laws` holds for a driver whose wire is these sockets: the server
 /// receives what is read from the sockets, and what is written to the sockets is what the server
 /// sends. The law covers the sweeps of [`serve`](crate::serve).
-pub fn carried<N: Network + Drop, A: Allocator, S: Stream>()
-    ensures { Carried (Hears S.remaining S.contents) }
+pub fn carried<N: Network + Drop, A: Allocator, S: Stream, J: Journal>()
+    ensures { Carried (Hears S.remaining S.contents) J.notes }
 {
-    sv_driver_laws::laws::carried::<Net<N, A, S>>();
+    sv_driver_laws::laws::carried::<Net<N, A, S>, J>();
 }

@@ -5,6 +5,9 @@
 //! something about the socket.
 #![tactic(auto)]
 
+mod buffer;
+mod client;
+mod control;
 mod door;
 mod fault;
 pub mod laws;
@@ -18,6 +21,7 @@ mod watch;
 mod words;
 mod work;
 
+pub use control::Control;
 pub use fault::ProgramFault;
 pub use machine::{Machine, System};
 pub use net::Net;

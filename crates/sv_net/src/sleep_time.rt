@@ -9,10 +9,12 @@ use std::alloc::Allocator;
 use std::net::Net as Network;
 use std::time::Duration;
 use sv_pace::{FEW, Pace, STILL};
-use sv_serve::Driver;
+use sv_serve::{Driver, Journal};
 
 /// Whether any connection has a call to take.
-fn is_ready<N: Network + Drop, A: Allocator, S: Stream>(driver: &Driver<Net<N, A, S>, A>) -> bool
+fn is_ready<N: Network + Drop, A: Allocator, S: Stream, J: Journal + Drop>(
+    driver: &Driver<Net<N, A, S>, A, J>,
+) -> bool
     ensures { result ≡ false → NoneReady driver.now }
 {
     let server = driver.server();
@@ -26,8 +28,8 @@ fn is_ready<N: Network + Drop, A: Allocator, S: Stream>(driver: &Driver<Net<N, A
 
 /// Whether nothing becomes due within this number of milliseconds, and no connection has a call to
 /// take.
-fn is_idle<N: Network + Drop, A: Allocator, S: Stream>(
-    driver: &Driver<Net<N, A, S>, A>,
+fn is_idle<N: Network + Drop, A: Allocator, S: Stream, J: Journal + Drop>(
+    driver: &Driver<Net<N, A, S>, A, J>,
     ticks: u32,
 ) -> bool
     ensures { result ≡ true → IsIdle ticks driver.now }
@@ -37,7 +39,9 @@ fn is_idle<N: Network + Drop, A: Allocator, S: Stream>(
 
 /// Returns for how many milliseconds after the last sweep the server may sleep at most: until
 /// something might become due, or until the next accept is due.
-fn longest<N: Network + Drop, A: Allocator, S: Stream>(driver: &Driver<Net<N, A, S>, A>) -> u32
+fn longest<N: Network + Drop, A: Allocator, S: Stream, J: Journal + Drop>(
+    driver: &Driver<Net<N, A, S>, A, J>,
+) -> u32
     ensures { (result ≡ 1) ⊎ ((result ≤ 100) × IsIdle 100 driver.now) }
 {
     if is_idle(driver, STILL) {
@@ -51,8 +55,8 @@ fn longest<N: Network + Drop, A: Allocator, S: Stream>(driver: &Driver<Net<N, A,
 /// limit) only if more than a million sweeps remain, and nothing will ever be due: no entry of the
 /// scenario remains, and nothing becomes due within 4,294,967,295 ms, the longest timeout of a call
 /// (VXI-11 revision 1.0, section B.4.4).
-pub(crate) fn sleep_time<N: Network + Drop, A: Allocator, S: Stream>(
-    driver: &Driver<Net<N, A, S>, A>,
+pub(crate) fn sleep_time<N: Network + Drop, A: Allocator, S: Stream, J: Journal + Drop>(
+    driver: &Driver<Net<N, A, S>, A, J>,
     pace: &Pace,
     now: u64,
     left: u32,

@@ -2,6 +2,7 @@
 
 ghost use Rattle.std.specs.Prelude.{◌≡◌, None, IfOk, replicate};
 
+use crate::control::Control;
 use crate::net::Net;
 use crate::stream::Stream;
 use mio::{Events, Poll};
@@ -39,6 +40,14 @@ impl<A: Allocator + Copy> Watch<A> {
         let events = Events::with_capacity(alloc, REPORTS)?;
         Ok((Watch { poll, events }, net))
     }
+
+    /// Listens on a port of 127.0.0.1 for clients that hand in stimuli.
+    ///
+    /// # Errors
+    /// If the port can't be listened on, or memory is refused (`ErrorKind::OutOfMemory`).
+    pub fn control<N: Network>(&self, network: &N, alloc: A, port: u16) -> io::Result<Control<A>> {
+        Control::listen(network, alloc, &self.poll, port)
+    }
 }
 
 impl<A: Allocator> Watch<A> {
@@ -56,6 +65,21 @@ impl<A: Allocator> Watch<A> {
     pub(crate) fn report<N: Network + Drop, B: Allocator, S: Stream>(&self, net: &Net<N, B, S>) {
         for event in self.events.iter() {
             net.report(event);
+        }
+    }
+
+    /// Passes the reports of the last wait to the control port, if there is one.
+    pub(crate) fn report_control<B: Allocator, S: Stream>(&self, control: &Option<Control<B, S>>) {
+        match control {
+            Some(control) => self.report_to(control),
+            None => {}
+        }
+    }
+
+    /// Passes the reports of the last wait to the control port.
+    fn report_to<B: Allocator, S: Stream>(&self, control: &Control<B, S>) {
+        for event in self.events.iter() {
+            control.report(event);
         }
     }
 }

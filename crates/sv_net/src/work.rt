@@ -5,14 +5,14 @@ use crate::socket::Socket;
 use crate::stream::Stream;
 use std::alloc::Allocator;
 use std::net::Net as Network;
-use sv_serve::Driver;
+use sv_serve::{Driver, Journal};
 use sv_server::Port;
 
 /// Whether the next sweep has something to do on a connection even if no report comes: bytes wait
 /// to be sent and can be written; no bytes wait to be sent and a call can be taken; the connection
 /// has input; or there is something to do on the connection's interrupt channel.
-fn has_work_on<N: Network + Drop, A: Allocator, S: Stream>(
-    driver: &Driver<Net<N, A, S>, A>,
+fn has_work_on<N: Network + Drop, A: Allocator, S: Stream, J: Journal + Drop>(
+    driver: &Driver<Net<N, A, S>, A, J>,
     conn: u8,
 ) -> bool {
     let (net, server) = (driver.wire(), driver.server());
@@ -29,8 +29,8 @@ fn has_work_on<N: Network + Drop, A: Allocator, S: Stream>(
 
 /// Whether the next sweep might find input on a connection: the socket is broken; or bytes might be
 /// waiting, and the connection has room for them or discards them.
-fn has_input<N: Network + Drop, A: Allocator, S: Stream>(
-    driver: &Driver<Net<N, A, S>, A>,
+fn has_input<N: Network + Drop, A: Allocator, S: Stream, J: Journal + Drop>(
+    driver: &Driver<Net<N, A, S>, A, J>,
     conn: u8,
     socket: &Socket<S>,
 ) -> bool {
@@ -42,8 +42,8 @@ fn has_input<N: Network + Drop, A: Allocator, S: Stream>(
 /// Whether the next sweep has something to do on a connection's interrupt channel even if no report
 /// comes: the socket might accept bytes or have finished connecting; and bytes wait to be sent, or
 /// the channel still has to be connected.
-fn has_work_for<N: Network + Drop, A: Allocator, S: Stream>(
-    driver: &Driver<Net<N, A, S>, A>,
+fn has_work_for<N: Network + Drop, A: Allocator, S: Stream, J: Journal + Drop>(
+    driver: &Driver<Net<N, A, S>, A, J>,
     conn: u8,
 ) -> bool {
     let server = driver.server();
@@ -56,8 +56,8 @@ fn has_work_for<N: Network + Drop, A: Allocator, S: Stream>(
 
 /// Whether the next sweep has something to do even if no report comes: an accept is due at once, or
 /// there is something to do on a connection or its interrupt channel.
-pub(crate) fn has_work<N: Network + Drop, A: Allocator, S: Stream>(
-    driver: &Driver<Net<N, A, S>, A>,
+pub(crate) fn has_work<N: Network + Drop, A: Allocator, S: Stream, J: Journal + Drop>(
+    driver: &Driver<Net<N, A, S>, A, J>,
 ) -> bool {
     let connections_used = driver.server().connections_used();
     driver.wire().is_called() || (0..connections_used).any(|conn| has_work_on(driver, conn))

@@ -1,1 +1,2 @@
 mod Traces
+mod Taping

@@ -1,13 +1,18 @@
-//! A wire that passes each call of its methods to a second wire, and records the call with its
-//! answer.
+//! Recordings of a driver: of the calls of its wire, or of the events that its server applies.
 //!
 //! The laws of `sv_driver_laws` are about a trace: the calls of the methods of a driver's wire,
-//! with their answers. If a recorder is the wire, the trace is the list of calls that it recorded.
+//! with their answers. If a [`Recorder`] is the wire, the trace is the list of calls that it
+//! recorded: it passes each call on to a second wire.
+//!
+//! The laws are also about a history: the events that the server applied. If a [`Tape`] is the
+//! driver's journal, it writes the script of this history, which `scanvolt replay` replays.
 #![tactic(auto)]
 
 mod call;
 pub mod laws;
 mod recorder;
+mod tape;
 
 pub use call::Call;
 pub use recorder::Recorder;
+pub use tape::Tape;

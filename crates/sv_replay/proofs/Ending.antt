@@ -15,105 +15,111 @@ use Rattle.sv_replay.specs.declared.mode.Mode.{Mode}
 use Rattle.sv_replay.specs.declared.mode.Mode.TheVariants.{Plain, Explained}
 use Rattle.sv_replay.specs.declared.fault.RunFault.{RunFault}
 use Rattle.sv_replay.specs.declared.fault.RunFault.TheVariants.{BadLine, Input, Output, Memory}
-use Rattle.sv_replay.specs.Run.{set_up, Runs, RunsExplained}
+use Rattle.sv_replay.specs.Run.{Runs, RunsExplained}
 use Rattle.sv_replay.specs.Stage.{StepsRun, RunsIn, ScriptRuns}
 use Rattle.sv_replay.proofs.Going.{consumes_none}
 use Rattle.sv_replay.proofs.Staged.{output_instead}
 
 -- a fault of the lines is one of the run
-runs_fault : (mode : Mode) (read text : List ℕ) (rest : Option (List ℕ)) (fault : RunFault) → Runs mode read rest (Err fault) text
-    → RunsIn mode read rest (Err fault) text
-runs_fault Plain read text rest fault runs = runs
-runs_fault Explained read text rest (BadLine n) runs = runs
-runs_fault Explained read text rest Input runs = runs
-runs_fault Explained read text rest Output runs = inl runs
-runs_fault Explained read text rest Memory runs = runs
+runs_fault : (config : Config) (mode : Mode) (read text : List ℕ) (rest : Option (List ℕ)) (fault : RunFault)
+    → Runs config mode read rest (Err fault) text
+    → RunsIn config mode read rest (Err fault) text
+runs_fault config Plain read text rest fault runs = runs
+runs_fault config Explained read text rest (BadLine n) runs = runs
+runs_fault config Explained read text rest Input runs = runs
+runs_fault config Explained read text rest Output runs = inl runs
+runs_fault config Explained read text rest Memory runs = runs
 
 -- memory was refused at the start
-pub no_memory : (mode : Mode) (reader first : Option (List ℕ)) (result : Result ⊤ RunFault) → IsErr result
-    → IsErrAnd result (λ e. e ≡ Memory) → ScriptRuns mode reader reader first first result
-no_memory mode reader first (Ok all) failed is = absurd cc
-no_memory mode reader first (Err e) failed is = (
+pub no_memory : (config : Config) (mode : Mode) (reader first : Option (List ℕ)) (result : Result ⊤ RunFault) → IsErr result
+    → IsErrAnd result (λ e. e ≡ Memory) → ScriptRuns config mode reader reader first first result
+no_memory config mode reader first (Ok all) failed is = absurd cc
+no_memory config mode reader first (Err e) failed is = (
   [],
   [],
   consumes_none reader,
   appends_none first,
-  subst (λ (f : RunFault). RunsIn mode [] reader (Err f) []) (sym is) (runs_fault mode [] [] reader Memory (inl (refl, refl))),
+  subst (λ (f : RunFault). RunsIn config mode [] reader (Err f) []) (sym is)
+      (runs_fault config mode [] [] reader Memory (inl (refl, refl))),
 )
 
 -- the lines stopped
-pub end_stop : (mode own : Mode) (server : State) (reader after first last : Option (List ℕ)) (fault : RunFault)
+pub end_stop : (config : Config) (mode own : Mode) (server : State) (reader after first last : Option (List ℕ)) (fault : RunFault)
     (result : Result ⊤ RunFault) → own ≡ mode → IsErr result → IsErrAnd result (λ e. e ≡ fault)
-    → StepsRun own server reader after first last (Err fault) → ScriptRuns mode reader after first last result
-end_stop mode own server reader after first last fault (Ok all) same failed is steps = absurd cc
-end_stop mode own server reader after first last fault (Err e) same failed is (read, text, took, put, runs) = (
+    → StepsRun config own server reader after first last (Err fault) → ScriptRuns config mode reader after first last result
+end_stop config mode own server reader after first last fault (Ok all) same failed is steps = absurd cc
+end_stop config mode own server reader after first last fault (Err e) same failed is (read, text, took, put, runs) = (
   read,
   text,
   took,
   put,
-  subst (λ (f : RunFault). RunsIn mode read after (Err f) text) (sym is)
-      (runs_fault mode read text after fault (subst (λ (m : Mode). Runs m read after (Err fault) text) same runs)),
+  subst (λ (f : RunFault). RunsIn config mode read after (Err f) text) (sym is)
+      (runs_fault config mode read text after fault (subst (λ (m : Mode). Runs config m read after (Err fault) text) same runs)),
 )
 
 -- nothing comes behind the lines of a plain replay
-pub end_plain : (server : State) (reader after first last : Option (List ℕ)) → StepsRun Plain server reader after first last (Ok tt)
-    → ScriptRuns Plain reader after first last (Ok tt)
-end_plain server reader after first last (read, text, took, put, (events, history, script, prints, stands)) =
+pub end_plain : (config : Config) (server : State) (reader after first last : Option (List ℕ))
+    → StepsRun config Plain server reader after first last (Ok tt)
+    → ScriptRuns config Plain reader after first last (Ok tt)
+end_plain config server reader after first last (read, text, took, put, (events, history, script, prints, stands)) =
     (read, text, took, put, (events, history, script, prints))
 
 -- the line of the clock comes behind the lines of an explained one
-pub end_explained : (server : State) (reader after first mid last : Option (List ℕ)) (result : Result ⊤ RunFault)
-    → IsAtEnd after → StepsRun Explained server reader after first mid (Ok tt)
+pub end_explained : (config : Config) (server : State) (reader after first mid last : Option (List ℕ)) (result : Result ⊤ RunFault)
+    → IsAtEnd after → StepsRun config Explained server reader after first mid (Ok tt)
     → ((config : Config) (history : List PlainEvent) (log : List Act) → StandsFor server config history → IsLogOf config history log
     → IsTakenByWriter mid last result (end_line (clock_at config log)))
-    → IfErr result (λ e. e ≡ Output) → ScriptRuns Explained reader after first last result
-end_explained server reader after first mid last (Ok all) end (read, text, took, put, done) taken is =
+    → IfErr result (λ e. e ≡ Output) → ScriptRuns config Explained reader after first last result
+end_explained config server reader after first mid last (Ok all) end (read, text, took, put, done) taken is =
     let (events, history, script, prints, stands) = done in (
       read,
-      text ++ end_line (clock_at set_up stands.log),
+      text ++ end_line (clock_at config stands.log),
       took,
-      appends_then first mid last text _ put (taken set_up history stands.log stands stands.is_log),
+      appends_then first mid last text _ put (taken config history stands.log stands stands.is_log),
       (text, _, (events, history, stands.log, script, prints, stands.is_log, refl), refl),
     )
-end_explained server reader after first mid last (Err e) end (read, text, took, put, done) taken is =
+end_explained config server reader after first mid last (Err e) end (read, text, took, put, done) taken is =
     let (events, history, script, prints, stands) = done in
-    let (part, front, more) = taken set_up history stands.log stands stands.is_log in (
+    let (part, front, more) = taken config history stands.log stands stands.is_log in (
       read,
       text ++ part,
       took,
       appends_then first mid last text part put more,
-      subst (λ (f : RunFault). RunsExplained read after (Err f) (text ++ part)) (sym is)
+      subst (λ (f : RunFault). RunsExplained config read after (Err f) (text ++ part)) (sym is)
           (inr (text, _, part, (events, history, stands.log, script, prints, stands.is_log, refl), front, end, refl)),
     )
 
 -- behind an answer, the output failed
-instead : (mode : Mode) (read text : List ℕ) (tail : Option (List ℕ)) (answer : Result ⊤ RunFault) → OnOk answer (IsAtEnd tail)
-    → RunsIn mode read tail answer text → RunsIn mode read tail (Err Output) text
-instead Plain read text tail answer end runs = output_instead Plain read text tail answer end runs
-instead Explained read text tail (Ok all) end (front, last, printed, is) =
+instead : (config : Config) (mode : Mode) (read text : List ℕ) (tail : Option (List ℕ)) (answer : Result ⊤ RunFault)
+    → OnOk answer (IsAtEnd tail)
+    → RunsIn config mode read tail answer text → RunsIn config mode read tail (Err Output) text
+instead config Plain read text tail answer end runs = output_instead config Plain read text tail answer end runs
+instead config Explained read text tail (Ok all) end (front, last, printed, is) =
     inr (front, last, last, printed, ([], sym (append-nil last)), end, is)
-instead Explained read text tail (Err (BadLine n)) end runs = inl (output_instead Explained read text tail (Err (BadLine n)) end runs)
-instead Explained read text tail (Err Input) end runs = inl (output_instead Explained read text tail (Err Input) end runs)
-instead Explained read text tail (Err Output) end runs = runs
-instead Explained read text tail (Err Memory) end runs = inl (output_instead Explained read text tail (Err Memory) end runs)
+instead config Explained read text tail (Err (BadLine n)) end runs = inl
+    (output_instead config Explained read text tail (Err (BadLine n)) end runs)
+instead config Explained read text tail (Err Input) end runs = inl (output_instead config Explained read text tail (Err Input) end runs)
+instead config Explained read text tail (Err Output) end runs = runs
+instead config Explained read text tail (Err Memory) end runs = inl (output_instead config Explained read text tail (Err Memory) end runs)
 
 -- what was printed is passed on, and then the answer is told, or the output's fault
-pub run_told : (mode : Mode) (reader after first mid last : Option (List ℕ)) (answer result : Result ⊤ RunFault)
+pub run_told : (config : Config) (mode : Mode) (reader after first mid last : Option (List ℕ)) (answer result : Result ⊤ RunFault)
     → OnOk answer (IsAtEnd after) → (result ≡ answer) ⊎ (result ≡ Err Output) → Keeps mid last
-    → ScriptRuns mode reader after first mid answer → ScriptRuns mode reader after first last result
-run_told mode reader after first mid last answer result end (inl same) kept (read, text, took, put, runs) = (
+    → ScriptRuns config mode reader after first mid answer → ScriptRuns config mode reader after first last result
+run_told config mode reader after first mid last answer result end (inl same) kept (read, text, took, put, runs) = (
   read,
   text,
   took,
   appends_keeps first mid last text put kept,
-  subst (λ (r : Result ⊤ RunFault). RunsIn mode read after r text) (sym same) runs,
+  subst (λ (r : Result ⊤ RunFault). RunsIn config mode read after r text) (sym same) runs,
 )
-run_told mode reader after first mid last answer result end (inr failed) kept (read, text, took, put, runs) = (
+run_told config mode reader after first mid last answer result end (inr failed) kept (read, text, took, put, runs) = (
   read,
   text,
   took,
   appends_keeps first mid last text put kept,
-  subst (λ (r : Result ⊤ RunFault). RunsIn mode read after r text) (sym failed) (instead mode read text after answer end runs),
+  subst (λ (r : Result ⊤ RunFault). RunsIn config mode read after r text) (sym failed)
+      (instead config mode read text after answer end runs),
 )
 
 pub end_told : (after : Option (List ℕ)) (answer result : Result ⊤ RunFault) → OnOk answer (IsAtEnd after)

@@ -1,6 +1,6 @@
 -- What is read from a line of a scenario is what it says.
 use Rattle.std.proofs.Common.{◌≡◌, ◌≢◌, ℕ, true, cond, ltb, List, [], ◌∷◌, ◌++◌, length, Option, Some, None, refl, sym, subst, ap, ◌∙◌, inl, inr}
-use Rattle.std.specs.Prelude.{codes, is_none}
+use Rattle.std.specs.Prelude.{codes, is_none, IfSome}
 use Rattle.std.proofs.lemmas.Bool.{cases_Bool, ltb-true, ltb-false}
 use Rattle.std.proofs.lemmas.Option.{none-some, same_Some, option_and_then_some}
 use Rattle.sv_history.specs.History.{input_refusal}
@@ -22,7 +22,7 @@ none_is None is = refl
 none_is (Some x) is = absurd cc
 
 -- an input that the server accepts is read
-accepted_reads : (text : List ℕ) (stimulus : Stimulus) → SaysEvent text (stimulus_event stimulus) → IsAccepted stimulus
+pub accepted_reads : (text : List ℕ) (stimulus : Stimulus) → SaysEvent text (stimulus_event stimulus) → IsAccepted stimulus
     → stimulus_at text ≡ Some stimulus
 unfolding stimulus_at cut_at lone_stimulus_at worded_stimulus_at accepted_at
 accepted_reads text (Input channel microvolts) is fine =
@@ -60,7 +60,7 @@ cut_takes_stimulus text (Some cut) stimulus cut_is e =
     (λ none. absurd (none-some stimulus none))
 
 -- a stimulus that was read is said
-stimulus_takes : (text : List ℕ) (stimulus : Stimulus) → stimulus_at text ≡ Some stimulus
+pub stimulus_takes : (text : List ℕ) (stimulus : Stimulus) → stimulus_at text ≡ Some stimulus
     → SaysEvent text (stimulus_event stimulus) × IsAccepted stimulus
 unfolding stimulus_at
 stimulus_takes text stimulus e = cut_takes_stimulus text (cut_at text) stimulus refl e
@@ -82,6 +82,12 @@ entry_takes line entry e =
     let takes = short_takes tick cut.0 read in
     let says = stimulus_takes cut.1 stimulus acts in
     subst (SaysEntry line) (same_Some found entry e3) (cut.0, cut.1, takes.0, takes.1, says.0, says.1, cut_takes line cut cut_is))))
+
+-- what a result says
+pub stimulus_found : (text : List ℕ) (result : Option Stimulus) → result ≡ stimulus_at text
+    → IfSome result (λ stimulus. SaysEvent text (stimulus_event stimulus) × IsAccepted stimulus)
+stimulus_found text None is = tt
+stimulus_found text (Some stimulus) is = stimulus_takes text stimulus (sym is)
 
 -- a line says one entry alone
 pub one_entry : (line : List ℕ) (a b : Entry) → SaysEntry line a → SaysEntry line b → a ≡ b

@@ -7,34 +7,35 @@ use Rattle.sv_replay.specs.Line.{Line, Says}
 use Rattle.std.proofs.lemmas.List.{length-append}
 use Rattle.std.specs.Io.KnownBytes.{Appends, IsAtEnd}
 use Rattle.sv_history.specs.Event.{PlainEvent}
+use Rattle.sv_history.specs.declared.event.Config.{Config}
 use Rattle.sv_server.specs.Server.State.{State, StandsFor}
 use Rattle.sv_replay.specs.declared.mode.Mode.{Mode}
 use Rattle.sv_replay.specs.declared.fault.RunFault.{RunFault}
 use Rattle.sv_replay.specs.declared.fault.RunFault.TheVariants.{BadLine, Input, Output, Memory}
 use Rattle.sv_replay.specs.Text.{first_end}
 use Rattle.sv_replay.specs.Script.{parts, events_of, Stops}
-use Rattle.sv_replay.specs.Run.{set_up, run_fault, IsWhole, PrintedUpTo, Runs}
+use Rattle.sv_replay.specs.Run.{run_fault, IsWhole, PrintedUpTo, Runs}
 use Rattle.sv_replay.specs.Stage.{IsStage, IsDone, StopsAt, LineRuns}
 use Rattle.sv_replay.proofs.Parts.{parts_none, parts_more, parts_never}
 use Rattle.sv_replay.proofs.Printed.{script_push, prints_then, stops_then}
 
 -- at the start nothing was read or printed
-pub stage_start : (mode : Mode) (server : State) → StandsFor server set_up [] → IsStage mode server [] 0 [] []
-stage_start mode server s = ([], [], [], refl, refl, refl, (refl, refl), s)
+pub stage_start : (config : Config) (mode : Mode) (server : State) → StandsFor server config [] → IsStage config mode server [] 0 [] []
+stage_start config mode server s = ([], [], [], refl, refl, refl, (refl, refl), s)
 
 -- what a line does, for each history
-abbrev pub LineDone : Mode → State → State → List ℕ → ℕ → Result ⊤ RunFault → Option (List ℕ) → Option (List ℕ) → Type 0
-LineDone mode old new line number result first last = (history : List PlainEvent) → StandsFor old set_up history
-    → (text : List ℕ) × (after : List PlainEvent) × LineRuns mode line number history result text after
-    × StandsFor new set_up after × Appends first last text
+abbrev pub LineDone : Config → Mode → State → State → List ℕ → ℕ → Result ⊤ RunFault → Option (List ℕ) → Option (List ℕ) → Type 0
+LineDone config mode old new line number result first last = (history : List PlainEvent) → StandsFor old config history
+    → (text : List ℕ) × (after : List PlainEvent) × LineRuns config mode line number history result text after
+    × StandsFor new config after × Appends first last text
 
 -- a line was done
-pub stage_line : (mode : Mode) (old new : State) (left rest line : List ℕ) (number next : ℕ) (read text : List ℕ) (first last : Option
-    (List ℕ))
+pub stage_line : (config : Config) (mode : Mode) (old new : State) (left rest line : List ℕ) (number next : ℕ) (read text : List ℕ)
+    (first last : Option (List ℕ))
     → parts left ≡ line ∷ parts rest → next ≡ number + 1
-    → IsStage mode old left number read text → LineDone mode old new line next (Ok tt) first last
-    → (other : List ℕ) × Appends first last other × IsStage mode new rest next read (text ++ other)
-stage_line mode old new left rest line number next read text first last cut up
+    → IsStage config mode old left number read text → LineDone config mode old new line next (Ok tt) first last
+    → (other : List ℕ) × Appends first last other × IsStage config mode new rest next read (text ++ other)
+stage_line config mode old new left rest line number next read text first last cut up
     (lines, events, history, is, count, script, prints, stands) does =
     let (other, after, (said, short, says, more), now, put) = does history stands in (
       other,
@@ -46,17 +47,18 @@ stage_line mode old new left rest line number next read text first last cut up
         is ∙ ap (λ (ps : List (List ℕ)). lines ++ ps) cut ∙ sym (append_assoc lines (line ∷ []) (parts rest)),
         omega (arith, length-append lines (line ∷ [])),
         script_push 1 lines events line next said (omega (arith, up, count)) script short says,
-        prints_then mode set_up [] events (events_of next said) text other history after prints more,
+        prints_then mode config [] events (events_of next said) text other history after prints more,
         now,
       ),
     )
 
 -- the last line was done
-pub stage_last : (mode : Mode) (old new : State) (left line : List ℕ) (number next : ℕ) (read text : List ℕ) (first last : Option (List ℕ))
+pub stage_last : (config : Config) (mode : Mode) (old new : State) (left line : List ℕ) (number next : ℕ) (read text : List ℕ)
+    (first last : Option (List ℕ))
     → parts left ≡ line ∷ [] → next ≡ number + 1
-    → IsStage mode old left number read text → LineDone mode old new line next (Ok tt) first last
-    → (other : List ℕ) × Appends first last other × IsDone mode new read (text ++ other)
-stage_last mode old new left line number next read text first last cut up
+    → IsStage config mode old left number read text → LineDone config mode old new line next (Ok tt) first last
+    → (other : List ℕ) × Appends first last other × IsDone config mode new read (text ++ other)
+stage_last config mode old new left line number next read text first last cut up
     (lines, events, history, is, count, script, prints, stands) does =
     let (other, after, (said, short, says, more), now, put) = does history stands in (
       other,
@@ -65,20 +67,21 @@ stage_last mode old new left line number next read text first last cut up
         events ++ events_of next said,
         after,
         rw (is, cut) (script_push 1 lines events line next said (omega (arith, up, count)) script short says),
-        prints_then mode set_up [] events (events_of next said) text other history after prints more,
+        prints_then mode config [] events (events_of next said) text other history after prints more,
         now,
       ),
     )
 
 -- the replay stopped at one of a line's events
-line_short : (mode : Mode) (old new : State) (left line : List ℕ) (behind : List (List ℕ)) (number next : ℕ) (fault : ReplayFault)
+line_short : (config : Config) (mode : Mode) (old new : State) (left line : List ℕ) (behind : List (List ℕ)) (number next : ℕ)
+    (fault : ReplayFault)
     (read text : List ℕ) (tail first last : Option (List ℕ)) → parts left ≡ line ∷ behind → next ≡ number + 1 → IsWhole behind tail
-    → IsStage mode old left number read text
-    → ((history : List PlainEvent) → StandsFor old set_up history → (other : List ℕ) × (after : List PlainEvent)
-    × StopsAt mode line next history fault other after × StandsFor new set_up after × Appends first last other)
+    → IsStage config mode old left number read text
+    → ((history : List PlainEvent) → StandsFor old config history → (other : List ℕ) × (after : List PlainEvent)
+    × StopsAt config mode line next history fault other after × StandsFor new config after × Appends first last other)
     → (other : List ℕ) × Appends first last other × ((lines others : List (List ℕ)) × (parts read ≡ lines ++ others)
-    × IsWhole others tail × PrintedUpTo mode lines fault (text ++ other))
-line_short mode old new left line behind number next fault read text tail first last cut up whole
+    × IsWhole others tail × PrintedUpTo config mode lines fault (text ++ other))
+line_short config mode old new left line behind number next fault read text tail first last cut up whole
     (lines, events, history, is, count, script, prints, stands) does =
     let (other, after, (said, short, says, stops), now, put) = does history stands in (
       other,
@@ -92,19 +95,20 @@ line_short mode old new left line behind number next fault read text tail first 
           events ++ events_of next said,
           after,
           script_push 1 lines events line next said (omega (arith, up, count)) script short says,
-          stops_then mode set_up [] events (events_of next said) fault text other history after prints stops,
+          stops_then mode config [] events (events_of next said) fault text other history after prints stops,
         ),
       ),
     )
 
 -- a line stopped the run
-pub stage_stop : (mode : Mode) (old new : State) (left line : List ℕ) (behind : List (List ℕ)) (number next : ℕ) (fault : RunFault)
+pub stage_stop : (config : Config) (mode : Mode) (old new : State) (left line : List ℕ) (behind : List (List ℕ)) (number next : ℕ)
+    (fault : RunFault)
     (read text : List ℕ)
     (tail first last : Option (List ℕ)) → parts left ≡ line ∷ behind
-    → next ≡ number + 1 → IsWhole behind tail → IsStage mode old left number read text
-    → LineDone mode old new line next (Err fault) first last
-    → (other : List ℕ) × Appends first last other × Runs mode read tail (Err fault) (text ++ other)
-stage_stop mode old new left line behind number next (BadLine n) read text tail first last cut up whole (
+    → next ≡ number + 1 → IsWhole behind tail → IsStage config mode old left number read text
+    → LineDone config mode old new line next (Err fault) first last
+    → (other : List ℕ) × Appends first last other × Runs config mode read tail (Err fault) (text ++ other)
+stage_stop config mode old new left line behind number next (BadLine n) read text tail first last cut up whole (
   lines,
   events,
   history,
@@ -128,7 +132,7 @@ stage_stop mode old new left line behind number next (BadLine n) read text tail 
         (events, history, script, rw (none, append-nil text) prints),
       ),
     )
-stage_stop mode old new left line behind number next Input read text tail first last cut up whole (
+stage_stop config mode old new left line behind number next Input read text tail first last cut up whole (
   lines,
   events,
   history,
@@ -139,28 +143,29 @@ stage_stop mode old new left line behind number next Input read text tail first 
   stands,
 ) does =
     let (other, after, impossible, now, put) = does history stands in elim impossible [ ]
-stage_stop mode old new left line behind number next Output read text tail first last cut up whole stage does =
+stage_stop config mode old new left line behind number next Output read text tail first last cut up whole stage does =
     let (other, put, (lines, others, is, all, stops)) =
-    line_short mode old new left line behind number next Write read text tail first last cut up whole stage does in
+    line_short config mode old new left line behind number next Write read text tail first last cut up whole stage does in
     (other, put, (lines, others, is, all, inr (Write, stops)))
-stage_stop mode old new left line behind number next Memory read text tail first last cut up whole stage does =
+stage_stop config mode old new left line behind number next Memory read text tail first last cut up whole stage does =
     let (other, put, stops) =
-    line_short mode old new left line behind number next NoMemory read text tail first last cut up whole stage does in
+    line_short config mode old new left line behind number next NoMemory read text tail first last cut up whole stage does in
     (other, put, inr stops)
 
 -- more was read
-pub stage_read : (mode : Mode) (server : State) (left : List ℕ) (number : ℕ) (read text more : List ℕ)
-    → IsStage mode server left number read text
-    → IsStage mode server (left ++ more) number (read ++ more) text
-stage_read mode server left number read text more (lines, events, history, is, count, script, prints, stands) =
+pub stage_read : (config : Config) (mode : Mode) (server : State) (left : List ℕ) (number : ℕ) (read text more : List ℕ)
+    → IsStage config mode server left number read text
+    → IsStage config mode server (left ++ more) number (read ++ more) text
+stage_read config mode server left number read text more (lines, events, history, is, count, script, prints, stands) =
     (lines, events, history, parts_more read left more lines is, count, script, prints, stands)
 
 -- a line that is too long
-pub stage_long : (mode : Mode) (server : State) (left : List ℕ) (number next : ℕ) (read text : List ℕ) (tail : Option (List ℕ))
+pub stage_long : (config : Config) (mode : Mode) (server : State) (left : List ℕ) (number next : ℕ) (read text : List ℕ)
+    (tail : Option (List ℕ))
     → first_end left ≡ None
-    → 65536 < length left → next ≡ number + 1 → IsStage mode server left number read text
-    → Runs mode read tail (Err (BadLine next)) text
-stage_long mode server left number next read text tail none long up (lines, events, history, is, count, script, prints, stands) = (
+    → 65536 < length left → next ≡ number + 1 → IsStage config mode server left number read text
+    → Runs config mode read tail (Err (BadLine next)) text
+stage_long config mode server left number next read text tail none long up (lines, events, history, is, count, script, prints, stands) = (
   lines,
   [],
   left,
@@ -172,38 +177,43 @@ stage_long mode server left number next read text tail none long up (lines, even
 )
 
 -- the writer failed
-pub stage_output : (mode : Mode) (server : State) (left : List ℕ) (number : ℕ) (read text : List ℕ) (tail : Option (List ℕ))
-    → IsStage mode server left number read text → Runs mode read tail (Err Output) text
-stage_output mode server left number read text tail (lines, events, history, is, count, script, prints, stands) =
+pub stage_output : (config : Config) (mode : Mode) (server : State) (left : List ℕ) (number : ℕ) (read text : List ℕ)
+    (tail : Option (List ℕ))
+    → IsStage config mode server left number read text → Runs config mode read tail (Err Output) text
+stage_output config mode server left number read text tail (lines, events, history, is, count, script, prints, stands) =
     (lines, parts left, is, inl (parts_never left), inl (events, history, script, prints))
 
 -- and behind an answer
-pub output_instead : (mode : Mode) (read text : List ℕ) (tail : Option (List ℕ)) (answer : Result ⊤ RunFault) → OnOk answer (IsAtEnd tail)
-    → Runs mode read tail answer text → Runs mode read tail (Err Output) text
-output_instead mode read text tail (Ok all) end printed = (parts read, [], sym (append-nil (parts read)), inr end, inl printed)
-output_instead mode read text tail (Err (BadLine n)) end (lines, behind, line, is, count, bad, whole, printed) =
+pub output_instead : (config : Config) (mode : Mode) (read text : List ℕ) (tail : Option (List ℕ)) (answer : Result ⊤ RunFault)
+    → OnOk answer (IsAtEnd tail)
+    → Runs config mode read tail answer text → Runs config mode read tail (Err Output) text
+output_instead config mode read text tail (Ok all) end printed = (parts read, [], sym (append-nil (parts read)), inr end, inl printed)
+output_instead config mode read text tail (Err (BadLine n)) end (lines, behind, line, is, count, bad, whole, printed) =
     (lines, line ∷ behind, is, inl (λ none. absurd cc), inl printed)
-output_instead mode read text tail (Err Input) end (lines, last, is, printed) = (lines, last ∷ [], is, inl (λ none. absurd cc), inl printed)
-output_instead mode read text tail (Err Output) end runs = runs
-output_instead mode read text tail (Err Memory) end (inl (nothing, unsaid)) =
+output_instead config mode read text tail (Err Input) end (lines, last, is, printed) =
+    (lines, last ∷ [], is, inl (λ none. absurd cc), inl printed)
+output_instead config mode read text tail (Err Output) end runs = runs
+output_instead config mode read text tail (Err Memory) end (inl (nothing, unsaid)) =
     ([], parts read, refl, inl (parts_never read), inl ([], [], refl, (unsaid, refl)))
-output_instead mode read text tail (Err Memory) end (inr (lines, behind, is, whole, stops)) =
+output_instead config mode read text tail (Err Memory) end (inr (lines, behind, is, whole, stops)) =
     (lines, behind, is, whole, inr (NoMemory, stops))
 
 -- the reader failed
-pub stage_input : (mode : Mode) (server : State) (left : List ℕ) (number : ℕ) (read text : List ℕ) (tail : Option (List ℕ))
+pub stage_input : (config : Config) (mode : Mode) (server : State) (left : List ℕ) (number : ℕ) (read text : List ℕ)
+    (tail : Option (List ℕ))
     → first_end left ≡ None
-    → IsStage mode server left number read text → Runs mode read tail (Err Input) text
-stage_input mode server left number read text tail none (lines, events, history, is, count, script, prints, stands) =
+    → IsStage config mode server left number read text → Runs config mode read tail (Err Input) text
+stage_input config mode server left number read text tail none (lines, events, history, is, count, script, prints, stands) =
     (lines, left, is ∙ ap (λ (ps : List (List ℕ)). lines ++ ps) (parts_none left none), (events, history, script, prints))
 
 -- a replay's fault is told as the run's
-pub line_stops : (mode : Mode) (line : List ℕ) (number : ℕ) (history : List PlainEvent) (said : Line) (fault : ReplayFault)
+pub line_stops : (config : Config) (mode : Mode) (line : List ℕ) (number : ℕ) (history : List PlainEvent) (said : Line)
+    (fault : ReplayFault)
     (result : Result ⊤ RunFault)
     (text : List ℕ) (after : List PlainEvent) → length line ≤ 65536
     → Says line said → IsErr result → IsErrAnd result (λ e. e ≡ run_fault fault)
-    → Stops mode set_up history (events_of number said) fault text after
-    → LineRuns mode line number history result text after
-line_stops mode line number history said fault (Ok all) text after short says failed is stops = absurd cc
-line_stops mode line number history said NoMemory (Err e) text after short says failed is stops = rw is (said, short, says, stops)
-line_stops mode line number history said Write (Err e) text after short says failed is stops = rw is (said, short, says, stops)
+    → Stops mode config history (events_of number said) fault text after
+    → LineRuns config mode line number history result text after
+line_stops config mode line number history said fault (Ok all) text after short says failed is stops = absurd cc
+line_stops config mode line number history said NoMemory (Err e) text after short says failed is stops = rw is (said, short, says, stops)
+line_stops config mode line number history said Write (Err e) text after short says failed is stops = rw is (said, short, says, stops)

@@ -1,5 +1,6 @@
 -- Laws of lines, scenarios and runs.
 use Rattle.std.specs.Prelude.{◌≡◌, ℕ, List, Option, Result, ⊤}
+use Rattle.sv_history.specs.declared.event.Config.{Config}
 use Rattle.sv_replay.specs.declared.entry.Entry.{Entry}
 use Rattle.sv_replay.specs.declared.fault.RunFault.{RunFault}
 use Rattle.sv_replay.specs.declared.mode.Mode.TheVariants.{Plain}
@@ -25,5 +26,5 @@ ToldInOrder = (text : List ℕ) (entries : List Entry) → Tells 0 (parts text) 
 -- What an explained run prints, without the lines that begin with `@`, `-` or `=`, is what a replay prints for the same text. So it is for
 -- every result, also if the writer fails within a line.
 abbrev pub IsFiltered : Type 0
-IsFiltered = (read : List ℕ) (rest : Option (List ℕ)) (result : Result ⊤ RunFault) (text : List ℕ)
-    → RunsExplained read rest result text → Runs Plain read rest result (filtered text)
+IsFiltered = (config : Config) (read : List ℕ) (rest : Option (List ℕ)) (result : Result ⊤ RunFault) (text : List ℕ)
+    → RunsExplained config read rest result text → Runs config Plain read rest result (filtered text)

@@ -14,6 +14,7 @@ use Rattle.sv_replay.specs.declared.fault.RunFault.{RunFault}
 use Rattle.sv_replay.specs.declared.fault.RunFault.TheVariants.{BadLine, Input, Output, Memory}
 use Rattle.sv_replay.specs.declared.mode.Mode.{Mode}
 use Rattle.sv_replay.specs.declared.mode.Mode.TheVariants.{Explained}
+use Rattle.sv_replay.specs.declared.ports.Ports.{Ports}
 use Rattle.sv_replay.specs.Script.{ScriptEvent, parts, IsScript, IsBad, Prints, Stops}
 
 -- the fault of a run, if the run stops because the replay of one event ended with this
@@ -22,19 +23,20 @@ abbrev pub run_fault : ReplayFault → RunFault
 run_fault NoMemory = Memory
 run_fault Write = Output
 
--- the configuration of the server to which a run applies its events
-abbrev pub set_up : Config
-set_up = record { core = 4096; abort = 4097; clock = 0 }
+-- the configuration of a new server with these ports: its clock starts at 0
+abbrev pub config_of : Ports → Config
+config_of ports = record { core = ports.core; abort = ports.abort; clock = 0 }
 
--- The text is what is printed on a new server for the events of these lines, which are numbered from 1.
-abbrev pub Printed : Mode → List (List ℕ) → List ℕ → Type 0
-Printed mode lines text =
-    (events : List ScriptEvent) × (after : List PlainEvent) × IsScript 1 lines events × Prints mode set_up [] events text after
+-- The text is what is printed on a new server of this configuration for the events of these lines, which are numbered from 1.
+abbrev pub Printed : Config → Mode → List (List ℕ) → List ℕ → Type 0
+Printed config mode lines text =
+    (events : List ScriptEvent) × (after : List PlainEvent) × IsScript 1 lines events × Prints mode config [] events text after
 
--- The text is what is printed on a new server for the events of these lines, up to an event at which the replay stops with this fault.
-abbrev pub PrintedUpTo : Mode → List (List ℕ) → ReplayFault → List ℕ → Type 0
-PrintedUpTo mode lines fault text =
-    (events : List ScriptEvent) × (after : List PlainEvent) × IsScript 1 lines events × Stops mode set_up [] events fault text after
+-- The text is what is printed on a new server of this configuration for the events of these lines, up to an event at which the replay
+-- stops with this fault.
+abbrev pub PrintedUpTo : Config → Mode → List (List ℕ) → ReplayFault → List ℕ → Type 0
+PrintedUpTo config mode lines fault text =
+    (events : List ScriptEvent) × (after : List PlainEvent) × IsScript 1 lines events × Stops mode config [] events fault text after
 
 -- A line is complete: either lines follow it, or the reader is at its end.
 abbrev pub IsWhole : List (List ℕ) → Option (List ℕ) → Type 0
@@ -44,28 +46,28 @@ IsWhole behind rest = (behind ≢ []) ⊎ IsAtEnd rest
 -- the reader failed: the output for all complete lines. If memory was refused or the writer failed: the output for some lines from the
 -- beginning of the text, perhaps for none; the output for the last of these lines can be incomplete. The writer can also fail after another
 -- fault has stopped the run.
-abbrev pub Runs : Mode → List ℕ → Option (List ℕ) → Result ⊤ RunFault → List ℕ → Type 0
-Runs mode read rest (Ok all) text = Printed mode (parts read) text
-Runs mode read rest (Err (BadLine n)) text = (lines behind : List (List ℕ)) × (line : List ℕ) × (parts read ≡ lines ++ line ∷ behind)
+abbrev pub Runs : Config → Mode → List ℕ → Option (List ℕ) → Result ⊤ RunFault → List ℕ → Type 0
+Runs config mode read rest (Ok all) text = Printed config mode (parts read) text
+Runs config mode read rest (Err (BadLine n)) text = (lines behind : List (List ℕ)) × (line : List ℕ) × (parts read ≡ lines ++ line ∷ behind)
     × (n ≡ length lines + 1) × IsBad line
-    × (IsWhole behind rest ⊎ (65536 < length line)) × Printed mode lines text
-Runs mode read rest (Err Input) text =
-    (lines : List (List ℕ)) × (last : List ℕ) × (parts read ≡ lines ++ last ∷ []) × Printed mode lines text
-Runs mode read rest (Err Output) text = (lines behind : List (List ℕ)) × (parts read ≡ lines ++ behind) × IsWhole behind rest
-    × (Printed mode lines text ⊎ ((fault : ReplayFault) × PrintedUpTo mode lines fault text))
-Runs mode read rest (Err Memory) text = ((read ≡ []) × (text ≡ []))
-    ⊎ ((lines behind : List (List ℕ)) × (parts read ≡ lines ++ behind) × IsWhole behind rest × PrintedUpTo mode lines NoMemory text)
+    × (IsWhole behind rest ⊎ (65536 < length line)) × Printed config mode lines text
+Runs config mode read rest (Err Input) text =
+    (lines : List (List ℕ)) × (last : List ℕ) × (parts read ≡ lines ++ last ∷ []) × Printed config mode lines text
+Runs config mode read rest (Err Output) text = (lines behind : List (List ℕ)) × (parts read ≡ lines ++ behind) × IsWhole behind rest
+    × (Printed config mode lines text ⊎ ((fault : ReplayFault) × PrintedUpTo config mode lines fault text))
+Runs config mode read rest (Err Memory) text = ((read ≡ []) × (text ≡ []))
+    ⊎ ((lines behind : List (List ℕ)) × (parts read ≡ lines ++ behind) × IsWhole behind rest × PrintedUpTo config mode lines NoMemory text)
 
 -- An explained replay on a new server prints the text `front` for the events of these lines, and `last` is the line with the clock after
 -- all of them.
-abbrev pub PrintedToEnd : List (List ℕ) → List ℕ → List ℕ → Type 0
-PrintedToEnd lines front last = (events : List ScriptEvent) × (after : List PlainEvent) × (log : List Act) × IsScript 1 lines events
-    × Prints Explained set_up [] events front after × IsLogOf set_up after log × (last ≡ end_line (clock_at set_up log))
+abbrev pub PrintedToEnd : Config → List (List ℕ) → List ℕ → List ℕ → Type 0
+PrintedToEnd config lines front last = (events : List ScriptEvent) × (after : List PlainEvent) × (log : List Act) × IsScript 1 lines events
+    × Prints Explained config [] events front after × IsLogOf config after log × (last ≡ end_line (clock_at config log))
 
 -- What an explained run prints for the text that it read. On success: the output for all lines, and then the line with the clock. If the
 -- writer fails in that line: the output for all lines, and then a prefix of that line. Else what `Runs` says.
-abbrev pub RunsExplained : List ℕ → Option (List ℕ) → Result ⊤ RunFault → List ℕ → Type 0
-RunsExplained read rest (Ok all) text = (front last : List ℕ) × PrintedToEnd (parts read) front last × (text ≡ front ++ last)
-RunsExplained read rest (Err Output) text = Runs Explained read rest (Err Output) text
-    ⊎ ((front last part : List ℕ) × PrintedToEnd (parts read) front last × IsFront part last × IsAtEnd rest × (text ≡ front ++ part))
-RunsExplained read rest (Err fault) text = Runs Explained read rest (Err fault) text
+abbrev pub RunsExplained : Config → List ℕ → Option (List ℕ) → Result ⊤ RunFault → List ℕ → Type 0
+RunsExplained config read rest (Ok all) text = (front last : List ℕ) × PrintedToEnd config (parts read) front last × (text ≡ front ++ last)
+RunsExplained config read rest (Err Output) text = Runs config Explained read rest (Err Output) text
+    ⊎ ((front last part : List ℕ) × PrintedToEnd config (parts read) front last × IsFront part last × IsAtEnd rest × (text ≡ front ++ part))
+RunsExplained config read rest (Err fault) text = Runs config Explained read rest (Err fault) text

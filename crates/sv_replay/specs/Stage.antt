@@ -3,6 +3,7 @@ use Rattle.std.specs.Prelude.{◌≡◌, ℕ, ◌+◌, ◌*◌, ◌≤◌, List,
 use Rattle.std.specs.Io.KnownBytes.{Consumes, Appends, IsAtEnd}
 use Rattle.sv_server.specs.declared.replay.ReplayFault.{ReplayFault}
 use Rattle.sv_server.specs.declared.replay.ReplayFault.TheVariants.{NoMemory, Write}
+use Rattle.sv_history.specs.declared.event.Config.{Config}
 use Rattle.sv_history.specs.Event.{PlainEvent}
 use Rattle.sv_server.specs.Server.State.{State, StandsFor}
 use Rattle.sv_replay.specs.declared.mode.Mode.{Mode}
@@ -12,41 +13,41 @@ use Rattle.sv_replay.specs.declared.fault.RunFault.{RunFault}
 use Rattle.sv_replay.specs.declared.fault.RunFault.TheVariants.{BadLine, Input, Output, Memory}
 use Rattle.sv_replay.specs.Line.{Line, Says}
 use Rattle.sv_replay.specs.Script.{ScriptEvent, parts, events_of, IsScript, IsBad, Prints, Stops}
-use Rattle.sv_replay.specs.Run.{set_up, Runs, RunsExplained}
+use Rattle.sv_replay.specs.Run.{Runs, RunsExplained}
 
 -- The first `number` lines of the text that was read are executed, and all that they print was written. `left` is the text after these
 -- lines.
-abbrev pub IsStage : Mode → State → List ℕ → ℕ → List ℕ → List ℕ → Type 0
-IsStage mode server left number read text = (lines : List (List ℕ)) × (events : List ScriptEvent) × (history : List PlainEvent)
+abbrev pub IsStage : Config → Mode → State → List ℕ → ℕ → List ℕ → List ℕ → Type 0
+IsStage config mode server left number read text = (lines : List (List ℕ)) × (events : List ScriptEvent) × (history : List PlainEvent)
     × (parts read ≡ lines ++ parts left) × (number ≡ length lines) × IsScript 1 lines events
-    × Prints mode set_up [] events text history × StandsFor server set_up history
+    × Prints mode config [] events text history × StandsFor server config history
 
 -- All lines of the text that was read are executed, and all that they print was written.
-abbrev pub IsDone : Mode → State → List ℕ → List ℕ → Type 0
-IsDone mode server read text = (events : List ScriptEvent) × (history : List PlainEvent) × IsScript 1 (parts read) events
-    × Prints mode set_up [] events text history × StandsFor server set_up history
+abbrev pub IsDone : Config → Mode → State → List ℕ → List ℕ → Type 0
+IsDone config mode server read text = (events : List ScriptEvent) × (history : List PlainEvent) × IsScript 1 (parts read) events
+    × Prints mode config [] events text history × StandsFor server config history
 
 -- The line is a valid line of a script, and the replay stops with this fault at one of the events that the line describes. `number` is the
 -- number of the line.
-abbrev pub StopsAt : Mode → List ℕ → ℕ → List PlainEvent → ReplayFault → List ℕ → List PlainEvent → Type 0
-StopsAt mode line number history fault text after = (said : Line) × (length line ≤ 65536) × Says line said
-    × Stops mode set_up history (events_of number said) fault text after
+abbrev pub StopsAt : Config → Mode → List ℕ → ℕ → List PlainEvent → ReplayFault → List ℕ → List PlainEvent → Type 0
+StopsAt config mode line number history fault text after = (said : Line) × (length line ≤ 65536) × Says line said
+    × Stops mode config history (events_of number said) fault text after
 
 -- What a line of a script does to the server's history, and what is printed for the line. `number` is the number of the line.
-abbrev pub LineRuns : Mode → List ℕ → ℕ → List PlainEvent → Result ⊤ RunFault → List ℕ → List PlainEvent → Type 0
-LineRuns mode line number history (Ok all) text after =
-    (said : Line) × (length line ≤ 65536) × Says line said × Prints mode set_up history (events_of number said) text after
-LineRuns mode line number history (Err (BadLine n)) text after = (n ≡ number) × IsBad line × (text ≡ [])
-LineRuns mode line number history (Err Input) text after = ⊥
-LineRuns mode line number history (Err Output) text after = StopsAt mode line number history Write text after
-LineRuns mode line number history (Err Memory) text after = StopsAt mode line number history NoMemory text after
+abbrev pub LineRuns : Config → Mode → List ℕ → ℕ → List PlainEvent → Result ⊤ RunFault → List ℕ → List PlainEvent → Type 0
+LineRuns config mode line number history (Ok all) text after =
+    (said : Line) × (length line ≤ 65536) × Says line said × Prints mode config history (events_of number said) text after
+LineRuns config mode line number history (Err (BadLine n)) text after = (n ≡ number) × IsBad line × (text ≡ [])
+LineRuns config mode line number history (Err Input) text after = ⊥
+LineRuns config mode line number history (Err Output) text after = StopsAt config mode line number history Write text after
+LineRuns config mode line number history (Err Memory) text after = StopsAt config mode line number history NoMemory text after
     -- What holds after a step of a replay's run: the run goes on; or it is done, because all lines are executed and the reader is at its
 
 -- end; or it stops with a fault.
-abbrev pub Goes : Mode → State → List ℕ → ℕ → Option (List ℕ) → Result Bool RunFault → List ℕ → List ℕ → Type 0
-Goes mode server left number rest (Ok true) read text = IsStage mode server left number read text
-Goes mode server left number rest (Ok false) read text = IsAtEnd rest × IsDone mode server read text
-Goes mode server left number rest (Err fault) read text = Runs mode read rest (Err fault) text
+abbrev pub Goes : Config → Mode → State → List ℕ → ℕ → Option (List ℕ) → Result Bool RunFault → List ℕ → List ℕ → Type 0
+Goes config mode server left number rest (Ok true) read text = IsStage config mode server left number read text
+Goes config mode server left number rest (Ok false) read text = IsAtEnd rest × IsDone config mode server read text
+Goes config mode server left number rest (Err fault) read text = Runs config mode read rest (Err fault) text
 
 -- If the step returned that the run goes on, `fact` holds.
 abbrev pub WhileGoing : {E : Type 0} → Result Bool E → Type 0 → Type 0
@@ -63,9 +64,9 @@ Further reader after first last was becomes = (read text : List ℕ) → was rea
 -- A step of the run leads from `old` to `new`, reads the bytes between `reader` and `after`, and prints those between `first` and `last`.
 abbrev pub Moves : {A : Type 0} → Run A → Run A → Option (List ℕ) → Option (List ℕ) → Option (List ℕ) → Option (List ℕ)
     → Result Bool RunFault → Type 0
-Moves old new reader after first last result =
-    Further reader after first last (IsStage old.mode old.server old.text.text old.lines)
-    (Goes old.mode new.server new.text.text new.lines after result)
+Moves old new reader after first last result = (config : Config)
+    → Further reader after first last (IsStage config old.mode old.server old.text.text old.lines)
+    (Goes config old.mode new.server new.text.text new.lines after result)
 
 -- The progress of a step after which the run goes on, in the same mode. The step executes one line, or makes one read. The step preserves
 -- two bounds: the number of executed lines plus the number of stored bytes is at most 131,072 times the number of reads; and at most
@@ -77,23 +78,24 @@ pub record Progress {A : Type 0} (old new : Run A) : Type 0 where
   pub few : old.text.reads ≤ 4294967294 → new.text.reads ≤ 4294967294
 
 -- What holds after all steps of a run: all lines are executed, or the run stops with a fault.
-abbrev pub Ends : Mode → State → List ℕ → Option (List ℕ) → Result ⊤ RunFault → List ℕ → Type 0
-Ends mode server read rest (Ok all) text = IsDone mode server read text
-Ends mode server read rest (Err fault) text = Runs mode read rest (Err fault) text
+abbrev pub Ends : Config → Mode → State → List ℕ → Option (List ℕ) → Result ⊤ RunFault → List ℕ → Type 0
+Ends config mode server read rest (Ok all) text = IsDone config mode server read text
+Ends config mode server read rest (Err fault) text = Runs config mode read rest (Err fault) text
 
 -- The steps of a run read the bytes between `reader` and `after`, and print those between `first` and `last`. `server` is the server after
 -- them.
-abbrev pub StepsRun : Mode → State → Option (List ℕ) → Option (List ℕ) → Option (List ℕ) → Option (List ℕ) → Result ⊤ RunFault → Type 0
-StepsRun mode server reader after first last result =
-    (read text : List ℕ) × Consumes reader after read × Appends first last text × Ends mode server read after result text
+abbrev pub StepsRun : Config → Mode → State → Option (List ℕ) → Option (List ℕ) → Option (List ℕ) → Option (List ℕ) → Result ⊤ RunFault
+    → Type 0
+StepsRun config mode server reader after first last result =
+    (read text : List ℕ) × Consumes reader after read × Appends first last text × Ends config mode server read after result text
 
 -- what a run prints for the text that it read, in each mode
-abbrev pub RunsIn : Mode → List ℕ → Option (List ℕ) → Result ⊤ RunFault → List ℕ → Type 0
-RunsIn Plain read rest result text = Runs Plain read rest result text
-RunsIn Explained read rest result text = RunsExplained read rest result text
+abbrev pub RunsIn : Config → Mode → List ℕ → Option (List ℕ) → Result ⊤ RunFault → List ℕ → Type 0
+RunsIn config Plain read rest result text = Runs config Plain read rest result text
+RunsIn config Explained read rest result text = RunsExplained config read rest result text
 
 -- A run from the first line of a script to its end, or to a fault, reads the bytes between `reader` and `after`, and prints those between
 -- `first` and `last`.
-abbrev pub ScriptRuns : Mode → Option (List ℕ) → Option (List ℕ) → Option (List ℕ) → Option (List ℕ) → Result ⊤ RunFault → Type 0
-ScriptRuns mode reader after first last result =
-    (read text : List ℕ) × Consumes reader after read × Appends first last text × RunsIn mode read after result text
+abbrev pub ScriptRuns : Config → Mode → Option (List ℕ) → Option (List ℕ) → Option (List ℕ) → Option (List ℕ) → Result ⊤ RunFault → Type 0
+ScriptRuns config mode reader after first last result =
+    (read text : List ℕ) × Consumes reader after read × Appends first last text × RunsIn config mode read after result text

@@ -1,8 +1,9 @@
 //! The entries of a scenario: what happens to a server, and when.
 
-ghost use Rattle.std.specs.Prelude.{◌≡◌};
+ghost use Rattle.std.specs.Prelude.{◌≡◌, Some, IfSome};
 ghost use Rattle.sv_history.specs.Event.{plain};
-ghost use Rattle.sv_replay.specs.Entry.{stimulus_event};
+ghost use Rattle.sv_replay.specs.Entry.{stimulus_event, IsAccepted};
+ghost use Rattle.sv_replay.specs.Line.{SaysEvent};
 ghost use Rattle.sv_replay.specs.EntryReading.{accepted_at, lone_stimulus_at, worded_stimulus_at, stimulus_at, entry_at, entry_from};
 
 use crate::line::{cut, numbered};
@@ -50,6 +51,19 @@ impl Stimulus {
             Stimulus::External => Event::External,
         }
     }
+}
+
+/// Reads a line as a stimulus, written like an event of a replay: an `input` or an `external`.
+/// `None` if the line is anything else, or the server doesn't accept the stimulus.
+pub fn read_stimulus(line: &[u8]) -> Option<Stimulus>
+    // The line says the stimulus that was read, and the server accepts it.
+    ensures found { IfSome result (λ stimulus. SaysEvent line.now (stimulus_event stimulus)
+        × IsAccepted stimulus) }
+    // If the line says a stimulus that the server accepts, the result is that stimulus.
+    ensures only { (stimulus : Stimulus) → SaysEvent line.now (stimulus_event stimulus)
+        → IsAccepted stimulus → result ≡ Some stimulus }
+{
+    stimulus_of(line)
 }
 
 /// Reads a line as an entry. `None` if the line has more than 65,536 bytes, isn't an entry, or has

@@ -12,15 +12,17 @@ mod line;
 mod mode;
 mod number;
 mod perform;
+mod ports;
 mod run;
 mod run_state;
 mod scenario;
 mod text;
 
-pub use entry::{Entry, Stimulus};
+pub use entry::{Entry, Stimulus, read_stimulus};
 pub use fault::RunFault;
 pub use input::{InputFault, Source};
 pub use line::{Line, read_line};
 pub use mode::Mode;
+pub use ports::Ports;
 pub use run::{run_explain, run_replay};
 pub use scenario::{ScenarioFault, read_scenario};

@@ -12,7 +12,7 @@ ghost use Rattle.sv_explain.specs.Steps.{end_line};
 ghost use Rattle.sv_server.specs.Explain.Telling.{clock_at};
 ghost use Rattle.sv_server.specs.Server.State.{StandsFor};
 ghost use Rattle.sv_replay.specs.Text.{first_end, nothing_held};
-ghost use Rattle.sv_replay.specs.Run.{set_up, Runs, RunsExplained};
+ghost use Rattle.sv_replay.specs.Run.{config_of, Runs, RunsExplained};
 ghost use Rattle.sv_replay.specs.Reads.{Turns, IsReadOut, OnInput};
 ghost use Rattle.sv_replay.specs.Stage.{LineRuns, WhileGoing, Progress, Moves, StepsRun, ScriptRuns};
 
@@ -21,15 +21,16 @@ use crate::input::Source;
 use crate::line::read_line;
 use crate::mode::Mode;
 use crate::perform::perform;
+use crate::ports::Ports;
 use crate::run_state::{Run, start};
 use crate::text::LONGEST_LINE;
 use std::alloc::Allocator;
 use std::io::{BufWriter, Write};
 use sv_server::Server;
 
-/// Replays a script: reads it line by line, and prints to the writer. The writer is flushed before
-/// each read. So a peer that waits for an answer before it sends more gets the answer. The writer
-/// is also flushed at the end, whatever stopped the run.
+/// Replays a script on a new server with these ports: reads the script line by line, and prints to
+/// the writer. The writer is flushed before each read. So a peer that waits for an answer before it
+/// sends more gets the answer. The writer is also flushed at the end, whatever stopped the run.
 ///
 /// # Errors
 /// The first fault that happens is returned. `Memory`: memory was refused at the start or for an
@@ -38,6 +39,7 @@ use sv_server::Server;
 /// flush fails, `Output` is returned in place of an earlier fault.
 pub fn run_replay<A: Allocator + Copy, R: Source, W: Write + Drop, B: Allocator>(
     alloc: A,
+    ports: Ports,
     reader: &mut R,
     writer: &mut BufWriter<W, B>,
 ) -> Result<(), RunFault>
@@ -45,7 +47,7 @@ pub fn run_replay<A: Allocator + Copy, R: Source, W: Write + Drop, B: Allocator>
         × Consumes (R.remaining reader.old) (R.remaining reader.new) read
         × Appends (writer_contents W.contents writer.old)
         (writer_contents W.contents writer.new) text
-        × Runs Mode.Plain read (R.remaining reader.new) result text }
+        × Runs (config_of ports) Mode.Plain read (R.remaining reader.new) result text }
     ensures end { OnOk result (IsAtEnd (R.remaining reader.new)) }
     // The reader is read at most 4,294,967,294 times. The fault `Input` means that the last read
     // failed, or that the reader was read that many times.
@@ -53,7 +55,7 @@ pub fn run_replay<A: Allocator + Copy, R: Source, W: Write + Drop, B: Allocator>
     // Unless the output failed, no printed byte remains in the writer's buffer.
     ensures flushed { result ≢ Err RunFault.Output → writer_buffer writer.new ≡ [] }
 {
-    let answer = run_lines(alloc, Mode::Plain, reader, writer);
+    let answer = run_lines(alloc, ports, Mode::Plain, reader, writer);
     pass_on(writer, answer)
 }
 
@@ -65,6 +67,7 @@ pub fn run_replay<A: Allocator + Copy, R: Source, W: Write + Drop, B: Allocator>
 /// As for [`run_replay`].
 pub fn run_explain<A: Allocator + Copy, R: Source, W: Write + Drop, B: Allocator>(
     alloc: A,
+    ports: Ports,
     reader: &mut R,
     writer: &mut BufWriter<W, B>,
 ) -> Result<(), RunFault>
@@ -72,7 +75,7 @@ pub fn run_explain<A: Allocator + Copy, R: Source, W: Write + Drop, B: Allocator
         × Consumes (R.remaining reader.old) (R.remaining reader.new) read
         × Appends (writer_contents W.contents writer.old)
         (writer_contents W.contents writer.new) text
-        × RunsExplained read (R.remaining reader.new) result text }
+        × RunsExplained (config_of ports) read (R.remaining reader.new) result text }
     ensures end { OnOk result (IsAtEnd (R.remaining reader.new)) }
     // The reader is read at most 4,294,967,294 times. The fault `Input` means that the last read
     // failed, or that the reader was read that many times.
@@ -80,7 +83,7 @@ pub fn run_explain<A: Allocator + Copy, R: Source, W: Write + Drop, B: Allocator
     // Unless the output failed, no printed byte remains in the writer's buffer.
     ensures flushed { result ≢ Err RunFault.Output → writer_buffer writer.new ≡ [] }
 {
-    let told = run_lines(alloc, Mode::Explained, reader, writer);
+    let told = run_lines(alloc, ports, Mode::Explained, reader, writer);
     pass_on(writer, told)
 }
 
@@ -103,16 +106,17 @@ fn pass_on<W: Write + Drop, B: Allocator>(
 /// Runs the replay to its end, but doesn't flush the writer after the last lines.
 fn run_lines<A: Allocator + Copy, R: Source, W: Write>(
     alloc: A,
+    ports: Ports,
     mode: Mode,
     reader: &mut R,
     writer: &mut W,
 ) -> Result<(), RunFault>
-    ensures runs { ScriptRuns mode (R.remaining reader.old) (R.remaining reader.new)
-        (W.contents writer.old) (W.contents writer.new) result }
+    ensures runs { ScriptRuns (config_of ports) mode (R.remaining reader.old)
+        (R.remaining reader.new) (W.contents writer.old) (W.contents writer.new) result }
     ensures end { OnOk result (IsAtEnd (R.remaining reader.new)) }
     ensures reads { IsReadOut R.gives reader.old reader.new result }
 {
-    let mut run = start(alloc, mode)?;
+    let mut run = start(alloc, ports, mode)?;
     run.to_end(reader, writer)?;
     match mode {
         Mode::Plain => Ok(()),
@@ -156,10 +160,11 @@ fn do_line<A: Allocator, W: Write>(
 ) -> Result<(), RunFault>
     requires { length bytes.old ≡ 65536 }
     ensures input { OnInput result ⊥ }
-    ensures runs { (history : List PlainEvent) → StandsFor server.old set_up history
+    ensures runs { (config : Config) (history : List PlainEvent)
+        → StandsFor server.old config history
         → (text : List ℕ) × (after : List PlainEvent)
-        × LineRuns mode line.now number history result text after
-        × StandsFor server.new set_up after
+        × LineRuns config mode line.now number history result text after
+        × StandsFor server.new config after
         × Appends (W.contents writer.old) (W.contents writer.new) text }
 {
     if line.len() > LONGEST_LINE {
@@ -182,9 +187,10 @@ impl<A: Allocator> Run<A> {
         reader: &mut R,
         writer: &mut W,
     ) -> Result<(), RunFault>
-        requires { StandsFor self.old.server set_up [] × (self.old.text ≡ nothing_held)
-            × (self.old.lines ≡ 0) }
-        ensures runs { StepsRun self.old.mode self.new.server (R.remaining reader.old)
+        requires { (config : Config) × StandsFor self.old.server config []
+            × (self.old.text ≡ nothing_held) × (self.old.lines ≡ 0) }
+        ensures runs { (config : Config) → StandsFor self.old.server config []
+            → StepsRun config self.old.mode self.new.server (R.remaining reader.old)
             (R.remaining reader.new) (W.contents writer.old) (W.contents writer.new) result }
         ensures end { OnOk result (IsAtEnd (R.remaining reader.new)) }
         ensures reads { IsReadOut R.gives reader.old reader.new result }

@@ -3,19 +3,13 @@
 ghost use Rattle.std.specs.Prelude.{◌≡◌, [], length, IfOk};
 ghost use Rattle.sv_server.specs.Server.State.{StandsFor};
 ghost use Rattle.sv_replay.specs.Text.{nothing_held};
-ghost use Rattle.sv_replay.specs.Run.{set_up};
+ghost use Rattle.sv_replay.specs.Run.{config_of};
 
 use crate::mode::Mode;
+use crate::ports::Ports;
 use crate::text::{LONGEST_LINE, Text};
 use std::alloc::{AllocError, Allocator};
 use sv_server::{Config, Server};
-
-/// The configuration of the server to which a run applies its events.
-const SET_UP: Config = Config {
-    core: 4096,
-    abort: 4097,
-    clock: 0,
-};
 
 /// A replay that is under way.
 #[derive(Drop)]
@@ -31,15 +25,24 @@ pub(crate) struct Run<A: Allocator> {
     ghost room: { length bytes.items ≡ 65536 },
 }
 
-/// Makes a replay with a new server. It has read no line yet.
-pub(crate) fn start<A: Allocator + Copy>(alloc: A, mode: Mode) -> Result<Run<A>, AllocError>
-    ensures { IfOk result (λ run. StandsFor run.server set_up [] × (run.text ≡ nothing_held)
-        × (run.lines ≡ 0) × (run.mode ≡ mode)) }
+/// Makes a replay with a new server, which has these ports. It has read no line yet.
+pub(crate) fn start<A: Allocator + Copy>(
+    alloc: A,
+    ports: Ports,
+    mode: Mode,
+) -> Result<Run<A>, AllocError>
+    ensures { IfOk result (λ run. StandsFor run.server (config_of ports) []
+        × (run.text ≡ nothing_held) × (run.lines ≡ 0) × (run.mode ≡ mode)) }
 {
+    let config = Config {
+        core: ports.core,
+        abort: ports.abort,
+        clock: 0,
+    };
     let text = Text::new(alloc)?;
     let bytes = vec![in alloc; 0; LONGEST_LINE]?;
     Ok(Run {
-        server: Server::new(alloc, SET_UP)?,
+        server: Server::new(alloc, config)?,
         text,
         bytes,
         lines: 0,

@@ -3,6 +3,7 @@ use Rattle.std.proofs.Common.{◌≡◌, ℕ, suc, subst, sym, rules, refl, zero
 use Rattle.std.proofs.Math.Nat.{eq-or-lt_of_le}
 use Rattle.std.specs.List.{slice_get}
 use Rattle.sv_history.specs.declared.event.Config.{Config}
+use Rattle.sv_history.specs.Event.{PlainEvent}
 use Rattle.sv_serve.specs.DriverView.{DriverView, DriverState, ForEach, Steps, driver_view}
 
 -- one more number
@@ -19,17 +20,19 @@ pub as_many : {W : Type 0} (step : ℕ → Config → DriverView W → DriverVie
 as_many step config n m a b is each = subst (λ (k : ℕ). ForEach k step config a b) is each
 
 -- the same of a driver, whatever happened to its server before
-pub goes_more : {W : Type 0} (step : ℕ → Config → DriverView W → DriverView W → Type 0) (n m : ℕ) (first mid last : DriverState W) → m
+pub goes_more : {W J : Type 0} (notes : J → List PlainEvent → J → Type 0) (step : ℕ → Config → DriverView W → DriverView W
+    → Type 0) (n m : ℕ) (first mid last : DriverState W J) → m
     ≡ suc n
-    → Steps (ForEach n step) first mid → Steps (step n) mid last → Steps (ForEach m step) first last
-goes_more step n m first mid last is front more = λ config history stands.
-    let (h0, s0, p0) = front config history stands in
-    let (h1, s1, p1) = more config h0 s0 in
+    → Steps notes (ForEach n step) first mid → Steps notes (step n) mid last → Steps notes (ForEach m step) first last
+goes_more notes step n m first mid last is front more = λ origin config history stands.
+    let (h0, s0, p0) = front _ config history stands in
+    let (h1, s1, p1) = more _ config h0 s0 in
     (h1, s1, one_more step config n m (driver_view first history) (driver_view mid h0) (driver_view last h1) is p0 p1)
 
-pub goes_all : {W : Type 0} (step : ℕ → Config → DriverView W → DriverView W → Type 0) (n m : ℕ) (first last : DriverState W) → n ≡ m
-    → Steps (ForEach n step) first last → Steps (ForEach m step) first last
-goes_all step n m first last is each = subst (λ (k : ℕ). Steps (ForEach k step) first last) is each
+pub goes_all : {W J : Type 0} (notes : J → List PlainEvent → J → Type 0) (step : ℕ → Config → DriverView W → DriverView W
+    → Type 0) (n m : ℕ) (first last : DriverState W J) → n ≡ m
+    → Steps notes (ForEach n step) first last → Steps notes (ForEach m step) first last
+goes_all notes step n m first last is each = subst (λ (k : ℕ). Steps notes (ForEach k step) first last) is each
 
 -- an entry of a list begins what stands from its place on
 pub from_here : {A : Type 0} (xs : List A) (n m : ℕ) (x : A) → m ≡ suc n → slice_get xs n ≡ Some x → drop n xs ≡ x ∷ drop m xs

@@ -34,6 +34,10 @@ use Rattle.sv_serve.specs.DriverView.{DriverView}
 use Rattle.sv_serve.specs.Steps.{Given, ClosesChannelOn, ClosesChannel, called_of, longest_piece}
 use Rattle.sv_serve.specs.Asked.{IsOpen, HasRoom, IsFaulted, Wants, Waits, IsLowest}
 use Rattle.sv_serve.specs.Premises.{IsSuited, Handed, FoundNone, MayFindNone, FindsNoneIf}
+use Rattle.sv_laws.specs.Laws.{Suits}
+use Rattle.sv_replay.specs.Entry.{stimulus_event, IsAccepted}
+use Rattle.sv_replay.specs.declared.entry.Stimulus.{Stimulus}
+use Rattle.sv_replay.specs.declared.entry.Stimulus.TheVariants as stimuli
 
 -- ---- what suits is done
 
@@ -235,3 +239,9 @@ no_memory TimeOver e = absurd cc
 pub finds_none : {W : Type 0} (c : ℕ) (answer : Result Did Refused) (refused : Refused) (so : Bool) (config : Config) (at : DriverView W)
     → answer ≡ Err refused → so ≡ is_no_memory refused → MayFindNone c answer config at → FindsNoneIf c so config at
 finds_none c answer refused so config at is same may told = may (is ∙ ap Err (no_memory refused (sym same ∙ told)))
+
+-- a stimulus that is accepted suits
+pub stimulus_suits : (stimulus : Stimulus) (channel_log : List ChannelAct) (log : List Act) → IsAccepted stimulus
+    → Suits (stimulus_event stimulus) channel_log log
+stimulus_suits (stimuli.Input channel microvolts) channel_log log h = h
+stimulus_suits stimuli.External channel_log log h = tt

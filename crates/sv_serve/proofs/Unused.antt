@@ -11,8 +11,7 @@ use Rattle.sv_history.specs.History.{is_port_shut}
 use Rattle.sv_history.proofs.AlwaysTold.{some_told}
 use Rattle.sv_history.proofs.Unrecorded.{nothing_idle, nothing_faulted, nothing_dialed}
 use Rattle.sv_serve.specs.Heard.{Heard}
-use Rattle.sv_server.specs.Server.State.{StandsFor}
-use Rattle.sv_serve.specs.DriverView.{DriverView, DriverState, ForEach, Steps, driver_view}
+use Rattle.sv_serve.specs.DriverView.{DriverView, DriverState, ForEach, Steps, Stands, driver_view}
 use Rattle.sv_serve.specs.Asked.{NoneUsed}
 use Rattle.sv_serve.specs.Steps.{called_of, ReadsFrom, Turns, Dials, WritesTo, Ends}
 
@@ -28,14 +27,15 @@ and_rest step config n (suc m) a b le each stays = elim (eq-or-lt_of_le le) [
 ]
 
 -- the same of a driver, whatever happened to its server before
-pub goes_rest : {W : Type 0} (step : ℕ → Config → DriverView W → DriverView W → Type 0) (n m : ℕ) (first last : DriverState W) → n ≤ m
-    → Steps (ForEach n step) first last
-    → ((config : Config) (history : List PlainEvent) → StandsFor last.server config history → (c : ℕ) → n ≤ c
+pub goes_rest : {W J : Type 0} (notes : J → List PlainEvent → J → Type 0) (step : ℕ → Config → DriverView W → DriverView W
+    → Type 0) (n m : ℕ) (first last : DriverState W J) → n ≤ m
+    → Steps notes (ForEach n step) first last
+    → ((start : J) (config : Config) (history : List PlainEvent) → Stands (notes start) last config history → (c : ℕ) → n ≤ c
     → step c config (driver_view last history) (driver_view last history))
-    → Steps (ForEach m step) first last
-goes_rest step n m first last le each stays = λ config history stands.
-    let (h0, s0, p0) = each config history stands in
-    (h0, s0, and_rest step config n m (driver_view first history) (driver_view last h0) le p0 (stays config h0 s0))
+    → Steps notes (ForEach m step) first last
+goes_rest notes step n m first last le each stays = λ origin config history stands.
+    let (h0, s0, p0) = each _ config history stands in
+    (h0, s0, and_rest step config n m (driver_view first history) (driver_view last h0) le p0 (stays _ config h0 s0))
 
 never_open : (c : ℕ) (log : List Act) → of c log ≡ [] → false ≡ not (is_port_shut (Conn c) log)
 never_open c log none = rw none (shut_by (nat_lt 15 c))

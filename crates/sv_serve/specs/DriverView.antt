@@ -7,13 +7,14 @@ use Rattle.sv_server.specs.Server.State.{State, StandsFor}
 use Rattle.sv_replay.specs.declared.entry.Entry.{Entry}
 
 -- The state of a driver: its server; its wire; for each connection, which peer the driver dialed for the interrupt channel; the entries
--- of the scenario that weren't applied yet; and how many milliseconds have passed.
-pub record DriverState (W : Type 0) : Type 0 where
+-- of the scenario that weren't applied yet; how many milliseconds have passed; and its journal.
+pub record DriverState (W J : Type 0) : Type 0 where
   pub server : State
   pub wire : W
   pub called : List (Option Dial)
   pub ahead : List Entry
   pub ticks : ℕ
+  pub journal : J
 
 -- The state of a driver, with the server's history in place of the server.
 pub record DriverView (W : Type 0) : Type 0 where
@@ -24,7 +25,7 @@ pub record DriverView (W : Type 0) : Type 0 where
   pub ticks : ℕ
 
 -- the state of a driver, with this history in place of the server
-abbrev pub driver_view : {W : Type 0} → DriverState W → List PlainEvent → DriverView W
+abbrev pub driver_view : {W J : Type 0} → DriverState W J → List PlainEvent → DriverView W
 driver_view driving history =
     record { wire = driving.wire; history = history; called = driving.called; ahead = driving.ahead; ticks = driving.ticks }
 
@@ -43,7 +44,12 @@ abbrev pub ForEach : {W : Type 0} → ℕ → (ℕ → Config → DriverView W �
 ForEach zero step config before after = after ≡ before
 ForEach (suc n) step config before after = (between : DriverView _) × ForEach n step config before between × step n config between after
 
+-- The driver's server stands for this history, and its journal holds this history.
+abbrev pub Stands : {W J : Type 0} → (List PlainEvent → J → Type 0) → DriverState W J → Config → List PlainEvent → Type 0
+Stands holds driver config history = StandsFor driver.server config history × holds history driver.journal
+
 -- The driver takes this step, whatever history its server had before.
-abbrev pub Steps : {W : Type 0} → (Config → DriverView W → DriverView W → Type 0) → DriverState W → DriverState W → Type 0
-Steps step old new = (config : Config) (history : List PlainEvent) → StandsFor old.server config history
-    → (after : List PlainEvent) × StandsFor new.server config after × step config (driver_view old history) (driver_view new after)
+abbrev pub Steps : {W J : Type 0} → (J → List PlainEvent → J → Type 0) → (Config → DriverView W → DriverView W → Type 0) → DriverState W J
+    → DriverState W J → Type 0
+Steps {J = J} notes step old new = (first : J) (config : Config) (history : List PlainEvent) → Stands (notes first) old config history
+    → (after : List PlainEvent) × Stands (notes first) new config after × step config (driver_view old history) (driver_view new after)

@@ -12,18 +12,17 @@ use Rattle.sv_history.specs.Act.{Act, device_acts}
 use Rattle.sv_history.specs.Requests.{HearsOf}
 use Rattle.sv_history.specs.History.{IsLogOf, Answers}
 use Rattle.sv_laws.specs.Laws.{Suits}
-use Rattle.sv_server.specs.Server.State.{StandsFor}
 use Rattle.sv_serve.specs.declared.wire.Answer.{Answer}
 use Rattle.sv_serve.specs.Heard.{IsWithin}
-use Rattle.sv_serve.specs.DriverView.{DriverState, DriverView, driver_view}
+use Rattle.sv_serve.specs.DriverView.{DriverState, DriverView, driver_view, Stands}
 use Rattle.sv_serve.specs.Asked.{Wants, Waits}
 
 -- The driver takes this step, if `IsSo` holds of the driver's state when the step begins.
-abbrev pub From : {W : Type 0} → (Config → DriverView W → Type 0) → (Config → DriverView W → DriverView W → Type 0) → DriverState W
-    → DriverState W → Type 0
-From IsSo step old new = (config : Config) (history : List PlainEvent) → StandsFor old.server config history
+abbrev pub From : {W J : Type 0} → (J → List PlainEvent → J → Type 0) → (Config → DriverView W → Type 0)
+    → (Config → DriverView W → DriverView W → Type 0) → DriverState W J → DriverState W J → Type 0
+From {J = J} notes IsSo step old new = (first : J) (config : Config) (history : List PlainEvent) → Stands (notes first) old config history
     → IsSo config (driver_view old history)
-    → (after : List PlainEvent) × StandsFor new.server config after × step config (driver_view old history) (driver_view new after)
+    → (after : List PlainEvent) × Stands (notes first) new config after × step config (driver_view old history) (driver_view new after)
 
 -- The answers of the server's queries allow this event at this moment (`Suits`).
 abbrev pub IsSuited : {W : Type 0} → PlainEvent → Config → DriverView W → Type 0

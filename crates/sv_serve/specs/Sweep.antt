@@ -6,11 +6,12 @@ use Rattle.sv_history.specs.declared.event.Port.TheVariants.{Conn, Intr}
 use Rattle.sv_history.specs.declared.event.Refused.{Refused}
 use Rattle.sv_history.specs.declared.event.Role.TheVariants.{Core, Abort, Portmap}
 use Rattle.sv_history.specs.Event.{PlainEvent, Tick}
-use Rattle.sv_replay.specs.Entry.{stimulus_event}
+use Rattle.sv_replay.specs.Entry.{stimulus_event, IsAccepted}
 use Rattle.sv_replay.specs.declared.entry.Entry.{Entry}
+use Rattle.sv_replay.specs.declared.entry.Stimulus.{Stimulus}
 use Rattle.sv_serve.specs.Heard.{Heard}
 use Rattle.sv_serve.specs.DriverView.{DriverState, DriverView, Steps, ◌then◌, ForEach}
-use Rattle.sv_serve.specs.Steps.{Given, Accepts, ReadsFrom, Turns, Dials, WritesTo, Ends}
+use Rattle.sv_serve.specs.Steps.{Given, IsApplied, Accepts, ReadsFrom, Turns, Dials, WritesTo, Ends}
 
 -- The server is given an event, and applies or refuses it.
 abbrev pub Applies : {W : Type 0} → PlainEvent → Config → DriverView W → DriverView W → Type 0
@@ -55,6 +56,10 @@ TicksOnce config before after = (result : Result Did Refused) × (Given Tick res
 abbrev pub Passes : {W : Type 0} → ℕ → Config → DriverView W → DriverView W → Type 0
 Passes ticks = ForEach ticks (λ i. Plays then TicksOnce) then Plays
 
+-- The scenario's entries that are due are applied, and then a stimulus that was handed in.
+abbrev pub Stimulates : {W : Type 0} → Stimulus → Config → DriverView W → DriverView W → Type 0
+Stimulates stimulus = Plays then IsApplied (stimulus_event stimulus)
+
 -- A sweep, in this order: on each of the three listening ports a connection is accepted; each connection is read; one call of each
 -- connection is taken; the peers of interrupt channels are dialed; time passes; the bytes that wait are written, first those of
 -- connections, then those of interrupt channels; connections at fault are closed.
@@ -63,9 +68,18 @@ Sweeps hears ticks = Accepts hears Core then Accepts hears Abort then Accepts he
     then ForEach 16 Turns then ForEach 16 (Dials hears) then Passes ticks then ForEach 16 (λ c. WritesTo hears (Conn c))
     then ForEach 16 (λ c. WritesTo hears (Intr c)) then ForEach 16 (Ends hears)
 
--- A run of sweeps leads from one state of the driver to another. The list has, for each sweep, the number of milliseconds that
--- pass in the sweep.
-abbrev pub Swept : {W : Type 0} → (W → Heard → W → Type 0) → List ℕ → DriverState W → DriverState W → Type 0
-Swept hears [] start now = now ≡ start
-Swept hears (ticks ∷ passed) start now = (between : DriverState _) × Swept hears passed start between × Steps
+-- What is handed to a driver: a number of milliseconds, which pass in a sweep; or a stimulus, between two sweeps.
+pub data Handed : Type 0 where
+  Passing : (ticks : ℕ) → Handed
+  Stimulated : (stimulus : Stimulus) → Handed
+
+-- A run of sweeps, with stimuli between them, leads from one state of the driver to another. The list has what was handed to the driver,
+-- the newest first: for each sweep the number of milliseconds that pass in it; and the stimuli, which the server accepts.
+abbrev pub Swept : {W J : Type 0} → (W → Heard → W → Type 0) → (J → List PlainEvent → J → Type 0) → List Handed → DriverState W J
+    → DriverState W J → Type 0
+Swept hears notes [] start now = now ≡ start
+Swept hears notes (Passing ticks ∷ handed) start now = (between : DriverState _ _) × Swept hears notes handed start between × Steps notes
     (Sweeps hears ticks) between now
+Swept hears notes (Stimulated stimulus ∷ handed) start now = (between : DriverState _ _) × Swept hears notes handed start between
+    × IsAccepted stimulus
+    × Steps notes (Stimulates stimulus) between now

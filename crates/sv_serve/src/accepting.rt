@@ -11,15 +11,16 @@ ghost use Rattle.sv_serve.specs.Steps.{Hears, Accepts, Opens};
 ghost use Rattle.sv_serve.specs.Premises.{From};
 
 use crate::driver::{CONNECTIONS, Driver};
+use crate::journal::Journal;
 use crate::wire::{Answer, Wire};
 use std::alloc::Allocator;
 use sv_server::{Event, Port, Role};
 
-impl<W: Wire + Drop, A: Allocator> Driver<W, A> {
+impl<W: Wire + Drop, A: Allocator, J: Journal + Drop> Driver<W, A, J> {
     /// Accepts a connection of this role, if a peer connects. If no number is free, drops the
     /// connection.
     pub(crate) fn accept(&mut self, role: Role)
-        ensures { Steps (Accepts W.hears role) self.old self.new }
+        ensures { Steps J.notes (Accepts W.hears role) self.old self.new }
     {
         let conn = self.lowest();
         let answer = self.greet(role, conn);
@@ -29,7 +30,7 @@ impl<W: Wire + Drop, A: Allocator> Driver<W, A> {
     /// Tells the wire to accept a connection under the number `conn`; or, if `conn` is `None`, to
     /// accept a connection and drop it.
     fn greet(&mut self, role: Role, conn: Option<u8>) -> Answer<()>
-        ensures { Steps (Hears W.hears (WasAccepted role conn result)) self.old self.new }
+        ensures { Steps J.notes (Hears W.hears (WasAccepted role conn result)) self.old self.new }
     {
         self.wire.accept(role, conn)
     }
@@ -52,7 +53,7 @@ impl<W: Wire + Drop, A: Allocator> Driver<W, A> {
     /// If the wire accepted a connection under the number `conn`, opens it at the server under this
     /// number.
     fn open(&mut self, role: Role, conn: Option<u8>, answer: Answer<()>)
-        ensures { From (IsLowest conn) (Opens role conn answer) self.old self.new }
+        ensures { From J.notes (IsLowest conn) (Opens role conn answer) self.old self.new }
     {
         match (conn, answer) {
             (Some(conn), Answer::Got(())) => {

@@ -9,6 +9,7 @@ ghost use Rattle.sv_serve.specs.Premises.{From, IsAwaited};
 ghost use Rattle.sv_serve.specs.Steps.{Hears, is_wanted, CancelsUnwanted, LetsGo, KeepsCall, ConnectResult, PollResult, CallsFor, Calls, Dials, Remembers};
 
 use crate::driver::{CONNECTIONS, Driver};
+use crate::journal::Journal;
 use crate::wire::{Answer, Wire};
 use std::alloc::Allocator;
 use sv_server::{Dial, Event, Port};
@@ -23,12 +24,12 @@ fn is_wanted(called: Dial, wanted: Option<Dial>) -> bool
     }
 }
 
-impl<W: Wire + Drop, A: Allocator> Driver<W, A> {
+impl<W: Wire + Drop, A: Allocator, J: Journal + Drop> Driver<W, A, J> {
     /// For each connection: if a peer was dialed, closes its socket, unless the interrupt channel
     /// is open or still has to be connected to this peer. Then, if the channel has to be connected,
     /// dials its peer; if it was dialed already, asks the wire whether this peer has answered.
     pub(crate) fn dial_each(&mut self)
-        ensures { Steps (ForEach 16 (Dials W.hears)) self.old self.new }
+        ensures { Steps J.notes (ForEach 16 (Dials W.hears)) self.old self.new }
     {
         for conn in 0..CONNECTIONS {
             if self.is_uncalled(conn) {
@@ -44,7 +45,7 @@ impl<W: Wire + Drop, A: Allocator> Driver<W, A> {
     /// answered.
     fn dial(&mut self, conn: u8)
         requires { conn < 16 }
-        ensures { Steps (Dials W.hears conn) self.old self.new }
+        ensures { Steps J.notes (Dials W.hears conn) self.old self.new }
     {
         self.cancel_unwanted(conn);
         self.call(conn);
@@ -54,7 +55,7 @@ impl<W: Wire + Drop, A: Allocator> Driver<W, A> {
     /// the channel is open or still has to be connected to this peer.
     fn cancel_unwanted(&mut self, conn: u8)
         requires { conn < 16 }
-        ensures { Steps (LetsGo W.hears conn) self.old self.new }
+        ensures { Steps J.notes (LetsGo W.hears conn) self.old self.new }
     {
         let called = self.called[usize::from(conn)];
         self.cancel_if_unwanted(conn, called);
@@ -64,7 +65,7 @@ impl<W: Wire + Drop, A: Allocator> Driver<W, A> {
     /// peer's socket, unless the channel is open or still has to be connected to this peer.
     fn cancel_if_unwanted(&mut self, conn: u8, called: Option<Dial>)
         requires { conn < 16 }
-        ensures { Steps (CancelsUnwanted W.hears conn called) self.old self.new }
+        ensures { Steps J.notes (CancelsUnwanted W.hears conn called) self.old self.new }
     {
         match called {
             None => {}
@@ -80,7 +81,7 @@ impl<W: Wire + Drop, A: Allocator> Driver<W, A> {
     /// `keeps` is true.
     fn keep_call(&mut self, conn: u8, keeps: bool)
         requires { conn < 16 }
-        ensures { Steps (KeepsCall W.hears conn keeps) self.old self.new }
+        ensures { Steps J.notes (KeepsCall W.hears conn keeps) self.old self.new }
     {
         if keeps {
             return;
@@ -92,7 +93,7 @@ impl<W: Wire + Drop, A: Allocator> Driver<W, A> {
     /// dialed already, asks the wire whether that peer has answered.
     fn call(&mut self, conn: u8)
         requires { conn < 16 }
-        ensures { Steps (Calls W.hears conn) self.old self.new }
+        ensures { Steps J.notes (Calls W.hears conn) self.old self.new }
     {
         let wanted = self.server.dial(conn);
         let called = self.called[usize::from(conn)];
@@ -103,7 +104,8 @@ impl<W: Wire + Drop, A: Allocator> Driver<W, A> {
     /// the wire whether that peer has answered.
     fn call_for(&mut self, conn: u8, wanted: Option<Dial>, called: Option<Dial>)
         requires { conn < 16 }
-        ensures { From (λ (config : Config) (at : DriverView W). Wants conn config at wanted)
+        ensures { From J.notes
+            (λ (config : Config) (at : DriverView W). Wants conn config at wanted)
             (CallsFor W.hears conn wanted called) self.old self.new }
     {
         match (wanted, called) {
@@ -121,14 +123,14 @@ impl<W: Wire + Drop, A: Allocator> Driver<W, A> {
 
     /// Tells the wire to dial a peer for the interrupt channel of a connection.
     fn start_connect(&mut self, conn: u8, dial: Dial) -> Answer<()>
-        ensures { Steps (Hears W.hears (WasDialed conn dial result)) self.old self.new }
+        ensures { Steps J.notes (Hears W.hears (WasDialed conn dial result)) self.old self.new }
     {
         self.wire.dial(conn, dial)
     }
 
     /// Asks the wire whether the peer that was dialed for a connection has answered.
     fn poll_connect(&mut self, conn: u8) -> Answer<()>
-        ensures { Steps (Hears W.hears (PeerAnswered conn result)) self.old self.new }
+        ensures { Steps J.notes (Hears W.hears (PeerAnswered conn result)) self.old self.new }
     {
         self.wire.dialed(conn)
     }
@@ -137,7 +139,9 @@ impl<W: Wire + Drop, A: Allocator> Driver<W, A> {
     /// interrupt channel.
     fn connect_result(&mut self, conn: u8, dial: Dial, answer: Answer<()>)
         requires { conn < 16 }
-        ensures { From (λ (config : Config) (at : DriverView W). Wants conn config at (Some dial))
+        ensures { From J.notes
+            (λ (config : Config) (at : DriverView W). Wants conn config at
+            (Some dial))
             (ConnectResult conn dial answer) self.old self.new }
     {
         match answer {
@@ -155,7 +159,7 @@ impl<W: Wire + Drop, A: Allocator> Driver<W, A> {
     /// Records which peer was dialed for the interrupt channel of a connection.
     fn remember(&mut self, conn: u8, dial: Dial)
         requires { conn < 16 }
-        ensures { Steps (Remembers conn (Some dial)) self.old self.new }
+        ensures { Steps J.notes (Remembers conn (Some dial)) self.old self.new }
     {
         self.called[usize::from(conn)] = Some(dial);
         self.dial_limit = self.dial_limit.max(conn + 1);
@@ -165,7 +169,7 @@ impl<W: Wire + Drop, A: Allocator> Driver<W, A> {
     /// answered.
     fn poll_result(&mut self, conn: u8, answer: Answer<()>)
         requires { conn < 16 }
-        ensures { From (IsAwaited conn) (PollResult W.hears conn answer) self.old self.new }
+        ensures { From J.notes (IsAwaited conn) (PollResult W.hears conn answer) self.old self.new }
     {
         match answer {
             Answer::Got(()) => {

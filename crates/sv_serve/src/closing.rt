@@ -10,15 +10,16 @@ ghost use Rattle.sv_serve.specs.Premises.{From};
 ghost use Rattle.sv_serve.specs.Steps.{Hears, Remembers, ClosesChannel, Closes, ClosesIf, EndsIf, Ends};
 
 use crate::driver::{CONNECTIONS, Driver};
+use crate::journal::Journal;
 use crate::wire::Wire;
 use std::alloc::Allocator;
 use sv_server::{Event, Port};
 
-impl<W: Wire + Drop, A: Allocator> Driver<W, A> {
+impl<W: Wire + Drop, A: Allocator, J: Journal + Drop> Driver<W, A, J> {
     /// Closes the socket of a connection's interrupt channel, if a peer was dialed for it.
     pub(crate) fn close_channel(&mut self, conn: u8)
         requires { conn < 16 }
-        ensures { Steps (ClosesChannel W.hears conn) self.old self.new }
+        ensures { Steps J.notes (ClosesChannel W.hears conn) self.old self.new }
     {
         match self.called[usize::from(conn)] {
             None => {}
@@ -31,7 +32,7 @@ impl<W: Wire + Drop, A: Allocator> Driver<W, A> {
 
     /// Tells the wire to close the socket of a port.
     fn shut(&mut self, port: Port)
-        ensures { Steps (Hears W.hears (WasClosed port)) self.old self.new }
+        ensures { Steps J.notes (Hears W.hears (WasClosed port)) self.old self.new }
     {
         self.wire.close(port);
     }
@@ -39,7 +40,7 @@ impl<W: Wire + Drop, A: Allocator> Driver<W, A> {
     /// Records that no peer is dialed for the interrupt channel of a connection.
     fn forget(&mut self, conn: u8)
         requires { conn < 16 }
-        ensures { Steps (Remembers conn None) self.old self.new }
+        ensures { Steps J.notes (Remembers conn None) self.old self.new }
     {
         self.called[usize::from(conn)] = None;
     }
@@ -47,7 +48,9 @@ impl<W: Wire + Drop, A: Allocator> Driver<W, A> {
     /// Closes a connection, and with it its interrupt channel.
     pub(crate) fn close(&mut self, conn: u8)
         requires { conn < 16 }
-        ensures { From (λ (config : Config) (at : DriverView W). IsOpen (Conn conn) config at true)
+        ensures { From J.notes
+            (λ (config : Config) (at : DriverView W). IsOpen
+            (Conn conn) config at true)
             (Closes W.hears conn) self.old self.new }
     {
         self.shut(Port::Conn(conn));
@@ -58,7 +61,7 @@ impl<W: Wire + Drop, A: Allocator> Driver<W, A> {
 
     /// Closes each connection at fault that has no more bytes to send.
     pub(crate) fn end_each(&mut self)
-        ensures { Steps (ForEach 16 (Ends W.hears)) self.old self.new }
+        ensures { Steps J.notes (ForEach 16 (Ends W.hears)) self.old self.new }
     {
         for conn in 0..CONNECTIONS {
             if self.is_unused(conn) {
@@ -71,7 +74,7 @@ impl<W: Wire + Drop, A: Allocator> Driver<W, A> {
     /// Closes a connection, if it is at fault and has no more bytes to send.
     fn end(&mut self, conn: u8)
         requires { conn < 16 }
-        ensures { Steps (Ends W.hears conn) self.old self.new }
+        ensures { Steps J.notes (Ends W.hears conn) self.old self.new }
     {
         let faulted = self.server.faulted(conn);
         self.end_if(conn, faulted);
@@ -81,7 +84,8 @@ impl<W: Wire + Drop, A: Allocator> Driver<W, A> {
     /// bytes wait to be sent on it.
     fn end_if(&mut self, conn: u8, so: bool)
         requires { conn < 16 }
-        ensures { From (λ (config : Config) (at : DriverView W). IsFaulted conn config at so)
+        ensures { From J.notes
+            (λ (config : Config) (at : DriverView W). IsFaulted conn config at so)
             (EndsIf W.hears conn so) self.old self.new }
     {
         if so {
@@ -93,7 +97,9 @@ impl<W: Wire + Drop, A: Allocator> Driver<W, A> {
     /// Closes a connection, if `so` is true.
     fn close_if(&mut self, conn: u8, so: bool)
         requires { conn < 16 }
-        ensures { From (λ (config : Config) (at : DriverView W). IsOpen (Conn conn) config at true)
+        ensures { From J.notes
+            (λ (config : Config) (at : DriverView W). IsOpen
+            (Conn conn) config at true)
             (ClosesIf W.hears conn so) self.old self.new }
     {
         if so {

@@ -5,10 +5,11 @@ ghost use Rattle.sv_history.specs.declared.event.Config.{Config};
 ghost use Rattle.sv_history.specs.Event.{PlainEvent, plain};
 ghost use Rattle.sv_server.specs.Server.State.{StandsFor};
 ghost use Rattle.sv_serve.specs.Asked.{NoneUsed};
-ghost use Rattle.sv_serve.specs.DriverView.{Steps, driver_view};
+ghost use Rattle.sv_serve.specs.DriverView.{Steps, Unchanged, driver_view};
 ghost use Rattle.sv_serve.specs.Steps.{Given, IsApplied, called_of};
 ghost use Rattle.sv_serve.specs.Premises.{From, IsSuited};
 
+use crate::journal::{Journal, note};
 use crate::wire::Wire;
 use std::alloc::{AllocError, Allocator, Global};
 use std::marker::Model;
@@ -20,9 +21,10 @@ pub(crate) const CONNECTIONS: u8 = 16;
 /// How many bytes one read returns at most.
 const PIECE: usize = 16_384;
 
-/// A server, the wire to its peers, and a scenario whose entries are applied to the server.
+/// A server, the wire to its peers, a scenario whose entries are applied to the server, and a
+/// journal that is told each event that the server has applied.
 #[derive(Drop)]
-pub struct Driver<W: Wire + Drop, A: Allocator = Global> {
+pub struct Driver<W: Wire + Drop, A: Allocator = Global, J: Journal + Drop = ()> {
     pub(crate) server: Server<A>,
     pub(crate) wire: W,
     /// For each connection, the peer that was dialed for its interrupt channel; `None` if no peer
@@ -37,13 +39,14 @@ pub struct Driver<W: Wire + Drop, A: Allocator = Global> {
     pub(crate) ticks: u64,
     /// The buffer into which the wire reads the bytes of a connection.
     pub(crate) buffer: Vec<u8, A>,
+    pub(crate) journal: J,
 }
 
-impl<W: Wire + Drop, A: Allocator> Model for Driver<W, A> {
+impl<W: Wire + Drop, A: Allocator, J: Journal + Drop> Model for Driver<W, A, J> {
     ghost use Rattle.sv_serve.specs.DriverView.{DriverState};
     ghost use Rattle.std.specs.Prelude.{◌≡◌, ◌≤◌, ℕ, drop, length, slice_index_or, None};
 
-    ghost Value = { DriverState W };
+    ghost Value = { DriverState W J };
 
     ghost view = { λ a. record {
       server = a.server;
@@ -51,6 +54,7 @@ impl<W: Wire + Drop, A: Allocator> Model for Driver<W, A> {
       called = a.called;
       ahead = drop a.next a.scenario.items;
       ticks = a.ticks;
+      journal = a.journal;
     } };
 
     ghost invariant = { λ a. (length a.called ≡ 16) × (a.next ≤ length a.scenario.items)
@@ -76,6 +80,33 @@ impl<W: Wire + Drop, A: Allocator> Driver<W, A> {
           called = replicate 16 None;
           ahead = scenario.items;
           ticks = 0;
+          journal = tt;
+        }) }
+    {
+        Driver::with_journal(alloc, server, wire, scenario, ())
+    }
+}
+
+impl<W: Wire + Drop, A: Allocator, J: Journal + Drop> Driver<W, A, J> {
+    /// Makes a driver with a journal. It is at the beginning of its scenario and has dialed no peer
+    /// yet. Allocates the read buffer.
+    ///
+    /// # Errors
+    /// If memory is refused.
+    pub fn with_journal(
+        alloc: A,
+        server: Server<A>,
+        wire: W,
+        scenario: Vec<Entry, A>,
+        journal: J,
+    ) -> Result<Driver<W, A, J>, AllocError>
+        ensures { IfOk result (λ driver. driver ≡ record {
+          server = server;
+          wire = wire;
+          called = replicate 16 None;
+          ahead = scenario.items;
+          ticks = 0;
+          journal = journal;
         }) }
     {
         Ok(Driver {
@@ -87,7 +118,22 @@ impl<W: Wire + Drop, A: Allocator> Driver<W, A> {
             next: 0,
             ticks: 0,
             buffer: vec![in alloc; 0; PIECE]?,
+            journal,
         })
+    }
+
+    /// Returns the journal of the driver.
+    pub fn journal(&self) -> &J
+        ensures { result.now ≡ self.now.journal }
+    {
+        &self.journal
+    }
+
+    /// Ends the driver, and returns its journal.
+    pub fn into_journal(self) -> J
+        ensures { result ≡ self.journal }
+    {
+        self.journal
     }
 
     /// Returns the wire of the driver.
@@ -127,16 +173,26 @@ impl<W: Wire + Drop, A: Allocator> Driver<W, A> {
     /// Applies an event to the server. The caller must know from the server's query functions that
     /// the server doesn't refuse the event now.
     pub(crate) fn apply(&mut self, event: Event<'_>)
-        ensures { From (IsSuited (plain event.entry)) (IsApplied (plain event.entry))
+        ensures { From J.notes (IsSuited (plain event.entry)) (IsApplied (plain event.entry))
             self.old self.new }
     {
-        let _ = self.server.apply(event);
+        let answer = self.server.apply(event);
+        note(&mut self.journal, event, answer);
     }
 
     /// Gives the server an event that it can refuse, and returns the server's answer.
     pub(crate) fn give(&mut self, event: Event<'_>) -> Result<Did, Refused>
-        ensures { Steps (Given (plain event.entry) result) self.old self.new }
+        ensures { Steps J.notes (Given (plain event.entry) result) self.old self.new }
     {
-        self.server.apply(event)
+        let answer = self.server.apply(event);
+        note(&mut self.journal, event, answer);
+        answer
+    }
+
+    /// Tells the journal that a sweep has ended.
+    pub(crate) fn flush(&mut self)
+        ensures { Steps J.notes Unchanged self.old self.new }
+    {
+        self.journal.flush();
     }
 }

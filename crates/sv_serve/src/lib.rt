@@ -6,6 +6,7 @@ mod accepting;
 mod calling;
 mod closing;
 mod driver;
+mod journal;
 mod passing;
 mod reading;
 mod still;
@@ -15,4 +16,5 @@ mod wire;
 mod writing;
 
 pub use driver::Driver;
+pub use journal::Journal;
 pub use wire::{Answer, Wire};

@@ -2,18 +2,21 @@
 
 ghost use Rattle.std.specs.Prelude.{◌≡◌, ◌<◌, length, true};
 ghost use Rattle.sv_serve.specs.DriverView.{Steps};
-ghost use Rattle.sv_serve.specs.Sweep.{PlaysIf, Plays, TicksOnce, Counts, Passes};
+ghost use Rattle.sv_replay.specs.Entry.{IsAccepted};
+ghost use Rattle.sv_serve.specs.Sweep.{PlaysIf, Plays, TicksOnce, Counts, Passes, Stimulates};
 
 use crate::driver::Driver;
+use crate::journal::{Journal, note};
 use crate::wire::Wire;
 use std::alloc::Allocator;
+use sv_replay::Stimulus;
 use sv_server::{Did, Event, Refused};
 
-impl<W: Wire + Drop, A: Allocator> Driver<W, A> {
+impl<W: Wire + Drop, A: Allocator, J: Journal + Drop> Driver<W, A, J> {
     /// Lets this number of milliseconds pass. The entries of the scenario that are due are applied
     /// before each millisecond and after the last one.
     pub(crate) fn pass(&mut self, ticks: u32)
-        ensures { Steps (Passes ticks) self.old self.new }
+        ensures { Steps J.notes (Passes ticks) self.old self.new }
     {
         for _ in 0..ticks {
             self.play();
@@ -22,9 +25,18 @@ impl<W: Wire + Drop, A: Allocator> Driver<W, A> {
         self.play();
     }
 
+    /// Applies the entries of the scenario that are due, and then this stimulus.
+    pub fn stimulate(&mut self, stimulus: Stimulus)
+        requires { IsAccepted stimulus }
+        ensures { Steps J.notes (Stimulates stimulus) self.old self.new }
+    {
+        self.play();
+        self.apply(stimulus.event());
+    }
+
     /// Applies the entries of the scenario that are due.
     fn play(&mut self)
-        ensures { Steps Plays self.old self.new }
+        ensures { Steps J.notes Plays self.old self.new }
     {
         while self.play_one() {}
     }
@@ -32,7 +44,7 @@ impl<W: Wire + Drop, A: Allocator> Driver<W, A> {
     /// Applies the next entry of the scenario, if this entry is due. Returns whether the entry was
     /// due.
     fn play_one(&mut self) -> bool
-        ensures goes { Steps (PlaysIf result) self.old self.new }
+        ensures goes { Steps J.notes (PlaysIf result) self.old self.new }
         ensures measure { result ≡ true → length self.new.ahead < length self.old.ahead }
     {
         let Some(entry) = self.scenario.get(self.next) else {
@@ -43,13 +55,14 @@ impl<W: Wire + Drop, A: Allocator> Driver<W, A> {
         }
         let event = entry.stimulus.event();
         self.next += 1;
-        let _ = self.server.apply(event);
+        let answer = self.server.apply(event);
+        note(&mut self.journal, event, answer);
         true
     }
 
     /// Lets a millisecond pass at the server, and counts it.
     fn tick(&mut self)
-        ensures { Steps TicksOnce self.old self.new }
+        ensures { Steps J.notes TicksOnce self.old self.new }
     {
         let answer = self.give(Event::Tick);
         self.count(answer);
@@ -57,7 +70,7 @@ impl<W: Wire + Drop, A: Allocator> Driver<W, A> {
 
     /// Counts a millisecond, unless the server refused the Tick.
     fn count(&mut self, answer: Result<Did, Refused>)
-        ensures { Steps (Counts answer) self.old self.new }
+        ensures { Steps J.notes (Counts answer) self.old self.new }
     {
         match answer {
             Ok(_) => {

@@ -10,6 +10,7 @@ ghost use Rattle.sv_serve.specs.Premises.{From};
 ghost use Rattle.sv_serve.specs.Steps.{Hears, ReadsFrom, ReadsUpTo, Probes, ProbesIf, Drops};
 
 use crate::driver::{CONNECTIONS, Driver};
+use crate::journal::{Journal, note};
 use crate::wire::{Answer, Wire};
 use std::alloc::Allocator;
 use sv_server::{Event, Port};
@@ -23,10 +24,10 @@ fn read_into<W: Wire>(wire: &mut W, conn: u8, buffer: &mut [u8], size: usize) ->
     wire.read(conn, &mut buffer[..size])
 }
 
-impl<W: Wire + Drop, A: Allocator> Driver<W, A> {
+impl<W: Wire + Drop, A: Allocator, J: Journal + Drop> Driver<W, A, J> {
     /// Reads each connection once.
     pub(crate) fn read_each(&mut self)
-        ensures { Steps (ForEach 16 (ReadsFrom W.hears)) self.old self.new }
+        ensures { Steps J.notes (ForEach 16 (ReadsFrom W.hears)) self.old self.new }
     {
         for conn in 0..CONNECTIONS {
             if self.is_unused(conn) {
@@ -40,7 +41,7 @@ impl<W: Wire + Drop, A: Allocator> Driver<W, A> {
     /// connection's peer is gone.
     fn read(&mut self, conn: u8)
         requires { conn < 16 }
-        ensures { Steps (ReadsFrom W.hears conn) self.old self.new }
+        ensures { Steps J.notes (ReadsFrom W.hears conn) self.old self.new }
     {
         let room = self.server.room(conn);
         self.read_up_to(room, conn);
@@ -50,7 +51,8 @@ impl<W: Wire + Drop, A: Allocator> Driver<W, A> {
     /// for. If `room` is 0, checks whether the connection's peer is gone instead.
     fn read_up_to(&mut self, room: u32, conn: u8)
         requires { conn < 16 }
-        ensures { From (λ (config : Config) (at : DriverView W). HasRoom conn config at room)
+        ensures { From J.notes
+            (λ (config : Config) (at : DriverView W). HasRoom conn config at room)
             (ReadsUpTo W.hears room conn) self.old self.new }
     {
         if room == 0 {
@@ -61,7 +63,9 @@ impl<W: Wire + Drop, A: Allocator> Driver<W, A> {
         match read_into(&mut self.wire, conn, &mut self.buffer, size) {
             Answer::Got(count) => {
                 let piece = &self.buffer[..count];
-                let _ = self.server.apply(Event::Bytes { conn, piece });
+                let event = Event::Bytes { conn, piece };
+                let answer = self.server.apply(event);
+                note(&mut self.journal, event, answer);
             }
             Answer::Pending => {}
             Answer::Failed => self.close(conn),
@@ -72,7 +76,7 @@ impl<W: Wire + Drop, A: Allocator> Driver<W, A> {
     /// connection's peer is gone, and closes the connection if the peer is gone.
     fn probe(&mut self, conn: u8)
         requires { conn < 16 }
-        ensures { Steps (Probes W.hears conn) self.old self.new }
+        ensures { Steps J.notes (Probes W.hears conn) self.old self.new }
     {
         let opened = self.server.is_open(Port::Conn(conn));
         self.probe_if(conn, opened);
@@ -82,7 +86,8 @@ impl<W: Wire + Drop, A: Allocator> Driver<W, A> {
     /// gone, and closes the connection if the peer is gone.
     fn probe_if(&mut self, conn: u8, opened: bool)
         requires { conn < 16 }
-        ensures { From (λ (config : Config) (at : DriverView W). IsOpen
+        ensures { From J.notes
+            (λ (config : Config) (at : DriverView W). IsOpen
             (Conn conn) config at opened)
             (ProbesIf W.hears conn opened) self.old self.new }
     {
@@ -96,7 +101,7 @@ impl<W: Wire + Drop, A: Allocator> Driver<W, A> {
     /// Asks the wire whether the peer of a connection is gone. With `drops`, the wire discards the
     /// bytes that come on the connection.
     fn ask(&mut self, conn: u8, drops: bool) -> Answer<()>
-        ensures { Steps (Hears W.hears (WasProbed conn drops result)) self.old self.new }
+        ensures { Steps J.notes (Hears W.hears (WasProbed conn drops result)) self.old self.new }
     {
         self.wire.probe(conn, drops)
     }
@@ -104,7 +109,9 @@ impl<W: Wire + Drop, A: Allocator> Driver<W, A> {
     /// Closes a connection, if the wire answered that the connection's peer is gone.
     fn drop_gone(&mut self, conn: u8, answer: Answer<()>)
         requires { conn < 16 }
-        ensures { From (λ (config : Config) (at : DriverView W). IsOpen (Conn conn) config at true)
+        ensures { From J.notes
+            (λ (config : Config) (at : DriverView W). IsOpen
+            (Conn conn) config at true)
             (Drops W.hears conn answer) self.old self.new }
     {
         match answer {

@@ -9,10 +9,11 @@ ghost use Rattle.sv_serve.specs.Sweep.{IsNoneDue};
 ghost use Rattle.sv_serve.specs.Still.{StaysStill};
 
 use crate::driver::Driver;
+use crate::journal::Journal;
 use crate::wire::Wire;
 use std::alloc::Allocator;
 
-impl<W: Wire + Drop, A: Allocator> Driver<W, A> {
+impl<W: Wire + Drop, A: Allocator, J: Journal + Drop> Driver<W, A, J> {
     /// Whether nothing becomes due within this number of milliseconds: no scan is under way, no
     /// suspended call reaches its deadline, and no entry of the scenario becomes due. If so, the
     /// caller can sleep that long, and let these milliseconds pass in a later sweep.

@@ -4,11 +4,12 @@ ghost use Rattle.sv_serve.specs.DriverView.{Steps};
 ghost use Rattle.sv_serve.specs.Sweep.{Sweeps};
 
 use crate::driver::Driver;
+use crate::journal::Journal;
 use crate::wire::Wire;
 use std::alloc::Allocator;
 use sv_server::Role;
 
-impl<W: Wire + Drop, A: Allocator> Driver<W, A> {
+impl<W: Wire + Drop, A: Allocator, J: Journal + Drop> Driver<W, A, J> {
     /// Serves each socket once through the wire, applies the wire's answers to the server, and lets
     /// `ticks` milliseconds pass. The order is:
     ///
@@ -28,7 +29,7 @@ impl<W: Wire + Drop, A: Allocator> Driver<W, A> {
     /// If reading or writing fails, the connection or the channel is closed. If there is no memory
     /// for a call, the server answers the call with error 9, and its connection stays open.
     pub fn sweep(&mut self, ticks: u32)
-        ensures { Steps (Sweeps W.hears ticks) self.old self.new }
+        ensures { Steps J.notes (Sweeps W.hears ticks) self.old self.new }
     {
         self.accept(Role::Core);
         self.accept(Role::Abort);
@@ -40,5 +41,6 @@ impl<W: Wire + Drop, A: Allocator> Driver<W, A> {
         self.write_connections();
         self.write_channels();
         self.end_each();
+        self.flush();
     }
 }

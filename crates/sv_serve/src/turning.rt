@@ -8,6 +8,7 @@ ghost use Rattle.sv_serve.specs.Steps.{Turns, TurnsIf, EndsTurn, RefusesIf};
 ghost use Rattle.sv_serve.specs.Premises.{From, MayFindNone, FindsNoneIf};
 
 use crate::driver::{CONNECTIONS, Driver};
+use crate::journal::Journal;
 use crate::wire::Wire;
 use std::alloc::Allocator;
 use sv_server::{Did, Event, Refused};
@@ -19,10 +20,10 @@ fn is_no_memory(refused: Refused) -> bool
     matches!(refused, Refused::NoMemory)
 }
 
-impl<W: Wire + Drop, A: Allocator> Driver<W, A> {
+impl<W: Wire + Drop, A: Allocator, J: Journal + Drop> Driver<W, A, J> {
     /// On each connection that has a call to take, takes one call.
     pub(crate) fn turn_each(&mut self)
-        ensures { Steps (ForEach 16 Turns) self.old self.new }
+        ensures { Steps J.notes (ForEach 16 Turns) self.old self.new }
     {
         for conn in 0..CONNECTIONS {
             if self.is_unused(conn) {
@@ -35,7 +36,7 @@ impl<W: Wire + Drop, A: Allocator> Driver<W, A> {
     /// Takes the next call of a connection, if there is a call to take.
     fn turn(&mut self, conn: u8)
         requires { conn < 16 }
-        ensures { Steps (Turns conn) self.old self.new }
+        ensures { Steps J.notes (Turns conn) self.old self.new }
     {
         let ready = self.server.ready(conn);
         self.take(conn, ready);
@@ -44,7 +45,7 @@ impl<W: Wire + Drop, A: Allocator> Driver<W, A> {
     /// Takes the next call of a connection, if `ready` says that there is a call to take.
     fn take(&mut self, conn: u8, ready: bool)
         requires { conn < 16 }
-        ensures { Steps (TurnsIf conn ready) self.old self.new }
+        ensures { Steps J.notes (TurnsIf conn ready) self.old self.new }
     {
         if ready {
             let answer = self.give(Event::Turn { conn });
@@ -56,7 +57,7 @@ impl<W: Wire + Drop, A: Allocator> Driver<W, A> {
     /// error 9. The connection stays open.
     fn end_turn(&mut self, conn: u8, answer: Result<Did, Refused>)
         requires { conn < 16 }
-        ensures { From (MayFindNone conn answer) (EndsTurn conn answer) self.old self.new }
+        ensures { From J.notes (MayFindNone conn answer) (EndsTurn conn answer) self.old self.new }
     {
         match answer {
             Ok(_) => {}
@@ -68,7 +69,7 @@ impl<W: Wire + Drop, A: Allocator> Driver<W, A> {
     /// call.
     fn refuse_if(&mut self, conn: u8, so: bool)
         requires { conn < 16 }
-        ensures { From (FindsNoneIf conn so) (RefusesIf conn so) self.old self.new }
+        ensures { From J.notes (FindsNoneIf conn so) (RefusesIf conn so) self.old self.new }
     {
         if so {
             let _ = self.give(Event::Refuse { conn });

@@ -8,14 +8,16 @@ ghost use Rattle.sv_serve.specs.Steps.{WritesTo, EndsWrite};
 ghost use Rattle.sv_serve.specs.Premises.{From, Handed};
 
 use crate::driver::{CONNECTIONS, Driver};
+use crate::journal::Journal;
 use crate::wire::{Answer, Wire};
 use std::alloc::Allocator;
 use sv_server::{Event, Port};
 
-impl<W: Wire + Drop, A: Allocator> Driver<W, A> {
+impl<W: Wire + Drop, A: Allocator, J: Journal + Drop> Driver<W, A, J> {
     /// Writes the bytes that wait on each connection.
     pub(crate) fn write_connections(&mut self)
-        ensures { Steps (ForEach 16 (λ (c : ℕ). WritesTo W.hears (Conn c))) self.old self.new }
+        ensures { Steps J.notes (ForEach 16 (λ (c : ℕ). WritesTo W.hears
+            (Conn c))) self.old self.new }
     {
         for conn in 0..CONNECTIONS {
             if self.is_unused(conn) {
@@ -27,7 +29,8 @@ impl<W: Wire + Drop, A: Allocator> Driver<W, A> {
 
     /// Writes the bytes that wait on each interrupt channel.
     pub(crate) fn write_channels(&mut self)
-        ensures { Steps (ForEach 16 (λ (c : ℕ). WritesTo W.hears (Intr c))) self.old self.new }
+        ensures { Steps J.notes (ForEach 16 (λ (c : ℕ). WritesTo W.hears
+            (Intr c))) self.old self.new }
     {
         for conn in 0..CONNECTIONS {
             self.write(Port::Intr(conn));
@@ -38,7 +41,7 @@ impl<W: Wire + Drop, A: Allocator> Driver<W, A> {
     #[inline(always)]
     fn write(&mut self, port: Port)
         requires { port_number port < 16 }
-        ensures { Steps (WritesTo W.hears port) self.old self.new }
+        ensures { Steps J.notes (WritesTo W.hears port) self.old self.new }
     {
         let bytes = self.server.waiting(port);
         if bytes.is_empty() {
@@ -53,7 +56,8 @@ impl<W: Wire + Drop, A: Allocator> Driver<W, A> {
     fn leave(&mut self, port: Port, answer: Answer<usize>)
         requires number { port_number port < 16 }
         requires counted { (n : ℕ) → answer ≡ Answer.Got n → n < 4294967296 }
-        ensures { From (Handed port answer) (EndsWrite W.hears port answer) self.old self.new }
+        ensures { From J.notes (Handed port answer)
+            (EndsWrite W.hears port answer) self.old self.new }
     {
         match (answer, port) {
             (Answer::Got(count), _) => {

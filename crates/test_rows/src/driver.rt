@@ -15,6 +15,8 @@
 //! | `CALL: ANSWER` | below a sweep: the wire's answer to this call in the sweep |
 //! | `still N` | below a sweep: prints whether nothing becomes due within N milliseconds |
 //! | `played` | below a sweep: prints whether the scenario is at its end |
+//! | `stimulus input 1 250000` | after the sweep: hands this stimulus in, or prints that it is none
+//! | | `script` | after the sweep: prints what the driver's journal has written |
 //!
 //! A row of the kind `peers N` makes N sweeps. It has a line of hexadecimal for each peer, which
 //! sends these bytes on the core channel. The row prints what each peer gets on its connection and

@@ -3,13 +3,14 @@
 //! tried again. In a `! growth, refused` row, the call of this event is refused, and then sent
 //! again.
 
+use crate::CONFIG;
 use crate::turns::each;
 use crate::words::bad;
 use failing_alloc::FailingAllocator;
 use std::alloc::Global;
 use std::io::{self, BufWriter, Write};
 use sv_replay::{Line, read_line};
-use sv_server::{Config, Event, Port, Refused, Server};
+use sv_server::{Event, Port, Refused, Server};
 
 /// The most bytes that a line may have.
 const LONGEST: usize = 1_024;
@@ -18,13 +19,6 @@ const CONNECTIONS: u8 = 16;
 
 /// The server of a script. Memory may be refused to this server.
 type Played<'a> = Server<&'a FailingAllocator<Global>>;
-
-/// The configuration of the script's server.
-const SET_UP: Config = Config {
-    core: 4096,
-    abort: 4097,
-    clock: 0,
-};
 
 /// A script that is being played, and what it has printed so far.
 #[derive(Drop)]
@@ -149,11 +143,11 @@ fn start<'a>(
     refuses: bool,
 ) -> io::Result<Growing<'a>> {
     let mut told = String::new(alloc);
-    let server = match Server::new(heap, SET_UP) {
+    let server = match Server::new(heap, CONFIG) {
         Ok(server) => server,
         Err(_) => {
             told.push_str("no server\n")?;
-            Server::new(heap, SET_UP)?
+            Server::new(heap, CONFIG)?
         }
     };
     Ok(Growing {

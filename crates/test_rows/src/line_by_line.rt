@@ -1,6 +1,7 @@
 //! Replays a script whose input gives one line at each read. The replies to a line have to be
 //! printed before the next line is read.
 
+use crate::PORTS;
 use crate::words::bad;
 use failing_alloc::FailingAllocator;
 use std::alloc::Global;
@@ -74,7 +75,7 @@ pub(crate) fn play<W: Write + Drop>(
         noted: &noted,
     };
     let mut answers = BufWriter::new(alloc, Answers { noted: &noted })?;
-    if run_replay(&heap, &mut lines, &mut answers).is_err() {
+    if run_replay(&heap, PORTS, &mut lines, &mut answers).is_err() {
         return Err(bad());
     }
     match noted.try_borrow() {

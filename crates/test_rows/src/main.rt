@@ -26,6 +26,8 @@
 //!   it took, and then as for `! input fails`;
 //! - `! output stops at N`: as for `! output takes N`, but after N bytes the output takes no more
 //!   bytes and reports no fault;
+//! - `! ports CORE ABORT`: a script, replayed on a server with these ports; prints the same as
+//!   without this line;
 //! - `! without TEXT`: a script; prints the lines of its replay that don't end in this text;
 //! - `! closed`: a script of three connections; for each connection and each n, prints what the
 //!   replay prints if that connection is closed after the first n lines;
@@ -66,7 +68,20 @@ use driver::{failing, pacing, sweeps};
 use sockets::row;
 use std::alloc::Global;
 use std::io::{self, BufWriter, Error, ErrorKind, Write};
-use sv_replay::run_replay;
+use sv_replay::{Ports, run_replay};
+use sv_server::Config;
+
+/// The ports of a server, unless its row names others.
+const PORTS: Ports = Ports {
+    core: 4096,
+    abort: 4097,
+};
+/// The configuration of a server with these ports.
+const CONFIG: Config = Config {
+    core: 4096,
+    abort: 4097,
+    clock: 0,
+};
 
 /// Plays the rows in their order.
 fn main(rt: HostRuntime) -> io::Result<()> {
@@ -96,7 +111,7 @@ fn show<W: Write + Drop>(rt: HostRuntime, row: &str, writer: &mut BufWriter<W>) 
 
 /// Replays a script. Prints the output of the replay, and its fault if the replay fails.
 fn replay<W: Write + Drop>(alloc: Global, text: &str, writer: &mut BufWriter<W>) -> io::Result<()> {
-    match run_replay(alloc, &mut text.as_bytes(), writer) {
+    match run_replay(alloc, PORTS, &mut text.as_bytes(), writer) {
         Ok(()) => Ok(()),
         Err(fault) => writeln!(writer, "{fault}"),
     }

@@ -3,11 +3,11 @@
 
 use crate::streams::{Manner, Sink, Source};
 use crate::turns::each;
-use crate::words::{bad, number};
+use crate::words::{bad, cut, number, value_of};
 use failing_alloc::FailingAllocator;
 use std::alloc::Global;
 use std::io::{self, BufWriter, Write};
-use sv_replay::{RunFault, run_explain, run_replay};
+use sv_replay::{Ports, RunFault, run_explain, run_replay};
 
 /// In a `! reads` row, one run of the replay reads from its input fewer times than this.
 const MOST_READS: u64 = 1_000;
@@ -28,6 +28,14 @@ fn manner_of(words: &str) -> io::Result<Manner> {
             is_silent,
             ..ample
         });
+    }
+    if let Some(ports) = words.strip_prefix("ports ") {
+        let (core, abort) = cut(ports);
+        let ports = Ports {
+            core: value_of(core)?,
+            abort: value_of(abort)?,
+        };
+        return Ok(Manner { ports, ..ample });
     }
     match words {
         "singly" => Ok(Manner {
@@ -106,9 +114,9 @@ fn read_out(
     };
     let mut writer = BufWriter::new(alloc, sink)?;
     let answer = if manner.explains {
-        run_explain(heap, &mut source, &mut writer)
+        run_explain(heap, manner.ports, &mut source, &mut writer)
     } else {
-        run_replay(heap, &mut source, &mut writer)
+        run_replay(heap, manner.ports, &mut source, &mut writer)
     };
     let narrow = manner.room < usize::MAX;
     let told = told(alloc, writer.get_ref().taken.as_slice(), narrow, answer)?;

@@ -6,13 +6,15 @@
 //! bounds, hundreds of milliseconds later. If nothing comes to a peer for ten seconds, the program
 //! ends with a fault.
 //!
-//! The ports are 24196 to 24199; nothing listens on 24195. A row has these lines. A letter such as
+//! The ports are 24196 to 24200; nothing listens on 24195. A row has these lines. A letter such as
 //! `a` or `i` names a peer:
 //!
 //! | Line | What it says |
 //! |---|---|
 //! | `0 input 1 250000` | an entry of the scenario; an empty line ends the entries |
+//! | `control` | the server listens on the control port too |
 //! | `a core` | the peer connects to the core channel; `abort` and `portmap` are the other ports |
+//! | `a controls` | the peer connects to the control port |
 //! | `a calls ADDRESS:PORT` | the peer tries to connect to this address |
 //! | `a refused` | prints whether this attempt was refused |
 //! | `a < 8000..` | the peer sends these bytes, which may have blanks between them |

@@ -1,6 +1,8 @@
 //! Readers that give few bytes or fail, and writers that take few bytes or fail.
 
+use crate::PORTS;
 use std::io::{Error, ErrorKind, Read, Result, Write};
+use sv_replay::Ports;
 
 /// How a reader gives bytes, how a writer takes bytes, and what is done with the script.
 #[derive(Clone, Copy)]
@@ -18,6 +20,8 @@ pub(crate) struct Manner {
     pub(crate) is_silent: bool,
     /// Whether the script is explained. If false, it is replayed.
     pub(crate) explains: bool,
+    /// The ports of the server.
+    pub(crate) ports: Ports,
 }
 
 impl Manner {
@@ -31,6 +35,7 @@ impl Manner {
             room: usize::MAX,
             is_silent: false,
             explains: false,
+            ports: PORTS,
         }
     }
 

@@ -12,7 +12,7 @@ use Rattle.sv_replay.specs.declared.mode.Mode.TheVariants.{Plain, Explained}
 use Rattle.sv_replay.specs.declared.fault.RunFault.{RunFault}
 use Rattle.sv_replay.specs.declared.fault.RunFault.TheVariants.{BadLine, Input, Output, Memory}
 use Rattle.sv_replay.specs.Script.{ScriptEvent, parts, Prints, Stops}
-use Rattle.sv_replay.specs.Run.{set_up, Printed, PrintedUpTo, Runs, PrintedToEnd, RunsExplained}
+use Rattle.sv_replay.specs.Run.{Printed, PrintedUpTo, Runs, PrintedToEnd, RunsExplained}
 use Rattle.sv_replay.specs.Filtered.{filtered}
 use Rattle.sv_replay.proofs.Filter.Told.{hidden_told, hidden_end}
 use Rattle.sv_replay.proofs.Filter.Printed.{written_on, written_stop}
@@ -89,53 +89,58 @@ stops_filtered config history events fault text after (done, others, said, split
       ap filtered is ∙ all last,
     )
 
-printed_filtered : (lines : List (List ℕ)) (text : List ℕ) → Printed Explained lines text → Printed Plain lines (filtered text)
-printed_filtered lines text (events, after, script, prints) = (
+printed_filtered : (config : Config) (lines : List (List ℕ)) (text : List ℕ) → Printed config Explained lines text
+    → Printed config Plain lines (filtered text)
+printed_filtered config lines text (events, after, script, prints) = (
   events,
   after,
   script,
-  subst (λ (l : List ℕ). Prints Plain set_up [] events (filtered l) after) (append-nil text)
-      (with_hidden set_up [] events text [] after prints refl),
+  subst (λ (l : List ℕ). Prints Plain config [] events (filtered l) after) (append-nil text)
+      (with_hidden config [] events text [] after prints refl),
 )
 
-up_to_filtered : (lines : List (List ℕ)) (fault : ReplayFault) (text : List ℕ) → PrintedUpTo Explained lines fault text
-    → PrintedUpTo Plain lines fault (filtered text)
-up_to_filtered lines fault text (events, after, script, stops) =
-    (events, after, script, stops_filtered set_up [] events fault text after stops)
+up_to_filtered : (config : Config) (lines : List (List ℕ)) (fault : ReplayFault) (text : List ℕ)
+    → PrintedUpTo config Explained lines fault text
+    → PrintedUpTo config Plain lines fault (filtered text)
+up_to_filtered config lines fault text (events, after, script, stops) =
+    (events, after, script, stops_filtered config [] events fault text after stops)
 
 -- with the line of the clock, or a front of it
-to_end_filtered : (lines : List (List ℕ)) (front last part : List ℕ) → PrintedToEnd lines front last → IsFront part last
-    → Printed Plain lines (filtered (front ++ part))
-to_end_filtered lines front last part (events, after, log, script, prints, is_log, is) of = (
+to_end_filtered : (config : Config) (lines : List (List ℕ)) (front last part : List ℕ) → PrintedToEnd config lines front last
+    → IsFront part last
+    → Printed config Plain lines (filtered (front ++ part))
+to_end_filtered config lines front last part (events, after, log, script, prints, is_log, is) of = (
   events,
   after,
   script,
-  with_hidden set_up [] events front part after prints ((hidden_end _).1 part (subst (λ (l : List ℕ). IsFront part l) is of)),
+  with_hidden config [] events front part after prints ((hidden_end _).1 part (subst (λ (l : List ℕ). IsFront part l) is of)),
 )
 
-output_filtered : (read : List ℕ) (rest : Option (List ℕ)) (text : List ℕ) → Runs Explained read rest (Err Output) text
-    → Runs Plain read rest (Err Output) (filtered text)
-output_filtered read rest text (lines, behind, is, whole, inl printed) =
-    (lines, behind, is, whole, inl (printed_filtered lines text printed))
-output_filtered read rest text (lines, behind, is, whole, inr (fault, printed)) =
-    (lines, behind, is, whole, inr (fault, up_to_filtered lines fault text printed))
+output_filtered : (config : Config) (read : List ℕ) (rest : Option (List ℕ)) (text : List ℕ)
+    → Runs config Explained read rest (Err Output) text
+    → Runs config Plain read rest (Err Output) (filtered text)
+output_filtered config read rest text (lines, behind, is, whole, inl printed) =
+    (lines, behind, is, whole, inl (printed_filtered config lines text printed))
+output_filtered config read rest text (lines, behind, is, whole, inr (fault, printed)) =
+    (lines, behind, is, whole, inr (fault, up_to_filtered config lines fault text printed))
 
-pub runs_filtered : (read : List ℕ) (rest : Option (List ℕ)) (result : Result ⊤ RunFault) (text : List ℕ)
-    → RunsExplained read rest result text → Runs Plain read rest result (filtered text)
-runs_filtered read rest (Ok all) text (front, last, printed, is) =
-    subst (λ (l : List ℕ). Printed Plain (parts read) (filtered l)) (sym is)
-    (to_end_filtered (parts read) front last last printed ([], sym (append-nil last)))
-runs_filtered read rest (Err (BadLine n)) text (lines, behind, line, is, count, bad, whole, printed) =
-    (lines, behind, line, is, count, bad, whole, printed_filtered lines text printed)
-runs_filtered read rest (Err Input) text (lines, last, is, printed) = (lines, last, is, printed_filtered lines text printed)
-runs_filtered read rest (Err Output) text (inl runs) = output_filtered read rest text runs
-runs_filtered read rest (Err Output) text (inr (front, last, part, printed, of, end, is)) = (
+pub runs_filtered : (config : Config) (read : List ℕ) (rest : Option (List ℕ)) (result : Result ⊤ RunFault) (text : List ℕ)
+    → RunsExplained config read rest result text → Runs config Plain read rest result (filtered text)
+runs_filtered config read rest (Ok all) text (front, last, printed, is) =
+    subst (λ (l : List ℕ). Printed config Plain (parts read) (filtered l)) (sym is)
+    (to_end_filtered config (parts read) front last last printed ([], sym (append-nil last)))
+runs_filtered config read rest (Err (BadLine n)) text (lines, behind, line, is, count, bad, whole, printed) =
+    (lines, behind, line, is, count, bad, whole, printed_filtered config lines text printed)
+runs_filtered config read rest (Err Input) text (lines, last, is, printed) = (lines, last, is, printed_filtered config lines text printed)
+runs_filtered config read rest (Err Output) text (inl runs) = output_filtered config read rest text runs
+runs_filtered config read rest (Err Output) text (inr (front, last, part, printed, of, end, is)) = (
   parts read,
   [],
   sym (append-nil (parts read)),
   inr end,
-  inl (subst (λ (l : List ℕ). Printed Plain (parts read) (filtered l)) (sym is) (to_end_filtered (parts read) front last part printed of)),
+  inl (subst (λ (l : List ℕ). Printed config Plain (parts read) (filtered l)) (sym is)
+      (to_end_filtered config (parts read) front last part printed of)),
 )
-runs_filtered read rest (Err Memory) text (inl (none, unsaid)) = inl (none, ap filtered unsaid)
-runs_filtered read rest (Err Memory) text (inr (lines, behind, is, whole, printed)) =
-    inr (lines, behind, is, whole, up_to_filtered lines NoMemory text printed)
+runs_filtered config read rest (Err Memory) text (inl (none, unsaid)) = inl (none, ap filtered unsaid)
+runs_filtered config read rest (Err Memory) text (inr (lines, behind, is, whole, printed)) =
+    inr (lines, behind, is, whole, up_to_filtered config lines NoMemory text printed)

@@ -19,6 +19,10 @@ use Rattle.sv_explain.specs.declared.value.Value.{Value}
 use Rattle.sv_explain.specs.declared.shown.RegisterShown.{RegisterShown}
 use Rattle.sv_explain.specs.declared.shown.Listed.{Listed}
 use Rattle.sv_explain.specs.declared.shown.ConnShown.{ConnShown}
+use Rattle.sv_explain.specs.declared.shown.LinksShown.{LinksShown}
+use Rattle.sv_explain.specs.declared.shown.ScannerShown.{ScannerShown}
+use Rattle.sv_explain.specs.declared.shown.ExchangeShown.{ExchangeShown}
+use Rattle.sv_explain.specs.declared.shown.StatusesShown.{StatusesShown}
 use Rattle.sv_explain.specs.declared.shown.Shown.{Shown}
 use Rattle.sv_explain.specs.declared.step.Due.{Due}
 use Rattle.sv_explain.specs.declared.step.Due.TheVariants as due
@@ -163,7 +167,7 @@ hidden_conns : (old new : List ConnShown) → IsHidden (conns_lines old new)
 hidden_conns old new = hidden_all (λ c. conn_lines c (slice_index_or old c never_opened) (slice_index_or new c never_opened))
     (range_with_len 0 16) (λ c. hidden_conn_lines c (slice_index_or old c never_opened) (slice_index_or new c never_opened))
 
-hidden_all_links : (old new : Shown) → IsHidden (all_links_lines old new)
+hidden_all_links : (old new : LinksShown) → IsHidden (all_links_lines old new)
 hidden_all_links old new = hidden_then (links_lines (codes "link.") (codes "none")
     (λ link. 99 ∷ decimal link.conn) old.links.items new.links.items)
     (lines_of [] (codes "lock" ∷ []) (number_or_word word.None old.lock ∷ []) (number_or_word word.None new.lock ∷ [])
@@ -175,13 +179,13 @@ hidden_all_links old new = hidden_then (links_lines (codes "link.") (codes "none
     (hidden_lines [] (codes "lock" ∷ []) (number_or_word word.None old.lock ∷ []) (number_or_word word.None new.lock ∷ []) refl refl)
     (hidden_links (codes "srq.") (codes "off") (λ link. codes "on") old.asking.items new.asking.items refl refl (λ link. refl)))
 
-hidden_scanner : (old new : Shown) → IsHidden (scanner_lines old new)
+hidden_scanner : (old new : ScannerShown) → IsHidden (scanner_lines old new)
 hidden_scanner old new =
     hidden_then _ _ (hidden_lines [] settings_names (settings_values old.settings) (settings_values new.settings) refl refl)
     (hidden_then _ _ (hidden_numbers (codes "list") old.list.items new.list.items refl)
     (hidden_lines [] measurement_names (measurement_values old.measurement) (measurement_values new.measurement) refl refl))
 
-hidden_exchange_lines : (old new : Shown) → IsHidden (exchange_lines old new)
+hidden_exchange_lines : (old new : ExchangeShown) → IsHidden (exchange_lines old new)
 hidden_exchange_lines old new =
     hidden_then _ _ (hidden_lines [] message_names (message_values old.message) (message_values new.message) refl refl)
     (hidden_numbers (codes "errors") old.errors.items new.errors.items refl)
@@ -189,17 +193,18 @@ hidden_exchange_lines old new =
 hidden_register : (owner : List ℕ) (old new : RegisterShown) → Unbroken owner → IsHidden (register_lines owner old new)
 hidden_register owner old new h = hidden_lines owner register_names (register_values old) (register_values new) h refl
 
-hidden_status : (old new : Shown) → IsHidden (status_lines old new)
+hidden_status : (old new : StatusesShown) → IsHidden (status_lines old new)
 hidden_status old new = hidden_then _ _ (hidden_register (codes "lim.") old.limit new.limit refl)
     (hidden_then _ _ (hidden_register (codes "ques.") old.questionable new.questionable refl)
     (hidden_then _ _ (hidden_register (codes "oper.") old.operation new.operation refl)
-    (hidden_lines [] status_names (status_values old.status) (status_values new.status) refl refl)))
+    (hidden_lines [] status_names (status_values old.standard) (status_values new.standard) refl refl)))
 
 hidden_changes : (old new : Shown) → IsHidden (changes old new)
-hidden_changes old new = hidden_then (conns_lines old.conns new.conns) _ (hidden_conns old.conns new.conns)
-    (hidden_then (all_links_lines old new) _ (hidden_all_links old new)
-    (hidden_then (scanner_lines old new) _ (hidden_scanner old new)
-    (hidden_then (exchange_lines old new) (status_lines old new) (hidden_exchange_lines old new) (hidden_status old new))))
+hidden_changes old new = hidden_then (conns_lines old.conns.items new.conns.items) _ (hidden_conns old.conns.items new.conns.items)
+    (hidden_then (all_links_lines old.links new.links) _ (hidden_all_links old.links new.links)
+    (hidden_then (scanner_lines old.scanner new.scanner) _ (hidden_scanner old.scanner new.scanner)
+    (hidden_then (exchange_lines old.exchange new.exchange) (status_lines old.statuses new.statuses)
+    (hidden_exchange_lines old.exchange new.exchange) (hidden_status old.statuses new.statuses))))
 
 -- ---- all that is told
 

@@ -2,12 +2,12 @@
 
 use super::scripted::Scripted;
 use super::shown::show;
-use crate::words::{bad, number};
+use crate::words::{bad, cut, number};
 use failing_alloc::FailingAllocator;
 use std::alloc::Global;
 use std::io::{self, BufWriter, Error, ErrorKind, Write};
-use sv_recording::Recorder;
-use sv_replay::{Entry, read_scenario};
+use sv_recording::{Recorder, Tape};
+use sv_replay::{Entry, read_scenario, read_stimulus};
 use sv_serve::Driver;
 use sv_server::{Config, Server};
 
@@ -16,7 +16,7 @@ use sv_server::{Config, Server};
 const MEMORY: &str = " memory ";
 
 /// The driver with which a row is played.
-type Played<'a> = Driver<Recorder<Scripted>, &'a FailingAllocator<Global>>;
+type Played<'a> = Driver<Recorder<Scripted>, &'a FailingAllocator<Global>, Tape<Vec<u8>>>;
 
 /// If the first line begins with `word`, returns the number in this line, and the lines after it.
 /// Else returns 0, and all lines.
@@ -52,7 +52,7 @@ fn scenario<'a>(
 }
 
 /// Makes the driver with which a row is played. If the row has a line `memory N`, the Nth
-/// allocation of `Driver::new` is refused.
+/// allocation of `Driver::with_journal` is refused.
 fn made<'a>(
     alloc: Global,
     heap: &'a FailingAllocator<Global>,
@@ -69,7 +69,8 @@ fn made<'a>(
     };
     let server = Server::new(heap, config)?;
     heap.refuse(refused);
-    Ok(Driver::new(heap, server, wire, scenario)?)
+    let tape = Tape::new(Vec::new(alloc));
+    Ok(Driver::with_journal(heap, server, wire, scenario, tape)?)
 }
 
 /// Makes a sweep, and prints the calls that the driver made to the wire's functions in this sweep.
@@ -99,22 +100,51 @@ fn sweep<W: Write + Drop>(
     Ok(())
 }
 
-/// Prints, for each line `still N` after a sweep, whether nothing becomes due within N
-/// milliseconds; and for each line `played`, whether the scenario is at its end.
-fn show_state<W: Write + Drop>(
-    driver: &Played<'_>,
+/// Executes the lines after a sweep.
+fn step_each<W: Write + Drop>(
+    driver: &mut Played<'_>,
     lines: &str,
     writer: &mut BufWriter<W>,
 ) -> io::Result<()> {
     for line in lines.lines() {
-        let so = match line.strip_prefix("still ") {
-            Some(text) => driver.is_still(number(text)?.min(u64::from(u32::MAX)) as u32),
-            None if line == "played" => driver.is_played(),
-            None => continue,
-        };
-        writeln!(writer, "{line}: {so}")?;
+        step(driver, line, writer)?;
     }
     Ok(())
+}
+
+/// Executes a line after a sweep, if it isn't an answer of the wire. For `still N`, prints whether
+/// nothing becomes due within N milliseconds; for `played`, whether the scenario is at its end; for
+/// `script`, what the journal has written. For `stimulus S`, hands the stimulus S in, or prints
+/// that the server doesn't accept it.
+fn step<W: Write + Drop>(
+    driver: &mut Played<'_>,
+    line: &str,
+    writer: &mut BufWriter<W>,
+) -> io::Result<()> {
+    let (word, rest) = cut(line);
+    let so = match word {
+        "still" => driver.is_still(number(rest)?.min(u64::from(u32::MAX)) as u32),
+        "played" => driver.is_played(),
+        "script" => return writer.write_all(driver.journal().writer()),
+        "stimulus" => return stimulate(driver, rest, writer),
+        _ => return Ok(()),
+    };
+    writeln!(writer, "{line}: {so}")
+}
+
+/// Hands a stimulus in, or prints that the server doesn't accept it.
+fn stimulate<W: Write + Drop>(
+    driver: &mut Played<'_>,
+    line: &str,
+    writer: &mut BufWriter<W>,
+) -> io::Result<()> {
+    match read_stimulus(line.as_bytes()) {
+        Some(stimulus) => {
+            driver.stimulate(stimulus);
+            Ok(())
+        }
+        None => writeln!(writer, "{line}: no stimulus"),
+    }
 }
 
 /// Makes each sweep of a row.
@@ -129,7 +159,7 @@ fn sweep_each<W: Write + Drop>(
         if place > 0 {
             let (line, behind) = section.split_once('\n').unwrap_or((section, ""));
             sweep(heap, driver, place, line, writer)?;
-            show_state(driver, behind, writer)?;
+            step_each(driver, behind, writer)?;
         }
         place = place.saturating_add(1);
     }

@@ -1,5 +1,6 @@
 //! Makes parts of the server for which memory is refused.
 
+use crate::CONFIG;
 use crate::parts::line::put;
 use crate::words::bad;
 use failing_alloc::FailingAllocator;
@@ -12,16 +13,10 @@ use sv_instrument::Instrument;
 use sv_layers::Layers;
 use sv_rpc::RecordBuf;
 use sv_scan::Scanner;
-use sv_server::{Config, Server};
+use sv_server::Server;
 
 /// A part must make fewer allocations than this.
 const MOST: u64 = 200;
-/// The ports 4096 and 4097, and a clock that starts at 0.
-const CONFIG: Config = Config {
-    core: 4096,
-    abort: 4097,
-    clock: 0,
-};
 
 /// Whether this is a part and no refusal. Drops the part.
 fn is_part<T: Drop, E: Drop>(part: Result<T, E>) -> bool {

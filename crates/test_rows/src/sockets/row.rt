@@ -3,7 +3,7 @@
 use crate::hexadecimal::show_bytes;
 use crate::sockets::peer::Peer;
 use crate::sockets::pouring::{is_in_order, pour};
-use crate::sockets::stage::{PORTS, Stage};
+use crate::sockets::stage::{CONTROL, PORTS, Stage};
 use crate::words::{bad, bytes_of, cut, value_of};
 use std::alloc::Global;
 use std::io::{self, BufWriter, Write};
@@ -71,6 +71,7 @@ fn step<W: Write + Drop>(
     match first {
         "" => Ok(()),
         "start" => stage.begin(),
+        "control" => stage.open_control(),
         "passed" => {
             let so = stage.passed()? >= value_of::<u128>(behind)?;
             writeln!(writer, "{line}: {}", word(so))
@@ -96,6 +97,7 @@ fn do_as<W: Write + Drop>(
         "core" => connect(stage, name, local(PORTS[0])),
         "abort" => connect(stage, name, local(PORTS[1])),
         "portmap" => connect(stage, name, local(PORTS[2])),
+        "controls" => connect(stage, name, local(CONTROL)),
         "calls" => connect(stage, name, value_of(text)?),
         "listens" => listen(stage, name, text),
         "accepts" => stage.accept(name),

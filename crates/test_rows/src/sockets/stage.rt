@@ -5,13 +5,15 @@ use crate::words::bad;
 use std::alloc::Global;
 use std::io::{self, Error, ErrorKind};
 use std::time::{Clock, Duration, Instant};
-use sv_net::{Net, System, Watch, serve};
+use sv_net::{Control, Net, System, Watch, serve};
 use sv_replay::{Entry, read_scenario};
 use sv_serve::Driver;
 use sv_server::{Config, Port, Server};
 
 /// The ports of the core channel, the abort channel and the port mapper.
 pub(crate) const PORTS: [u16; 3] = [24196, 24197, 24198];
+/// The control port.
+pub(crate) const CONTROL: u16 = 24200;
 /// How many seconds a peer waits at most for bytes or for a connection.
 const PATIENCE: u64 = 10;
 /// The most tries to listen. The program sleeps 20 milliseconds after each try.
@@ -67,6 +69,7 @@ fn driver_over(
 pub(crate) struct Stage {
     pub(crate) rt: HostRuntime,
     watch: Watch<Global>,
+    control: Option<Control>,
     driver: Played,
     pub(crate) peers: Vec<Peer>,
     /// How many sweeps the server makes between two checks of whether bytes have come to a peer.
@@ -86,6 +89,7 @@ impl Stage {
         Ok(Stage {
             rt,
             watch,
+            control: None,
             driver: driver_over(rt.alloc(), net, scenario)?,
             peers: Vec::new(rt.alloc()),
             sweeps: SWEEPS,
@@ -101,9 +105,15 @@ impl Stage {
         }
     }
 
+    /// Listens on the control port.
+    pub(crate) fn open_control(&mut self) -> io::Result<()> {
+        self.control = Some(self.watch.control(&self.rt, self.rt.alloc(), CONTROL)?);
+        Ok(())
+    }
+
     /// Makes this number of sweeps.
     pub(crate) fn serve(&mut self, sweeps: u32) -> io::Result<()> {
-        let mut machine = System::begin(&self.rt, &mut self.watch)?;
+        let mut machine = System::begin(&self.rt, &mut self.watch, &mut self.control)?;
         serve(&mut machine, &mut self.driver, sweeps)
     }
 

@@ -3,7 +3,7 @@ use Rattle.sv_net.proofs.Pausing.{one_look, in_vain, no_wait, from_quiet, to_fre
 use Rattle.sv_net.proofs.serving.spin.Goals as goal
 
 pub loop-looks-init : goal.loop-looks-init
-loop-looks-init g c = record { pauses = no_wait _ _ _ _ _ _ _; swept = refl }
+loop-looks-init g c = record { pauses = no_wait _ _ _ _ _ _ _ _; swept = refl }
 
 pub returns-then-not-is_spinning-clause-pauses : goal.returns-then-not-is_spinning-clause-pauses
 returns-then-not-is_spinning-clause-pauses g c =
@@ -12,13 +12,13 @@ returns-then-not-is_spinning-clause-pauses g c =
 
 pub returns-then-reported-clause-pauses : goal.returns-then-reported-clause-pauses
 returns-then-reported-clause-pauses g c =
-    and_then c.loop-looks.invariant.pauses (from_quiet (one_look _ _ _ _ _ _ _ _ _ _ _ refl c.in_ok-reported.ensures.answers))
+    and_then c.loop-looks.invariant.pauses (from_quiet (one_look _ _ _ _ _ _ _ _ _ _ _ _ refl c.in_ok-reported.ensures.answers))
 
 pub loop-looks-preserved : goal.loop-looks-preserved
 loop-looks-preserved g c = record {
   pauses =
       and_then c.loop-looks.invariant.pauses
-      (from_quiet (in_vain _ _ _ _ _ _ _ _ _ _ refl (rw c.if-reported.false at c.in_ok-reported.ensures.answers)));
+      (from_quiet (in_vain _ _ _ _ _ _ _ _ _ _ _ refl (rw c.if-reported.false at c.in_ok-reported.ensures.answers)));
   swept = c.in_ok-reported.ensures.swept ∙ c.loop-looks.invariant.swept;
 }
 

@@ -5,7 +5,7 @@ use Rattle.sv_net.proofs.serving.spin.Given as goal
 
 abbrev pub invariant-loop-looks : goal.invariant-loop-looks
 invariant-loop-looks g l = record {
-  pauses : Pauses (Hears g.S.Read.remaining g.S.Write.contents) g.M.Machine.answers l.driver is_quiet is_quiet l.fn.left
+  pauses : Pauses (Hears g.S.Read.remaining g.S.Write.contents) g.J.Journal.notes g.M.Machine.answers l.driver is_quiet is_quiet l.fn.left
       l.fn.pace.swept l.fn.began l.now l.fn.machine l.machine;
   swept : l.pace.swept ≡ l.fn.pace.swept;
 }

@@ -1,11 +1,13 @@
 use Rattle.sv_replay.specs.declared.mode.Mode.TheVariants.{Explained}
+use Rattle.sv_replay.specs.Run.{config_of}
 use Rattle.sv_replay.proofs.Heard.{read_out}
 use Rattle.sv_replay.proofs.Ending.{run_told, end_told}
 use Rattle.sv_replay.proofs.run.run_explain.Goals as goal
 
 pub returns-clause-runs : goal.returns-clause-runs
 returns-clause-runs g c =
-    run_told Explained _ _ _ _ _ c.run_lines-told.result c.pass_on.result c.run_lines-told.ensures.end c.pass_on.ensures.answer
+    run_told (config_of c.args.ports) Explained _ _ _ _ _ c.run_lines-told.result c.pass_on.result c.run_lines-told.ensures.end
+    c.pass_on.ensures.answer
     c.pass_on.ensures.kept c.run_lines-told.ensures.runs
 
 pub returns-clause-end : goal.returns-clause-end

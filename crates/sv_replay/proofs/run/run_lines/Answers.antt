@@ -1,11 +1,12 @@
 use Rattle.std.proofs.Common.{arith, refl, []}
+use Rattle.sv_replay.specs.Run.{config_of}
 use Rattle.sv_replay.proofs.Heard.{on_input, read_end}
 use Rattle.sv_replay.proofs.Ending.{no_memory, end_stop, end_plain, end_explained, end_holds}
 use Rattle.sv_replay.proofs.run.run_lines.Goals as goal
 
 pub returns-in_err-run-clause-runs : goal.returns-in_err-run-clause-runs
 returns-in_err-run-clause-runs g c =
-    no_memory c.args.mode _ _ c.from_residual.result c.from_residual.ensures.0 c.from_residual.ensures.1
+    no_memory (config_of c.args.ports) c.args.mode _ _ c.from_residual.result c.from_residual.ensures.0 c.from_residual.ensures.1
 
 pub returns-in_err-run-clause-reads : goal.returns-in_err-run-clause-reads
 returns-in_err-run-clause-reads g c =
@@ -13,18 +14,22 @@ returns-in_err-run-clause-reads g c =
 
 pub returns-in_err-to_end-clause-runs : goal.returns-in_err-to_end-clause-runs
 returns-in_err-to_end-clause-runs g c =
-    end_stop c.args.mode _ c.to_end.new.self.server _ _ _ _ c.in_err-to_end.field-0.0 c.from_residual-in_err-to_end.result
-    c.in_ok-run.ensures.3 c.from_residual-in_err-to_end.ensures.0 c.from_residual-in_err-to_end.ensures.1 c.in_err-to_end.ensures.runs
+    end_stop (config_of c.args.ports) c.args.mode _ c.to_end.new.self.server _ _ _ _ c.in_err-to_end.field-0.0
+    c.from_residual-in_err-to_end.result
+    c.in_ok-run.ensures.3 c.from_residual-in_err-to_end.ensures.0 c.from_residual-in_err-to_end.ensures.1
+    (c.in_err-to_end.ensures.runs (config_of c.args.ports) c.in_ok-run.ensures.0)
 
 pub returns-in-Plain-clause-runs : goal.returns-in-Plain-clause-runs
 returns-in-Plain-clause-runs g c =
-    rw c.in-Plain.is (end_plain c.to_end.new.self.server _ _ _ _
-    (rw (c.in_ok-run.ensures.3, c.in-Plain.is) at c.in_ok-to_end.ensures.runs))
+    rw c.in-Plain.is (end_plain (config_of c.args.ports) c.to_end.new.self.server _ _ _ _
+    (rw (c.in_ok-run.ensures.3, c.in-Plain.is) at (c.in_ok-to_end.ensures.runs (config_of c.args.ports) c.in_ok-run.ensures.0)))
 
 pub returns-clause-runs : goal.returns-clause-runs
 returns-clause-runs g c =
-    rw c.in-Explained.is (end_explained c.to_end.new.self.server _ _ _ _ _ c.put_end.result c.in_ok-to_end.ensures.end
-    (rw (c.in_ok-run.ensures.3, c.in-Explained.is) at c.in_ok-to_end.ensures.runs) c.put_end.ensures.taken c.put_end.ensures.fault)
+    rw c.in-Explained.is (end_explained
+    (config_of c.args.ports) c.to_end.new.self.server _ _ _ _ _ c.put_end.result c.in_ok-to_end.ensures.end
+    (rw (c.in_ok-run.ensures.3, c.in-Explained.is) at (c.in_ok-to_end.ensures.runs (config_of c.args.ports) c.in_ok-run.ensures.0))
+    c.put_end.ensures.taken c.put_end.ensures.fault)
 
 pub returns-clause-end : goal.returns-clause-end
 returns-clause-end g c = end_holds _ c.put_end.result c.in_ok-to_end.ensures.end

@@ -1,11 +1,13 @@
 use Rattle.sv_replay.specs.declared.mode.Mode.TheVariants.{Plain}
+use Rattle.sv_replay.specs.Run.{config_of}
 use Rattle.sv_replay.proofs.Heard.{read_out}
 use Rattle.sv_replay.proofs.Ending.{run_told, end_told}
 use Rattle.sv_replay.proofs.run.run_replay.Goals as goal
 
 pub returns-clause-runs : goal.returns-clause-runs
 returns-clause-runs g c =
-    run_told Plain _ _ _ _ _ c.run_lines-answer.result c.pass_on.result c.run_lines-answer.ensures.end c.pass_on.ensures.answer
+    run_told (config_of c.args.ports) Plain _ _ _ _ _ c.run_lines-answer.result c.pass_on.result c.run_lines-answer.ensures.end
+    c.pass_on.ensures.answer
     c.pass_on.ensures.kept c.run_lines-answer.ensures.runs
 
 pub returns-clause-end : goal.returns-clause-end

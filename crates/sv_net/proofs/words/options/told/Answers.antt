@@ -14,3 +14,7 @@ returns-in_err-count_of-3 c =
 pub returns-in_err-count_of-4 : goal.returns-in_err-count_of-4
 returns-in_err-count_of-4 c =
     rw c.from_residual-in_err-count_of-4.ensures (λ serve tells. c.in_err-count_of-4.ensures serve.sweeps tells.4)
+
+pub returns-in_err-control_of : goal.returns-in_err-control_of
+returns-in_err-control_of c =
+    rw c.from_residual-in_err-control_of.ensures (λ serve tells. c.in_err-control_of.ensures serve.control tells.6)

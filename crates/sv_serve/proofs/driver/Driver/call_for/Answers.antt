@@ -5,11 +5,11 @@ use Rattle.sv_serve.proofs.Branches.{calls_as}
 use Rattle.sv_serve.proofs.driver.Driver.call_for.Goals as goal
 
 pub returns-in-Some-None : goal.returns-in-Some-None
-returns-in-Some-None g c = λ config history stands wants.
-    let (h0, s0, p0) = c.start_connect-answer.ensures config history stands in
+returns-in-Some-None g c = λ first config history stands wants.
+    let (h0, s0, p0) = c.start_connect-answer.ensures _ config history stands in
     let still = still_wants c.args.conn c.args.wanted (Some c.in-Some-None.dial) config (driver_view c.args.self.now history)
     (driver_view c.start_connect-answer.new.self h0) (ap (λ m. m.history) p0.2) c.in-Some-None.is-0 wants in
-    let (h1, s1, p1) = c.connect_result.ensures config h0 s0 still in (
+    let (h1, s1, p1) = c.connect_result.ensures _ config h0 s0 still in (
       h1,
       s1,
       calls_as g.W.Wire.hears c.args.conn c.args.wanted c.args.called (Some c.in-Some-None.dial) None config
@@ -18,11 +18,11 @@ returns-in-Some-None g c = λ config history stands wants.
     )
 
 pub returns-in-Some-Some : goal.returns-in-Some-Some
-returns-in-Some-Some g c = λ config history stands wants.
-    let (h0, s0, p0) = c.poll_connect-answer.ensures config history stands in
+returns-in-Some-Some g c = λ first config history stands wants.
+    let (h0, s0, p0) = c.poll_connect-answer.ensures _ config history stands in
     let still = still_wants c.args.conn c.args.wanted (Some _) config (driver_view c.args.self.now history)
     (driver_view c.poll_connect-answer.new.self h0) (ap (λ m. m.history) p0.2) c.in-Some-Some.is-0 wants in
-    let (h1, s1, p1) = c.poll_result.ensures config h0 s0 (_, still) in (
+    let (h1, s1, p1) = c.poll_result.ensures _ config h0 s0 (_, still) in (
       h1,
       s1,
       calls_as g.W.Wire.hears c.args.conn c.args.wanted c.args.called _ _ config

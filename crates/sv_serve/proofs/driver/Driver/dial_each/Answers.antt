@@ -6,20 +6,22 @@ use Rattle.sv_serve.proofs.Unused.{goes_rest, dials_none}
 use Rattle.sv_serve.proofs.driver.Driver.dial_each.Goals as goal
 
 pub loop-conn-init : goal.loop-conn-init
-loop-conn-init g c = λ config history stands. (history, stands, refl)
+loop-conn-init g c = λ first config history stands. (history, stands, refl)
 
 pub loop-conn-preserved : goal.loop-conn-preserved
 loop-conn-preserved g c =
-    goes_more (Dials g.W.Wire.hears) c.loop-conn.conn (c.loop-conn.conn + 1) c.args.self.now c.loop-conn.self
+    goes_more g.J.Journal.notes (Dials g.W.Wire.hears) c.loop-conn.conn (c.loop-conn.conn + 1) c.args.self.now c.loop-conn.self
     c.dial.new.self (omega arith) c.loop-conn.invariant c.dial.ensures
 
 pub returns-then-is_uncalled : goal.returns-then-is_uncalled
 returns-then-is_uncalled g c =
-    goes_rest (Dials g.W.Wire.hears) c.loop-conn.conn 16 c.args.self.now c.loop-conn.self (omega arith) c.loop-conn.invariant
-    (λ config history stands.
-    let unused = c.is_uncalled.ensures c.if-is_uncalled.true config history stands in
+    goes_rest g.J.Journal.notes (Dials g.W.Wire.hears) c.loop-conn.conn 16 c.args.self.now c.loop-conn.self
+    (omega arith) c.loop-conn.invariant
+    (λ first config history stands.
+    let unused = c.is_uncalled.ensures c.if-is_uncalled.true config history stands.0 in
     dials_none g.W.Wire.hears c.loop-conn.conn config (driver_view c.loop-conn.self history) unused.0 unused.1)
 
 pub returns : goal.returns
 returns g c =
-    goes_all (Dials g.W.Wire.hears) c.loop-conn.conn 16 c.args.self.now c.loop-conn.self (omega arith) c.loop-conn.invariant
+    goes_all g.J.Journal.notes (Dials g.W.Wire.hears) c.loop-conn.conn 16 c.args.self.now c.loop-conn.self
+    (omega arith) c.loop-conn.invariant

@@ -4,4 +4,4 @@ use Rattle.sv_serve.proofs.driver.Driver.dial_each.Given as goal
 
 -- the step was taken for each number below this one
 abbrev pub invariant-loop-conn : goal.invariant-loop-conn
-invariant-loop-conn g l = Steps (ForEach l.conn (Dials g.W.Wire.hears)) l.fn.self l.self
+invariant-loop-conn g l = Steps g.J.Journal.notes (ForEach l.conn (Dials g.W.Wire.hears)) l.fn.self l.self

@@ -1,6 +1,6 @@
 use Rattle.sv_serve.proofs.driver.Driver.keep_call.Goals as goal
 
 pub returns : goal.returns
-returns g c = λ config history stands.
-    let (h0, s0, p0) = c.close_channel.ensures config history stands in
+returns g c = λ first config history stands.
+    let (h0, s0, p0) = c.close_channel.ensures _ config history stands in
     (h0, s0, rw c.if-keeps.false (p0))

@@ -6,13 +6,13 @@ use Rattle.sv_serve.proofs.Joined.{one_more, as_many}
 use Rattle.sv_serve.proofs.driver.Driver.pass.Goals as goal
 
 pub loop-init : goal.loop-init
-loop-init g c = λ config history stands. (history, stands, refl)
+loop-init g c = λ first config history stands. (history, stands, refl)
 
 pub loop-preserved : goal.loop-preserved
-loop-preserved g c = λ config history stands.
-    let (h0, s0, p0) = c.loop.invariant config history stands in
-    let (h1, s1, p1) = c.play.ensures config h0 s0 in
-    let (h2, s2, p2) = c.tick.ensures config h1 s1 in (
+loop-preserved g c = λ first config history stands.
+    let (h0, s0, p0) = c.loop.invariant _ config history stands in
+    let (h1, s1, p1) = c.play.ensures _ config h0 s0 in
+    let (h2, s2, p2) = c.tick.ensures _ config h1 s1 in (
       h2,
       s2,
       one_more (λ (i : ℕ). Plays then TicksOnce) config c.loop.counter (c.loop.counter + 1) _ (driver_view c.loop.self h0) _ (omega arith)
@@ -20,9 +20,9 @@ loop-preserved g c = λ config history stands.
     )
 
 pub returns : goal.returns
-returns g c = λ config history stands.
-    let (h0, s0, p0) = c.loop.invariant config history stands in
-    let (h1, s1, p1) = c.play-2.ensures config h0 s0 in (
+returns g c = λ first config history stands.
+    let (h0, s0, p0) = c.loop.invariant _ config history stands in
+    let (h1, s1, p1) = c.play-2.ensures _ config h0 s0 in (
       h1,
       s1,
       (

@@ -4,4 +4,4 @@ use Rattle.sv_serve.proofs.driver.Driver.pass.Given as goal
 
 -- so many milliseconds passed
 abbrev pub invariant-loop : goal.invariant-loop
-invariant-loop g l = Steps (ForEach l.counter (λ i. Plays then TicksOnce)) l.fn.self l.self
+invariant-loop g l = Steps g.J.Journal.notes (ForEach l.counter (λ i. Plays then TicksOnce)) l.fn.self l.self

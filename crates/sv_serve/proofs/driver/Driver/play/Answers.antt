@@ -5,16 +5,16 @@ use Rattle.sv_serve.proofs.Joined.{one_more}
 use Rattle.sv_serve.proofs.driver.Driver.play.Goals as goal
 
 pub loop-init : goal.loop-init
-loop-init g c = λ config history stands. (history, stands, (0, refl))
+loop-init g c = λ first config history stands. (history, stands, (0, refl))
 
 pub loop-preserved : goal.loop-preserved
-loop-preserved g c = λ config history stands.
-    let (h0, s0, (n, p0)) = c.loop.invariant config history stands in
-    let (h1, s1, p1) = c.loop-test.ensures.goes config h0 s0 in
+loop-preserved g c = λ first config history stands.
+    let (h0, s0, (n, p0)) = c.loop.invariant _ config history stands in
+    let (h1, s1, p1) = c.loop-test.ensures.goes _ config h0 s0 in
     (h1, s1, (n + 1, one_more (λ (i : ℕ). PlaysOne) config n (n + 1) _ (driver_view c.loop.self h0) _ (omega arith) p0 p1))
 
 pub returns : goal.returns
-returns g c = λ config history stands.
-    let (h0, s0, (n, p0)) = c.loop.invariant config history stands in
-    let (h1, s1, (same, none)) = c.loop-test.ensures.goes config h0 s0 in
+returns g c = λ first config history stands.
+    let (h0, s0, (n, p0)) = c.loop.invariant _ config history stands in
+    let (h1, s1, (same, none)) = c.loop-test.ensures.goes _ config h0 s0 in
     (h1, s1, (n, rw same p0, none))

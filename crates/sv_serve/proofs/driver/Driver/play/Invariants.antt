@@ -5,7 +5,8 @@ use Rattle.sv_serve.proofs.driver.Driver.play.Given as goal
 
 -- some entries were played
 abbrev pub invariant-loop : goal.invariant-loop
-invariant-loop g l = Steps (λ config before after. (n : ℕ) × ForEach n (λ i. PlaysOne) config before after) l.fn.self l.self
+invariant-loop g l = Steps g.J.Journal.notes (λ config before after. (n : ℕ)
+    × ForEach n (λ i. PlaysOne) config before after) l.fn.self l.self
 
 abbrev pub decreases-loop : goal.decreases-loop
 decreases-loop g l = length l.self.ahead

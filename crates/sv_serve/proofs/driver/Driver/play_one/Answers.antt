@@ -6,12 +6,12 @@ use Rattle.sv_history.specs.History.{history_after}
 use Rattle.sv_serve.proofs.driver.Driver.play_one.Goals as goal
 
 pub returns-clause-goes : goal.returns-clause-goes
-returns-clause-goes g c = rw (← c.self.view_is) (λ config history stands.
-    let (log, is_log, answers) = c.apply.ensures.answers config history stands in
+returns-clause-goes g c = rw (← c.self.view_is) (λ first config history stands.
+    let (log, is_log, answers) = c.apply-answer.ensures.answers config history stands.0 in
     let seen = rw c.deref.ensures.value at c.in-Some.ensures.lookup in
-    let after = history_after (plain c.event-event.result) c.apply.result history in (
+    let after = history_after (plain c.event-event.result) c.apply-answer.result history in (
       after,
-      c.apply.ensures.stands config history stands,
+      (c.apply-answer.ensures.stands config history stands.0, c.note.ensures _ history stands.1),
       (
         c.in-Some.entry.now,
         drop (c.self.inside.next + 1) c.self.inside.scenario.items,
@@ -25,7 +25,7 @@ returns-clause-goes g c = rw (← c.self.view_is) (λ config history stands.
         from_here c.self.inside.scenario.items c.self.inside.next (c.self.inside.next + 1) c.in-Some.entry.now (omega arith)
             (slice_get_read c.self.inside.scenario.items _ c.self.inside.next c.in-Some.entry.now refl seen.3.0 seen.1),
         search (rules, c.if-entry-self.false),
-        rw (← c.event-event.ensures) (c.apply.result, (log, is_log, answers, refl)),
+        rw (← c.event-event.ensures) (c.apply-answer.result, (log, is_log, answers, refl)),
         refl,
       ),
     ))

@@ -6,13 +6,13 @@ use Rattle.sv_serve.proofs.Branches.{probes_so}
 use Rattle.sv_serve.proofs.driver.Driver.probe_if.Goals as goal
 
 pub returns-then-opened : goal.returns-then-opened
-returns-then-opened g c = λ config history stands is_open.
-    let drops = c.overlong-drops.ensures config history (rw (← c.self.view_is) at stands) in
-    let (h0, s0, p0) = c.ask-answer.ensures config history stands in
+returns-then-opened g c = λ first config history stands is_open.
+    let drops = c.overlong-drops.ensures config history (rw (← c.self.view_is) at stands.0) in
+    let (h0, s0, p0) = c.ask-answer.ensures _ config history stands in
     let still = still_open (Conn c.args.conn) c.args.opened true config (driver_view c.args.self.now history)
     (driver_view c.ask-answer.new.self h0)
     (ap (λ m. m.history) p0.2) c.if-opened.true is_open in
-    let (h1, s1, p1) = c.drop_gone.ensures config h0 s0 still in (
+    let (h1, s1, p1) = c.drop_gone.ensures _ config h0 s0 still in (
       h1,
       s1,
       probes_so g.W.Wire.hears c.args.conn c.args.opened config (driver_view c.args.self.now history) (driver_view c.drop_gone.new.self h1)

@@ -6,20 +6,22 @@ use Rattle.sv_serve.proofs.Unused.{goes_rest, reads_none}
 use Rattle.sv_serve.proofs.driver.Driver.read_each.Goals as goal
 
 pub loop-conn-init : goal.loop-conn-init
-loop-conn-init g c = λ config history stands. (history, stands, refl)
+loop-conn-init g c = λ first config history stands. (history, stands, refl)
 
 pub loop-conn-preserved : goal.loop-conn-preserved
 loop-conn-preserved g c =
-    goes_more (ReadsFrom g.W.Wire.hears) c.loop-conn.conn (c.loop-conn.conn + 1) c.args.self.now c.loop-conn.self
+    goes_more g.J.Journal.notes (ReadsFrom g.W.Wire.hears) c.loop-conn.conn (c.loop-conn.conn + 1) c.args.self.now c.loop-conn.self
     c.read.new.self (omega arith) c.loop-conn.invariant c.read.ensures
 
 pub returns-then-is_unused : goal.returns-then-is_unused
 returns-then-is_unused g c =
-    goes_rest (ReadsFrom g.W.Wire.hears) c.loop-conn.conn 16 c.args.self.now c.loop-conn.self (omega arith) c.loop-conn.invariant
-    (λ config history stands.
+    goes_rest g.J.Journal.notes (ReadsFrom g.W.Wire.hears) c.loop-conn.conn 16 c.args.self.now c.loop-conn.self
+    (omega arith) c.loop-conn.invariant
+    (λ first config history stands.
     reads_none g.W.Wire.hears c.loop-conn.conn config (driver_view c.loop-conn.self history)
-    (c.is_unused.ensures c.if-is_unused.true config history stands))
+    (c.is_unused.ensures c.if-is_unused.true config history stands.0))
 
 pub returns : goal.returns
 returns g c =
-    goes_all (ReadsFrom g.W.Wire.hears) c.loop-conn.conn 16 c.args.self.now c.loop-conn.self (omega arith) c.loop-conn.invariant
+    goes_all g.J.Journal.notes (ReadsFrom g.W.Wire.hears) c.loop-conn.conn 16 c.args.self.now c.loop-conn.self
+    (omega arith) c.loop-conn.invariant

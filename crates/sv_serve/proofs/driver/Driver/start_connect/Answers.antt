@@ -2,4 +2,4 @@ use Rattle.std.proofs.Common.{refl}
 use Rattle.sv_serve.proofs.driver.Driver.start_connect.Goals as goal
 
 pub returns : goal.returns
-returns g c = rw (← c.self.view_is) (λ config history stands. (history, stands, (c.dial.new.self, c.dial.ensures, refl)))
+returns g c = rw (← c.self.view_is) (λ first config history stands. (history, stands, (c.dial.new.self, c.dial.ensures, refl)))

@@ -3,8 +3,8 @@ use Rattle.sv_serve.proofs.Suited.{may_find_none}
 use Rattle.sv_serve.proofs.driver.Driver.take.Goals as goal
 
 pub returns-then-ready : goal.returns-then-ready
-returns-then-ready g c = λ config history stands.
-    let (h0, s0, p0) = c.give-answer.ensures config history stands in
-    let (h1, s1, p1) = c.end_turn.ensures config h0 s0 (may_find_none c.args.conn _ config (driver_view c.args.self.now history)
+returns-then-ready g c = λ first config history stands.
+    let (h0, s0, p0) = c.give-answer.ensures _ config history stands in
+    let (h1, s1, p1) = c.end_turn.ensures _ config h0 s0 (may_find_none c.args.conn _ config (driver_view c.args.self.now history)
     (driver_view c.give-answer.new.self h0) p0) in
     (h1, s1, rw c.if-ready.true (c.give-answer.result, (driver_view c.give-answer.new.self h0, p0, p1)))

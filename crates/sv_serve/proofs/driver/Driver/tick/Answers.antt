@@ -2,7 +2,7 @@ use Rattle.sv_serve.specs.DriverView.{driver_view}
 use Rattle.sv_serve.proofs.driver.Driver.tick.Goals as goal
 
 pub returns : goal.returns
-returns g c = λ config history stands.
-    let (h0, s0, p0) = c.give-answer.ensures config history stands in
-    let (h1, s1, p1) = c.count.ensures config h0 s0 in
+returns g c = λ first config history stands.
+    let (h0, s0, p0) = c.give-answer.ensures _ config history stands in
+    let (h1, s1, p1) = c.count.ensures _ config h0 s0 in
     (h1, s1, (c.give-answer.result, (driver_view c.give-answer.new.self h0, p0, p1)))

@@ -6,4 +6,4 @@ use Rattle.sv_serve.proofs.driver.Driver.write_channels.Given as goal
 
 -- the step was taken for each number below this one
 abbrev pub invariant-loop-conn : goal.invariant-loop-conn
-invariant-loop-conn g l = Steps (ForEach l.conn (λ (c : ℕ). WritesTo g.W.Wire.hears (Intr c))) l.fn.self l.self
+invariant-loop-conn g l = Steps g.J.Journal.notes (ForEach l.conn (λ (c : ℕ). WritesTo g.W.Wire.hears (Intr c))) l.fn.self l.self

@@ -7,22 +7,23 @@ use Rattle.sv_serve.proofs.Unused.{goes_rest, writes_none}
 use Rattle.sv_serve.proofs.driver.Driver.write_connections.Goals as goal
 
 pub loop-conn-init : goal.loop-conn-init
-loop-conn-init g c = λ config history stands. (history, stands, refl)
+loop-conn-init g c = λ first config history stands. (history, stands, refl)
 
 pub loop-conn-preserved : goal.loop-conn-preserved
 loop-conn-preserved g c =
-    goes_more (λ (c : ℕ). WritesTo g.W.Wire.hears (Conn c)) c.loop-conn.conn (c.loop-conn.conn + 1) c.args.self.now c.loop-conn.self
+    goes_more g.J.Journal.notes (λ (c : ℕ). WritesTo g.W.Wire.hears (Conn c)) c.loop-conn.conn
+    (c.loop-conn.conn + 1) c.args.self.now c.loop-conn.self
     c.write.new.self (omega arith) c.loop-conn.invariant c.write.ensures
 
 pub returns-then-is_unused : goal.returns-then-is_unused
 returns-then-is_unused g c =
-    goes_rest (λ (c : ℕ). WritesTo g.W.Wire.hears (Conn c)) c.loop-conn.conn 16 c.args.self.now c.loop-conn.self
+    goes_rest g.J.Journal.notes (λ (c : ℕ). WritesTo g.W.Wire.hears (Conn c)) c.loop-conn.conn 16 c.args.self.now c.loop-conn.self
     (omega arith) c.loop-conn.invariant
-    (λ config history stands.
+    (λ first config history stands.
     writes_none g.W.Wire.hears c.loop-conn.conn config (driver_view c.loop-conn.self history)
-    (c.is_unused.ensures c.if-is_unused.true config history stands))
+    (c.is_unused.ensures c.if-is_unused.true config history stands.0))
 
 pub returns : goal.returns
 returns g c =
-    goes_all (λ (c : ℕ). WritesTo g.W.Wire.hears (Conn c)) c.loop-conn.conn 16 c.args.self.now c.loop-conn.self
+    goes_all g.J.Journal.notes (λ (c : ℕ). WritesTo g.W.Wire.hears (Conn c)) c.loop-conn.conn 16 c.args.self.now c.loop-conn.self
     (omega arith) c.loop-conn.invariant

@@ -1,6 +1,6 @@
 use Rattle.std.proofs.Common.{rules, refl, arith}
 use Rattle.sv_serve.proofs.Unused.{nobody}
-use Rattle.sv_serve.proofs.driver.Driver.new.Goals as goal
+use Rattle.sv_serve.proofs.driver.Driver.with_journal.Goals as goal
 
 pub returns : goal.returns
 returns g c = search rules
