@@ -26,6 +26,7 @@ from scanvolt.vxi11 import calls
 
 from .explained_sessions import SESSIONS, explained, script_of, start
 from .explaining_checks import Checks
+from .limits import within
 from .random_sessions import Session
 
 FOLDER = pathlib.Path(__file__).resolve().parent / "explained"
@@ -148,7 +149,7 @@ class Limits(unittest.TestCase):
             found = meter.explain()
             began = time.monotonic()
             end = found.end()
-            self.assertLess(time.monotonic() - began, 2 + 1)
+            self.assertLess(time.monotonic() - began, within(2 + 1))
             self.assertIn("due           its timeout at 500,000 ms, in 500,000 ms", end)
             self.assertNotRegex(end, "would not .*only time")
             connection.close()

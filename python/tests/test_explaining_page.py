@@ -17,6 +17,7 @@ from scanvolt.explaining import slots
 from scanvolt.virtual import Meter
 
 from .explained_sessions import explained
+from .limits import within
 
 CHROMIUM = shutil.which("chromium")
 # What is done to the page, and what is there then.
@@ -170,7 +171,7 @@ class Page(unittest.TestCase):
         self.assertGreater(len(re.findall(rb"/Type\s*/Page\b", (self.folder / "page.pdf").read_bytes())), 2)
 
     def test_many_calls(self) -> None:
-        """2,000 calls take 3 s of a processor more than a few. Of too many the last are shown, which is said."""
+        """2,000 calls take few seconds of a processor more than 20 do. Of too many the last are shown, which is said."""
         seconds = []
         for count in 10, 1000:
             path = self.folder / "page.html"
@@ -178,7 +179,8 @@ class Page(unittest.TestCase):
             began = used()
             self.assertEqual(console(opened(path, "--dump-dom")), [])
             seconds.append(used() - began)
-        self.assertLess(seconds[1] - seconds[0], 3)
+        # On a machine with nothing else to do it is half of this. A page whose time grows with the square takes a minute.
+        self.assertLess(seconds[1] - seconds[0], within(6))
         with mock.patch.object(slots, "MOST", 30), mock.patch.object(slots, "KEPT", 20):
             page = self.polls(20)
             self.assertIn("only the last 20 calls are shown", page)

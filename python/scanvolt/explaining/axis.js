@@ -1,11 +1,11 @@
 "use strict";
 // The axis of the page: where each step is, and how the view moves over it.
-const D = JSON.parse(document.getElementById("data").textContent);
+let D, N = 0, instants = [];
 const $ = id => document.getElementById(id);
 const svg = $("svg"), over = $("over"), table = $("table"), tip = $("tip");
-const LABEL = 142, N = D.slots.length;
+const LABEL = 142;
 const LEAST = 7, NEAR = 9, FAR = 160;     // pixels of a step: fewer than this, the page opens on its end at 9; at most 160
-let mode = "steps", px = 1, left = 0, selected = N - 1, total = 1;
+let mode = "steps", px = 1, left = 0, selected = -1, total = 1;
 let pos = [], wide = [];
 
 const esc = text => String(text).replace(/[&<>"']/g, c => "&#" + c.charCodeAt(0) + ";");
@@ -80,12 +80,16 @@ function zoom(by, x = LABEL + room() / 2) {
 function show(i) {
   if (X(i) < LABEL + 20 || XE(i) > LABEL + room() - 20) { left = pos[i] - room() / px / 2; clamp(); }
 }
-// The steps of each millisecond: the first and the last.
-const instants = (() => {
-  const found = [];
+// Takes a session: the steps of each millisecond, the first and the last, and what is computed once.
+function take(session) {
+  D = session;
+  N = D.slots.length;
+  instants = [];
   for (let i = 0; i < N; i++) {
-    const last = found[found.length - 1];
-    if (last && D.slots[last[0]][0] == D.slots[i][0]) last[1] = i; else found.push([i, i]);
+    const last = instants[instants.length - 1];
+    if (last && D.slots[last[0]][0] == D.slots[i][0]) last[1] = i; else instants.push([i, i]);
   }
-  return found;
-})();
+  D.signals.forEach(one => { one.y_ = one.y && one.y.length ? one.y : null; delete one.y; });
+  selected = N - 1;
+}
+take(JSON.parse($("data").textContent));

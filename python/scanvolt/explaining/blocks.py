@@ -1,10 +1,10 @@
 """The timeline as blocks: one for each thing that happened, with what it changed. Noise is left out, repetitions are folded."""
-from dataclasses import dataclass, field
+from dataclasses import dataclass, field, replace
 from typing import Iterator, List, Optional
 
 from .lines import Moment, Step
 from .reasons import Reasons
-from .story import Call
+from .story import Call, Story
 from .tables import REFUSED
 from .words import escaped, millis
 
@@ -24,7 +24,7 @@ class Row:
 @dataclass
 class Block:
     """One thing that happened. If it happened several times in a row, `times` says how often and `last` until when. Its kind is
-    `call`, `waits`, `queued`, `answer`, `reading`, `time`, `event` or `refused`.
+    `call`, `waits`, `queued`, `answer`, `reading`, `time`, `event`, `refused` or `fault`.
     """
 
     moment: Moment
@@ -49,6 +49,28 @@ class Block:
         return self.kind == "call" and mine == others and not self.rows and not other.rows
 
 
+class Ordered:
+    """The blocks of faults on order, between the blocks of what the instrument saw."""
+
+    def __init__(self, story: Story) -> None:
+        self.left, self.last = list(story.faults), story.moments[0] if story.moments else None
+
+    def before(self, moment: Moment) -> List[Block]:
+        """The faults that came before an event."""
+        count = sum((one.line, one.clock) < (moment.line, moment.clock) for one in self.left)
+        found, self.last = self._blocks(count), moment
+        return found
+
+    def rest(self) -> List[Block]:
+        """The faults that came after the last event."""
+        return self._blocks(len(self.left))
+
+    def _blocks(self, count: int) -> List[Block]:
+        taken, self.left = self.left[:count], self.left[count:]
+        return [Block(replace(self.last, clock=one.clock), one.who, str(one), "fault", is_fault=True)
+                for one in taken if self.last is not None]
+
+
 class Blocks:
     """Makes the blocks of a session."""
 
@@ -59,7 +81,9 @@ class Blocks:
     def all(self) -> List[Block]:
         """All that happened, folded."""
         found: List[Block] = []
+        faults = Ordered(self.story)
         for moment in self.story.moments:
+            found += faults.before(moment)
             for block in self.of(moment):
                 last = found[-1] if found else None
                 if last and last.kind == block.kind == "reading" and not self.everything:
@@ -68,7 +92,7 @@ class Blocks:
                     last.times, last.last = last.times + 1, block.clock
                 else:
                     found.append(block)
-        return found
+        return found + faults.rest()
 
     def of(self, moment: Moment) -> Iterator[Block]:
         """The blocks of an event."""

@@ -87,7 +87,7 @@ def arguments(message: CallMessage) -> Arguments:
 @dataclass
 class Answer:
     """A reply in words. `error` is the number of VXI-11, 0 for none; None if the call wasn't executed. `value` is the
-    number that the reply has, `data` its bytes.
+    number that the reply has, of a read its reason, `data` its bytes.
     """
 
     words: str
@@ -137,5 +137,5 @@ def _result(message: CallMessage, reader: Reader) -> Answer:
         reason, data = reader.word(), reader.opaque()
         why = [word for bit, word in REASONS if reason & bit]
         more = "" if reason & calls.ENDED else " (%s, without END)" % (", ".join(why) or "reason 0")
-        return Answer(quoted(data) + more, 0, None, data)
+        return Answer(quoted(data) + more, 0, reason, data)
     return Answer("ok", 0)

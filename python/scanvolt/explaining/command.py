@@ -4,11 +4,12 @@
     scanvolt-explain session.replay --why RQS --why "ESR.CME@1200" --why "RQS@line 17" --why "wait c0"
     scanvolt-explain session.replay --html session.html
     scanvolt-explain session.pcapng --start 1700000000.5 --scenario stand.scenario
+    scanvolt-explain record.replay --core 4096 --abort 4097
 
-FILE is a script of `scanvolt replay`, as `Meter.explain().script` and `scanvolt-capture script` have it; or a capture, as
-`scanvolt-capture` takes it; or - for standard input. Columns of the timeline: millisecond (" is that of the line above),
-connection and link, call, reply. Below a call is what it changed, by program unit; < marks the reply to a call that waited.
-STB is the status byte as a poll returns it.
+FILE is a script of `scanvolt replay`, as `scanvolt serve --record`, `Meter.explain().script` and `scanvolt-capture script` have
+it; or a capture, as `scanvolt-capture` takes it; or - for standard input. Columns of the timeline: millisecond (" is that of the
+line above), connection and link, call, reply. Below a call is what it changed, by program unit; < marks the reply to a call that
+waited. STB is the status byte as a poll returns it.
 
 What would end a wait at the end was tried with a second program, for at most 2 seconds. NAME of --why is a bit (RQS, ESR.CME,
 stb.5, ques.event.LIM), a register, or error, lock, held, trigger, source, response, reading, wait cN; after @ a millisecond,
@@ -24,9 +25,10 @@ from typing import List, Optional
 
 from ..capturing.packets import Fault
 from ..program import ProgramError, find_program
+from ..serving.ports import ROLES
 from .asked import Unknown
 from .explanation import Explanation
-from .given import script
+from .given import session
 
 NAME = "scanvolt-explain"
 
@@ -45,8 +47,9 @@ def words(given: Optional[List[str]], name: str) -> argparse.Namespace:
                         help="the scanvolt that explains; without it, the one that SCANVOLT, PATH or the checkout has")
     parser.add_argument("--scenario", help="of a capture: the scenario of the session")
     parser.add_argument("--start", help="of a capture: when the server was ready, in seconds since 1970")
-    for port in ("core", "abort", "portmap"):
-        parser.add_argument("--" + port, type=int, help="of a capture: the port of this channel")
+    for port in ROLES:
+        parser.add_argument("--" + port, type=int, help="of a capture: the port of this channel" + (
+            "" if port == "portmap" else "; of a record: that of its server"))
     found = parser.parse_args(given)
     if found.last is not None and found.last < 0:
         parser.error("--last wants a number of lines, and not %d" % found.last)
@@ -60,8 +63,8 @@ def is_coloured(given: argparse.Namespace) -> bool:
 
 def told(given: argparse.Namespace, name: str) -> List[str]:
     """The lines to print. Writes the page if that is wanted."""
-    lines = script(given, lambda warning: print("%s: %s" % (name, warning), file=sys.stderr))
-    found = Explanation(lines, given.program or find_program())
+    lines, ports = session(given, lambda warning: print("%s: %s" % (name, warning), file=sys.stderr))
+    found = Explanation(lines, given.program or find_program(), ports=ports)
     if given.why:
         return [found.why(one) for one in given.why]
     if given.html:

@@ -56,6 +56,7 @@ const hatch = (id, c) => `<pattern id="${id}" width="7" height="7" patternUnits=
 
 function draw() {
   const w = svg.clientWidth, right = w - 4, out = ["<defs>"];
+  if (!w) return;                           // it isn't shown
   for (let i = 0; i < 6; i++) out.push(hatch("h" + i, `var(--c${i})`));
   out.push(hatch("hh", "var(--held)"), hatch("hw", "var(--wait)"), `<clipPath id="cp">${rect(LABEL, 0, w - LABEL, height, "")}</clipPath></defs>`);
   out.push('<g clip-path="url(#cp)">');

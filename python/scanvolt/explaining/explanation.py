@@ -3,12 +3,13 @@ import functools
 import html
 from typing import List, Optional, Sequence
 
+from ..faults.told import Told, end_lines
 from . import text
 from .blocks import Blocks
 from .doers import Doers
 from .ending import Ending
 from .reasons import Reasons
-from .running import lines_of
+from .running import Ports, lines_of
 from .story import Story
 from .telling import Telling
 from .tries import Tried, tried
@@ -20,13 +21,16 @@ FRAME = '<iframe style="width:100%%;height:640px;border:0" sandbox="allow-script
 class Explanation:
     """What an instrument saw. `str` of it is the end. The methods return text.
 
-    `script` is the lines of a replay, `program` the path of the program, and `patience` how many seconds it may take.
-    Raises ProgramError if the program can't explain the script.
+    `script` is the lines of a replay, `program` the path of the program, and `patience` how many seconds it may take. `ports`
+    are those of the core and the abort channel, of a server that recorded the script. `faults` are those on order that came: the
+    script doesn't have them, since the instrument doesn't see them. Raises ProgramError if the program can't explain the script.
     """
 
-    def __init__(self, script: Sequence[str], program: str, patience: Optional[float] = None) -> None:
+    def __init__(self, script: Sequence[str], program: str, patience: Optional[float] = None,
+                 ports: Optional[Ports] = None, faults: Sequence[Told] = ()) -> None:
         self.script, self.program = script, program
-        self.story = Story(lines_of(script, program, patience))
+        self.story = Story(lines_of(script, program, patience, ports))
+        self.story.faults = faults
         self.reasons = Reasons(Doers(Telling(self.story)))
 
     def __repr__(self) -> str:
@@ -56,7 +60,7 @@ class Explanation:
 
     def end_lines(self) -> List[str]:
         """The end, in lines."""
-        return Ending(self.reasons, self.tried).text()
+        return Ending(self.reasons, self.tried).text() + end_lines(self.story.faults)
 
     def end(self) -> str:
         """What waits at the end, why, and what would end it."""

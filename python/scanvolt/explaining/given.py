@@ -1,9 +1,10 @@
 """What a file has that is to be explained: a script of the replay, or a capture."""
 import argparse
 import sys
-from typing import Callable, List, Sequence
+from typing import Callable, List, Optional, Sequence, Tuple
 
 from ..program import find_program
+from .running import Ports
 
 CAPTURES = (b"\x0a\x0d\x0d\x0a", b"\xd4\xc3\xb2\xa1", b"\xa1\xb2\xc3\xd4", b"\x4d\x3c\xb2\xa1",
             b"\xa1\xb2\x3c\x4d")    # how they begin
@@ -20,10 +21,16 @@ def read(path: str) -> bytes:
 
 def script(given: argparse.Namespace, warn: Callable[[str], object]) -> Sequence[str]:
     """The lines of the script. Raises OSError, Fault and ProgramError. `warn` is told if it isn't quite what a capture has."""
+    return session(given, warn)[0]
+
+
+def session(given: argparse.Namespace, warn: Callable[[str], object]) -> Tuple[Sequence[str], Optional[Ports]]:
+    """The lines of the script, and the ports of the server that recorded it, if they are given. Raises as `script` does."""
     data = read(given.file)
     if data.startswith(CAPTURES):
-        return of_capture(given, warn)
-    return data.decode("latin-1").split("\n")[:None if data and not data.endswith(b"\n") else -1]
+        return of_capture(given, warn), None
+    ports = (given.core, given.abort) if given.core and given.abort else None
+    return data.decode("latin-1").split("\n")[:None if data and not data.endswith(b"\n") else -1], ports
 
 
 def of_capture(given: argparse.Namespace, warn: Callable[[str], object]) -> List[str]:

@@ -204,8 +204,11 @@ function filter() {
 }
 $("find").oninput = filter;
 $("bad").onchange = filter;
-if (D.links.length <= 8)
-  $("links").innerHTML = D.links.filter(one => one[1]).map(([c, l]) => `<button class="c${c % 6}" data-k="${l}" title="show or hide link ${l}">L${l}</button>`).join("");
+function offerLinks() {
+  const some = D.links.length <= 8 ? D.links.filter(one => one[1]) : [];
+  $("links").innerHTML = some.map(([c, l]) => `<button class="c${c % 6}" data-k="${l}" title="show or hide link ${l}"${off.has(String(l)) ? ' style="opacity:.35"' : ""}>L${l}</button>`).join("");
+}
+offerLinks();
 $("links").onclick = event => {
   const link = event.target.dataset.k;
   if (!link) return;
@@ -215,7 +218,6 @@ $("links").onclick = event => {
 };
 
 // Opens the page. After # there may be mode=time, theme, fit, regs, at=STEP and why=LANE.
-D.signals.forEach(one => { one.y_ = one.y && one.y.length ? one.y : null; delete one.y; });
 const wanted = new URLSearchParams(location.hash.slice(1));
 if (wanted.has("theme")) document.documentElement.dataset.theme = wanted.get("theme");
 layout();

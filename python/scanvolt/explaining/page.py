@@ -29,22 +29,32 @@ POLICY = "default-src 'none'; style-src 'unsafe-inline'; script-src 'sha256-%s';
 def page(found: "Explanation", title: str) -> str:
     """The page of a session."""
     slots = Slots(found.story)
-    script = "\n".join(_part(name) for name in SCRIPTS)
+    script = "\n".join(part(name) for name in SCRIPTS)
     checksum = base64.b64encode(hashlib.sha256(script.encode()).digest()).decode()
     values: Dict[str, str] = {
-        "TITLE": html.escape(title), "POLICY": POLICY % checksum, "FACTS": html.escape(" · ".join(_facts(found, slots))),
-        "CLOCK": str(max(LEAST, len(millis(found.story.clock)))), "TABLE": table(Blocks(found.reasons), slots),
-        "END": ending(found.end_lines()), "DATA": _data(found, slots),
-        "CSS": _part("page.css"), "JS": script}
-    # In one pass, since values may have braces.
-    return re.sub(r"\{\{(\w+)\}\}", lambda place: values[place[1]], _part("page.html"))
+        "TITLE": html.escape(title), "POLICY": POLICY % checksum, "FACTS": html.escape(facts(found, slots)),
+        "CLOCK": str(wide(found)), "TABLE": table(Blocks(found.reasons), slots),
+        "END": ending(found.end_lines()), "DATA": data(found, slots),
+        "CSS": part("page.css"), "JS": script}
+    return filled(part("page.html"), values)
 
 
-def _part(name: str) -> str:
+def part(name: str) -> str:
+    """A file of which the page is made."""
     return (HERE / name).read_text(encoding="utf-8")
 
 
-def _data(found: "Explanation", slots: Slots) -> str:
+def filled(text: str, values: Dict[str, str]) -> str:
+    """A text with values in place of `{{NAME}}`: in one pass, since values may have braces."""
+    return re.sub(r"\{\{(\w+)\}\}", lambda place: values[place[1]], text)
+
+
+def wide(found: "Explanation") -> int:
+    """How many characters the table needs for a millisecond."""
+    return max(LEAST, len(millis(found.story.clock)))
+
+
+def data(found: "Explanation", slots: Slots) -> str:
     """What the scripts draw, as JSON. `<` is escaped, since `<!--<script>` in a unit would end the page."""
     lanes, doers = Lanes(found.reasons, slots), found.reasons.doers
     rows: List[List[object]] = []
@@ -55,22 +65,22 @@ def _data(found: "Explanation", slots: Slots) -> str:
     folded = [[moment.clock, change.new] for moment in found.story.moments if moment.number in slots.folded
               and moment.number >= slots.first
               for change in [moment.steps[0].of("readings")] if change is not None]
-    data = {"clock": found.story.clock, "slots": rows, "calls": [lanes.call(one) for one in lanes.calls()],
+    drawn = {"clock": found.story.clock, "slots": rows, "calls": [lanes.call(one) for one in lanes.calls()],
             "links": lanes.places(),
             "signals": lanes.signals(), "units": lanes.units(), "requests": lanes.requests(), "folded": folded}
-    return json.dumps(data, separators=(",", ":")).replace("<", "\\u003c")
+    return json.dumps(drawn, separators=(",", ":")).replace("<", "\\u003c")
 
 
-def _facts(found: "Explanation", slots: Slots) -> List[str]:
+def facts(found: "Explanation", slots: Slots) -> str:
     """A few numbers about the session."""
     story = found.story
     errors = sum(1 for one in story.calls if one.answer and one.answer.is_fault)
     queued = sum(max(0, len(numbers(one.new)) - len(numbers(one.old))) for one in story.lines.history.get("errors", ()))
-    facts = [millis(story.clock), counted(len(story.calls), "call")]
+    said = [millis(story.clock), counted(len(story.calls), "call")]
     if slots.first:
         shown = sum(1 for one in story.calls if one.arrived.number >= slots.first)
-        facts.append("only the last %s are shown" % counted(shown, "call"))
-    facts += ["%d returned an error" % errors] if errors else []
-    facts += [counted(queued, "instrument error")] if queued else []
+        said.append("only the last %s are shown" % counted(shown, "call"))
+    said += ["%d returned an error" % errors] if errors else []
+    said += [counted(queued, "instrument error")] if queued else []
     waiting = len(story.waiting())
-    return facts + ["%d still wait%s" % (waiting, "s" if waiting == 1 else "") if waiting else "none waits"]
+    return " · ".join(said + ["%d still wait%s" % (waiting, "s" if waiting == 1 else "") if waiting else "none waits"])

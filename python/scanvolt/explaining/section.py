@@ -12,7 +12,6 @@ from .given import script
 LINES = 20              # of the timeline that are shown
 HINT = "(--scanvolt-trace=DIR keeps all of it, as a script, a text and a page)"
 FLUSHED = 1.0           # seconds after which a packet is in the file that tshark writes
-NOT_CAPTURED = "over sockets it is told from a capture: tshark -i lo -f tcp -w FILE & pytest --scanvolt-capture=FILE"
 
 
 def section(found: Explanation, name: str, folder: Optional[str]) -> str:

@@ -15,9 +15,10 @@ MOST, KEPT = 5000, 3000     # calls that a page shows; if a session has more, on
 class Slots:
     """The places. A step that isn't worth one is at the place before it. Only the steps from the moment `first` on count."""
 
-    def __init__(self, story: Story) -> None:
+    def __init__(self, story: Story, most: int = 0, kept: int = 0) -> None:
         self.story = story
-        self.first = story.calls[-KEPT].arrived.number if len(story.calls) > MOST else 0
+        most, kept = most or MOST, kept or KEPT
+        self.first = story.calls[-kept].arrived.number if len(story.calls) > most else 0
         self.found: List[Step] = []
         self.of: List[int] = []
         self.folded = self._runs()

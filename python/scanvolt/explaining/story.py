@@ -5,6 +5,7 @@ from dataclasses import dataclass, field
 from typing import Dict, List, Optional, Sequence, Tuple
 
 from ..capturing.flows import call_of, name
+from ..faults.told import Told
 from ..vxi11 import CallMessage, Reader, Records, RequestStream
 from ..vxi11 import words as words_of
 from .calls import Answer, Arguments, answer, arguments
@@ -96,6 +97,7 @@ class Story:
         self.replied: Dict[int, List[Call]] = {}    # the calls that were answered in a moment
         self.came: Dict[int, List[Call]] = {}       # the calls whose last byte came in a moment
         self.requests: Dict[int, List[Tuple[int, bytes]]] = {}     # service requests: connection, handle
+        self.faults: Sequence[Told] = ()            # on order, in their order
         self.strays: List[Step] = []                # units whose bytes aren't in what was written
         self.executed: Dict[int, Call] = {}         # whose text is executed when a wait begins, by the step of that
         self._ports: Dict[int, Port] = {}

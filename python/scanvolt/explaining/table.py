@@ -9,7 +9,7 @@ from .text import readings
 from .words import millis
 
 LABELS = ("because", "would end it", "would not", "not tried", "due", "behind it", "errors", "lock", "status", "response",
-          "text", "held")
+          "text", "held", "on order")
 BLOCK = ('<div class="b %s%s" data-s="%d" data-l="%s"><span class="t%s">%s</span><span class="w %s">%s</span>'
          '<div class="x">%s%s%s</div></div>')
 COLOURS = 6         # of connections

@@ -3,7 +3,7 @@ from typing import Dict, Tuple
 
 BITS: Dict[str, Dict[int, Tuple[str, str]]] = {
     'poll': {
-        2: ('EAV', "it isn't empty"),
+        2: ('EAV', 'an error is queued'),
         3: ('QUES', 'an enabled questionable event'),
         4: ('MAV', 'a response can be read'),
         5: ('ESB', 'an enabled standard event'),

@@ -1,0 +1,7 @@
+"""How long something may take in a test."""
+import os
+
+
+def within(seconds: float) -> float:
+    """These seconds; or many more on a machine whose processors are all busy, where what is tried has to wait for its turn."""
+    return seconds if os.getloadavg()[0] < (os.cpu_count() or 1) else 30 * seconds + 10
