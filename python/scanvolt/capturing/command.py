@@ -2,6 +2,7 @@
 
     scanvolt-capture compare CAPTURE [--scenario FILE] [--start SECONDS]
     scanvolt-capture virtual CAPTURE [--scenario FILE] [--start SECONDS]
+    scanvolt-capture recorded CAPTURE --record FILE
     scanvolt-capture script CAPTURE > session.replay
     scanvolt-capture explain CAPTURE [OPTIONS OF scanvolt-explain]
 
@@ -10,8 +11,10 @@ server. `script` writes the script of docs/REPLAY.md with which `scanvolt replay
 `compare` replays it and compares each reply, and each call on an interrupt channel, byte by byte. It shows
 the first reply or call that differs: the bytes around the place, and their text. `virtual` does what
 `compare` does, and then makes the same calls by `scanvolt.virtual`: the replies have to be the same bytes,
-and the service requests the same ones in the same order. `explain` says what happened, as `scanvolt-explain`
-does; `scanvolt-capture explain --help` has its options. All four need `tshark`, from Debian's package of
+and the service requests the same ones in the same order. `recorded` takes the record that the server kept of
+this session, replays it with the server's ports, and compares what that sends with what the sockets took, on each
+connection and each interrupt channel; it tries nothing else. `explain` says what happened, as `scanvolt-explain`
+does; `scanvolt-capture explain --help` has its options. All five need `tshark`, from Debian's package of
 that name; it also puts the bytes of each connection together.
 
 These are exact: the bytes of each connection, the order of calls and replies, and who closes what. Ports in
@@ -44,6 +47,7 @@ from typing import Dict, List, Optional, Set
 
 from ..program import ProgramError, find_program
 from ..vxi11.calls import PORT
+from . import recorded
 from .compare import Comparison
 from .packets import Fault, moment, nanoseconds, packets
 from .script import Scheduled, scenario, script
@@ -61,12 +65,13 @@ def words(given: Optional[List[str]]) -> argparse.Namespace:
     """The arguments of the command line."""
     parser = argparse.ArgumentParser(
         prog=NAME, description=__doc__, formatter_class=argparse.RawDescriptionHelpFormatter)
-    parser.add_argument("mode", choices=("script", "compare", "virtual", "explain"))
+    parser.add_argument("mode", choices=("script", "compare", "virtual", "recorded", "explain"))
     parser.add_argument("capture", metavar="CAPTURE")
     parser.add_argument("--program", help="the scanvolt that replays. Without it, `compare` and `virtual` take the one "
                         "that SCANVOLT, PATH or the checkout has, and `script` moves no ticks; with it, `script` "
                         "compares too, and writes the ticks that it moved")
     parser.add_argument("--scenario", help="the scenario of the session")
+    parser.add_argument("--record", metavar="FILE", help="of `recorded`: what the server wrote by its own --record")
     parser.add_argument("--start", help="when the server was ready, in seconds since 1970; "
                         "without it, the time of the first packet")
     parser.add_argument("--other-starts", action="store_true", help="tries other starts too, near and far, if --start is given")
@@ -76,7 +81,10 @@ def words(given: Optional[List[str]]) -> argparse.Namespace:
     parser.add_argument("--core", type=int, default=4096, help="the port of the core channel; 4096 without it")
     parser.add_argument("--abort", type=int, default=4097, help="the port of the abort channel; 4097 without it")
     parser.add_argument("--portmap", type=int, help="the port of the port mapper; %d or 4111 without it" % PORT)
-    return parser.parse_args(given)
+    found = parser.parse_args(given)
+    if (found.mode == "recorded") != (found.record is not None):
+        parser.error("`recorded` needs --record FILE, and only that does")
+    return found
 
 
 def session_of(given: argparse.Namespace) -> Session:
@@ -87,7 +95,7 @@ def session_of(given: argparse.Namespace) -> Session:
     server = {port for found in ports.values() for port in found}
     found = packets(given.capture)
     end = max((packet.time for packet in found), default=0)
-    session = Session(streams(given.capture, found, server), ports, end, start)
+    session = Session(streams(given.capture, found, server), ports, end, start, given.mode == "recorded")
     if not session.connections:
         raise Fault("the capture has no connection to the ports %s" % ", ".join(map(str, sorted(server))))
     gap = session.points[0].time
@@ -122,6 +130,14 @@ def again(session: Session, ticks: List[int], given: argparse.Namespace) -> int:
     return 1 if told_again else 0
 
 
+def record(session: Session, given: argparse.Namespace) -> int:
+    """Compares the capture with the server's record, and prints the outcome. Returns the status."""
+    found = recorded.replayed(given.program or find_program(), recorded.read(given.record), (given.core, given.abort))
+    differ = list(recorded.differences(session, found))
+    say([("" if line.startswith(" ") else "capture: ") + line for line in differ or [recorded.summary(session)]])
+    return 1 if differ else 0
+
+
 def main(given_words: Optional[List[str]] = None) -> int:
     """Runs the command. Returns its status."""
     own = sys.argv[1:] if given_words is None else given_words
@@ -132,6 +148,8 @@ def main(given_words: Optional[List[str]] = None) -> int:
     try:
         entries = scenario(given.scenario) if given.scenario else []
         session = session_of(given)
+        if given.mode == "recorded":
+            return record(session, given)
         if given.mode != "script":
             return compare(session, entries, given)
         print("capture: " + summary(session), file=sys.stderr)

@@ -3,7 +3,7 @@ import re
 import subprocess
 import time
 from dataclasses import dataclass
-from typing import Dict, Iterable, Iterator, List, Optional, Tuple
+from typing import Dict, Iterable, Iterator, List, Optional, Sequence, Tuple
 
 from ..lifeline import Tied
 from . import orders
@@ -33,11 +33,11 @@ class Difference:
     found: bytes = b""
 
 
-def replies(program: str, lines: List[str], count: int) -> List[List[List[str]]]:
+def replies(program: str, lines: List[str], count: int, options: Sequence[str] = ()) -> List[List[List[str]]]:
     """What the replay prints after each point. `count` is how many points there are."""
     text = "".join(line + "\n" for line in lines).encode()
     try:
-        with Tied([program, "replay"], subprocess.PIPE) as tied:
+        with Tied([program, "replay", *options], subprocess.PIPE) as tied:
             printed, faults = tied.process.communicate(text)
             status = tied.process.returncode
     except OSError as error:
@@ -177,8 +177,8 @@ class Comparison:
 
     def starts(self, difference: Difference) -> List[int]:
         """By how many milliseconds the server may have started earlier, the least first. Without a scenario, and
-        with a start that was told, none is tried. With one, each start that is near, and those at which an entry of the scenario comes
-        about the time of the reply that differs. Without --start, the server started no later than the
+        with a start that was told, none is tried. With one, each start that is near, and those at which an entry of the scenario
+        comes about the time of the reply that differs. Without --start, the server started no later than the
         first packet.
         """
         if not (self.entries and self.others):

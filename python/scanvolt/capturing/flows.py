@@ -69,6 +69,7 @@ class Connection:
         self.calls: List[CallMessage] = []
         self.turns: List[int] = []              # the point of each turn
         self.channel: Optional[Flow] = None     # the flow of its interrupt channel
+        self.channels: List[Flow] = []          # of all that it had, in their order
 
     def room(self) -> int:
         """How many more bytes of the connection the server takes (docs/RULES.md says how: sv_rpc RecordBuf)."""

@@ -27,8 +27,9 @@ class Session:
     """What happened, point by point."""
 
     def __init__(self, streams: List[Stream], ports: Dict[str, Set[int]], end: int,
-                 start: Optional[int] = None) -> None:
+                 start: Optional[int] = None, as_told: bool = False) -> None:
         self.ports = ports
+        self.as_told = as_told      # whether replies keep the ports that they tell
         self.points: List[Point] = []
         self.numbers: Dict[int, Connection] = {}        # the connections that are open, by number
         self.connections: List[Connection] = []
@@ -173,6 +174,8 @@ class Session:
 
     def tell_port(self, flow: Flow, place: int) -> None:
         """Puts the port of the replaying server in place of a port of this session."""
+        if self.as_told:
+            return
         for role, port in TOLD.items():
             for told in map(words, self.ports[role]):
                 if flow.wanted[place:place + len(told)] == told:
@@ -191,6 +194,7 @@ class Session:
         if opens:
             point.lines.append("dialed %d ok" % number)
             connection.channel = self.channel(call, turn)
+            connection.channels.append(connection.channel)
             point.owners["i%d" % number] = connection.channel
         elif creates and error == NOT_ESTABLISHED:
             point.lines.append("dialed %d failed" % number)
