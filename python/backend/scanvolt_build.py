@@ -23,8 +23,10 @@ Files = List[Tuple[str, bytes]]
 PACKAGES = ("scanvolt", "pyvisa_scanvolt")
 OLDEST = 315532800          # 1 January 1980, the first date that a wheel can have
 SUFFIXES = (".py", ".html", ".css", ".js")      # of the packages' files
-TAG = "py3-none-any"
-WHEEL = "Wheel-Version: 1.0\nGenerator: scanvolt_build\nRoot-Is-Purelib: true\nTag: %s\n" % TAG
+PURE, PLATFORM = "py3-none-any", "py3-none-manylinux_2_36_x86_64"     # without the program, and with it
+WHEEL = "Wheel-Version: 1.0\nGenerator: scanvolt_build\nRoot-Is-Purelib: %s\nTag: %s\n"
+# The setting that names the installation of the program that a wheel gets, and which of its files.
+PROGRAM, IN_PROGRAM = "program", ("bin/scanvolt", "share/scanvolt/VERSION", "share/doc/scanvolt/KIT")
 
 
 def project(text: str) -> Dict[str, Dict[str, Value]]:
@@ -108,9 +110,17 @@ def _entry_points() -> bytes:
     return "\n".join(parts).encode()
 
 
-def _information() -> Files:
+def _program(prefix: str) -> Files:
+    """The files of the program, as `make install PREFIX=..` puts them there. Raises OSError if it isn't there."""
+    paths = [pathlib.Path(prefix, name) for name in IN_PROGRAM]
+    return [("scanvolt/program/" + name, path.read_bytes())
+            for name, path in zip(IN_PROGRAM, paths) if path.is_file() or name == IN_PROGRAM[0]]
+
+
+def _information(tag: str) -> Files:
     """The files of a wheel's .dist-info, except RECORD."""
-    return _licence() + [("METADATA", _metadata()), ("WHEEL", WHEEL.encode()), ("entry_points.txt", _entry_points()),
+    wheel = WHEEL % ("true" if tag == PURE else "false", tag)
+    return _licence() + [("METADATA", _metadata()), ("WHEEL", wheel.encode()), ("entry_points.txt", _entry_points()),
                          ("top_level.txt", "".join(name + "\n" for name in sorted(PACKAGES)).encode())]
 
 
@@ -124,24 +134,30 @@ def _row(name: str, data: bytes) -> str:
     return "%s,sha256=%s,%d\n" % (name, checksum, len(data))
 
 
-def _wheel(folder: str, files: Files) -> str:
+def _wheel(folder: str, files: Files, tag: str = PURE) -> str:
     """Writes a wheel with these files. Returns its name."""
     information = _name() + ".dist-info/"
-    files = sorted(files) + [(information + name, data) for name, data in _information()]
+    files = sorted(files) + [(information + name, data) for name, data in _information(tag)]
     record = "".join(_row(name, data) for name, data in files) + information + "RECORD,,\n"
-    name = "%s-%s.whl" % (_name(), TAG)
+    name = "%s-%s.whl" % (_name(), tag)
     with zipfile.ZipFile(os.path.join(folder, name), "w", zipfile.ZIP_DEFLATED) as packed:
         for member, data in files + [(information + "RECORD", record.encode())]:
             one = zipfile.ZipInfo(member, time.gmtime(_epoch())[:6])
-            one.compress_type, one.create_system, one.external_attr = zipfile.ZIP_DEFLATED, 3, 0o100644 << 16
+            one.compress_type, one.create_system = zipfile.ZIP_DEFLATED, 3
+            one.external_attr = (0o100755 if member.endswith("/" + IN_PROGRAM[0]) else 0o100644) << 16
             packed.writestr(one, data)
     return name
 
 
 def build_wheel(wheel_directory: str, config_settings: Settings = None,
                 metadata_directory: Optional[str] = None) -> str:
-    """Writes the wheel into a folder. Returns its name."""
-    return _wheel(wheel_directory, _sources())
+    """Writes the wheel into a folder. Returns its name. With the setting `program`, the prefix of an installation, it is the
+    wheel of a platform that has the program inside.
+    """
+    prefix = (config_settings or {}).get(PROGRAM)
+    if prefix is None:
+        return _wheel(wheel_directory, _sources())
+    return _wheel(wheel_directory, _sources() + _program(str(prefix)), PLATFORM)
 
 
 def build_editable(wheel_directory: str, config_settings: Settings = None,

@@ -11,6 +11,7 @@ __tracebackhide__ = True        # pytest shows the line that calls the package, 
 LONGEST = 0xFFFFFFFF        # VI_TMO_INFINITE
 SPEC_VERSION = 0x00500800   # 5.8
 IMPL_VERSION = 0x00200000   # 2.0
+NO_SECONDARY = 0xFFFF       # VI_NO_SEC_ADDR
 QUEUE_LENGTH = 50           # events that a queue holds, unless the attribute is set
 
 
@@ -45,20 +46,13 @@ def common() -> Dict[Name, Kept]:
     }
 
 
-def of_instrument(name: str, host: str, device: str) -> Dict[Name, Kept]:
-    """The attributes of a session to the instrument with this resource name."""
+def of_instrument(parsed: Any, host: str, device: str) -> Dict[Name, Kept]:
+    """The attributes of a session to an instrument, by its parsed resource name."""
     states = common()
     states.update({
-        Name.resource_name: Kept(name),
+        Name.resource_name: Kept(str(parsed)),
         Name.resource_class: Kept("INSTR"),
         Name.resource_lock_state: Kept(constants.AccessModes.no_lock),
-        Name.interface_type: Kept(constants.InterfaceType.tcpip),
-        Name.interface_number: Kept(0),
-        Name.interface_instrument_name: Kept("TCPIP0 (%s)" % host),
-        Name.tcpip_address: Kept("127.0.0.1"),
-        Name.tcpip_hostname: Kept(host),
-        Name.tcpip_device_name: Kept(device),
-        Name.tcpip_is_hislip: Kept(False),
         Name.timeout_value: Kept(2000, _number(LONGEST)),
         Name.termchar: Kept(10, _number(255)),
         Name.termchar_enabled: Kept(False, _boolean),
@@ -76,6 +70,27 @@ def of_instrument(name: str, host: str, device: str) -> Dict[Name, Kept]:
         Name.read_buffer_size: Kept(4096),
         Name.write_buffer_size: Kept(4096),
     })
+    states.update(_of_interface(parsed, host, device))
+    return states
+
+
+def _of_interface(parsed: Any, host: str, device: str) -> Dict[Name, Kept]:
+    """The attributes of the interface that a resource name has."""
+    interface = parsed.interface_type
+    states = {
+        Name.interface_type: Kept(getattr(constants.InterfaceType, interface.lower())),
+        Name.interface_number: Kept(int(getattr(parsed, "board", 0))),
+        Name.interface_instrument_name: Kept("%s%s (%s)" % (interface, getattr(parsed, "board", "0"), host)),
+    }
+    if interface == "TCPIP":
+        states.update({
+            Name.tcpip_address: Kept("127.0.0.1"), Name.tcpip_hostname: Kept(host), Name.tcpip_device_name: Kept(device),
+            Name.tcpip_is_hislip: Kept(False)})
+    if interface == "GPIB":
+        states.update({
+            Name.gpib_primary_address: Kept(int(parsed.primary_address)),
+            Name.gpib_secondary_address: Kept(int(parsed.secondary_address) or NO_SECONDARY),
+            Name.gpib_readdress_enabled: Kept(True, _boolean), Name.gpib_unadress_enable: Kept(False, _boolean)})
     return states
 
 

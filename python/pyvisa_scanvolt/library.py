@@ -1,7 +1,7 @@
 """The library that PyVISA calls. It finds sessions by number, and instruments by host name."""
 import itertools
 import re
-from typing import Any, Callable, Dict, Iterable, List, Optional, Tuple, TypeVar, Union
+from typing import Any, Callable, Dict, Iterable, List, NoReturn, Optional, Tuple, TypeVar, Union
 
 from pyvisa import constants, errors, highlevel, rname
 from pyvisa.constants import StatusCode
@@ -9,8 +9,9 @@ from pyvisa.util import LibraryPath
 
 from scanvolt.virtual import Meter
 
-from . import attributes
+from . import attributes, settings
 from .session import Session
+from .sharing import Sharing
 from .statuses import FAULTS, Refusal, VisaIOError, status_of
 
 __tracebackhide__ = True        # pytest shows the line that calls the package, and not these frames
@@ -46,8 +47,10 @@ class ScanvoltLibrary(highlevel.VisaLibraryBase):
             return {"Program": str(fault)}
 
     def _init(self) -> None:
-        self.scenario = None if self.library_path == NONE else str(self.library_path)
+        self.settings = settings.Settings() if self.library_path == NONE else settings.read(str(self.library_path))
+        self.sharings: Dict[str, Sharing] = {}
         self.meters: Dict[str, Meter] = {}
+        self.given: List[str] = []          # the hosts of instruments that were made elsewhere
         self.sessions: Dict[int, Session] = {}
         self.contexts: Dict[int, constants.EventType] = {}
         self.numbers = itertools.count(1)
@@ -57,24 +60,45 @@ class ScanvoltLibrary(highlevel.VisaLibraryBase):
     def meter(self, resource: Any) -> Meter:
         """The instrument of a resource, or of a resource's name. It is turned on now if it wasn't on."""
         name = getattr(resource, "_resource_name", resource)
-        return self._meter(self._parsed(str(name)).host_address)
+        return self._meter(self._parsed(str(name))[1])
 
     def _meter(self, host: str) -> Meter:
         if host.lower() not in self.meters:
-            self.meters[host.lower()] = Meter(scenario=self.scenario)
+            self.meters[host.lower()] = self.settings.meter()
+            self.sharings[host.lower()] = Sharing()
         return self.meters[host.lower()]
 
-    def _parsed(self, name: str) -> Any:
-        """The parts of a resource name. Raises VisaIOError if no instrument here can have that name."""
+    def host_of(self, meter: Meter) -> str:
+        """The host name of an instrument. One that has none gets one here. Names of such that were closed are forgotten."""
+        found = next((host for host, one in self.meters.items() if one is meter), None)
+        if found is None:
+            for host in [host for host in self.given if not self.meters[host].is_open]:
+                del self.meters[host], self.sharings[host]
+                self.given.remove(host)
+            found = "scanvolt-meter-%d" % next(self.numbers)
+            self.given.append(found)
+            self.meters[found], self.sharings[found] = meter, Sharing()
+        return found
+
+    def _parsed(self, name: str) -> Tuple[Any, str]:
+        """The parts of a resource name, and its host. Raises VisaIOError if no instrument here can have that name."""
         try:
             parsed = rname.ResourceName.from_string(name)
         except rname.InvalidResourceName:
-            return self.handle_return_value(None, StatusCode.error_invalid_resource_name)
+            self._refused(StatusCode.error_invalid_resource_name)
+        given = self.settings.host(name)
+        if given is not None:
+            return parsed, given
         if not isinstance(parsed, rname.TCPIPInstr) or not HOST.fullmatch(parsed.host_address):
-            return self.handle_return_value(None, StatusCode.error_resource_not_found)
+            self._refused(StatusCode.error_resource_not_found)
         if parsed.board != "0":
-            return self.handle_return_value(None, StatusCode.error_interface_number_not_configured)
-        return parsed
+            self._refused(StatusCode.error_interface_number_not_configured)
+        return parsed, parsed.host_address
+
+    def _refused(self, status: StatusCode) -> NoReturn:
+        """Raises VisaIOError with this status."""
+        self.handle_return_value(None, status)
+        raise AssertionError("a status that is no error: %s" % status)
 
     def _done(self, number: Any, action: Callable[[Session], Value]) -> Value:
         """Does an action of a session, and returns its result. A fault is raised as VisaIOError."""
@@ -109,7 +133,7 @@ class ScanvoltLibrary(highlevel.VisaLibraryBase):
 
     def list_resources(self, session: Any, query: str = "?*::INSTR") -> Tuple[str, ...]:
         """The instruments that are on, and one that is always listed (viFindRsrc)."""
-        names = {"TCPIP0::%s::inst0::INSTR" % host for host in self.meters} | {FIRST}
+        names = {"TCPIP0::%s::inst0::INSTR" % host for host in self.meters} | {FIRST} | set(self.settings.hosts)
         return rname.filter(sorted(names), query)
 
     def open(self, session: Any, resource_name: str,
@@ -118,12 +142,14 @@ class ScanvoltLibrary(highlevel.VisaLibraryBase):
         """Opens a session to an instrument, with its lock if access_mode asks for that (viOpen)."""
         if access_mode not in (constants.AccessModes.no_lock, constants.AccessModes.exclusive_lock):
             self.handle_return_value(session, StatusCode.error_invalid_access_mode)
-        parsed = self._parsed(resource_name)
+        parsed, host = self._parsed(resource_name)
+        device = getattr(parsed, "lan_device_name", "inst0")
         lock_timeout = None if access_mode == constants.AccessModes.no_lock else open_timeout
         status = StatusCode.success
         try:
-            opened = Session(self._meter(parsed.host_address), str(parsed), parsed.host_address,
-                             parsed.lan_device_name, lock_timeout)
+            meter = self._meter(host)
+            opened = Session(meter, self.sharings[host.lower()], attributes.of_instrument(parsed, host, device), device,
+                             lock_timeout)
         except FAULTS as fault:
             status = StatusCode.error_allocation if isinstance(fault, ConnectionError) else status_of(fault)
         self.handle_return_value(session, status)
@@ -139,13 +165,20 @@ class ScanvoltLibrary(highlevel.VisaLibraryBase):
         return number
 
     def close(self, session: Any) -> StatusCode:
-        """Closes a session, an event, or the resource manager, which turns off all instruments."""
+        """Closes a session, an event, or the resource manager, which turns off all instruments that it turned on."""
         if session in self.contexts:
             del self.contexts[session]
         elif session == self.manager:
+            made_elsewhere = [self.meters[host] for host in self.given]
+            for one in self.sessions.values():
+                if one.meter in made_elsewhere:
+                    one.close()
             for meter in self.meters.values():
-                meter.close()
+                if meter not in made_elsewhere:
+                    meter.close()
             self.meters.clear()
+            self.given.clear()
+            self.sharings.clear()
             self.sessions.clear()
             self.contexts.clear()
         else:
@@ -171,9 +204,12 @@ class ScanvoltLibrary(highlevel.VisaLibraryBase):
         return state, self.handle_return_value(session, StatusCode.success)
 
     def _lock_state(self, meter: Meter) -> constants.AccessModes:
-        """Whether any session to this instrument has its lock."""
-        if any(one.locks for one in self.sessions.values() if one.meter is meter):
+        """Whether any session to this instrument has its lock, or shares it."""
+        sessions = [one for one in self.sessions.values() if one.meter is meter]
+        if any(one.locks for one in sessions):
             return constants.AccessModes.exclusive_lock
+        if any(one.sharing.shares for one in sessions):
+            return constants.AccessModes.shared_lock
         return constants.AccessModes.no_lock
 
     def set_attribute(self, session: Any, attribute: Any, attribute_state: Any) -> StatusCode:
@@ -221,8 +257,9 @@ class ScanvoltLibrary(highlevel.VisaLibraryBase):
 
     def lock(self, session: Any, lock_type: constants.Lock, timeout: int,
              requested_key: Optional[str] = None) -> Tuple[str, StatusCode]:
-        """Takes the lock. Waits for it up to `timeout` milliseconds (viLock)."""
-        return "", self._told(session, lambda one: one.lock(lock_type, int(timeout)))
+        """Takes the exclusive lock, or a shared one by an access key. Waits for it up to `timeout` milliseconds (viLock)."""
+        key, status = self._done(session, lambda one: one.lock(lock_type, int(timeout), requested_key))
+        return key, self.handle_return_value(session, status)
 
     def unlock(self, session: Any) -> StatusCode:
         """Frees the lock (viUnlock)."""

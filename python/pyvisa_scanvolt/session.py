@@ -1,7 +1,7 @@
 """A session to an instrument: a connection of its own with one link, as other VISAs make it for TCPIP."""
 import collections
 import contextlib
-from typing import Any, Callable, Deque, List, Optional, Tuple
+from typing import Any, Callable, Deque, Dict, List, Optional, Tuple
 
 from pyvisa import constants
 from pyvisa.constants import EventMechanism, EventType, StatusCode
@@ -10,9 +10,9 @@ from pyvisa.constants import ResourceAttribute as Name
 from scanvolt.program import ProgramError
 from scanvolt.virtual import Meter, NoAnswer
 from scanvolt.vxi11 import ENDED, TERMINATOR, DeviceError, ServiceRequest
-from scanvolt.vxi11.errors import LOCKED
 
 from . import attributes
+from .sharing import Sharing
 from .statuses import Refusal
 
 __tracebackhide__ = True        # pytest shows the line that calls the package, and not these frames
@@ -30,9 +30,9 @@ class Session:
     calls.
     """
 
-    def __init__(self, meter: Meter, name: str, host: str, device: str, lock_timeout: Optional[int]) -> None:
-        self.meter = meter
-        self.states = attributes.of_instrument(name, host, device)
+    def __init__(self, meter: Meter, sharing: Sharing, states: Dict[Name, attributes.Kept], device: str,
+                 lock_timeout: Optional[int]) -> None:
+        self.meter, self.sharing, self.states = meter, sharing, states
         self.connection = meter.connect()
         try:
             self.link = self.connection.create_link(device, lock_timeout is not None, lock_timeout or 0)
@@ -50,6 +50,9 @@ class Session:
 
     def close(self) -> None:
         """Ends the connection, and with it the link, its lock and its service requests."""
+        if self.connection.is_open:
+            with contextlib.suppress(ProgramError, DeviceError):    # the locks of a program that ended have ended
+                self.sharing.leave(self)
         self.connection.close()
 
     def get(self, name: Name) -> Any:
@@ -61,7 +64,8 @@ class Session:
         attributes.put(self.states, name, state)
 
     def _timed(self) -> None:
-        """Sets the link's timeout to the session's."""
+        """Sets the link's timeout to the session's, and gives the link the lock that sessions share."""
+        self.sharing.enter(self)
         self.link.io_timeout = int(self.get(Name.timeout_value))
 
     def write(self, data: bytes) -> int:
@@ -110,27 +114,17 @@ class Session:
         else:
             self.link.remote()
 
-    def lock(self, kind: int, timeout: int) -> StatusCode:
-        """Takes the lock. Waits for it up to `timeout` milliseconds."""
+    def lock(self, kind: int, timeout: int, key: Optional[str]) -> Tuple[str, StatusCode]:
+        """Takes the exclusive lock, or a shared one. Waits for it up to `timeout` milliseconds. Returns the access key."""
+        if kind == constants.Lock.shared:
+            return self.sharing.lock_shared(self, timeout, key)
         if kind != constants.Lock.exclusive:
             raise Refusal(StatusCode.error_invalid_lock_type)
-        try:
-            self.link.lock(timeout)
-        except DeviceError as fault:
-            if fault.number == LOCKED and timeout > 0:
-                raise Refusal(StatusCode.error_timeout) from None
-            raise
-        self.locks += 1
-        return StatusCode.success if self.locks == 1 else StatusCode.success_nested_exclusive
+        return "", self.sharing.lock_exclusive(self, timeout)
 
     def unlock(self) -> StatusCode:
         """Undoes one `lock`. The last one frees the lock."""
-        if self.locks == 0:
-            raise Refusal(StatusCode.error_session_not_locked)
-        if self.locks == 1:
-            self.link.unlock()
-        self.locks -= 1
-        return StatusCode.success if self.locks == 0 else StatusCode.success_nested_exclusive
+        return self.sharing.unlock(self)
 
     def enable(self, kind: int, mechanism: int) -> StatusCode:
         """Turns on service requests, by a queue or by handlers. The first time, this makes the interrupt

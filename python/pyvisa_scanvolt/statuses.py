@@ -38,6 +38,8 @@ class VisaIOError(errors.VisaIOError):
     @property
     def __notes__(self) -> List[str]:
         """The lines that a traceback shows below the error."""
+        if isinstance(self.fault, ConnectionError):
+            return [str(self.fault)]
         found: List[str] = getattr(self.fault, "__notes__", [])
         return found
 

@@ -1,4 +1,4 @@
-"""Prints the version of this package, and of the program that it runs the path, the version and the kind.
+"""Prints the version of this package, and of the program that it runs the path, what named it, the version and the kind.
 
 The kind is `proved` or `unproved`. Version and kind are `unknown` where no file beside the program tells them.
 Status: 0 the program fits this package, 1 there is none, or it doesn't fit.
@@ -9,7 +9,7 @@ from typing import List, Optional
 
 from . import __version__
 from .about import version_and_kind
-from .program import ProgramError, check_fits, find_program
+from .program import ProgramError, check_fits, found
 
 
 def main(given: Optional[List[str]] = None) -> int:
@@ -18,11 +18,11 @@ def main(given: Optional[List[str]] = None) -> int:
                             formatter_class=argparse.RawDescriptionHelpFormatter).parse_args(given)
     print("package %s" % __version__)
     try:
-        path = find_program()
+        path, where = found()
     except ProgramError as fault:
         print("no program: %s" % fault)
         return 1
-    print("program %s\nversion %s\nkind %s" % (path, *version_and_kind(path)), flush=True)
+    print("program %s\nfound by %s\nversion %s\nkind %s" % (path, where, *version_and_kind(path)), flush=True)
     try:
         check_fits(path)
     except ProgramError as fault:

@@ -95,7 +95,8 @@ class Keeper:
 
     def wait(self, real: Callable[..., object], condition: Any, timeout: Optional[float] = None) -> object:
         """Lets time pass until the condition is notified, or its timeout is over. Returns whether it was notified."""
-        if self.is_real or not condition._is_owned():
+        steps = self.meter.steps
+        if self.is_real or not condition._is_owned() or steps is not None and steps.stands_aside():
             return real(condition, timeout)
         with released(condition) as waiter:
             if timeout is None or whole(timeout) >= ENDLESS:
@@ -133,7 +134,10 @@ class Keeper:
         """Waits without a timeout: lets time pass if a service request may end the wait, and then waits for what
         else may end it, in real time. `really` does so for a short while. Returns true, or raises NeverEnds.
         """
-        if self.meter.has_channel and self.meter.until(holds, self.meter.patience):
+        meter = self.meter
+        if (meter._has_channel or meter.steps or meter.awaited) and meter.until(holds, meter.patience):
+            return True
+        if meter._give_up():
             return True
         for _ in range(SLICES):
             if holds():

@@ -3,24 +3,30 @@ import os
 import pathlib
 import select
 import shutil
-import socket
 import subprocess
 import time
-from typing import Callable, Dict, Iterable, List, Optional, Set, Tuple, Type, TypeVar, Union
+from typing import TYPE_CHECKING, Callable, Dict, Iterable, List, Mapping, Optional, Sequence, Set, Tuple, Type, TypeVar, Union
 
 from . import __version__
 from .lifeline import GRACE, Tied
-from .stimulus import read_scenario
+from .live import Control, Record
+from .serving.ports import CONTROL, ROLES, Taken, free
+from .stimulus import Volts, read_scenario
 
+if TYPE_CHECKING:
+    from .explaining.explanation import Explanation
+
+__all__ = ["ProgramError", "Server", "find_program", "found"]
 __tracebackhide__ = True        # pytest shows the line that calls the package, and not these frames
 Itself = TypeVar("Itself", bound="Server")
+IN_WHEEL = str(pathlib.Path(__file__).resolve().parent / "program/bin/scanvolt")     # of a platform's wheel
 BUILT = ("crates/scanvolt/out/scanvolt", "out/unproved/scanvolt")     # in a checkout
 SWEEPS = 10 ** 8        # a server that nobody ends ends after this many sweeps, which take an hour at least
 TRIES = 5               # tries to start a server: another process may take a free port before the server listens on it
 PATIENCE = 30.0         # seconds that a program may take to answer, or to be ready
 READING = 10 ** 5       # bytes of a scenario for which a program with run-time checks may take one more second
-MISSING = ("scanvolt isn't found: set SCANVOLT to its path, put it on PATH, or build it in a checkout by "
-           "`tools/serve BUILD=1`")
+MISSING = ("scanvolt isn't found: set SCANVOLT to its path, install the wheel that has it, put it on PATH, or build it in a "
+           "checkout by `tools/serve BUILD=1`")
 # A replay of these lines prints this, since the instrument has 128 channels.
 PROBES, ANSWER = b"input 128 0\ninput 255 0\n", b"refused 8\n"
 OF_SCENARIO = ("scanvolt: bad line", "scanvolt: input")     # what it says if it refuses a scenario, or can't read it
@@ -35,23 +41,35 @@ class ProgramError(Exception):
 
 
 def find_program(start: Optional[Name] = None) -> str:
-    """The path of the program: what SCANVOLT says, else the one on PATH, else the one built in a checkout.
+    """The path of the program: what SCANVOLT says, else the one in the wheel of this package, else the one on PATH, else
+    the one built in a checkout. `found` says which.
 
     The checkout is the one that contains `start`, else this package, else the working folder. Raises ProgramError.
     """
+    return found(start)[0]
+
+
+def found(start: Optional[Name] = None) -> Tuple[str, str]:
+    """The path of the program, and where it was found: SCANVOLT, the wheel, PATH, or a checkout. Raises ProgramError."""
     if os.environ.get("SCANVOLT"):
         named = os.path.abspath(os.environ["SCANVOLT"])
-        if not (os.path.isfile(named) and os.access(named, os.X_OK)):
+        if not _runs(named):
             raise ProgramError("SCANVOLT names no program: %s" % named)
-        return named
+        return named, "SCANVOLT"
+    if _runs(IN_WHEEL):
+        return IN_WHEEL, "the wheel"
     on_path = shutil.which("scanvolt")
     if on_path is not None:
-        return on_path
+        return on_path, "PATH"
     for folder in _folders(start):
         for built in BUILT:
             if os.access(folder / built, os.X_OK):
-                return str(folder / built)
+                return str(folder / built), "a checkout"
     raise ProgramError(MISSING)
+
+
+def _runs(path: str) -> bool:
+    return os.path.isfile(path) and os.access(path, os.X_OK)
 
 
 def _folders(start: Optional[Name]) -> Iterable[pathlib.Path]:
@@ -65,11 +83,14 @@ def _folders(start: Optional[Name]) -> Iterable[pathlib.Path]:
 
 def free_ports(count: int) -> List[int]:
     """Ports of 127.0.0.1 that are free at this moment."""
-    sockets = [socket.create_server(("127.0.0.1", 0)) for _ in range(count)]
-    ports = [one.getsockname()[1] for one in sockets]
-    for one in sockets:
-        one.close()
-    return ports
+    return list(free([0] * count))
+
+
+def serve_command(program: str, scenario: str, sweeps: str, ports: Mapping[str, int], record: Optional[str]) -> List[str]:
+    """The command line by which a program serves. `ports` has the port of each role."""
+    command = [program, "serve", "--scenario=" + scenario, "--sweeps=" + sweeps]
+    command += ["--%s=%d" % one for one in ports.items()]
+    return command + ([] if record is None else ["--record=" + record])
 
 
 def started(command: List[str], stdin: int = subprocess.DEVNULL, grace: float = GRACE) -> Tied:
@@ -172,18 +193,33 @@ def _unlike(path: str) -> str:
 
 
 class Server:
-    """`scanvolt serve` on free ports of 127.0.0.1, with the scenario in a file or none. `close` ends it, and so
-    do the end of a `with` block and the end of this process.
+    """`scanvolt serve` on ports of 127.0.0.1, with the scenario in a file or none. `close` ends it, and so do the end of a `with`
+    block and the end of this process.
 
-    Raises ProgramError if the program doesn't serve, ValueError if a line of the scenario is bad, and OSError if
-    the scenario can't be read.
+    `ports` are those of core, abort and port mapper, and of control if it has one; 0 is any free port, and without `ports` all are.
+    With `control`, `set_input` and `external` change the inputs while it runs. `record` is the file that gets the session as a
+    script; or True for a file that is gone when the server is closed.
+
+    Raises ProgramError if the program doesn't serve, ValueError if a line of the scenario is bad, and OSError if the scenario
+    can't be read, or the record can't be written.
     """
 
-    def __init__(self, scenario: Optional[Name] = None, program: Optional[Name] = None) -> None:
+    sweeps = SWEEPS
+
+    def __init__(self, scenario: Optional[Name] = None, program: Optional[Name] = None, *, record: Union[None, bool, Name] = None,
+                 control: bool = False, ports: Optional[Sequence[int]] = None) -> None:
         self.program = os.fspath(program) if program is not None else find_program()
         self.scenario = os.devnull if scenario is None else os.fspath(scenario)
         check_fits(self.program)
-        self._tied, (self.core, self.abort, self.port_mapper) = self._started()
+        self._roles = (*ROLES, CONTROL) if control else ROLES
+        self._wanted = [0] * len(self._roles) if ports is None else list(ports)
+        if len(self._wanted) != len(self._roles):
+            raise ValueError("%d ports are wanted, and not %d" % (len(self._roles), len(self._wanted)))
+        self._record = Record(record)
+        self._tied, listening = self._started()
+        self.core, self.abort, self.port_mapper = listening[:3]
+        self.control: Optional[int] = listening[3] if control else None
+        self._inputs = Control(listening[3]) if control else None
         self.process = self._tied.process
 
     def __enter__(self: Itself) -> Itself:
@@ -194,16 +230,55 @@ class Server:
 
     def close(self) -> None:
         """Ends the program."""
+        if self._inputs is not None:
+            self._inputs.close()
         self._tied.end()
+        self._record.end()
+
+    @property
+    def record(self) -> Optional[str]:
+        """The path of the record; None without one."""
+        return self._record.path
+
+    def set_input(self, channel: int, volts: Volts) -> None:
+        """Sets the voltage of a channel, 1 to 128, as `Meter.set_input` does. The next call that the server reads finds it.
+
+        Raises ControlError if the server doesn't answer, and ProgramError without `control`.
+        """
+        self._controlled().set_input(channel, volts)
+
+    def external(self) -> None:
+        """Fires the external trigger. Raises as `set_input` does."""
+        self._controlled().external()
+
+    def explain(self) -> "Explanation":
+        """What the instrument saw until now, told from the record by the server's own ports.
+
+        Raises OSError if the record can't be read, and ProgramError without `record`.
+        """
+        if self.record is None:
+            raise ProgramError("this server keeps no record: start it by Server(record=True), or with the name of a file")
+        from .explaining.explanation import Explanation
+        lines = self._record.lines(self._inputs, self.process.poll() is None)
+        return Explanation(lines, self.program, ports=(self.core, self.abort))
+
+    def _controlled(self) -> Control:
+        if self._inputs is None:
+            raise ProgramError("this server has no control port: start it by Server(control=True)")
+        return self._inputs
 
     def _started(self) -> Tuple[Tied, Tuple[int, ...]]:
         """Starts a program and waits until it listens. Returns the program and its ports."""
         told = ""
         for _ in range(TRIES):
-            ports = tuple(free_ports(3))
-            tied = started(self._command(ports))
             try:
-                told = self._told(tied.process, "ready %d %d %d\n" % ports)
+                ports = free(self._wanted)
+            except Taken as fault:
+                raise ProgramError(str(fault)) from None
+            roles = dict(zip(self._roles, ports))
+            tied = started(serve_command(self.program, self.scenario, str(self.sweeps), roles, self.record))
+            try:
+                told = self._told(tied.process, "ready %s\n" % " ".join(map(str, ports)))
             except BaseException:
                 tied.end()
                 raise
@@ -214,14 +289,9 @@ class Server:
                 break
         if told.startswith(OF_SCENARIO):
             read_scenario(self.scenario)        # raises the exception that explains it
+        if told == "scanvolt: output":
+            self._record.check()                # as well
         raise ProgramError("%s doesn't serve: %s" % (self.program, told))
-
-    def _command(self, ports: Tuple[int, ...]) -> List[str]:
-        """The command that serves on these ports."""
-        command = [self.program, "serve", "--scenario", self.scenario, "--sweeps", str(SWEEPS)]
-        for name, port in zip(("--core", "--abort", "--portmap"), ports):
-            command += [name, str(port)]
-        return command
 
     def _told(self, process: "subprocess.Popen[bytes]", ready: str) -> str:
         """Waits until a program prints that it is ready. Returns what it tells instead, or else nothing."""

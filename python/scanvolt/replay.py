@@ -229,8 +229,20 @@ class Replay:
         """Replaces the program by a second one, at the same moment or `further` milliseconds later."""
         self.program.close()
         self.program = Program(self.path)
-        assert self.log is not None
         self.since += further
+        self._play_again()
+
+    def repeat(self, other: "Replay") -> None:
+        """Executes what another session executed, instead of what this one did: nothing. Raises ProgramError if that
+        session became too long to be kept.
+        """
+        other.script()
+        self.log, self.size, self.since, self.checksum = list(other.log or ()), other.size, other.since, other.checksum
+        self._play_again()
+
+    def _play_again(self) -> None:
+        """Gives a program that was just started the lines of the session."""
+        assert self.log is not None
         checksum = 0
         for piece in pieces(b"".join(self.log) + ticks(self.since)):
             checksum = zlib.crc32(self.program.ask(piece + PROBE)[:-len(SEEN)], checksum)

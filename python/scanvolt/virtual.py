@@ -1,198 +1,56 @@
-"""An instrument in virtual time: `Meter`, over `scanvolt replay`, without ports and without waiting.
+"""An instrument in virtual time, without ports and without waiting.
+
+    with Meter() as meter, meter.connect() as connection, connection.create_link() as link:
+        meter.set_input(1, "1.25")
+        print(link.query("MEAS:VOLT? (@1)"), meter.clock)
 
 Time passes only where a call waits and where `advance` lets it pass. A call that waits advances time to its
 reply, millisecond by millisecond of the instrument, or to its timeout. So a test takes only as long as the
-program computes, and always ends in the same way.
+program computes, and always ends in the same way. The program is `scanvolt replay`.
+
+Meter is the instrument, Connection a connection to it, on which `create_link` makes a scanvolt.vxi11.Link. Pending is a call
+that was started, and Requests are the service requests of a connection. Milliseconds are whole numbers, 0 to 4,294,967,295; any
+other raises TypeError or ValueError at once.
 """
 import collections
 import contextlib
 import functools
 import itertools
-import queue
 import threading
 import weakref
-from typing import TYPE_CHECKING, Callable, ContextManager, Deque, Dict, Generic, List, Optional, Type, TypeVar, cast
+from typing import (TYPE_CHECKING, Any, Callable, ContextManager, Deque, Dict, Iterator, List, Optional, Tuple, Type,
+                    TypeVar)
 
 from . import vxi11
-from .keeping_time import keeping_time
+from .connection import Connection, NoAnswer, Pending, Requests
+from .faults import Faults
+from .forking import One, Twins, fork
+from .interleaving import OrderFails
+from .keeping_time import NeverEnds, keeping_time
+from .lockstep import LockStep, NotInStep, seeded
 from .program import Name, ProgramError, find_program
-from .replay import Moment, Replay
+from .replay import Replay
+from .serving.ports import ROLES
 from .stimulus import Entry, Volts, input_line, read_scenario
-from .vxi11 import DeviceError, Link, RequestStream, ServiceRequest, calls
-from .vxi11.calls import Call
-from .vxi11.core import Core
-from .vxi11.requests import Callback, checked_callback
-from .vxi11.rpc import Records
+from .vxi11 import RequestStream, ServiceRequest, calls
 from .vxi11.timeouts import Milliseconds
 from .vxi11.timeouts import milliseconds as checked
+from .vxi11.whole import whole
 
 if TYPE_CHECKING:
     from .explaining.explanation import Explanation
+    from .interleaving import Controller
 
+__all__ = ["Connection", "Meter", "NeverEnds", "NoAnswer", "NotInStep", "OrderFails", "PATIENCE", "Pending", "Requests"]
 __tracebackhide__ = True        # pytest shows the line that calls the package, and not these frames
 Value = TypeVar("Value")
-Itself = TypeVar("Itself", bound="Connection")
-ROLES = ("core", "abort", "portmap")
 PLACES = 16             # connections that the instrument has room for
 METERS: "weakref.WeakValueDictionary[int, Meter]" = weakref.WeakValueDictionary()       # those that there are, in their order
+STARTED: "List[Callable[[Meter], object]]" = []      # what is told of each meter that is turned on
 _numbers = itertools.count()
+Awaited = Tuple["Pending[Any]", Callable[[Optional[Exception]], None]]
 PATIENCE = 600000       # milliseconds of virtual time that a call may wait
 SHORT = 10000           # milliseconds of patience that take no longer to pass than to be explained
-
-
-class NoAnswer(Exception):
-    """A call has waited for longer than the meter's patience, or nothing is due that could answer it."""
-
-
-class Pending(Generic[Value]):
-    """A call that was sent. `clock` is the millisecond of its reply, or None before that."""
-
-    def __init__(self, connection: "Connection", call: Call[Value], xid: int) -> None:
-        self.connection = connection
-        self.call = call
-        self.xid = xid
-        self.turned: Optional[int] = None       # the millisecond at which the instrument took the call
-        self.clock: Optional[int] = None
-        self.body = b""
-        self.fault: Optional[Exception] = None
-
-    def __repr__(self) -> str:
-        told = "not answered" if self.clock is None else "answered at %d ms" % self.clock
-        if self.fault is not None:
-            told = "ended at %d ms: %s" % (self.clock or 0, self.fault)
-        return "<Pending %s, %s>" % (self.call, told)
-
-    @property
-    def done(self) -> bool:
-        """Whether the call was answered, or its connection ended."""
-        return self.clock is not None
-
-    def wait(self) -> None:
-        """Advances time until the call is answered, or its connection ended. Raises NoAnswer if that can't be."""
-        meter = self.connection.meter
-        if not self.done:
-            meter.check_hope(cast("Pending[object]", self))
-        if not meter.until(lambda: self.done, meter.patience):
-            raise NoAnswer("%s waits for more than %d ms of virtual time; see patience of Meter" % (
-                self.call.name, meter.patience))
-
-    def result(self) -> Value:
-        """Advances time until the call is answered. Returns its result, or raises the exception of its error."""
-        self.wait()
-        if self.fault is not None:
-            raise self.fault
-        try:
-            return self.call.answer(self.body, self.xid)
-        except DeviceError as fault:
-            assert self.clock is not None and self.turned is not None
-            fault.waited, fault.clock = self.clock - self.turned, self.clock
-            fault.tell = functools.partial(_notes, self, self.connection.meter.replay.moment())
-            raise
-
-    def end(self, clock: int, body: bytes = b"", fault: Optional[Exception] = None) -> None:
-        """Ends the call: it was answered, or can't be any more."""
-        self.clock, self.body, self.fault = clock, body, fault
-
-
-def _notes(pending: Pending[Value], moment: Moment) -> List[str]:
-    """The notes of the error with which a call ended at a moment of the session."""
-    from .explaining import meters
-    return meters.notes(pending.connection.meter, pending.connection.number, pending.xid, moment)
-
-
-class Requests:
-    """The service requests of a connection's interrupt channel. They go to a callback, or else into a queue."""
-
-    def __init__(self, connection: "Connection") -> None:
-        self.connection = connection
-        self.callback: Optional[Callback] = None
-        self.queue: "queue.Queue[ServiceRequest]" = queue.Queue()
-        self.stream = RequestStream()
-
-    def wait(self, milliseconds: int) -> ServiceRequest:
-        """The next service request of the queue. Advances time until there is one; after this long raises TimeoutError."""
-        most = checked(milliseconds, "wait")
-        if not self.connection.meter.until(lambda: not self.queue.empty(), most):
-            raise TimeoutError("no service request within %d ms of virtual time" % most)
-        return self.queue.get_nowait()
-
-    def close(self) -> None:
-        """Closes the interrupt channel, if there is one. Requests that came stay in the queue."""
-        if self.connection.has_channel:
-            with contextlib.suppress(ProgramError):     # a program that ended has no channel
-                self.connection.destroy_intr_chan()
-
-
-class Connection(Core):
-    """A connection to a meter. `close` ends it, and so does the end of a `with` block."""
-
-    def __init__(self, meter: "Meter", number: int, role: str) -> None:
-        self.meter = meter
-        self.number = number
-        self.role = role
-        self.is_open = True
-        self.has_channel = False                            # whether it has an interrupt channel
-        self.xid = 0
-        self.records = Records()
-        self.pending: "Deque[Pending[object]]" = collections.deque()
-        self.requests = Requests(self)
-
-    def __repr__(self) -> str:
-        return "<Connection %d, %s%s>" % (self.number, self.role, "" if self.is_open else ", closed")
-
-    def __str__(self) -> str:
-        return "connection %d" % self.number
-
-    def __enter__(self: Itself) -> Itself:
-        return self
-
-    def __exit__(self, kind: Optional[Type[BaseException]], *_: object) -> None:
-        self.close()
-
-    def close(self) -> None:
-        """Closes the connection; the instrument destroys its links."""
-        if self.is_open:
-            self.meter.drop(self)
-
-    def check_open(self) -> None:
-        """Raises ConnectionError if the connection is closed."""
-        if not self.is_open:
-            raise ConnectionError("the connection is closed")
-
-    def start(self, call: Call[Value]) -> Pending[Value]:
-        """Sends a call. The instrument takes it after those sent before it are answered."""
-        if not isinstance(call, Call):
-            raise TypeError("start wants a call, such as link.calls.readstb(), and not %r" % (call,))
-        with self.meter.guard:
-            self.xid = (self.xid + 1) % 2 ** 32
-            pending = Pending(self, call, self.xid)
-            self.meter.send(self, cast("Pending[object]", pending))
-            return pending
-
-    def do(self, call: Call[Value]) -> Value:
-        """Makes a call: advances time until it is answered, and then by the meter's call_time."""
-        pending = self.start(call)
-        pending.wait()
-        if pending.fault is None:
-            self.meter.advance(self.meter.call_time)
-        return pending.result()
-
-    def abort(self, link: Link) -> None:
-        """Aborts the call that waits on a link, over an abort channel of its own."""
-        self.check_open()
-        with self.meter.connect("abort") as channel:
-            channel.do(calls.device_abort(link.number))
-
-    def listen(self, callback: Optional[Callback] = None) -> Requests:
-        """Makes the interrupt channel. Service requests go to the callback as time passes, or else into a queue."""
-        if callback is not None:
-            self.on_service_request(callback)
-        self.create_intr_chan(calls.LOOPBACK, 1)
-        return self.requests
-
-    def on_service_request(self, callback: Optional[Callback]) -> None:
-        """From now on service requests go to this callback, or into the queue if it is None."""
-        self.requests.callback = checked_callback(callback)
 
 
 class Meter:
@@ -202,9 +60,17 @@ class Meter:
     `program` is the path of the program; without it, `find_program` finds one. `scenario` is a file of
     voltages and external triggers, as `scanvolt serve` takes it. `patience` is how many milliseconds of virtual
     time a call may wait before NoAnswer is raised. `call_time` is how many milliseconds each call of a connection or
-    a link takes, besides those that it waits; calls by `start` take none. Both may be set at any time. Threads may
-    share a meter. Which of them comes first depends on the machine, and a call that waits doesn't wait for what
-    another thread is about to do.
+    a link takes, besides those that it waits; calls by `start` take none. Both may be set at any time.
+
+    `clock` is how many milliseconds have passed. `faults` makes calls and connections fail on order (scanvolt.faults.Faults).
+    While `dials` is false, the instrument can't connect an interrupt channel.
+
+    Threads may share a meter. Outside of `threads`, which of them comes first depends on the machine, and a call that waits
+    doesn't wait for what another thread is about to do. Each process needs a meter of its own: in a fork of the process, the
+    parent's meter raises ProgramError.
+
+    The program also ends with Python, even if that is killed. After `close` each call raises ConnectionError, and what is
+    closed again closes quietly. If the program can't be found, or ends by itself, ProgramError says why.
     """
 
     patience = Milliseconds()
@@ -220,10 +86,16 @@ class Meter:
         self.sent = self.handed = 0     # calls that were sent, and service requests that were handed on
         self.connections: Dict[int, Connection] = {}
         self.deliveries: "Deque[Callable[[], object]]" = collections.deque()
-        self.guard = threading.RLock()
+        self.faults = Faults(self)      # faults on order
+        self.awaited: Dict[int, Awaited] = {}       # calls of tasks of asyncio
+        self.guard: ContextManager[object] = threading.RLock()
+        self.steps: Optional[LockStep] = None       # the block of `threads` that there is
+        self.twins = Twins()                        # of the meter from which this one was forked
         self.ended: Optional[Exception] = None      # why the meter is off
         self.replay = Replay(find_program() if program is None else str(program))
         METERS[next(_numbers)] = self
+        for tell in STARTED:
+            tell(self)
         with self.guard:
             self._play()
 
@@ -264,14 +136,14 @@ class Meter:
             self.connections[number] = Connection(self, number, role)
             return self.connections[number]
 
-    def drop(self, connection: Connection) -> None:
-        """Ends a connection: its links end, and its calls that wait get no reply. If the program ended before,
-        nothing is left to do.
+    def drop(self, connection: Connection, reason: Optional[ConnectionError] = None) -> None:
+        """Ends a connection: its links end, and its calls that wait get no reply, but raise this. If the program ended
+        before, nothing is left to do.
         """
         with self.guard:
             if not connection.is_open:
                 return
-            self._gone(connection, ConnectionError("the connection was closed"))
+            self._gone(connection, reason or ConnectionError("the connection was closed"))
             with contextlib.suppress(ProgramError):
                 self._perform(b"close c%d\n" % connection.number)
             self._deliver()
@@ -307,13 +179,40 @@ class Meter:
     def until(self, holds: Callable[[], bool], most: int) -> bool:
         """Lets time pass until this holds, but at most this many milliseconds. Returns whether it holds then."""
         end = self.clock + checked(most, "until")
+        if self.steps is not None:
+            return self.steps.until(holds, end)
         while True:
             with self.guard:
                 if holds():
                     return True
                 if self.clock >= end:
                     return False
-                self._pass(end - self.clock)
+                self._pass_most(end - self.clock)
+
+    @contextlib.contextmanager
+    def _awaiting(self, pending: "Pending[Value]", awake: Callable[[Optional[Exception]], None]) -> Iterator[None]:
+        """Within this block, `awake` is called when a call is answered, with None, or with NoAnswer if that can't be."""
+        self.awaited[id(pending)] = pending, awake
+        try:
+            yield
+        finally:
+            self.awaited.pop(id(pending), None)
+
+    def _answered(self, pending: Pending[object]) -> None:
+        """Says that a call was answered, or ended."""
+        found = self.awaited.pop(id(pending), None)
+        if found is not None:
+            self.handed += 1
+            found[1](None)
+
+    def _give_up(self) -> bool:
+        """Ends the waits of tasks of asyncio for calls that can't be answered. Returns whether there were any."""
+        with self.guard:
+            awaited, self.awaited = self.awaited, {}
+            for pending, awake in awaited.values():
+                awake(NoAnswer(self._hopeless(pending) or "%s waits for more than %d ms of virtual time" % (
+                    pending.call.name, self.patience)))
+        return bool(awaited)
 
     def keeping_time(self) -> ContextManager["Meter"]:
         """Makes Python's time the meter's, for the thread that enters this `with` block; other threads keep real time.
@@ -339,30 +238,68 @@ class Meter:
         from .explaining.explanation import Explanation
         with self.guard:
             script = self.replay.script()
-        return Explanation(script, self.replay.path)
+            faults = list(self.faults.told)
+        return Explanation(script, self.replay.path, faults=faults)
 
-    def check_hope(self, pending: "Pending[object]") -> None:
-        """Raises NoAnswer at once if a call can't be answered, since nothing is due within the meter's patience. It isn't
-        asked if the patience is short, or if the call's timeouts are.
+    def threads(self, count: int, seed: Optional[int] = None) -> LockStep:
+        """Makes threads that use the meter go in lock step, in this `with` block: so many, which are those that are started
+        in the block, and if they are fewer, the thread of the block itself.
+
+        Time passes only while all of them wait in the meter, or for another of them. They take turns, a call each, in the
+        order in which they were started; with a seed, in an order at random that is the same for the same seed. So each
+        run is the same. What a thread raises, the block raises at its end. If no thread can ever go on, each call that
+        waits raises NoAnswer. NotInStep is raised if a thread sleeps outside of the meter, still runs at the end of the
+        block, or is one too many.
         """
-        with self.guard:
-            first = pending.connection.pending[0] if pending.connection.pending else pending
-            if self.patience <= SHORT or first.call.wait <= self.patience:
-                return
-            from .explaining import meters
-            why = meters.why_no_answer(self, pending)
-        if why is not None:
-            raise NoAnswer(why)
+        return LockStep(self, whole(count, 1, PLACES, "threads wants a number of threads"),
+                        None if seed is None else seeded(seed))
+
+    def interleavings(self, *controllers: "Controller", count: Optional[int] = None, seed: int = 0,
+                      order: Optional[str] = None) -> int:
+        """Runs two or more controllers in every order of their calls; with `count`, in so many orders at random by seed; with
+        `order`, in that one. Each is a function that takes a meter, a fork of this one, and opens its own connections.
+
+        Returns how many orders there were. If a controller raises, raises OrderFails, an AssertionError that tells the order
+        in letters, A for the first controller: order="ABBA" repeats it. Raises RuntimeError after 10,000 orders.
+        """
+        from .interleaving import interleavings
+        return interleavings(self, controllers, count, seed, order)
+
+    def fork(self) -> "Meter":
+        """A second instrument that is as this one is now, to try what else might happen. Its program executes what this one
+        has executed. It has the same connections: `twin_of` returns them. It isn't closed with this one.
+
+        Service requests of the second one go into the queues of its connections. Raises ProgramError if the session became
+        too long to be kept.
+        """
+        return fork(self)
+
+    def twin_of(self, one: One) -> One:
+        """What a connection, a link, or a call that waits, of the meter from which this one was forked, is here. Raises
+        ValueError if it wasn't there at the fork.
+        """
+        return self.twins.of(one)
+
+    def _hopeless(self, pending: "Pending[object]") -> Optional[str]:
+        """Why a call can't be answered, since nothing is due within the meter's patience; None if it may be. It isn't asked
+        if the patience is short, or if the call's timeouts are. No other thread may use the meter meanwhile.
+        """
+        first = pending.connection.pending[0] if pending.connection.pending else pending
+        if self.patience <= SHORT or first.call.wait <= self.patience:
+            return None
+        from .explaining import meters
+        return meters.why_no_answer(self, pending)
 
     @property
-    def has_channel(self) -> bool:
+    def _has_channel(self) -> bool:
         """Whether there is an interrupt channel: if not, nothing happens on this side while time passes."""
         return any(one.has_channel for one in self.connections.values())
 
-    def _pass(self, most: int) -> None:
+    def _pass_most(self, most: int) -> None:
         """Lets at most this many milliseconds pass, and no more than up to the first at which something happens."""
         if self.ahead:
             most = min(most, self.ahead[0].clock - self.clock)
+        most = self.faults._at_most(most)
         if self._is_quiet():
             passed, printed = most, self._asked(lambda: self.replay.pass_time(most))
         else:
@@ -370,19 +307,25 @@ class Meter:
             passed, printed = self._asked(lambda: self.replay.seek(most))
         self.clock += passed
         self._take(printed)
+        self.faults._come()
         self._play()
         self._deliver()
 
-    def send(self, connection: Connection, pending: Pending[object]) -> None:
+    def _send(self, connection: Connection, pending: Pending[object]) -> None:
         """Sends a call on a connection."""
         with self.guard:
             connection.check_open()
-            hexadecimal = pending.call.encode(pending.xid).hex().encode()
+            record = pending.call.encode(pending.xid)
             self.sent += 1
+            ended = self.faults._before(pending)
             connection.pending.append(pending)
+            if ended is not None:
+                self.drop(connection, ended)
+                return
             first = len(connection.pending) == 1
-            lines = b"bytes %d %s\n" % (connection.number, hexadecimal)
-            if 4 in self._perform(lines + (self._turn(connection) if first else b"")):
+            lines = b"" if pending.made else b"bytes %d %s\n" % (connection.number, record.hex().encode())
+            lines += self._turn(connection) if first else b""
+            if lines and 4 in self._perform(lines):
                 connection.pending.remove(pending)
                 raise ConnectionError("there is no room for a further call of the connection")
             self._deliver()
@@ -418,7 +361,16 @@ class Meter:
             self._perform(self.ahead.popleft().line)
 
     def _turn(self, connection: Connection) -> bytes:
-        """The lines that make the instrument take the first call of a connection, and dial if the call asks for that."""
+        """The lines that make the instrument take the first call of a connection, and dial if the call asks for that.
+        Calls before it that a fault on order answers are done then.
+        """
+        while connection.pending and connection.pending[0].made is not None:
+            pending = connection.pending.popleft()
+            pending.turned, body = self.clock, pending.made or b""
+            if not self.faults._comes_later(pending, body):
+                pending._end(self.clock, body)
+        if not connection.pending:
+            return b""
         pending = connection.pending[0]
         pending.turned = self.clock
         lines = b"turn %d\n" % connection.number
@@ -441,9 +393,16 @@ class Meter:
                     refused.append(int(said))
                 else:
                     self._came(name, bytes.fromhex(said.decode()), answered)
-            lines = b"".join(self._turn(one) for one in answered if one.pending)
+            lines = self._cut() + b"".join(self._turn(one) for one in answered if one.pending)
             printed = self._asked(lambda: self.replay.do(lines)) if lines else b""
         return refused
+
+    def _cut(self) -> bytes:
+        """The lines that end the connections that a fault on order cut."""
+        cut, self.faults.cut = self.faults.cut, []
+        for connection, reason in cut:
+            self._gone(connection, reason)
+        return b"".join(b"close c%d\n" % connection.number for connection, _ in cut)
 
     def _came(self, port: bytes, data: bytes, answered: List[Connection]) -> None:
         """Handles bytes that came on a port: replies, or service requests."""
@@ -452,7 +411,8 @@ class Meter:
             return
         if port[:1] == b"i":
             for request in connection.requests.stream.push(data, self.clock):
-                self.deliveries.append(functools.partial(self._hand, connection, request))
+                if not self.faults._loses(connection, request):
+                    self.deliveries.append(functools.partial(self._hand, connection, request))
             return
         for record in connection.records.push(data):
             if not connection.pending:
@@ -462,7 +422,8 @@ class Meter:
 
     def _answer(self, connection: Connection, pending: Pending[object], body: bytes) -> None:
         """Handles the reply to a call."""
-        pending.end(self.clock, body)
+        if not self.faults._reply(pending, body):
+            pending._end(self.clock, body)
         if pending.call.program == calls.CORE and body[4:] == vxi11.words(1, 0, 0, 0, 0, 0):
             if pending.call.procedure == calls.CREATE_INTR_CHAN:
                 connection.has_channel = True
@@ -482,8 +443,9 @@ class Meter:
         connection.is_open = connection.has_channel = False
         self.connections.pop(connection.number, None)
         for pending in connection.pending:
-            pending.end(self.clock, fault=reason)
+            pending._end(self.clock, fault=reason)
         connection.pending.clear()
+        self.faults._gone(connection, reason)
 
     def _hand(self, connection: Connection, request: ServiceRequest) -> None:
         """Hands on a service request."""

@@ -62,7 +62,7 @@ class Printed(unittest.TestCase):
         return str(path)
 
     def told(self, path: str, version: str, kind: str) -> Tuple[int, str]:
-        return 0, "package %s\nprogram %s\nversion %s\nkind %s\n" % (scanvolt.__version__, path, version, kind)
+        return 0, "package %s\nprogram %s\nfound by SCANVOLT\nversion %s\nkind %s\n" % (scanvolt.__version__, path, version, kind)
 
     def test_a_checkout(self) -> None:
         self.put("VERSION", "7.8.9\n")

@@ -15,6 +15,7 @@ from scanvolt import program, replay
 from scanvolt.program import ProgramError, Server, find_program
 from scanvolt.virtual import Meter
 
+from .limits import within
 from .processes import TOP, goes, is_there, kill, script, stop
 
 
@@ -43,6 +44,19 @@ class Missing(unittest.TestCase):
                 self.assertEqual(found, os.path.join(os.path.realpath(folder), program.BUILT[0]))
             with mock.patch.dict(os.environ, {"SCANVOLT": "", "PATH": str(built.parent)}):
                 self.assertEqual(find_program(), str(built))
+
+    def test_the_wheel(self) -> None:
+        """Its program comes after what SCANVOLT names, and before PATH and a checkout."""
+        with script("exit 0") as inside, script("exit 0") as named, mock.patch.object(program, "IN_WHEEL", inside):
+            with mock.patch.dict(os.environ, {"SCANVOLT": ""}):
+                self.assertEqual(program.found(), (inside, "the wheel"))
+            with mock.patch.dict(os.environ, {"SCANVOLT": named}):
+                self.assertEqual(program.found(), (named, "SCANVOLT"))
+            on_path = os.path.join(os.path.dirname(named), "scanvolt")
+            os.rename(named, on_path)
+            os.chmod(inside, 0o644)
+            with mock.patch.dict(os.environ, {"SCANVOLT": "", "PATH": os.path.dirname(on_path)}):
+                self.assertEqual(program.found(), (on_path, "PATH"))
 
     def test_what_cannot_be_run(self) -> None:
         with self.assertRaisesRegex(ProgramError, "can't be run: /nonexistent: No such file"):
@@ -143,7 +157,7 @@ class NothingLeft(unittest.TestCase):
         stop(number)
         began = time.monotonic()
         meter.close()
-        self.assertLess(time.monotonic() - began, 0.8)
+        self.assertLess(time.monotonic() - began, within(0.8))
         self.assertFalse(is_there(number))
 
     def leaves(self, how: "signal.Signals | None", stopped: bool = False) -> None:

@@ -8,6 +8,7 @@ import io
 import os
 import pathlib
 import re
+import shutil
 import subprocess
 import sys
 import sysconfig
@@ -19,7 +20,9 @@ import zipfile
 from typing import Any, Dict, Optional
 from unittest import mock
 
-from .processes import TOP
+from scanvolt.program import find_program
+
+from .processes import TOP, script
 
 PIECE = re.findall(r"```python\n(.*?)```", pathlib.Path(TOP, "README.md").read_text(), re.DOTALL)[0]
 SHOWS = "\nimport scanvolt, importlib.metadata\nprint(importlib.metadata.version('scanvolt'), scanvolt.__file__)\n"
@@ -44,13 +47,15 @@ def backend() -> Any:
     return module
 
 
-def built(kind: str, where: str, source: str = TOP, **variables: str) -> pathlib.Path:
-    """Builds a wheel or an sdist from the sources in a folder. Returns its path."""
+def built(kind: str, where: str, source: str = TOP, prefix: str = "", **variables: str) -> pathlib.Path:
+    """Builds a wheel or an sdist from the sources in a folder, with the program that is installed at a prefix if one is given.
+    Returns its path.
+    """
     module, before = backend(), os.getcwd()
     os.chdir(source)
     try:
         with mock.patch.dict(os.environ, variables):
-            return pathlib.Path(where, getattr(module, "build_" + kind)(where))
+            return pathlib.Path(where, getattr(module, "build_" + kind)(where, *([{module.PROGRAM: prefix}] if prefix else [])))
     finally:
         os.chdir(before)
 
@@ -91,8 +96,34 @@ class Installing(InAFolder):
                 version, path = self.run_there("python", "-c", PIECE + SHOWS).split()
                 self.assertEqual(version, pathlib.Path(TOP).parent.joinpath("VERSION").read_text().strip())
                 self.assertTrue(path.startswith(self.folder), path)
-        for name in "capture", "scenario", "portmap":
+        for name in "capture", "coverage", "explain", "portmap", "scenario", "serve":
             self.assertIn("scanvolt-" + name, self.run_there("scanvolt-" + name, "--help"))
+
+
+    def test_the_wheel_with_the_program(self) -> None:
+        """It needs nothing else: no SCANVOLT, no PATH and no checkout. What SCANVOLT names comes first, PATH comes after it."""
+        with mock.patch.dict(os.environ, ALONE):
+            venv.create(os.path.join(self.folder, "there"), with_pip=pip_wheel() is None, symlinks=True)
+        self.install(str(built("wheel", self.folder, prefix=installed(self.folder))))
+        with script('echo "$@" >&2; exit 1') as other:
+            os.rename(other, os.path.join(os.path.dirname(other), "scanvolt"))
+            path = "%s:%s" % (os.path.dirname(other), os.environ["PATH"])
+            told = self.run_there("python", "-c", PIECE + SHOWS, SCANVOLT="", PATH=path)
+            self.assertIn(self.folder, told)
+            told = self.run_there("python", "-m", "scanvolt", SCANVOLT="", PATH=path)
+        self.assertRegex(told, "\nprogram %s/there/lib/.*/scanvolt/program/bin/scanvolt\nfound by the wheel\nversion 7.8.9\n"
+                         "kind unknown\n$" % self.folder)
+        self.assertIn("\nfound by SCANVOLT\n", self.run_there("python", "-m", "scanvolt", SCANVOLT=find_program()))
+
+
+def installed(folder: str) -> str:
+    """Installs the program, and a version. Returns the prefix."""
+    prefix = pathlib.Path(folder, "prefix")
+    for name in "bin", "share/scanvolt":
+        (prefix / name).mkdir(parents=True)
+    shutil.copy(find_program(), prefix / "bin/scanvolt")
+    (prefix / "share/scanvolt/VERSION").write_text("7.8.9\n")
+    return str(prefix)
 
 
 class Building(InAFolder):
@@ -133,13 +164,32 @@ class Building(InAFolder):
         self.assertRegex(found["WHEEL"], "^Wheel-Version: 1.0\nGenerator: .*\nRoot-Is-Purelib: true\nTag: py3-none-any\n$")
         self.assertEqual(found["entry_points.txt"], """[console_scripts]
 scanvolt-capture = scanvolt.capturing.command:main
+scanvolt-coverage = scanvolt.coverage.command:main
 scanvolt-explain = scanvolt.explaining.command:main
+scanvolt-panel = scanvolt.panel.command:main
 scanvolt-portmap = scanvolt.portmap:main
 scanvolt-scenario = scanvolt.scenario.command:main
+scanvolt-serve = scanvolt.serving.command:main
 
 [pytest11]
 scanvolt.pytest_plugin = scanvolt.pytest_plugin
 """)
+
+    def test_the_files_of_the_wheel_with_the_program(self) -> None:
+        """It has the files of the other one and the program, which can be run, and says for which platform it is."""
+        with zipfile.ZipFile(built("wheel", self.folder)) as packed:
+            pure = set(packed.namelist())
+        path = built("wheel", self.folder, prefix=installed(self.folder))
+        self.assertEqual(path.name, "scanvolt-2.0.0-py3-none-manylinux_2_36_x86_64.whl")
+        with zipfile.ZipFile(path) as packed:
+            self.assertEqual(set(packed.namelist()) - pure, {"scanvolt/program/bin/scanvolt",
+                                                             "scanvolt/program/share/scanvolt/VERSION"})
+            modes = {one.filename: one.external_attr >> 16 & 0o777 for one in packed.infolist()}
+            self.assertEqual([name for name, mode in modes.items() if mode == 0o755], ["scanvolt/program/bin/scanvolt"])
+            self.assertEqual(packed.read("scanvolt/program/bin/scanvolt"), pathlib.Path(find_program()).read_bytes())
+            told = packed.read("scanvolt-2.0.0.dist-info/WHEEL").decode()
+        self.assertTrue(told.endswith("Root-Is-Purelib: false\nTag: py3-none-manylinux_2_36_x86_64\n"), told)
+        self.assertRaises(OSError, built, "wheel", self.folder, prefix="/nonexistent")
 
     def test_the_sdist_makes_the_same_wheel(self) -> None:
         """It makes the same bytes, though its files have another date."""

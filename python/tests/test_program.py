@@ -99,7 +99,10 @@ class NothingLeft(unittest.TestCase):
         """A script that starts the program, and waits for it, leaves none."""
         with script(OTHERWISE % (find_program(), WAITS % find_program())) as path:
             server = Server(program=path)
-            number = int(pathlib.Path(path + ".pid").read_text())
+            noted, end = pathlib.Path(path + ".pid"), time.monotonic() + 10
+            while not (noted.exists() and noted.read_text().endswith("\n")) and time.monotonic() < end:
+                time.sleep(0.01)        # the program may be ready before the script notes its number
+            number = int(noted.read_text())
             self.assertTrue(is_there(number))
             try:
                 self.assertTrue(ends(server.close))

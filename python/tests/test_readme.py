@@ -5,6 +5,7 @@ tests_pyvisa/test_scripts.py has the piece with PyVISA, tests_pytest/test_plugin
 import pathlib
 import re
 import unittest
+from typing import List, Tuple
 from unittest import mock
 
 from scanvolt.program import Server
@@ -13,7 +14,9 @@ from scanvolt.vxi11 import Client, DeviceError
 
 TEXT = pathlib.Path(__file__).resolve().parent.parent.joinpath("README.md").read_text()
 PIECES = re.findall(r"```python\n(.*?)```", TEXT, re.DOTALL)
-TYPED = ("with Meter()", "with Client(", "import pyvisa", "import pytest")      # each piece has one of these
+# What each piece has, in their order.
+TYPED = ("meter.clock == 2048", "import pyvisa", "import pytest", "meter.faults.next", "meter.threads(2)", "with Client(\"127",
+         "with Server(")
 
 
 class Readme(unittest.TestCase):
@@ -32,7 +35,7 @@ class Readme(unittest.TestCase):
 
     def test_a_call_that_waits(self) -> None:
         """The call that the table names waits for the lock, and is then granted."""
-        call = re.search(r"`connection.start\(call\)` \| starts a call such as `(.*?)`", TEXT)
+        call = re.search(r"`connection.start\(call\)` \| starts a call such as `(.*?)`;", TEXT)
         assert call is not None
         with Meter() as meter, meter.connect() as connection, connection.create_link() as link:
             other = meter.connect().create_link(lock=True)
@@ -43,13 +46,38 @@ class Readme(unittest.TestCase):
             self.assertEqual((started.result(), started.clock), (None, 4999))
             self.assertRaises(DeviceError, other.lock)
 
+    def test_a_fault_on_order(self) -> None:
+        self.assertEqual(self.printed(self.piece("meter.faults.next")), [(17,)])
+
+    def test_two_controllers(self) -> None:
+        self.assertEqual(self.printed(self.piece("meter.threads(2)")), [(20,)])
+
+    @staticmethod
+    def piece(words: str) -> str:
+        """The piece that has these words."""
+        return str(next(piece for piece in PIECES if words in piece))
+
+    @staticmethod
+    def printed(piece: str) -> List[Tuple[object, ...]]:
+        """What a piece prints."""
+        with mock.patch("builtins.print") as printed:
+            exec(compile(piece, "README.md", "exec"), {})
+        return [call[0] for call in printed.call_args_list]
+
+    def test_length(self) -> None:
+        """It is for someone who has ten minutes."""
+        self.assertLessEqual(len(TEXT.split()), 1200)
+
     def test_sockets(self) -> None:
         """Also after a client that died while a unit of its message waited."""
-        with Server() as server, mock.patch("builtins.print") as printed:
+        with Server() as server:
             with Client(port=server.core) as died:
                 died.create_link().write("TRIG:SOUR EXT;:INIT;*OPC?")
-            exec(compile(PIECES[1].replace("4111", str(server.port_mapper)), "README.md", "exec"), {})
-        printed.assert_called_once_with(b"meter 1", 68)
+            piece = self.piece("with Client(\"127").replace("4111", str(server.port_mapper))
+            self.assertEqual(self.printed(piece), [(b"meter 1", 68)])
+
+    def test_a_server_whose_inputs_change(self) -> None:
+        self.assertIn("input 3 = 2.5 V", str(self.printed(self.piece("with Server("))[0][0]))
 
 
 if __name__ == "__main__":

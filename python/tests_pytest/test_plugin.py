@@ -51,10 +51,10 @@ def test_both_fixtures(pytester: pytest.Pytester) -> None:
 
 def test_the_readme(pytester: pytest.Pytester) -> None:
     """The piece with pytest in README.md, as it stands there, beside the scenario that it names."""
-    piece, = (piece for piece in PIECES if "import pytest" in piece)
+    pieces = [piece for piece in PIECES if "import pytest" in piece]
     pytester.path.joinpath("stand.scenario").write_text("0 input 1 1250000\n")
-    pytester.makepyfile(piece)
-    pytester.runpytest_subprocess(*PLUGIN, "--strict-markers").assert_outcomes(passed=2)
+    pytester.makepyfile("".join(pieces))
+    pytester.runpytest_subprocess(*PLUGIN, "--strict-markers").assert_outcomes(passed=4)
 
 
 @pytest.mark.skipif(find_spec("xdist") is None, reason="Debian's python3-pytest-xdist isn't there")
@@ -69,7 +69,8 @@ def test_the_head(pytester: pytest.Pytester, monkeypatch: pytest.MonkeyPatch) ->
     pytester.makepyfile("def test_one(): pass")
     result = pytester.runpytest_subprocess(*PLUGIN)
     result.assert_outcomes(passed=1)
-    result.stdout.fnmatch_lines(["scanvolt: %s, program %s (version *, kind *)" % (__version__, find_program())])
+    result.stdout.fnmatch_lines(["scanvolt: %s, program %s (found by SCANVOLT, version *, kind *)" % (
+        __version__, find_program())])
     monkeypatch.setenv("SCANVOLT", "/nonexistent/scanvolt")
     result = pytester.runpytest_subprocess(*PLUGIN)
     result.assert_outcomes(passed=1)
@@ -219,8 +220,8 @@ def test_bad_options(pytester: pytest.Pytester) -> None:
     result.assert_outcomes(errors=6)
     result.stdout.fnmatch_lines([
         "bad line 1 of the scenario /*/bad: after the time comes *", "*No such file or directory: '/*/none'",
-        "the marker scanvolt has no option voltages, but scenario, patience, call_time",
-        "the marker scanvolt has no option without a name, but scenario, patience, call_time",
+        "the marker scanvolt has no option voltages, but scenario, patience, call_time, names, backend",
+        "the marker scanvolt has no option without a name, but scenario, patience, call_time, names, backend",
         "*ERROR at setup of test_served*", "bad line 1 of the scenario /*/bad: after the time comes *",
         "*ERROR at setup of test_none_served*", "*No such file or directory: '/*/none'"])
     assert sum("after the time comes" in line for line in result.outlines) == 2
@@ -339,14 +340,38 @@ OVER_SOCKETS = """
 
 
 def test_over_sockets(pytester: pytest.Pytester) -> None:
-    """Without a capture the section says how to have one. A capture that can't be read fails no report."""
+    """The section is told from the record of the server. A capture that can't be read fails no report."""
     pytester.makepyfile(OVER_SOCKETS)
-    for more, told in ((), "over sockets it is told from a capture: tshark *"), \
-            (("--scanvolt-capture=none",), "it can't be told: *No such file or directory: 'none'"):
-        result = pytester.runpytest_subprocess(*PLUGIN, *more)
+    for more, told in (
+            ("--scanvolt-trace=trace", ['* FOO  * error -113 "Undefined header"*', "at the end, * ms:", "  no call waits",
+                                        "kept: trace/test_over_sockets.py_test_fails_server.replay, .txt, .html"]),
+            ("--scanvolt-capture=none", ["it can't be told: *No such file or directory: 'none'"])):
+        result = pytester.runpytest_subprocess(*PLUGIN, more)
         result.assert_outcomes(passed=1, failed=1)
         assert result.stdout.str().count("- what the instrument saw -") == 1
-        result.stdout.fnmatch_lines(["*- what the instrument saw -*", told])
+        result.stdout.fnmatch_lines(["*- what the instrument saw -*", *told])
+    kept = (pytester.path / "trace" / "test_over_sockets.py_test_fails_server.replay").read_text()
+    assert "open 0 core" in kept
+
+
+def test_a_server_whose_inputs_change(pytester: pytest.Pytester) -> None:
+    """Voltages and triggers of the fixture. What they did is in the section."""
+    pytester.makepyfile("""
+    import time
+    from scanvolt.vxi11 import Client
+
+    def test_reads(scanvolt_server):
+        scanvolt_server.set_input(3, 2.5)
+        with Client(port=scanvolt_server.core) as client, client.create_link() as link:
+            assert link.query("MEAS:VOLT? (@3)") == "+2.500000"
+            link.write("TRIG:SOUR EXT;:INIT")
+            scanvolt_server.external()
+            time.sleep(.02)
+            assert link.query("FETC?") == "-2.500000"
+    """)
+    result = pytester.runpytest_subprocess(*PLUGIN)
+    result.assert_outcomes(failed=1)
+    result.stdout.fnmatch_lines(["*- what the instrument saw -*", "*EXTernal trigger*", "at the end, * ms:"])
 
 
 @pytest.mark.skipif(shutil.which("tshark") is None, reason="tshark isn't there")
@@ -380,3 +405,32 @@ def test_it_never_fails_a_report(pytester: pytest.Pytester, monkeypatch: pytest.
     result.stdout.fnmatch_lines(["*- what the instrument saw -*",
                                  "it can't be told: * has no `explain`: it is an earlier release, or no scanvolt"])
     assert not pytester.path.joinpath("trace").exists()
+
+
+def test_faults_on_order_are_told(pytester: pytest.Pytester) -> None:
+    """In the section of what the instrument saw, and in one of the relay, and in no other test's report."""
+    pytester.makepyfile("""
+        from scanvolt.faults import Relay
+        from scanvolt.vxi11 import Client
+
+        def test_virtual(meter):
+            link = meter.connect().create_link()
+            meter.faults.next("device_readstb", error=17)
+            link.readstb()
+
+        def test_sockets(scanvolt_server):
+            with Relay(scanvolt_server.core) as relay, Client(port=relay.port) as client:
+                link = client.create_link()
+                relay.cut(after=3)
+                link.readstb()
+
+        def test_neither():
+            assert False
+    """)
+    result = pytester.runpytest_subprocess(*PLUGIN)
+    result.assert_outcomes(failed=3)
+    result.stdout.fnmatch_lines([
+        "*what the instrument saw*", "*c0 link 1  fault on order: device_readstb was answered with error 17*",
+        "  on order  0 ms, c0 link 1: device_readstb was answered with error 17*",
+        "*faults on order of the relay*", "*connection 0, towards the client: the relay ends the connection*"])
+    assert result.stdout.str().count("faults on order of the relay") == 1

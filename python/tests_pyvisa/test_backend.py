@@ -192,6 +192,21 @@ class Messages(WithResource):
         self.assertRegex(first, "device_read .*waited since 0 ms for a response")
         self.assertIn("the scan waits for an EXTernal trigger (scan 1 of 1)", second)
 
+    def test_faults_on_order(self) -> None:
+        """Their statuses, and notes that say that they were ordered."""
+        faults = self.meter.faults
+        faults.next("device_read", error=17)
+        self.error(StatusCode.error_io, lambda: self.resource.query("*IDN?"))
+        faults.delay(70)
+        self.resource.clear()
+        self.assertEqual(self.meter.clock, 70)
+        faults.drop_after(bytes=3)
+        with self.assertRaises(pyvisa.VisaIOError) as caught:
+            self.resource.read_stb()
+        self.assertEqual(caught.exception.error_code, StatusCode.error_connection_lost)
+        self.assertEqual(getattr(caught.exception, "__notes__"), [
+            "the connection ended after 3 of 36 bytes of the reply to device_readstb: on order of meter.faults"])
+
     def test_clear(self) -> None:
         self.resource.write("*IDN?")
         self.resource.clear()
@@ -242,8 +257,10 @@ class Locks(WithResource):
         first.close()
         self.assertEqual(self.resource.read_stb(), 0)
 
-    def test_shared_locks(self) -> None:
-        self.error(StatusCode.error_invalid_lock_type, self.resource.lock)
+    def test_other_locks(self) -> None:
+        library: Any = self.manager.visalib
+        session = self.resource.session
+        self.error(StatusCode.error_invalid_lock_type, lambda: library.lock(session, 3, 0))
         self.error(StatusCode.error_invalid_access_mode, lambda: self.open(
             access_mode=AccessModes.shared_lock))
 

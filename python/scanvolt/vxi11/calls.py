@@ -61,10 +61,12 @@ class Call(Generic[Value]):
 
     @property
     def version(self) -> int:
+        """The version of the program."""
         return VERSIONS[self.program]
 
     @property
     def name(self) -> str:
+        """The name of the procedure in the standard."""
         return name_of(self.program, self.procedure)
 
     def encode(self, xid: int) -> bytes:

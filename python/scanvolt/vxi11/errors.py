@@ -20,8 +20,8 @@ class DeviceError(Exception):
 
     `call` is the call and its link, in words. If the error is that of a timeout, `timeout` is the timeout. `waited`
     is for how long the call waited, and `clock` when it was answered, by the clock of a meter in virtual time; all
-    are in milliseconds. What isn't known is None. `tell` makes the notes of a virtual instrument, which tracebacks show:
-    why the call ended so. They are made when they are first asked for.
+    are in milliseconds. What isn't known is None. `tell` makes the notes of a virtual instrument, which tracebacks show
+    (Python 3.11 and later, and pytest): why the call ended so. They are made when they are first asked for.
     """
 
     def __init__(self, number: int, name: str = "") -> None:

@@ -39,40 +39,59 @@ class LinkCalls:
     lock_timeout: int
 
     def write(self, data: bytes, end: bool = True) -> Call[int]:
+        """A device_write."""
         return calls.device_write(self.link, data, self.io_timeout, self.lock_timeout, end)
 
     def read(self, size: int = READ_SIZE, termination: Optional[int] = None) -> Call[Piece]:
+        """A device_read."""
         return calls.device_read(self.link, size, self.io_timeout, self.lock_timeout, termination)
 
     def readstb(self) -> Call[int]:
+        """A device_readstb."""
         return calls.device_readstb(self.link, self.io_timeout, self.lock_timeout)
 
     def trigger(self) -> Call[None]:
+        """A device_trigger."""
         return calls.device_trigger(self.link, self.io_timeout, self.lock_timeout)
 
     def clear(self) -> Call[None]:
+        """A device_clear."""
         return calls.device_clear(self.link, self.io_timeout, self.lock_timeout)
 
     def remote(self) -> Call[None]:
+        """A device_remote."""
         return calls.device_remote(self.link, self.io_timeout, self.lock_timeout)
 
     def local(self) -> Call[None]:
+        """A device_local."""
         return calls.device_local(self.link, self.io_timeout, self.lock_timeout)
 
     def lock(self, timeout: Optional[int] = None) -> Call[None]:
+        """A device_lock."""
         return calls.device_lock(self.link, self.lock_timeout if timeout is None else timeout)
 
     def unlock(self) -> Call[None]:
+        """A device_unlock."""
         return calls.device_unlock(self.link)
 
     def enable_srq(self, handle: Optional[bytes]) -> Call[None]:
+        """A device_enable_srq."""
         return calls.device_enable_srq(self.link, handle)
 
     def docmd(self, command: int, data: bytes = b"") -> Call[bytes]:
+        """A device_docmd."""
         return calls.device_docmd(self.link, command, data, self.io_timeout, self.lock_timeout)
 
     def destroy(self) -> Call[None]:
+        """A destroy_link."""
         return calls.destroy_link(self.link)
+
+
+def message_bytes(message: Union[bytes, str]) -> bytes:
+    """The bytes of a message. Raises TypeError if it is neither text nor bytes."""
+    if not isinstance(message, (str, bytes, bytearray, memoryview)):
+        raise TypeError("a message is text or bytes, and not %r" % (message,))
+    return message.encode("latin-1") if isinstance(message, str) else bytes(message)
 
 
 class Link:
@@ -123,9 +142,7 @@ class Link:
         """Writes a message, in as many calls as needed. If `end` is true, END comes with the last byte. Returns
         the message's length in bytes.
         """
-        if not isinstance(message, (str, bytes, bytearray, memoryview)):
-            raise TypeError("a message is text or bytes, and not %r" % (message,))
-        data = message.encode("latin-1") if isinstance(message, str) else bytes(message)
+        data = message_bytes(message)
         place = 0
         while True:
             piece = data[place:place + self.most]

@@ -1,0 +1,79 @@
+"""pytest --scanvolt-coverage: counts what the sessions of all tests in virtual time have met."""
+from typing import Any, Counter, Dict, List, Optional
+
+import pytest
+
+from ..explaining.running import lines_of
+from ..explaining.story import Story
+from ..program import ProgramError
+from ..replay import Replay
+from ..virtual import STARTED, Meter
+from .counting import Item, count
+from .report import Report
+
+OUTPUT = "scanvolt_coverage"
+
+
+class Coverage:
+    """The plugin. `least` is how many percent have to be met; `everything` prints each entry."""
+
+    def __init__(self, config: pytest.Config, least: float, everything: bool) -> None:
+        self.config, self.least, self.everything = config, least, everything
+        self.open: List[Replay] = []
+        self.found: "Counter[Item]" = Counter()
+        self.faults: List[str] = []
+        STARTED.append(self.started)
+
+    def started(self, meter: Meter) -> None:
+        """A meter was turned on."""
+        self.open.append(meter.replay)
+
+    def count(self, ended: bool) -> None:
+        """Counts the sessions that have ended, or all of them."""
+        left = []
+        for replay in self.open:
+            if replay.program.close.alive and not ended:
+                left.append(replay)
+                continue
+            try:
+                self.found += count(Story(lines_of(replay.script(), replay.path)))
+            except (ProgramError, ValueError) as fault:
+                self.faults.append(str(fault))
+        self.open = left
+
+    def pytest_runtest_logfinish(self) -> None:
+        """After each test."""
+        self.count(False)
+
+    def _finish(self, session: pytest.Session) -> None:
+        """After the last test: a worker of pytest-xdist hands on what it has; else too little coverage fails."""
+        if self.started in STARTED:
+            STARTED.remove(self.started)
+        self.count(True)
+        output: Optional[Dict[str, Any]] = getattr(self.config, "workeroutput", None)
+        if output is not None:
+            output[OUTPUT] = [[name, words, number] for (name, words), number in self.found.items()], self.faults
+        elif session.exitstatus == 0 and Report(self.found).below(self.least):
+            session.exitstatus = pytest.ExitCode.TESTS_FAILED
+
+    def _gather(self, node: Any) -> None:
+        """A worker has ended."""
+        rows, faults = getattr(node, "workeroutput", {}).get(OUTPUT, ((), ()))
+        self.found += Counter({(name, words): number for name, words, number in rows})
+        self.faults += faults
+
+    pytest_sessionfinish = pytest.hookimpl(tryfirst=True)(_finish)
+    pytest_testnodedown = pytest.hookimpl(optionalhook=True)(_gather)
+
+    def pytest_terminal_summary(self, terminalreporter: Any) -> None:
+        """The table and the summary."""
+        report = Report(self.found)
+        terminalreporter.section("coverage of the instrument")
+        for line in report.lines(self.everything):
+            terminalreporter.write_line(line)
+        for fault in sorted(set(self.faults)):
+            terminalreporter.write_line("a session isn't counted: " + fault)
+        terminalreporter.write_line(report.summary())
+        below = report.below(self.least)
+        if below:
+            terminalreporter.write_line(below, red=True)

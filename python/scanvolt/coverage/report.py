@@ -1,0 +1,53 @@
+"""The table of what was met, and the summary in one line."""
+from typing import Counter, Dict, List, Mapping, Tuple
+
+from ..explaining.text import wrapped
+from .counting import Item, everything
+
+WIDTH, INDENT = 120, 4      # columns
+
+
+class Report:
+    """What was met of all that can be: of entries that aren't in the lists, nothing is said."""
+
+    def __init__(self, found: Mapping[Item, int]) -> None:
+        self.counts: "Counter[Item]" = Counter({item: found.get(item, 0) for item in everything()})
+        self.lists: Dict[str, List[Item]] = {}
+        for item in everything():
+            self.lists.setdefault(item[0], []).append(item)
+
+    def met(self, items: List[Item]) -> int:
+        return sum(self.counts[item] > 0 for item in items)
+
+    @property
+    def parts(self) -> Tuple[int, int]:
+        """How many were met, and how many there are."""
+        return self.met(list(self.counts)), len(self.counts)
+
+    @property
+    def percent(self) -> float:
+        met, there = self.parts
+        return 100 * met / there
+
+    def summary(self) -> str:
+        """The summary in one line."""
+        parts = ["%s %d of %d" % (name, self.met(items), len(items)) for name, items in self.lists.items()]
+        return "coverage of the instrument: %d of %d, %.0f %%: %s" % (*self.parts, self.percent, ", ".join(parts))
+
+    def lines(self, everything_met: bool = False) -> List[str]:
+        """The table: of each list what wasn't met; if all is wanted, also how often the rest was met."""
+        found: List[str] = []
+        for name, items in self.lists.items():
+            missing = [words for _, words in items if not self.counts[_, words]]
+            found.append("%-24s%4d of %-4d%s" % (name, self.met(items), len(items), "" if missing else "all"))
+            if everything_met:
+                found += ["%8d  %s" % (self.counts[item], item[1]) for item in items]
+            elif missing:
+                found.append(" " * INDENT + wrapped("not met: " + "; ".join(missing), WIDTH - INDENT, INDENT))
+        return found
+
+    def below(self, least: float) -> str:
+        """Says so if less than so many percent were met; empty if not."""
+        if self.percent >= least:
+            return ""
+        return "coverage of the instrument: %.1f %% is below %g %%" % (self.percent, least)

@@ -1,0 +1,181 @@
+"""Faults on order in virtual time: `Meter.faults`."""
+from dataclasses import dataclass
+from typing import TYPE_CHECKING, List, Optional, Tuple
+
+from ..program import ProgramError
+from ..vxi11 import ServiceRequest, words
+from ..vxi11.calls import ABORT, CORE, NAMES
+from ..vxi11.errors import NAMES as ERRORS
+from ..vxi11.rpc import encode_reply, mark
+from ..vxi11.timeouts import milliseconds as checked
+from ..vxi11.whole import WORD, whole
+from .told import Told
+
+if TYPE_CHECKING:
+    from ..connection import Connection, Pending
+
+    from ..virtual import Meter
+
+__tracebackhide__ = True        # pytest shows the line that calls the package, and not these frames
+CALLS = sorted({name for program in (CORE, ABORT) for name in NAMES[program].values()})
+MARK = len(mark(0))             # bytes of a reply that come before its record
+HOW = "on order of meter.faults"
+
+
+@dataclass
+class Order:
+    """A fault that was ordered and hasn't come: its kind, for which call and connection, if only for some, and how much."""
+
+    kind: str
+    call: Optional[str] = None
+    connection: "Optional[Connection]" = None
+    much: int = 0
+
+    def fits(self, connection: "Connection", call: str) -> bool:
+        return self.call in (None, call) and self.connection in (None, connection)
+
+    def __str__(self) -> str:
+        given = [repr(self.call)] if self.call else []
+        return "%s(%s)" % (self.kind, ", ".join(given + ([str(self.much)] if self.much else [])))
+
+
+class Faults:
+    """The faults of a meter: those that are ordered, and those that came.
+
+    Each order is for the one next call that it fits: `call` is a name of VXI-11, such as device_read, and
+    `connection` a Connection of the meter; without them any call fits. Orders of one kind are taken in their order.
+    """
+
+    def __init__(self, meter: "Meter") -> None:
+        self.meter = meter
+        self.ordered: List[Order] = []
+        self.told: List[Told] = []
+        self.late: "List[Tuple[int, Connection, Pending[object], bytes]]" = []      # replies that come at a time
+        self.cut: "List[Tuple[Connection, ConnectionError]]" = []                   # connections to be closed
+
+    def __repr__(self) -> str:
+        return "<Faults: %d ordered, %d came>" % (len(self.ordered), len(self.told))
+
+    def next(self, call: str, error: int = 17, connection: "Optional[Connection]" = None) -> None:
+        """The next such call is answered with this VXI-11 error, 1 to 4,294,967,295. The instrument isn't asked."""
+        self._order("next", call, connection, whole(error, 1, WORD, "a fault wants the number of an error"))
+
+    def drop_after(self, bytes: int, call: Optional[str] = None, connection: "Optional[Connection]" = None) -> None:
+        """The connection ends after this many bytes of the next reply. The instrument has executed the call.
+
+        A reply begins with the 4 bytes that mark its record. If it has no more than `bytes` bytes, it comes whole, and
+        then the connection ends.
+        """
+        self._order("drop_after", call, connection, whole(bytes, 0, WORD, "drop_after wants a number of bytes"))
+
+    def delay(self, milliseconds: int, call: Optional[str] = None, connection: "Optional[Connection]" = None) -> None:
+        """The next reply comes this many milliseconds late, and replies behind it no earlier."""
+        self._order("delay", call, connection, checked(milliseconds, "delay"))
+
+    def lose_request(self, connection: "Optional[Connection]" = None) -> None:
+        """The next service request is lost on its way to the client."""
+        self._order("lose_request", None, connection, 0)
+
+    def close(self, call: Optional[str] = None, connection: "Optional[Connection]" = None) -> None:
+        """The connection of the next call ends before the call comes to the instrument."""
+        self._order("close", call, connection, 0)
+
+    def withdraw(self) -> None:
+        """Withdraws all orders of faults that haven't come."""
+        with self.meter.guard:
+            self.ordered.clear()
+
+    def _order(self, kind: str, call: Optional[str], connection: "Optional[Connection]", much: int) -> None:
+        if call is not None and call not in CALLS:
+            raise ValueError("no call of VXI-11: %r; there are %s" % (call, ", ".join(CALLS)))
+        with self.meter.guard:
+            self.ordered.append(Order(kind, call, connection, much))
+
+    def _taken(self, connection: "Connection", call: str, *kinds: str) -> Optional[Order]:
+        """Takes the first order of these kinds that fits."""
+        found = next((one for one in self.ordered if one.kind in kinds and one.fits(connection, call)), None)
+        if found is not None:
+            self.ordered.remove(found)
+        return found
+
+    def _tell(self, who: str, said: str) -> str:
+        """Notes a fault for the traces."""
+        replay = self.meter.replay
+        try:
+            line = len(replay.script())
+        except ProgramError:            # the session became too long to be told
+            line = 0
+        self.told.append(Told(line, self.meter.clock, who, said))
+        return said
+
+    def _before(self, pending: "Pending[object]") -> Optional[ConnectionError]:
+        """Does what is ordered before a call comes to the instrument: makes its reply, or says why its connection ends."""
+        connection, call = pending.connection, pending.call
+        order = self._taken(connection, call.name, "next", "close") if self.ordered else None
+        if order is None:
+            return None
+        if order.kind == "close":
+            return ConnectionError("%s: %s" % (self._tell(
+                who(pending), "the connection ended before %s came to the instrument" % call.name), HOW))
+        named = "%d, %s" % (order.much, ERRORS.get(order.much, "reserved error"))
+        pending.made = encode_reply(pending.xid, words(order.much))[MARK:]
+        pending.note = "%s: %s" % (self._tell(
+            who(pending), "%s was answered with error %s; the instrument wasn't asked" % (call.name, named)), HOW)
+        return None
+
+    def _reply(self, pending: "Pending[object]", body: bytes) -> bool:
+        """Does what is ordered for a reply of the instrument. Returns whether the reply comes at another time, or not."""
+        clock, connection, name = self.meter.clock, pending.connection, pending.call.name
+        order = self._taken(connection, name, "delay", "drop_after") if self.ordered else None
+        if order is not None and order.kind == "drop_after":
+            size = min(order.much, MARK + len(body))
+            fault = ConnectionError("%s: %s" % (self._tell(who(pending), "the connection ended after %d of %d bytes of the "
+                                                           "reply to %s" % (size, MARK + len(body), name)), HOW))
+            self.cut.append((connection, fault))
+            if size < MARK + len(body):
+                pending._end(clock, fault=fault)
+                return True
+        elif order is not None:
+            self._tell(who(pending), "the reply to %s comes %d ms late" % (name, order.much))
+            return self._comes_later(pending, body, clock + order.much)
+        return self._comes_later(pending, body)
+
+    def _comes_later(self, pending: "Pending[object]", body: bytes, clock: int = 0) -> bool:
+        """Whether a reply comes later than now: at this millisecond, or behind a late one of its connection. Then keeps it."""
+        clock = max([clock] + [one[0] for one in self.late if one[1] is pending.connection])
+        if clock <= self.meter.clock:
+            return False
+        self.late.append((clock, pending.connection, pending, body))
+        return True
+
+    def _loses(self, connection: "Connection", request: ServiceRequest) -> bool:
+        """Whether a service request of the instrument is lost."""
+        order = self._taken(connection, "", "lose_request") if self.ordered else None
+        if order is not None:
+            self._tell("c%d" % connection.number, "the service request %d, handle %r, was lost" % (
+                request.xid, request.handle))
+        return order is not None
+
+    def _at_most(self, most: int) -> int:
+        """How many of these milliseconds may pass up to the next reply that is late."""
+        return min([one[0] - self.meter.clock for one in self.late] + [most])
+
+    def _come(self) -> None:
+        """Ends the calls whose late replies come now."""
+        due = [one for one in self.late if one[0] <= self.meter.clock]
+        self.late = [one for one in self.late if one[0] > self.meter.clock]
+        for _, _, pending, body in due:
+            pending._end(self.meter.clock, body)
+
+    def _gone(self, connection: "Connection", reason: Exception) -> None:
+        """Ends the calls whose late replies won't come, since their connection ended."""
+        for _, other, pending, _ in self.late:
+            if other is connection:
+                pending._end(self.meter.clock, fault=reason)
+        self.late = [one for one in self.late if one[1] is not connection]
+
+
+def who(pending: "Pending[object]") -> str:
+    """The connection and the link of a call, as the timeline names them."""
+    link = getattr(pending.call, "link", 0)
+    return "c%d" % pending.connection.number + (" link %d" % link if link else "")

@@ -1,0 +1,215 @@
+"""Faults on order on sockets: a relay between clients and a server."""
+import itertools
+import socket
+import threading
+import time
+import weakref
+from dataclasses import dataclass
+from typing import Dict, List, Optional, Tuple, Type, TypeVar
+
+from ..vxi11.timeouts import milliseconds as checked
+from ..vxi11.whole import WORD, whole
+
+__tracebackhide__ = True        # pytest shows the line that calls the package, and not these frames
+Itself = TypeVar("Itself", bound="Relay")
+CLIENT, SERVER = "client", "server"     # towards whom bytes go
+TURN = 0.1              # seconds after which a relay looks whether it is closed
+RELAYS: "weakref.WeakValueDictionary[int, Relay]" = weakref.WeakValueDictionary()       # those that there are, in their order
+_numbers = itertools.count()
+
+
+@dataclass
+class Order:
+    """A fault that was ordered: of which kind, towards whom, after how many further bytes, and how much."""
+
+    kind: str
+    towards: str
+    after: int
+    much: int = 0
+
+
+class Way:
+    """One direction of a connection: the bytes from a socket to another, in a thread."""
+
+    def __init__(self, relay: "Relay", source: socket.socket, target: socket.socket, towards: str, number: int) -> None:
+        self.relay, self.source, self.target = relay, source, target
+        self.towards, self.number = towards, number
+        self.thread = threading.Thread(target=self._run, daemon=True, name="relay towards the %s" % towards)
+
+    def _run(self) -> None:
+        """Passes bytes on until one side ends."""
+        try:
+            while True:
+                data = self.source.recv(65536)
+                if not data:
+                    break
+                while data:
+                    data = self._step(data)
+        except OSError:         # one of them is closed
+            pass
+        for one in self.source, self.target:
+            shut(one)
+
+    def _step(self, data: bytes) -> bytes:
+        """Passes on the bytes before the next fault, or does the fault. Returns those that are left."""
+        order, count = self.relay._due(self.towards, len(data))
+        if order is None or count:
+            self._send(data[:count or len(data)])
+            return data[count or len(data):]
+        if order.kind == "drop":
+            size = min(order.much, len(data))
+            self.relay._tell(self, "drops %d bytes: %s" % (size, data[:size].hex()))
+            if size < order.much:
+                self.relay._again(Order("drop", self.towards, 0, order.much - size))
+            return data[size:]
+        if order.kind == "delay":
+            self.relay._tell(self, "waits %d ms" % order.much)
+            self.relay.closed.wait(order.much / 1000)
+            return data
+        self.relay._tell(self, "ends the connection; %d bytes that came aren't passed on" % len(data))
+        raise ConnectionAbortedError
+
+    def _send(self, data: bytes) -> None:
+        size = self.relay.sizes.get(self.towards, 0)
+        if not size or len(data) <= size:
+            self.target.sendall(data)
+            return
+        self.relay._tell(self, "splits %d bytes into pieces of %d" % (len(data), size))
+        for start in range(0, len(data), size):
+            self.target.sendall(data[start:start + size])
+            time.sleep(0.001)           # else the system joins the pieces
+
+
+class Relay:
+    """Passes on what goes between clients and the server at a port, and does faults on order. It listens at `port` of
+    127.0.0.1. `close` ends it, and so does the end of a `with` block.
+
+    Faults are counted in bytes that pass after the order, of all connections together. `towards` says which bytes: those
+    towards the "client" or the "server". Orders of one direction are done one after the other. `told` has
+    a line for each fault that came. Only what goes through this port is touched: a client that asks a port mapper, and
+    the abort and the interrupt channel, go past it.
+    """
+
+    def __init__(self, port: int, host: str = "127.0.0.1") -> None:
+        self.peer = (host, whole(port, 1, 65535, "a relay wants the port of a server"))
+        self.orders: List[Order] = []
+        self.sizes: Dict[str, int] = {}
+        self.told: List[str] = []
+        self.guard = threading.Lock()
+        self.closed = threading.Event()
+        self.began = time.monotonic()
+        self.sockets: List[socket.socket] = []
+        self.ways: List[Way] = []
+        self.listener = socket.create_server(("127.0.0.1", 0))
+        self.listener.settimeout(TURN)
+        self.port: int = self.listener.getsockname()[1]
+        self.thread = threading.Thread(target=self._serve, daemon=True, name="relay")
+        self.thread.start()
+        RELAYS[next(_numbers)] = self
+
+    def __repr__(self) -> str:
+        return "<Relay of port %d to %s:%d%s>" % (self.port, *self.peer, ", closed" if self.closed.is_set() else "")
+
+    def __enter__(self: Itself) -> Itself:
+        return self
+
+    def __exit__(self, kind: Optional[Type[BaseException]], *_: object) -> None:
+        self.close()
+
+    def cut(self, after: int = 0, towards: str = CLIENT) -> None:
+        """Ends the connection that passes the byte after this many bytes."""
+        self._order("cut", towards, after, 0)
+
+    def delay(self, milliseconds: int, after: int = 0, towards: str = CLIENT) -> None:
+        """Passes on what comes after this many bytes so many milliseconds later."""
+        self._order("delay", towards, after, checked(milliseconds, "delay"))
+
+    def drop(self, count: int, after: int = 0, towards: str = CLIENT) -> None:
+        """Drops `count` bytes after so many bytes."""
+        self._order("drop", towards, after, whole(count, 1, WORD, "drop wants a number of bytes"))
+
+    def split(self, size: int, towards: str = CLIENT) -> None:
+        """From now on passes bytes on in pieces of at most this size; 0 ends that."""
+        self._towards(towards)
+        self.sizes[towards] = whole(size, 0, WORD, "split wants a size in bytes")
+
+    def close(self) -> None:
+        """Ends the relay and its connections."""
+        self.closed.set()
+        self.thread.join()
+        for one in self.sockets:
+            shut(one)
+        for way in self.ways:
+            way.thread.join()
+        for one in self.sockets:
+            one.close()
+
+    @staticmethod
+    def _towards(towards: str) -> None:
+        if towards not in (CLIENT, SERVER):
+            raise ValueError("bytes go towards the client or the server, and not %r" % (towards,))
+
+    def _order(self, kind: str, towards: str, after: int, much: int) -> None:
+        self._towards(towards)
+        order = Order(kind, towards, whole(after, 0, WORD, "%s wants a number of bytes before it" % kind), much)
+        with self.guard:
+            self.orders.append(order)
+
+    def _again(self, order: Order) -> None:
+        """Puts back what is left of an order."""
+        with self.guard:
+            self.orders.insert(0, order)
+
+    def _due(self, towards: str, size: int) -> Tuple[Optional[Order], int]:
+        """The fault that comes within so many bytes, and after how many; it is taken if that is 0."""
+        with self.guard:
+            order = next((one for one in self.orders if one.towards == towards), None)
+            if order is None:
+                return None, 0
+            count = min(order.after, size)
+            order.after -= count
+            if count == 0:
+                self.orders.remove(order)
+            return order, count
+
+    def _tell(self, way: Way, words: str) -> None:
+        """Notes a fault for the traces."""
+        told = "%.3f s, connection %d, towards the %s: the relay %s" % (
+            time.monotonic() - self.began, way.number, way.towards, words)
+        with self.guard:
+            self.told.append(told)
+
+    def _serve(self) -> None:
+        """Accepts clients, and connects each to the server."""
+        with self.listener:
+            while not self.closed.is_set():
+                try:
+                    client = self.listener.accept()[0]
+                except socket.timeout:
+                    continue
+                client.settimeout(None)
+                self.sockets.append(client)
+                try:
+                    server = socket.create_connection(self.peer)
+                except OSError:                 # the client sees a connection that ends
+                    shut(client)
+                    continue
+                self._begin(client, server)
+
+    def _begin(self, client: socket.socket, server: socket.socket) -> None:
+        """Starts both directions of a connection."""
+        self.sockets.append(server)
+        number = len(self.ways) // 2
+        for one in client, server:
+            one.setsockopt(socket.IPPROTO_TCP, socket.TCP_NODELAY, 1)
+        self.ways += [Way(self, client, server, SERVER, number), Way(self, server, client, CLIENT, number)]
+        for way in self.ways[-2:]:
+            way.thread.start()
+
+
+def shut(one: socket.socket) -> None:
+    """Ends both directions of a socket, on which a thread may wait."""
+    try:
+        one.shutdown(socket.SHUT_RDWR)
+    except OSError:
+        pass

@@ -1,0 +1,28 @@
+"""What traces say of faults on order."""
+from dataclasses import dataclass
+from typing import List, Sequence
+
+SHOWN = 5       # faults that the end of a trace lists; of more, the last
+
+
+@dataclass(frozen=True)
+class Told:
+    """A fault that came: when, by the meter's clock in milliseconds, after which line of the session's script, to whom
+    (`c0 link 1`), and what it was, in words.
+    """
+
+    line: int
+    clock: int
+    who: str
+    words: str
+
+    def __str__(self) -> str:
+        return "fault on order: " + self.words
+
+
+def end_lines(faults: Sequence[Told]) -> List[str]:
+    """The lines about faults at the end of a trace; none if none came."""
+    found = ["{:,} ms, {}: {}".format(one.clock, one.who, one.words) for one in faults[-SHOWN:]]
+    if len(faults) > SHOWN:
+        found.insert(0, "%d came; the last:" % len(faults))
+    return ["  %-10s%s" % ("" if place else "on order", line) for place, line in enumerate(found)]

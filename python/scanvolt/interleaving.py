@@ -1,0 +1,143 @@
+"""Controllers of one instrument in every order of their calls: `Meter.interleavings`."""
+import threading
+from typing import TYPE_CHECKING, Callable, List, Optional, Sequence, Tuple
+
+from .lockstep import LockStep, Pick, Place, seeded
+
+if TYPE_CHECKING:
+    from .virtual import Meter
+
+__tracebackhide__ = True        # pytest shows the line that calls the package, and not these frames
+Controller = Callable[["Meter"], object]
+LETTERS = "ABCDEFGHIJKLMNOP"
+MOST = 10000            # orders that are tried, unless a number is given
+SHOWN = 12              # lines of the timeline that a failure shows
+Taken = Tuple[List[int], int]   # at a turn: the controllers that could go on, and the one that did
+
+
+class OrderFails(AssertionError):
+    """Controllers fail in an order of their calls. `order` repeats it, `fault` is what was raised, and `tried` is how many
+    orders were tried.
+    """
+
+    def __init__(self, order: str, fault: BaseException, tried: int, told: Sequence[str]) -> None:
+        self.order, self.fault, self.tried = order, fault, tried
+        said = str(fault).split("\n")[0]
+        super().__init__("\n".join([
+            "in the order %r of their calls%s, the %s that was tried: %s%s" % (
+                order, "" if order else ", each as far as it can go, A first", ordinal(tried), type(fault).__name__,
+                ": " + said if said else ""),
+            "interleavings(.., order=%r) repeats it. What the instrument saw:" % order, *told]))
+
+
+class Run:
+    """One run of the controllers: they start in the given order, and go on with the first that can, or by `pick`."""
+
+    def __init__(self, meter: "Meter", controllers: Sequence[Controller], start: Sequence[int],
+                 pick: Optional[Pick] = None) -> None:
+        self.start, self.then = start, pick
+        self.taken: List[Taken] = []
+        self.until = 0                  # turns that were taken when the first controller failed
+        self.fault: Optional[BaseException] = None
+        self.told: List[str] = []
+        twin = meter.fork()
+        with twin:
+            self._run(twin, controllers)
+            if self.fault is not None:
+                self.told = twin.explain().lines(SHOWN)
+
+    def _run(self, twin: "Meter", controllers: Sequence[Controller]) -> None:
+        """Runs the controllers, each in a thread. Keeps the first fault."""
+        threads = [threading.Thread(target=self._controlled, args=(one, twin), name=LETTERS[place], daemon=True)
+                   for place, one in enumerate(controllers)]
+        try:
+            with LockStep(twin, len(threads), self._pick):
+                for thread in threads:
+                    thread.start()
+                for thread in threads:
+                    thread.join()
+        except Exception as fault:
+            self._failed(fault)
+
+    def _controlled(self, controller: Controller, twin: "Meter") -> None:
+        try:
+            controller(twin)
+        except Exception as fault:
+            self._failed(fault)
+
+    def _failed(self, fault: BaseException) -> None:
+        if self.fault is None:
+            self.fault, self.until = fault, len(self.taken)
+
+    def _pick(self, ready: List[Place]) -> Place:
+        """The controller whose turn it is."""
+        numbers = sorted(one.number for one in ready)
+        place = len(self.taken)
+        if place < len(self.start):
+            wanted = self.start[place]
+            if wanted not in numbers:
+                raise ValueError("%s can't go on at turn %d of this order, only %s" % (
+                    LETTERS[wanted], place + 1, " and ".join(LETTERS[one] for one in numbers)))
+            found = wanted
+        else:
+            found = self.then(sorted(ready, key=lambda one: one.number)).number if self.then else numbers[0]
+        self.taken.append((numbers, found))
+        return next(one for one in ready if one.number == found)
+
+    @property
+    def order(self) -> str:
+        """The turns up to the fault, without those at the end that come by themselves."""
+        taken = self.taken[:self.until]
+        while taken and taken[-1][1] == taken[-1][0][0]:
+            taken.pop()
+        return "".join(LETTERS[number] for _, number in taken)
+
+    def next(self) -> Optional[List[int]]:
+        """The start of the next order, if this one was the first with its start; None if it was the last."""
+        for place in range(len(self.taken) - 1, -1, -1):
+            numbers, found = self.taken[place]
+            if found != numbers[-1]:
+                return [one for _, one in self.taken[:place]] + [numbers[numbers.index(found) + 1]]
+        return None
+
+
+def interleavings(meter: "Meter", controllers: Sequence[Controller], count: Optional[int] = None, seed: int = 0,
+                  order: Optional[str] = None) -> int:
+    """Runs controllers in the orders of their calls: see Meter.interleavings."""
+    if not 2 <= len(controllers) <= len(LETTERS):
+        raise ValueError("interleavings wants 2 to %d controllers, and not %d" % (len(LETTERS), len(controllers)))
+    if order is not None:
+        _check(Run(meter, controllers, _numbers(order, len(controllers))), 1)
+        return 1
+    if count is not None:
+        for tried in range(1, count + 1):
+            _check(Run(meter, controllers, (), seeded(seed + tried - 1)), tried)
+        return count
+    start: Optional[List[int]] = []
+    tried = 0
+    while start is not None:
+        if tried == MOST:
+            raise RuntimeError("there are more than %d orders: let interleavings(.., count=1000) try some at random" % MOST)
+        run = Run(meter, controllers, start)
+        tried += 1
+        _check(run, tried)
+        start = run.next()
+    return tried
+
+
+def _check(run: Run, tried: int) -> None:
+    if run.fault is not None:
+        raise OrderFails(run.order, run.fault, tried, run.told) from run.fault
+
+
+def _numbers(order: str, count: int) -> List[int]:
+    """The controllers of an order such as ABBA."""
+    for letter in order:
+        if letter not in LETTERS[:count]:
+            raise ValueError("an order has letters from A to %s, and not %r" % (LETTERS[count - 1], letter))
+    return [LETTERS.index(letter) for letter in order]
+
+
+def ordinal(number: int) -> str:
+    ending = "th" if number % 100 in (11, 12, 13) else {1: "st", 2: "nd", 3: "rd"}.get(number % 10, "th")
+    return "%d%s" % (number, ending)

@@ -1,0 +1,105 @@
+"""What the fixture `visa_meter` is: an instrument by PyVISA, in virtual time or on sockets.
+
+While it is there, `pyvisa.ResourceManager()` is the manager of this instrument, also for a driver that makes its own, and
+the names that the marker gives lead to it. In virtual time, the time of the test's thread is the meter's.
+"""
+import contextlib
+import importlib
+import pathlib
+from typing import TYPE_CHECKING, Any, Dict, Optional, Type
+
+from .program import Server
+from .virtual import Meter
+
+if TYPE_CHECKING:
+    import pytest
+
+__tracebackhide__ = True        # pytest shows the line that calls the package, and not these frames
+BACKENDS = ("virtual", "sockets")
+VIRTUAL, SOCKETS = "TCPIP::scanvolt::INSTR", "TCPIP::127.0.0.1::inst0::INSTR"
+END = "\n"
+TIMEOUT = 5000          # milliseconds of a resource
+
+
+class VisaMeter:
+    """An instrument that has just been turned on, by PyVISA: `manager`, and `resource`, a session that is open.
+
+    `backend` is virtual or sockets. `name` is the instrument's resource name: the first that the marker gives, or its own.
+    """
+
+    def __init__(self, backend: str, options: Dict[str, Any], monkeypatch: "pytest.MonkeyPatch", folder: pathlib.Path) -> None:
+        self.backend = backend
+        self.names: Dict[str, str] = dict(options.pop("names", None) or {})
+        self.ends = contextlib.ExitStack()
+        self.server: Optional[Server] = None
+        self._meter: Optional[Meter] = None
+        try:
+            own = self._virtual(options, monkeypatch, folder) if backend == "virtual" else self._sockets(options, monkeypatch)
+            self.name = next(iter(self.names), own)
+            self.resource = self.open()
+        except BaseException:
+            self.ends.close()
+            raise
+
+    def __enter__(self) -> "VisaMeter":
+        return self
+
+    def __exit__(self, kind: Optional[Type[BaseException]], *_: object) -> None:
+        self.ends.close()
+
+    @property
+    def meter(self) -> Meter:
+        """The instrument in virtual time. Raises AttributeError on sockets, where `server` is the Server."""
+        if self._meter is None:
+            raise AttributeError("on sockets there is no Meter, but visa_meter.server; backend='virtual' has one")
+        return self._meter
+
+    def open(self, name: Optional[str] = None, **options: Any) -> Any:
+        """Opens a further session, to this instrument unless another one's name is given. The options are those of
+        open_resource; messages end with a new line, and the timeout is 5 s, unless they say otherwise.
+        """
+        given: Dict[str, Any] = {"read_termination": END, "write_termination": END, "timeout": TIMEOUT, **options}
+        return self.manager.open_resource(name or self.name, **given)
+
+    def _manage(self) -> None:
+        import pyvisa
+        self.manager = pyvisa.ResourceManager()
+        self.ends.callback(self.manager.close)
+
+    def _virtual(self, options: Dict[str, Any], monkeypatch: "pytest.MonkeyPatch", folder: pathlib.Path) -> str:
+        """An instrument in virtual time, whose settings are in a file. Returns its name."""
+        from pyvisa_scanvolt.settings import written
+        path = folder / "settings"
+        path.write_text(written(self.names, **options), encoding="utf-8")
+        monkeypatch.setenv("PYVISA_LIBRARY", "%s@scanvolt" % path)
+        self._manage()
+        library: Any = self.manager.visalib
+        meter: Meter = library.meter(next(iter(self.names), VIRTUAL))
+        self.ends.enter_context(meter.keeping_time())
+        self._meter = meter
+        return VIRTUAL
+
+    def _sockets(self, options: Dict[str, Any], monkeypatch: "pytest.MonkeyPatch") -> str:
+        """An instrument on sockets, by PyVISA-py, which would otherwise ask port 111. Its name in virtual time leads to it too.
+        Returns its name.
+        """
+        import pyvisa
+        rpc = importlib.import_module("pyvisa_py.protocols.rpc")
+        from pyvisa_scanvolt.settings import Settings
+        settings = Settings()
+        if len({host.lower() for host in self.names.values()}) > 1:
+            raise ValueError("on sockets there is one instrument, and the names are of several: %s" % ", ".join(
+                sorted(set(self.names.values()))))
+        for name, host in {VIRTUAL: "scanvolt", **self.names}.items():
+            settings.add(name, host)
+        self.server = self.ends.enter_context(Server(options.get("scenario"), record=True, control=True))
+        monkeypatch.setattr(rpc, "PMAP_PORT", self.server.port_mapper)
+        monkeypatch.setenv("PYVISA_LIBRARY", "@py")
+        real = pyvisa.ResourceManager.open_resource
+
+        def open_resource(manager: Any, name: str, *given: Any, **named: Any) -> Any:
+            return real(manager, SOCKETS if settings.host(name) else name, *given, **named)
+
+        monkeypatch.setattr(pyvisa.ResourceManager, "open_resource", open_resource)
+        self._manage()
+        return SOCKETS
