@@ -98,7 +98,7 @@ hostile: $(PROOF)
 soak: $(PROOF)
 	@tools/soak $(KEPT) '$(SERVER)' $(MINUTES)
 
-# Checks the types of the Python package and runs its tests and those of the example of a driver, with the program that
+# Checks the types of the Python package and runs its tests and those of the examples of drivers, with the program that
 # `tools/serve BUILD=1` builds, or with SERVER. It needs some Debian packages, and says which.
 python:
 	@python/check '$(GIVEN)'

@@ -6,7 +6,7 @@ import re
 TOP = os.path.join(os.path.dirname(os.path.abspath(__file__)), "..", "crates")
 WORD = re.compile(r"[A-Za-z_◌][\w\-'◌]*")
 # The word for what a contract ensures, and the one for what a law has as its premise.
-BOTH_SIDES = {"StandsFor", "State", "Sweeps", "Steps"}
+BOTH_SIDES = {"StandsFor", "State", "Sweeps", "Stimulates", "Steps"}
 KEYWORDS = re.compile(r"^(?:(?:abbrev|unfoldable|pub|record|data|infix[lr]?(?: \d+)?) )+")
 
 

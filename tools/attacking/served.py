@@ -69,16 +69,16 @@ class Server:
     """
 
     def __init__(self, program, scenario, environment=None, before=None):
-        self.ports = free_ports(3)
+        *self.ports, self.control = free_ports(4)
         self.aims = Aims()
         self.refusals = ()      # errors that calls may return under a limit
         options = zip(("--core", "--abort", "--portmap"), map(str, self.ports))
         command = [program, "serve"] + [word for option in options for word in option]
-        command += ["--scenario", scenario, "--sweeps", "4294967295"]
+        command += ["--scenario", scenario, "--sweeps", "4294967295", "--control", str(self.control)]
         self.process = subprocess.Popen(command, stdout=subprocess.PIPE, env=environment,
                                         preexec_fn=before)
         self.core, self.abort, self.portmap = self.ports
-        expected = b"ready %d %d %d\n" % tuple(self.ports)
+        expected = b"ready %d %d %d %d\n" % (*self.ports, self.control)
         timer = threading.Timer(PATIENCE, self.process.kill)
         timer.start()
         line = self.process.stdout.readline()

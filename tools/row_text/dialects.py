@@ -118,15 +118,16 @@ class Driver(Reading):
 class Sockets(Reading):
     """The kind `sockets`: what peers do. Each peer is a letter: `a CALL` is what it sends, and `reply a ..` what it waits for.
 
-    After `> ` comes any other line that is printed.
+    `a says "TEXT"` and `answer a "TEXT"` are the same with text. After `> ` comes any other line that is printed.
     """
 
     WANTED = (">",)
     BYTES = "%s < %s"
     PRINTS = {"reply": "%s %s", "request": "%s %s"}
     # What a peer does other than send a call.
-    VERBS = "core abort portmap calls refused listens accepts closes before ends silent drains > <".split()
+    VERBS = "core abort portmap controls calls refused listens accepts closes before ends silent drains > <".split()
     PEER = re.compile(r"([a-z]) (\S+).*")
+    SAYS = re.compile(r"([a-z]) says (.*)")
     POURS = re.compile(r"([a-z] pours \d+) (.*)")
 
     def read(self, line, more=()):
@@ -134,10 +135,17 @@ class Sockets(Reading):
             wanted = super().wanted(line, more)
             name, data = wanted.split(" ")
             return ["%s > %d" % (name, len(data) // 2)], [wanted]
+        if line.startswith("answer "):
+            _, name, text = self.alone(line, more).split(" ", 2)
+            data = bytes_of(text)
+            return ["%s > %d" % (name, len(data))], ["%s %s" % (name, data.hex())]
         return super().read(line, more)
 
     def asked(self, line, more=()):
         """The lines that are asked."""
+        says = self.SAYS.fullmatch(line)
+        if says:
+            return [self.BYTES % (says[1], bytes_of(says[2]).hex())]
         pours, peer = self.POURS.fullmatch(line), self.PEER.fullmatch(line)
         if pours:
             return self.sent(pours[1], [pours[2], *more], "%s %s")
