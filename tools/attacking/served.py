@@ -1,5 +1,6 @@
 """A server that is attacked."""
 import os
+import pathlib
 import random
 import socket
 import subprocess
@@ -7,9 +8,11 @@ import threading
 import time
 
 from attacking.calls import PATIENCE, Lost
+from attacking.recorded import compare
 from scanvolt.vxi11 import words
 
-TOOLS = os.path.dirname(os.path.dirname(os.path.abspath(__file__)))
+HERE = os.path.dirname(os.path.abspath(__file__))
+TOOLS = os.path.dirname(HERE)
 PROVED = os.path.dirname(TOOLS) + "/crates/scanvolt/out/scanvolt"
 
 
@@ -64,17 +67,23 @@ class Aims:
 
 
 class Server:
-    """The running server, and what the system says about it. `environment` is that of the process; `before` is
-    called in the process before the program starts.
+    """The running server, and what the system says about it. `folder` has its scenario, which is empty, its record
+    and what is done with its sockets (tap.c). `libraries` are loaded before those of the program; `before` is called
+    in the process before the program starts.
     """
 
-    def __init__(self, program, scenario, environment=None, before=None):
+    def __init__(self, program, folder, libraries=(), before=None):
         *self.ports, self.control = free_ports(4)
+        self.program, self.folder = program, pathlib.Path(folder)
+        (self.folder / "scenario").write_text("")
+        environment = dict(os.environ, TAP=str(self.folder / "tap"),
+                           LD_PRELOAD=":".join([*libraries, library("tap", self.folder)]))
         self.aims = Aims()
         self.refusals = ()      # errors that calls may return under a limit
         options = zip(("--core", "--abort", "--portmap"), map(str, self.ports))
         command = [program, "serve"] + [word for option in options for word in option]
-        command += ["--scenario", scenario, "--sweeps", "4294967295", "--control", str(self.control)]
+        command += ["--scenario", str(self.folder / "scenario"), "--sweeps", "4294967295"]
+        command += ["--record", str(self.folder / "record"), "--control", str(self.control)]
         self.process = subprocess.Popen(command, stdout=subprocess.PIPE, env=environment,
                                         preexec_fn=before)
         self.core, self.abort, self.portmap = self.ports
@@ -116,12 +125,24 @@ class Server:
         time.sleep(seconds)
         return 100 * (self.seconds() - used) / (time.monotonic() - begun)
 
-
     def end(self):
         """Ends the server."""
         self.process.kill()
         self.process.wait()
         self.process.stdout.close()
+
+    def compare(self):
+        """Ends the server, and compares the record with what its sockets took. Returns what was compared."""
+        time.sleep(1)       # the last sweeps are written
+        self.end()
+        return compare(self.program, self.folder, self.ports)
+
+
+def library(name, folder):
+    """Makes the library of this name, whose source is beside this file, in the folder. Returns its path."""
+    made = os.path.join(folder, name + ".so")
+    subprocess.run(["cc", "-O2", "-shared", "-fPIC", "-o", made, os.path.join(HERE, name + ".c"), "-ldl"], check=True)
+    return made
 
 
 def free_ports(count):
