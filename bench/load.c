@@ -6,8 +6,11 @@
  *     stb    a query is device_readstb
  *     echo   no VXI-11: the bytes of idn's calls, which the server sends back; a query is two calls
  *
- * Every reply is compared. It prints the queries per second. idn is for one connection only:
- * without the lock, clients would interrupt each other's responses.
+ * Every reply is compared. It prints the queries per second, how many replies came, and how many are
+ * lost: a reply differs, none comes within ten seconds, or the connection ends. A connection that
+ * lost one is closed, and the others go on. idn is for one connection only: without the lock, clients
+ * would interrupt each other's responses.
+ * Status: 0 none is lost, 1 some are, or no connection or link is made, 2 the words are wrong.
  */
 #include <arpa/inet.h>
 #include <netinet/in.h>
@@ -39,7 +42,7 @@ static struct connection {
     uint32_t number;
     unsigned char reply[LONGEST];
 } connections[CONNECTIONS];
-static unsigned steps, queries;
+static unsigned steps, queries, replies, lost;
 static int echoes, polls, ending, under_way;
 
 static void fail(const char *what)
@@ -139,13 +142,29 @@ static void plan(struct connection *to, const char *kind, uint32_t link)
         add_step(to, call(UNLOCK, 1, &link, NULL), reply(1, &none, NULL));
 }
 
+/* Nothing more is sent on the connection. */
+static void leave(struct connection *of)
+{
+    under_way--;
+    close(of->socket);
+    of->socket = -1;
+}
+
+/* The reply to the call in flight is lost. */
+static void lose(struct connection *of, const char *why)
+{
+    fprintf(stderr, "load: %s\n", why);
+    lost++;
+    leave(of);
+}
+
 static void send_step(struct connection *of)
 {
     struct message *message = &of->calls[of->step];
     set_word(message->bytes + 4, ++of->number);
     set_word(of->replies[of->step].bytes + 4, of->number);
     if (send(of->socket, message->bytes, message->size, MSG_NOSIGNAL) != (ssize_t)message->size)
-        fail("a call isn't sent");
+        lose(of, "a call isn't sent");
 }
 
 /* Takes bytes that came. After a whole reply sends the next call, but at the end no new query. */
@@ -153,20 +172,25 @@ static void receive(struct connection *of)
 {
     const struct message *expected = &of->replies[of->step];
     ssize_t count = recv(of->socket, of->reply + of->came, expected->size - of->came, 0);
-    if (count <= 0)
-        fail("the connection ended");
+    if (count <= 0) {
+        lose(of, "the connection ended");
+        return;
+    }
     of->came += count;
     if (of->came < expected->size)
         return;
     /* A status byte may have any value up to 255. */
     unsigned same = polls ? expected->size - 4 : expected->size;
-    if (memcmp(of->reply, expected->bytes, same) != 0 || (polls && word_at(of->reply + same) > 255))
-        fail("a reply differs");
+    if (memcmp(of->reply, expected->bytes, same) != 0 || (polls && word_at(of->reply + same) > 255)) {
+        lose(of, "a reply differs");
+        return;
+    }
+    replies++;
     of->came = 0;
     of->step = (of->step + 1) % steps;
     queries += of->step == 0;
     if (ending && of->step == 0)
-        under_way--;
+        leave(of);
     else
         send_step(of);
 }
@@ -207,14 +231,17 @@ static double run(int count, double seconds)
     for (int i = 0; i < count; i++)
         polled[i] = (struct pollfd){ .fd = connections[i].socket, .events = POLLIN };
     queries = 0;
-    for (; ending ? under_way > 0 : time < begun + seconds; time = now()) {
-        if (poll(polled, count, TIMEOUT) <= 0)
-            fail("no reply came");
-        for (int i = 0; i < count; i++)
-            if (polled[i].revents != 0)
+    for (; under_way > 0 && (ending || time < begun + seconds); time = now()) {
+        int none = poll(polled, count, TIMEOUT) <= 0;
+        for (int i = 0; i < count; i++) {
+            if (none && polled[i].fd >= 0)
+                lose(&connections[i], "no reply came");
+            else if (polled[i].fd >= 0 && polled[i].revents != 0)
                 receive(&connections[i]);
+            polled[i].fd = connections[i].socket;
+        }
     }
-    return queries / (time - begun);
+    return time > begun ? queries / (time - begun) : 0;
 }
 
 int main(int words, char **word)
@@ -227,11 +254,13 @@ int main(int words, char **word)
     echoes = strcmp(word[1], "echo") == 0;
     for (int i = 0; i < count; i++)
         connect_to(&connections[i], port, word[1]);
-    for (under_way = 0; under_way < count; under_way++)
-        send_step(&connections[under_way]);
+    under_way = count;
+    for (int i = 0; i < count; i++)
+        send_step(&connections[i]);
     run(count, 0.2);
-    printf("%.0f\n", run(count, atof(word[4])));
+    double rate = run(count, atof(word[4]));
     ending = 1;
     run(count, 0);
-    return 0;
+    printf("%.0f %u %u\n", rate, replies, lost);
+    return lost > 0;
 }

@@ -1,0 +1,151 @@
+"""What the commands of bench/ have in common: programs that are measured in turn, their time, their servers, and medians."""
+import contextlib
+import os
+import pathlib
+import random
+import resource
+import shutil
+import socket
+import statistics
+import subprocess
+import threading
+import time
+
+HERE = pathlib.Path(__file__).resolve().parent
+TOP = HERE.parent
+PATIENCE = 10           # seconds that a server may take until it is ready
+SWEEPS = "4294967295"   # the most that a server takes: it serves until it is stopped
+
+
+class Failure(Exception):
+    """A program failed, printed something else than expected, or can't be built."""
+
+
+def median(values):
+    """The middle one; of two, the lower."""
+    return statistics.median_low(values)
+
+
+def interval(values):
+    """The confidence interval of the median, of 95 % or more, as two of the values: of nine values the second and the eighth.
+    Of five values or fewer, the least and the greatest.
+    """
+    # As many heads or fewer in as many tosses of a coin: the chance that the median lies below `left` + 1 values.
+    ordered, count, left, ways, below = sorted(values), len(values), 0, 1, 1
+    while True:
+        ways = ways * (count - left) // (left + 1)
+        below += ways
+        if below > 0.025 * 2 ** count:
+            return ordered[left], ordered[-1 - left]
+        left += 1
+
+
+def in_turn(count, first, second):
+    """What two functions return in each of `count` rounds, as two lists. In every other round the second comes first."""
+    found = [], []
+    for number in range(count):
+        for place in (0, 1) if number % 2 == 0 else (1, 0):
+            found[place].append((first, second)[place]())
+    return found
+
+
+def ratios(first, second):
+    """For each round, the second over the first."""
+    return [after / before for before, after in zip(first, second)]
+
+
+def runnable(program):
+    """The path of a program that can be run. Raises Failure with nothing to say if it can't: tools/runnable has said why."""
+    if subprocess.run([TOP / "tools/runnable", program], check=False).returncode:
+        raise Failure
+    return os.path.abspath(program)
+
+
+def make_script(folder, name, kind, *counts):
+    """Writes NAME.script, and NAME.expected, what its replay has to print (bench/scripts)."""
+    words = [HERE / "scripts", kind, name, *map(str, counts)]
+    if subprocess.run(words, cwd=folder, check=False).returncode:
+        raise Failure("the script of %s isn't made" % kind)
+    return pathlib.Path(folder, name + ".script")
+
+
+def printed_by(program, word, script, printed):
+    """Lets `PROGRAM WORD` read a script and print into a file. Returns the seconds by the clock, and those of processor time."""
+    with open(script, "rb") as read, open(printed, "wb") as written:
+        used = resource.getrusage(resource.RUSAGE_CHILDREN)
+        begun = time.monotonic()
+        done = subprocess.run([program, word], stdin=read, stdout=written, check=False)
+        took = time.monotonic() - begun
+    if done.returncode:
+        raise Failure("on the script %s `%s %s` failed: %d" % (script.stem, program, word, done.returncode))
+    after = resource.getrusage(resource.RUSAGE_CHILDREN)
+    return took, after.ru_utime - used.ru_utime + after.ru_stime - used.ru_stime
+
+
+def compiled(folder, name, sources, *words):
+    """Compiles a program of C in a folder, and returns its path."""
+    if shutil.which("cc") is None:
+        raise Failure("a C compiler is missing (Debian's gcc)")
+    done = subprocess.run(["cc", "-O2", "-Wall", "-o", name, *sources, *words], cwd=folder, check=False,
+                          stdout=subprocess.PIPE, stderr=subprocess.STDOUT, text=True)
+    if done.returncode:
+        raise Failure("%s isn't built:\n%s" % (name, done.stdout))
+    return str(pathlib.Path(folder, name))
+
+
+def first_core():
+    """The core that server and load share: CORE, or else the first that this process may use."""
+    return os.environ.get("CORE") or str(min(os.sched_getaffinity(0)))
+
+
+def pinned(core):
+    """The words before a command that runs it on this core; none if `core` is None."""
+    return [] if core is None else ["taskset", "-c", core]
+
+
+def free_ports(count):
+    """Free ports, below those that the system gives to clients."""
+    with contextlib.ExitStack() as stack:
+        ports = []
+        while len(ports) < count:
+            trial = stack.enter_context(socket.socket())
+            with contextlib.suppress(OSError):
+                trial.bind(("127.0.0.1", random.randrange(15000, 32000)))
+                ports.append(trial.getsockname()[1])
+    return ports
+
+
+def serve_words(program, ports, *words):
+    """The words with which a scanvolt serves on three ports."""
+    core, abort, portmap = map(str, ports)
+    return [program, "serve", "--core", core, "--abort", abort, "--portmap", portmap,
+            "--scenario", "/dev/null", "--sweeps", SWEEPS, *words]
+
+
+@contextlib.contextmanager
+def served(command):
+    """A server that runs within the block. It has to print a line that begins with `ready` first."""
+    process = subprocess.Popen(command, stdout=subprocess.PIPE)
+    try:
+        timer = threading.Timer(PATIENCE, process.kill)
+        timer.start()
+        line = process.stdout.readline()
+        timer.cancel()
+        if not line.startswith(b"ready"):
+            raise Failure("`%s` isn't ready" % " ".join(command))
+        yield process
+    finally:
+        process.terminate()
+        process.wait()
+        process.stdout.close()
+
+
+def load(built, kind, port, connections, seconds, core=None):
+    """What bench/load.c finds: queries a second, replies, and replies that are lost."""
+    words = pinned(core) + [built, kind, str(port), str(connections), str(seconds)]
+    done = subprocess.run(words, stdout=subprocess.PIPE, text=True, check=False)
+    try:
+        rate, replies, lost = map(int, done.stdout.split())
+    except ValueError:
+        raise Failure("no load of %s on %d connections" % (kind, connections)) from None
+    return rate, replies, lost
