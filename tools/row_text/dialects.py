@@ -2,14 +2,15 @@
 import re
 
 from .lines import Reading, unquoted
+from .short import answered, lines_of
 from .values import TextError, bytes_of
 
 
 class Scripts(Reading):
     """Lines of a replay or of events, and what is printed; for each kind that isn't in KINDS.
 
-    Lines for which the text has no words are copied as they are, after `line` or `prints`. `given` means the next line
-    that is asked, as a row of the kind `line by line` prints it.
+    `short` has lines that mean several of these. Lines for which the text has no words are copied as they are, after `line` or
+    `prints`. `given` means the next line that is asked, as a row of the kind `line by line` prints it.
     """
 
     WANTED = ("reply", "request", "refused", "given", "prints")
@@ -26,6 +27,9 @@ class Scripts(Reading):
     def __init__(self, joined=False):
         super().__init__(joined)
         self.given = []         # lines that were asked and that no `given` has taken yet
+
+    def meant(self, line):
+        return lines_of(line, self.numbering)
 
     def asked(self, line, more=()):
         """The lines that are asked."""
@@ -130,7 +134,11 @@ class Sockets(Reading):
     SAYS = re.compile(r"([a-z]) says (.*)")
     POURS = re.compile(r"([a-z] pours \d+) (.*)")
 
-    def read(self, line, more=()):
+    def meant(self, line):
+        peer = self.PEER.fullmatch(line)
+        return answered(peer[1], line[2:], self.numbering) if peer and peer[2] not in self.VERBS else []
+
+    def read_one(self, line, more=()):
         if line.split(" ", 1)[0] in ("reply", "request"):
             wanted = super().wanted(line, more)
             name, data = wanted.split(" ")
@@ -139,7 +147,7 @@ class Sockets(Reading):
             _, name, text = self.alone(line, more).split(" ", 2)
             data = bytes_of(text)
             return ["%s > %d" % (name, len(data))], ["%s %s" % (name, data.hex())]
-        return super().read(line, more)
+        return super().read_one(line, more)
 
     def asked(self, line, more=()):
         """The lines that are asked."""
@@ -161,7 +169,7 @@ class Sockets(Reading):
 class Parts(Reading):
     """The kind `parts`: `QUESTION -> ANSWER`, a line each; or `QUESTION ->` if nothing is answered."""
 
-    def read(self, line, more=()):
+    def read_one(self, line, more=()):
         question, arrow, answer = self.alone(line, more).partition(" ->")
         if not arrow:
             raise TextError("a question without ` ->` and its answer: " + line)

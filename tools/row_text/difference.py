@@ -70,11 +70,13 @@ def context(row, index):
     """The lines of the text up to what is asked before line `index`, the line that wants it, and the calls so far."""
     reading, lines, count = row.reading(), [], 0
     for _, (first, *more) in row.lines:
-        said, before = [first] + ["and " + one for one in more], copy.deepcopy(reading.numbering)
-        wanted = reading.read(first, more)[1]
-        if wanted and count == index:
-            return lines + ([] if is_wanted(first) else said), said, before
-        count += len(wanted)
+        said = [first] + ["and " + one for one in more]
+        for one, rest in reading.longer(first, more):
+            before = copy.deepcopy(reading.numbering)
+            wanted = reading.read_one(one, rest)[1]
+            if wanted and count == index:
+                return lines + ([] if is_wanted(first) else said), [one] + said[1:], before
+            count += len(wanted)
         lines += said
     return lines, None, reading.numbering
 

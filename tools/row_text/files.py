@@ -3,7 +3,8 @@
 A line that begins with `#` is a comment. These lines may follow the title: `kind WORDS`, what is done with the row
 (crates/test_rows/src/main.rt lists the kinds); `joined`, its hexadecimal has no blanks; `unended`, its last line has
 no new line; `singly`, the row is run a second time with its writes cut into single bytes. A line `and MESSAGE` continues
-the line before it: the messages come together.
+the line before it: the messages come together. `short` has lines that mean several lines of a script, `messages` the calls and
+replies, `dialects` the other lines of each kind.
 """
 import dataclasses
 import glob

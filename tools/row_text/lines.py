@@ -49,8 +49,24 @@ class Reading:
         self.joined = joined or self.JOINED
         self.piece = {}         # for each connection, the xid of the call that was sent in part
 
+    def meant(self, line):
+        """The lines that a short form means; none if the line is none."""
+        return []
+
+    def longer(self, line, more=()):
+        """The lines that a line means, each with its messages: the line itself, unless it is a short form."""
+        meant = self.meant(line)
+        if meant:
+            self.alone(line, more)
+        return [(one, ()) for one in meant] or [(line, more)]
+
     def read(self, line, more=()):
         """The lines that are asked and those that are wanted; `more` are messages that come in the same bytes."""
+        read = [self.read_one(*one) for one in self.longer(line, more)]
+        return [line for asked, _ in read for line in asked], [line for _, wanted in read for line in wanted]
+
+    def read_one(self, line, more=()):
+        """The same for a line that is no short form."""
         if line.split(" ", 1)[0] in self.WANTED:
             return [], [self.wanted(line, more)]
         return self.asked(line, more), []
@@ -114,6 +130,8 @@ class Reading:
             return messages.request_of(line, xid)
         xid = given[0] if given else self.numbering.next_reply(connection)
         self.numbering.reply(connection, xid)
+        if words[0] == "create_link":
+            self.numbering.linked(connection, messages.lid_of(line))
         return messages.reply_of(line, xid)
 
 

@@ -174,6 +174,11 @@ def reply_of(line, xid):
     return encode_reply(xid, packed(names, found) + (bytes_of(beside["behind"]) if beside else b""))
 
 
+def lid_of(line):
+    """The link that a reply to create_link names, as a line describes it; 0 if it names none."""
+    return said(split(line)[1:], fields.results(*fields.NAMES["create_link"]), ("behind",))[0].get("lid", 0)
+
+
 def xid_of(body):
     return Reader(body).word()
 

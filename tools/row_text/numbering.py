@@ -1,4 +1,6 @@
-"""The xids that a row doesn't give: a call gets the next number in its row, and a reply gets that of its call."""
+"""The numbers that a row doesn't give: the xid of a call is the next in its row, that of a reply is its call's; and the link of a
+short form is the last of its connection.
+"""
 
 
 class Numbering:
@@ -10,11 +12,13 @@ class Numbering:
         self.calls = {}         # for a connection and an xid: what was called
         self.texts = {}         # the same, in the words of the text
         self.requests = {}      # for each connection: the xid of its last request for service
+        self.links = {}         # for each connection: the link that was made last
+        self.last_link = 0      # the greatest number of a link
 
     def opened(self, connection):
         """Forgets the calls that wait on the connection, which is new, or gone."""
-        self.open.pop(connection, None)
-        self.requests.pop(connection, None)
+        for numbers in (self.open, self.requests, self.links):
+            numbers.pop(connection, None)
 
     def next_call(self):
         return (self.last + 1) % 2 ** 32
@@ -34,6 +38,12 @@ class Numbering:
         waiting = self.open.get(connection, [])
         if xid in waiting:
             del waiting[:waiting.index(xid) + 1]
+
+    def linked(self, connection, lid):
+        """Notes the link that a reply to create_link names; 0 if it names none."""
+        if lid:
+            self.links[connection] = lid
+            self.last_link = max(self.last_link, lid)
 
     def called(self, connection, xid):
         return self.calls.get((connection, xid))

@@ -155,6 +155,131 @@ class Messages(Rows):
         self.assertEqual(Telling(driver.numbering, always=True).told("write c0 " + reply), ["reply 0 null xid=1"])
 
 
+def read_all(lines):
+    """What the lines of a script ask, and what they want."""
+    reading = Scripts()
+    read = [reading.read(line) for line in lines.strip().split("\n")]
+    return [line for asked, _ in read for line in asked], [line for _, wanted in read for line in wanted]
+
+
+def turned(connection, call, reply):
+    return "{0} {1}\n{0} turn\nreply {0} {2}\n".format(connection, call, reply)
+
+
+def linked(connection, lid):
+    return "%d open core\n" % connection + turned(connection, 'create_link device="inst0"',
+                                                  "create_link lid=%d abortPort=4097 maxRecvSize=4096" % lid)
+
+
+def written(lid, text, size, more=""):
+    return turned(0, 'device_write lid=%d %s end "%s"' % (lid, more, text), "device_write size=%d" % size)
+
+
+def read_back(lid, text, more=""):
+    return turned(0, "device_read lid=%d requestSize=256 %s" % (lid, more), 'device_read reason=end "%s\\n"' % text)
+
+
+class ShortForms(Rows):
+    # Short forms, and the lines that they mean.
+    FORMS = (
+        ("0 link", linked(0, 1)),
+        ("0 link lid=7", linked(0, 7)),
+        ("0 link\n1 link", linked(0, 1) + linked(1, 2)),
+        ("0 device_lock lid=1 -> error=4", turned(0, "device_lock lid=1", "device_lock error=4")),
+        ("0 device_lock lid=1 -> ok", turned(0, "device_lock lid=1", "device_lock")),
+        ("0 device_readstb lid=1 -> stb=0", turned(0, "device_readstb lid=1", "device_readstb")),
+        ("0 null -> ok", turned(0, "null", "null")),
+        ("0 call prog=core proc=21 -> PROC_UNAVAIL", turned(0, "call prog=core proc=21", "PROC_UNAVAIL")),
+        ("0 null vers=2 -> PROG_MISMATCH low=1 high=1", turned(0, "null vers=2", "PROG_MISMATCH low=1 high=1")),
+        ('0 link\n0 write "*CLS -> 1"', linked(0, 1) + written(1, "*CLS -> 1", 9)),
+        ('0 write lid=3 io_timeout=5 "A"+2*"B"', written(3, "ABB", 3, "io_timeout=5")),
+        ('0 link\n0 read -> 2*"1,"+"1"', linked(0, 1) + read_back(1, "1,1,1")),
+        ('0 read lid=3 io_timeout=5 -> "1"', read_back(3, "1", "io_timeout=5")),
+        ('0 link\n0 query "SYST:ERR?" -> "0,\\"No error\\""',
+         linked(0, 1) + written(1, "SYST:ERR?", 9) + read_back(1, '0,\\"No error\\"')),
+        ('0 query lid=2 "*OPC?" -> "1"', written(2, "*OPC?", 5) + read_back(2, "1")),
+        # The link that was made last on the connection, also by another line.
+        ('0 link\n0 create_link device="inst0" -> lid=2\n0 query "*OPC?" -> "1"',
+         linked(0, 1) + turned(0, 'create_link device="inst0"', "create_link lid=2")
+         + written(2, "*OPC?", 5) + read_back(2, "1")),
+        ('0 create_link device="name" -> error=3\n1 link',
+         turned(0, 'create_link device="name"', "create_link error=3") + linked(1, 1)),
+    )
+    # Lines that can't be read, and what is said about them.
+    FAULTS = (
+        ('0 query lid=1 "*IDN?"', "no answer after one ` -> `"),
+        ('0 query lid=1 "*IDN?" ->', "no answer after one ` -> `"),
+        ('0 query lid=1 "1" -> "2" -> "3"', "no answer after one ` -> `"),
+        ('0 query lid=1 -> "1"', "a query has one text in quotes before ` -> `"),
+        ('0 query lid=1 io_timeout=5 "*IDN?" -> "1"', "a query has one text in quotes before ` -> `"),
+        ('0 query lid=1 "*IDN?" -> error=15', "a read has one text in quotes, its answer"),
+        ('0 read lid=1 -> reason=end "1"', "a read has one text in quotes, its answer"),
+        ('0 read lid=1 "1"', "no answer after one ` -> `"),
+        ('0 read lid=1 -> 256*"1"', "an answer of 257 bytes with its new line, where 256 are read"),
+        ("0 write lid=1", "a write has one text in quotes, and no answer"),
+        ('0 write lid=1 "1" -> ok', "a write has one text in quotes, and no answer"),
+        ('0 write lid=1 4097*"1"', "a write of 4097 bytes, where 4096 are taken"),
+        ('0 write lid=1 nothing=1 "1"', "no field nothing=1"),
+        ('0 write "*CLS"', "no link was made on connection 0; say which, by `lid=`"),
+        ("0 link 2", "a link can have `lid=`, and not 2"),
+        ("0 nothing -> ok", "no call of VXI-11: nothing"),
+        ("0 device_lock lid=1 -> stb=1", "no field stb=1: there are error"),
+        ("0 device_lock lid=1 ->", "no answer after one ` -> `"),
+    )
+
+    def test_each_means_its_long_lines(self):
+        for short, long in self.FORMS:
+            with self.subTest(short):
+                self.assertEqual(read_all(short), read_all(long))
+
+    def test_the_longest_that_fit(self):
+        self.assertEqual(read_all('0 write lid=1 4096*"1"')[1], ["c0 " + encode_reply(1, words(0, 4096)).hex()])
+        self.assertEqual(len(read_all('0 read lid=1 -> 255*"1"')[1][0]), 3 + 2 * (len(encode_reply(1, words(0, 4, 256))) + 256))
+
+    def test_a_fault_is_told_with_its_file_and_line(self):
+        for line, said in self.FAULTS:
+            with self.subTest(line):
+                path = self.write("one/rows/a.rows", "title a fault\n" + line + "\n")
+                with self.assertRaises(TextError) as raised:
+                    rows_of(path)
+                self.assertTrue(str(raised.exception).startswith("%s:2: %s" % (path, said)), raised.exception)
+
+    def test_a_form_needs_a_connection_without_calls_that_wait(self):
+        for line in ("0 null -> ok", "0 link", '0 query lid=1 "*OPC?" -> "1"'):
+            reading = Scripts()
+            reading.read("0 device_lock lid=1 waitlock")
+            with self.assertRaisesRegex(TextError, "a call waits on connection 0"):
+                reading.read(line)
+            reading.read("1 null -> ok")
+            reading.read("0 close")
+            reading.read(line)
+
+    def test_a_form_is_no_message_to_continue(self):
+        with self.assertRaisesRegex(TextError, "`and` continues a message"):
+            Scripts().read("0 link", ["null"])
+
+    def test_the_example_of_contributing_is_a_row(self):
+        with open(TOP + "/CONTRIBUTING.md", encoding="utf-8") as file:
+            example = next(block for block in file.read().split("```\n") if block.startswith("title "))
+        row, = rows_of(self.write("one/rows/a.rows", example))
+        self.assertEqual((len(row.asked), len(row.wanted)), (10, 4))
+
+    def test_a_peer_of_a_socket_waits_for_its_result(self):
+        short, long = Sockets(), Sockets()
+        asked, wanted = short.read("a device_lock lid=1 -> error=11")
+        self.assertEqual(asked, long.read("a device_lock lid=1")[0] + long.read("reply a device_lock error=11")[0])
+        self.assertEqual(wanted, ["a " + encode_reply(1, words(11)).hex()])
+        for line in ("> a -> b", "a core", 'a says "x -> y"'):
+            self.assertEqual(short.longer(line), [(line, ())])
+        for line in ("a device_lock lid=1 ->", "a link", "a device_lock -> stb=1"):
+            self.assertRaises(TextError, short.read, line)
+        short.read("a null")
+        self.assertRaisesRegex(TextError, "a call waits on connection a", short.read, "a null -> ok")
+
+    def test_it_is_the_same_where_it_is_explained(self):
+        self.assertEqual(Explained().read("0 null -> ok"), Scripts().read("0 null -> ok"))
+
+
 class Streams(Rows):
 
     def test_a_file(self):
@@ -223,6 +348,28 @@ class Differences(Rows):
         status, told = self.tool("row-diff", self.folder + "/two")
         self.assertEqual(status, 1)
         self.assertIn("  | queue take -> Taken(None)\n  wanted  -> Taken(None)\n  came    -> Cleared\n", told)
+
+    def test_a_short_form_is_shown_with_the_call_whose_reply_differs(self):
+        path = self.write("two/rows/a.rows", 'title a query\n0 link\n0 query "*OPC?" -> "1"\n')
+        self.assertEqual(self.tool("rows", self.folder + "/two")[0], 0)
+        good = self.read("two/stdout")
+        replies = good.split("\n")[1:4]
+        for wanted, came, call, shown in (
+                (replies[0], encode_reply(1, words(0, 2, 4097, 4096)), 'create_link device="inst0"',
+                 ["create_link lid=%d abortPort=4097 maxRecvSize=4096 xid=1" % lid for lid in (1, 2)]),
+                (replies[1], encode_reply(2, words(11, 0)), 'device_write lid=1 end "*OPC?"',
+                 ("device_write size=5 xid=2", "device_write error=11 xid=2 (device locked by another link)")),
+                (replies[2], encode_reply(3, words(15, 0, 0)), "device_read lid=1 requestSize=256",
+                 ('device_read reason=end "1\\n" xid=3', "device_read error=15 xid=3 (I/O timeout)"))):
+            self.write("two/out/stdout", good.replace(wanted, "c0 " + came.hex()))
+            status, told = self.tool("row-diff", self.folder + "/two")
+            self.assertEqual(status, 1)
+            lines = told.split("\n")
+            self.assertEqual(lines[0], path + ":1: a query")
+            asked = "  | 0 link" if wanted == replies[0] else '  | 0 query "*OPC?" -> "1"'
+            at = lines.index(asked)
+            self.assertEqual(lines[at + 1:at + 4],
+                             ["  call    0 " + call, "  wanted  reply 0 " + shown[0], "  came    reply 0 " + shown[1]])
 
     def test_a_value_that_differs_is_told_with_its_title(self):
         path = self.write("two/rows/a.rows", "title a role\nkind explain\n0 open core\n@ 1 0\n= c0.role core\n@ end 0\n\n" + ROWS)

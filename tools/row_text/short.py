@@ -1,0 +1,116 @@
+"""Short forms: a line of a script that means several lines.
+
+    0 link                              connection 0 opens; create_link of "inst0", a turn, and the row's next link as the reply
+    0 CALL -> RESULT                    a call, a turn, and its reply
+    0 write "*ESE 256"                  a device_write with END, a turn, and the reply that all bytes are taken
+    0 read -> "1"                       a device_read of 256 bytes, a turn, and the reply with this response and its new line
+    0 query "*IDN?" -> "SCANVOLT,.."    a write and a read
+
+RESULT has the fields of the result, or is `ok` if they are all 0, or is a refusal of RPC such as PROG_UNAVAIL. `write`, `read`
+and `query` use the link that was made last on the connection, or the one that `lid=2` names. A `write` and a `read` may have
+more fields, such as `io_timeout=10`. A row that is about a write or a read itself has the long lines. In a row over sockets,
+`a CALL -> RESULT` is what peer a sends and what it waits for; the other forms aren't there.
+"""
+from . import fields
+from .messages import ACCEPTED, DENIED
+from .values import TextError, bytes_of, number_of, split, text_of
+
+ARROW = "->"
+LONGEST, MOST = 4096, 256   # bytes that a write takes; that a read returns
+
+
+def lines_of(line, numbering):
+    """The lines that a short form means; none if the line is no short form. `numbering` knows the links of the row so far."""
+    connection, _, rest = line.partition(" ")
+    if not connection.isdigit():
+        return []
+    form = FORMS.get(rest.partition(" ")[0])
+    if not form:
+        return answered(connection, rest, numbering, [connection + " turn"])
+    _check(connection, numbering)
+    return form(connection, split(rest), numbering)
+
+
+def answered(connection, rest, numbering, between=()):
+    """The lines of a call and its result, with these between them; none if there is no arrow."""
+    words = split(rest) if " " + ARROW in rest else []
+    if ARROW not in words:
+        return []
+    _check(connection, numbering)
+    call, result = _halves(words)
+    if result == ["ok"]:
+        result = []
+    if not (result and (result[0] in ACCEPTED or result[0] in DENIED)):
+        result = [call[0] if call and call[0] in fields.NAMES else "null", *result]
+    return ["%s %s" % (connection, " ".join(call)), *between, "reply %s %s" % (connection, " ".join(result))]
+
+
+def _check(connection, numbering):
+    if numbering.open.get(connection):
+        raise TextError("a call waits on connection %s: write this call, its turn and the replies line by line" % connection)
+
+
+def _turned(connection, call, reply):
+    """The lines of a call that a turn answers."""
+    return ["%s %s" % (connection, " ".join(call)), connection + " turn", "reply %s %s" % (connection, " ".join(reply))]
+
+
+def _halves(words):
+    """The words before and after the arrow."""
+    if words.count(ARROW) != 1 or words[-1] == ARROW:
+        raise TextError("no answer after one ` -> `: " + " ".join(words))
+    at = words.index(ARROW)
+    return words[:at], words[at + 1:]
+
+
+def _parts(connection, words, numbering):
+    """The words of some fields: the link, the texts in quotes, and the rest."""
+    texts = [word for word in words if word[-1] == '"' and "=" not in word.partition('"')[0]]
+    links = [word for word in words if word.startswith("lid=")]
+    if not links and connection not in numbering.links:
+        raise TextError("no link was made on connection %s; say which, by `lid=`" % connection)
+    return (links or ["lid=%d" % numbering.links[connection]], texts,
+            [word for word in words if word not in links and word not in texts])
+
+
+def _link(connection, words, numbering):
+    lid = numbering.last_link + 1
+    for word in words[1:]:
+        if not word.startswith("lid="):
+            raise TextError("a link can have `lid=`, and not %s" % word)
+        lid = number_of(word[4:])
+    return [connection + " open core"] + _turned(connection, ["create_link", 'device="inst0"'],
+                                                 ["create_link", "lid=%d" % lid, "abortPort=4097", "maxRecvSize=4096"])
+
+
+def _write(connection, words, numbering):
+    link, texts, more = _parts(connection, words[1:], numbering)
+    if len(texts) != 1 or ARROW in more:
+        raise TextError("a write has one text in quotes, and no answer: " + " ".join(words))
+    size = len(bytes_of(texts[0]))
+    if size > LONGEST:
+        raise TextError("a write of %d bytes, where %d are taken" % (size, LONGEST))
+    return _turned(connection, ["device_write", *link, *more, "end", *texts], ["device_write", "size=%d" % size])
+
+
+def _read(connection, words, numbering):
+    asked, answer = _halves(words[1:])
+    link, texts, more = _parts(connection, asked, numbering)
+    if texts or len(answer) != 1 or answer[0][-1] != '"':
+        raise TextError("a read has one text in quotes, its answer: " + " ".join(words))
+    data = bytes_of(answer[0]) + b"\n"
+    if len(data) > MOST:
+        raise TextError("an answer of %d bytes with its new line, where %d are read" % (len(data), MOST))
+    return _turned(connection, ["device_read", *link, "requestSize=%d" % MOST, *more],
+                   ["device_read", "reason=end", text_of(data)])
+
+
+def _query(connection, words, numbering):
+    asked, answer = _halves(words[1:])
+    link, texts, more = _parts(connection, asked, numbering)
+    if len(texts) != 1 or more:
+        raise TextError("a query has one text in quotes before ` -> `: " + " ".join(words))
+    return _write(connection, ["write", *link, *texts], numbering) + _read(connection, ["read", *link, ARROW, *answer], numbering)
+
+
+FORMS = {"link": _link, "write": _write, "read": _read, "query": _query}
