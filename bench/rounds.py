@@ -5,9 +5,11 @@ import pathlib
 import random
 import resource
 import shutil
+import signal
 import socket
 import statistics
 import subprocess
+import sys
 import threading
 import time
 
@@ -15,6 +17,24 @@ HERE = pathlib.Path(__file__).resolve().parent
 TOP = HERE.parent
 PATIENCE = 10           # seconds that a server may take until it is ready
 SWEEPS = "4294967295"   # the most that a server takes: it serves until it is stopped
+# Scripts: what bench/scripts takes, and the ticks that are counted; without these, all lines are.
+SCRIPTS = {
+    "writes and reads": (("pairs", 20000), None),
+    "ticks": (("ticks", 1000000), 1000000),
+    "writes and reads in single bytes": (("pairs", 2000, "singly"), None),
+    "scans of 32 channels, fetched": (("scans", 100, 32, "fetched"), None),
+    "scans of 128 channels, fetched": (("scans", 100, 128, "fetched"), None),
+    "scans of 32 channels": (("scans", 1000, 32, "last"), 512000),
+    "scans of 128 channels": (("scans", 1000, 128, "last"), 2048000),
+    "ticks while 16 calls wait": (("locks", 1000000, "ticks"), 1000000),
+    "the lock round 16 links": (("locks", 1000), None),
+}
+
+
+def end_at_signals():
+    """Lets a signal end this process as an exception does, so that no server and no folder is left."""
+    for number in (signal.SIGHUP, signal.SIGINT, signal.SIGTERM):
+        signal.signal(number, lambda *_: sys.exit(1))
 
 
 class Failure(Exception):

@@ -2,5 +2,6 @@
 import pathlib
 import sys
 
-# Take the package scanvolt of this checkout, even if another one is installed.
-sys.path.insert(0, str(pathlib.Path(__file__).resolve().parents[2] / "python"))
+TOP = pathlib.Path(__file__).resolve().parents[2]
+# Take the package scanvolt of this checkout, even if another one is installed; and the list of measures.
+sys.path[:0] = [str(TOP / "python"), str(TOP / "bench")]

@@ -16,21 +16,6 @@ TOOLS = os.path.dirname(HERE)
 PROVED = os.path.dirname(TOOLS) + "/crates/scanvolt/out/scanvolt"
 
 
-# The rows so far, which `keep` appends to a file of results.
-ROWS = []
-
-
-def row(what, found, aim):
-    ROWS.append((what, found, aim))
-    print("%-66s %10s  %s" % (what, found, aim), flush=True)
-
-
-def keep(name):
-    """Appends the rows to the file of results with this name. Returns whether that was done."""
-    text = "".join("%s\t%s\t%s\n" % one for one in ROWS)
-    return subprocess.run([TOOLS + "/results", name], input=text, text=True, check=False).returncode == 0
-
-
 def runs(program):
     """Whether the program can be run. If not, says why."""
     return subprocess.run([TOOLS + "/runnable", program], check=False).returncode == 0
@@ -46,39 +31,26 @@ def whose_aims(program):
         program, "is built with run-time checks" if checked else "may be another")
 
 
-class Aims:
-    """Measured values that have an aim, and those that miss it."""
-
-    def __init__(self):
-        self.beyond = []
-
-    def row(self, what, found, most, digits=1):
-        """Prints a row with a value that may be at most `most`."""
-        shown = "%.*f" % (digits, found)
-        row(what, shown, "at most %g" % most)
-        if found > most:
-            self.beyond.append("%s: %s, and not at most %g" % (what.strip(), shown, most))
-
-    def told(self, name):
-        """Prints the values that miss their aims. Returns the status."""
-        for what in self.beyond:
-            print("%s: beyond its aim: %s" % (name, what), flush=True)
-        return 3 if self.beyond else 0
+def told(tool, missed):
+    """Prints the values that miss their aims. Returns the status."""
+    for what in missed:
+        print("%s: beyond its aim: %s" % (tool, what), flush=True)
+    return 3 if missed else 0
 
 
 class Server:
     """The running server, and what the system says about it. `folder` has its scenario, which is empty, its record
-    and what is done with its sockets (tap.c). `libraries` are loaded before those of the program; `before` is called
-    in the process before the program starts.
+    and what is done with its sockets (tap.c). `found` takes what is measured. `libraries` are loaded before those of
+    the program; `before` is called in the process before the program starts.
     """
 
-    def __init__(self, program, folder, libraries=(), before=None):
+    def __init__(self, program, folder, found, libraries=(), before=None):
         *self.ports, self.control = free_ports(4)
         self.program, self.folder = program, pathlib.Path(folder)
         (self.folder / "scenario").write_text("")
         environment = dict(os.environ, TAP=str(self.folder / "tap"),
                            LD_PRELOAD=":".join([*libraries, library("tap", self.folder)]))
-        self.aims = Aims()
+        self.found = found
         self.refusals = ()      # errors that calls may return under a limit
         options = zip(("--core", "--abort", "--portmap"), map(str, self.ports))
         command = [program, "serve"] + [word for option in options for word in option]

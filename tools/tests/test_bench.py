@@ -1,5 +1,10 @@
-"""Tests of bench/: medians and their confidence, programs in turn, bench/turn with scripts as programs, and lost replies."""
+"""Tests of bench/: medians and their confidence, measures and their aims, replays and lost replies, with scripts as programs."""
+import contextlib
+import importlib.machinery
+import importlib.util
+import io
 import os
+import re
 import shutil
 import socket
 import subprocess
@@ -7,15 +12,41 @@ import sys
 import tempfile
 import threading
 import unittest
+from unittest import mock
 
 sys.dont_write_bytecode = True
 TOP = os.path.dirname(os.path.dirname(os.path.dirname(os.path.abspath(__file__))))
-sys.path[:0] = [TOP + "/bench", TOP + "/python"]
+sys.path[:0] = [TOP + "/bench", TOP + "/python", TOP + "/tools"]
 
+import measures                                                 # noqa: E402
 import rounds                                                   # noqa: E402
 from scanvolt.vxi11 import Reader, Records, encode_reply, words     # noqa: E402
 
 PRINTS = "#!/bin/sh\nexec cat\n"
+
+
+def loaded(path):
+    """A command as a module."""
+    loader = importlib.machinery.SourceFileLoader(os.path.basename(path) + "_command", "%s/%s" % (TOP, path))
+    module = importlib.util.module_from_spec(importlib.util.spec_from_loader(loader.name, loader))
+    loader.exec_module(module)
+    return module
+
+
+class Folders(unittest.TestCase):
+    """Tests that have a temporary folder."""
+
+    def setUp(self):
+        temporary = tempfile.TemporaryDirectory(prefix="bench-")
+        self.addCleanup(temporary.cleanup)
+        self.folder = temporary.name
+
+    def write(self, name, text):
+        path = os.path.join(self.folder, name)
+        with open(path, "w", encoding="ascii") as file:
+            file.write(text)
+        os.chmod(path, 0o755)
+        return path
 
 
 class Rounds(unittest.TestCase):
@@ -33,20 +64,107 @@ class Rounds(unittest.TestCase):
         self.assertEqual(rounds.ratios(*found), [1.5] * 3)
 
 
-class Turn(unittest.TestCase):
+class Measures(unittest.TestCase):
+
+    def test_a_name_is_that_of_one_measure(self):
+        self.assertEqual(measures.find("gate", "proof of sv_text").measure, "proof of {crate}")
+        for bench, name in ("gate", "proof of sv text"), ("gate", "proof of "), ("serve", "whole run"), ("none", "whole run"):
+            with self.assertRaises(measures.Unknown):
+                measures.find(bench, name)
+        names = [(one.bench, one.measure) for one in measures.known()]
+        self.assertEqual(len(names), len(set(names)))
+
+    def test_an_aim_is_missed_by_a_value_beyond_it(self):
+        for name, aim, values in (("idn on 1, over the peer", "at least 1.35", ((1.34, True), (1.35, False), (1.36, False))),
+                                  ("idn on 1, the peer", "", ((0, False),))):
+            measure = measures.find("serve", name)
+            self.assertEqual(measure.aim, aim)
+            self.assertEqual([(value, measure.is_missed(value)) for value, _ in values], list(values))
+        self.assertTrue(measures.find("hostile", "share of a core while idle").is_missed(2.01))
+        for measure in measures.known():
+            self.assertTrue(measure.aim in ("", "1: no fall", "1: no growth") or measures.AIM.fullmatch(measure.aim), measure)
+
+    def test_what_the_benches_measure_is_listed(self):
+        run, serve = loaded("bench/run"), loaded("bench/serve")
+        names = set()
+        for name in rounds.SCRIPTS:
+            for kind in [name] + [name + ", peak memory"] * (name not in run.WITHOUT_PEAKS):
+                names |= {("replay", kind + ending) for ending in ("", run.TEN, run.OVER)}
+            names |= {("replay", name + ending) for ending in (", explained", ", explained over replayed")
+                      if name in run.EXPLAINS}
+            names |= {("turn", "%s %s" % (word, name)) for word in ("replay", "explain")}
+        names |= {("turn", "serve %s on %d%s" % (*load, part)) for load in loaded("bench/turn").LOADS
+                  for part in ("", ", on one core")}
+        for part, loads in ("", serve.ANY_CORE), (", on one core", serve.ONE_CORE):
+            for other, (kind, count) in [("peer", one) for one in loads] + [("echo", ("idn", 1))]:
+                names |= {("serve", "%s on %d%s, %s" % (kind, count, part, ending))
+                          for ending in ("over the " + other, "beside the " + other, "the " + other)}
+        names |= {("hostile", name + ending) for name, _ in loaded("tools/hostile").STAGES
+                  for ending in (": connections", ": replies beside")}
+        names |= {("soak", "long run: attacks, " + action.__name__) for action in loaded("tools/soak").ACTIONS}
+        for bench, name in names:
+            measures.find(bench, name)
+        self.assertEqual({name for bench, name in names if bench == "replay"},
+                         {one.measure for one in measures.known() if one.bench == "replay"})
+
+    def test_values_are_printed_and_kept(self):
+        found, told = measures.Found("serve"), io.StringIO()
+        with contextlib.redirect_stdout(told):
+            found.each("idn on 1, over the peer", [1.5, 1.0, 1.25])
+            found.row("idn on 1, the peer", 45000, "of 3")
+        self.assertEqual([re.split("  +", line) for line in told.getvalue().splitlines()],
+                         [["idn on 1, over the peer", "1.25 ratio", "at least 1.35"], ["idn on 1, the peer", "45,000 queries/s"]])
+        self.assertEqual(found.rows, [("idn on 1, over the peer", 1.5, 1), ("idn on 1, over the peer", 1.0, 2),
+                                      ("idn on 1, over the peer", 1.25, 3), ("idn on 1, the peer", 45000, "of 3")])
+        self.assertEqual(found.missed, ["idn on 1, over the peer: 1.25, and not at least 1.35"])
+        with self.assertRaises(measures.Unknown):
+            found.row("idn on 1", 1)
+
+    def test_values_are_kept_as_numbers(self):
+        for bench, name, value, kept in (
+                ("replay", "ticks", 17123456.789, "17123456.79"), ("serve", "idn on 1, the peer", 45000.0, "45000"),
+                ("serve", "idn on 1, over the peer", 1 / 3, "0.3333"), ("soak", "long run: minutes", 0.5, "0.500"),
+                ("turn", "replay ticks", 1.0, "1"), ("hostile", "memory afterwards, more than before", -4, "-4")):
+            with mock.patch.object(measures.subprocess, "run", return_value=mock.Mock(returncode=0)) as run:
+                found = measures.Found(bench)
+                found.take(name, value, "of 3")
+                self.assertTrue(found.keep())
+            self.assertEqual(run.call_args[1]["input"], "%s\t%s\tof 3\n" % (name, kept))
+            self.assertRegex(kept, "^(%s)$" % measures.FORMS["value"])
+
+
+class Run(Folders):
+    """The parts of bench/run, with programs that print what they read, or something else."""
+
+    def bench(self, text):
+        for ending in "script", "expected":
+            self.write("short." + ending, "c0 00\nrefused 4\n")
+        return loaded("bench/run").Bench(self.write("program", "#!/bin/sh\n" + text), self.folder)
+
+    def test_replays_are_compared(self):
+        self.assertGreater(self.bench("exec cat\n").fastest("short", "replay", 2), 0)
+        explains = self.bench("echo '- call c0'; echo '= a 1'; echo '@ 1 0'; exec cat\n")
+        self.assertGreater(explains.fastest("short", "explain", 2), 0)
+        with self.assertRaisesRegex(rounds.Failure, "other lines than expected: 1 of them, where 2 are"):
+            self.bench("echo other\n").fastest("short", "replay", 1)
+        with self.assertRaisesRegex(rounds.Failure, "on the script short `.*program replay` failed: 3"):
+            self.bench("exit 3\n").fastest("short", "replay", 1)
+
+    def test_memory_is_read_while_the_program_runs(self):
+        self.assertGreater(self.bench("exec cat\n").peak("short"), 0)
+        with self.assertRaisesRegex(rounds.Failure, "the program stopped"):
+            self.bench("exit 3\n").peak("short")
+        with self.assertRaisesRegex(rounds.Failure, "the program failed"):
+            self.bench("cat; exit 3\n").peak("short")
+        with self.assertRaisesRegex(rounds.Failure, "other lines"):
+            self.bench("echo 'c0 00'; echo 'refused 5'; exec cat > /dev/null\n").peak("short")
+
+
+class Turn(Folders):
 
     def setUp(self):
-        temporary = tempfile.TemporaryDirectory(prefix="bench-")
-        self.addCleanup(temporary.cleanup)
-        self.folder = temporary.name
+        super().setUp()
         self.script = self.write("a.replay", "open 0 core\ntick 9\n")
-
-    def write(self, name, text):
-        path = os.path.join(self.folder, name)
-        with open(path, "w", encoding="ascii") as file:
-            file.write(text)
-        os.chmod(path, 0o755)
-        return path
 
     def turn(self, first, second):
         """The status and what is printed."""

@@ -1,6 +1,8 @@
-"""Tests of tools/book: what it reads about functions and their contracts, and the counts and figures that it compares."""
+"""Tests of tools/book: what it reads about functions and their contracts, the counts that it compares, the table of figures."""
+import contextlib
 import importlib.machinery
 import importlib.util
+import io
 import os
 import sys
 import tempfile
@@ -59,7 +61,21 @@ pub enum Refused {
 }
 """
 EVIDENCE = """| `crates/rows` | what | 3 rows |
-| a ratio | 1.25; 1,500 | none | [some.csv](../bench/results/some.csv) |
+
+<!-- Written by tools/book from bench/results; run it. -->
+
+old
+
+<!-- The end of what it writes. -->
+
+The rest.
+"""
+RESULTS = """date,commit,machine,bench,measure,unit,value,round
+2026-01-01,aaaaaaa,,serve,"idn on 1, over the peer",ratio,1.2,of 9
+2026-01-02,bbbbbbb,one,serve,"idn on 1, over the peer",ratio,1.5,1
+2026-01-02,bbbbbbb,one,serve,"idn on 1, over the peer",ratio,1.25,2
+2026-01-02,bbbbbbb,one,serve,"idn on 1, over the peer",ratio,1.3,3
+2026-01-03,ccccccc,,serve,"idn on 1, the peer",queries/s,1500,of 9
 """
 FILES = {
     "crates/one/src/lib.rt": "pub use some::{Some, Goes, Lacks};\npub mod laws;\n",
@@ -68,7 +84,7 @@ FILES = {
     "crates/rows/rows/a.rows": "title one\n0 turn\n\ntitle two\nsingly\n0 turn\n",
     "docs/EVIDENCE.md": EVIDENCE,
     "docs/THEOREMS.md": "Of the driver's definitions only these are believed, 0\nlines.\n",
-    "bench/results/some.csv": "date,commit,what,value,aim\n,,a,1.25,\n,,b,1500,\n",
+    "bench/results/serve.csv": RESULTS,
 }
 
 
@@ -120,15 +136,56 @@ class Books(unittest.TestCase):
         definitions = mock.Mock(lines={})
         return list(self.book.miscounted(definitions, ((), ())))
 
-    def test_counts_and_figures(self):
+    def test_counts(self):
         self.assertEqual(self.told(), [])
-        self.write("docs/EVIDENCE.md", EVIDENCE.replace("3 rows", "4 rows").replace("1,500", "1,600"))
+        self.write("docs/EVIDENCE.md", EVIDENCE.replace("3 rows", "4 rows"))
         self.write("docs/THEOREMS.md", "Of the driver's definitions only these are believed, 10 lines.\n")
         self.assertEqual(self.told(), [
             "docs/EVIDENCE.md:1: rows has 3 rows",
-            "docs/EVIDENCE.md:2: 1600 isn't in some.csv",
             "docs/THEOREMS.md: the laws rest on 0 lines of the driver's definitions",
         ])
+
+    def test_the_table_of_figures_shows_the_newest_run_that_has_some(self):
+        self.assertEqual(self.book.with_figures(EVIDENCE), EVIDENCE.replace("old", """\
+| Bench | Measure | Found | Unit | Aim | Program |
+|---|---|---|---|---|---|
+| [serve](../bench/results/serve.csv) | idn on 1, over the peer | 1.30 (1.25 to 1.50) | ratio | at least 1.35 | bbbbbbb, 2026-01-02 |"""))
+        self.assertIsNone(self.book.with_figures("no place\n"))
+
+    def ran(self, *words):
+        """The status of the tool, and what it prints."""
+        told = io.StringIO()
+        with mock.patch.object(sys, "argv", ["book", *words, os.getcwd()]), mock.patch.object(self.book, "PAGES", {}), \
+                mock.patch.object(self.book, "Definitions", lambda: mock.Mock(lines={})), \
+                mock.patch.object(self.book, "believed", lambda _: ((), ())), \
+                mock.patch.object(self.book, "unsaid", lambda: []), \
+                contextlib.redirect_stdout(told), self.assertRaises(SystemExit) as ended:
+            self.book.main()
+        return ended.exception.code, told.getvalue()
+
+    def test_a_table_that_is_stale_is_told_and_written(self):
+        self.assertEqual(self.ran("--check"), (1, "docs/EVIDENCE.md: it differs from what tools/book writes\n"))
+        self.assertEqual(self.ran(), (0, ""))
+        self.assertEqual(self.ran("--check"), (0, ""))
+        self.write("bench/results/serve.csv", RESULTS.replace("1.3,3", "1.6,3"))
+        self.assertEqual(self.ran("--check"), (1, "docs/EVIDENCE.md: it differs from what tools/book writes\n"))
+
+    def test_results_that_are_none_are_told(self):
+        for old, new, said in (("idn on 1, over", "idn on 2, over", "2: serve has no measure `idn on 2, over the peer`"),
+                               ("ratio,1.5", "ms,1.5", "3: the bench or the unit isn't that of the measure (ratio)"),
+                               (",1.5,1", ",much,1", "3: no line of results: value"),
+                               (",1.5,1", ",1.5,one", "3: no line of results: round"),
+                               (",1.5,1", ",1.5,1,", "3: no line of results: 9 columns"),
+                               ("2026-01-02,bbbbbbb", "2026-01-02,unknown", "3: no line of results: commit"),
+                               ("date,commit", "commit,date", "1: its columns aren't date,commit,")):
+            self.write("bench/results/serve.csv", RESULTS.replace(old, new, 1))
+            for words in (), ("--check",):
+                status, told = self.ran(*words)
+                self.assertEqual(status, 1)
+                self.assertTrue(told.startswith("bench/results/serve.csv:" + said), told)
+        self.write("bench/results/serve.csv", RESULTS)
+        self.write("bench/results/soak.csv", RESULTS)
+        self.assertIn("bench/results/soak.csv:2: the bench or the unit isn't that of the measure", self.ran("--check")[1])
 
 
 if __name__ == "__main__":
