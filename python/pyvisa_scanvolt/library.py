@@ -47,15 +47,15 @@ class ScanvoltLibrary(highlevel.VisaLibraryBase):
             return {"Program": str(fault)}
 
     def _init(self) -> None:
-        self.settings = settings.Settings() if self.library_path == NONE else settings.read(str(self.library_path))
-        self.sharings: Dict[str, Sharing] = {}
-        self.meters: Dict[str, Meter] = {}
-        self.given: List[str] = []          # the hosts of instruments that were made elsewhere
-        self.sessions: Dict[int, Session] = {}
-        self.contexts: Dict[int, constants.EventType] = {}
-        self.numbers = itertools.count(1)
-        self.manager: Any = None
-        self.common = attributes.common()
+        self._settings = settings.Settings() if self.library_path == NONE else settings.read(str(self.library_path))
+        self._sharings: Dict[str, Sharing] = {}
+        self._meters: Dict[str, Meter] = {}
+        self._given: List[str] = []          # the hosts of instruments that were made elsewhere
+        self._sessions: Dict[int, Session] = {}
+        self._contexts: Dict[int, constants.EventType] = {}
+        self._numbers = itertools.count(1)
+        self._manager: Any = None
+        self._common = attributes.common()
 
     def meter(self, resource: Any) -> Meter:
         """The instrument of a resource, or of a resource's name. It is turned on now if it wasn't on."""
@@ -63,21 +63,21 @@ class ScanvoltLibrary(highlevel.VisaLibraryBase):
         return self._meter(self._parsed(str(name))[1])
 
     def _meter(self, host: str) -> Meter:
-        if host.lower() not in self.meters:
-            self.meters[host.lower()] = self.settings.meter()
-            self.sharings[host.lower()] = Sharing()
-        return self.meters[host.lower()]
+        if host.lower() not in self._meters:
+            self._meters[host.lower()] = self._settings.meter()
+            self._sharings[host.lower()] = Sharing()
+        return self._meters[host.lower()]
 
     def host_of(self, meter: Meter) -> str:
         """The host name of an instrument. One that has none gets one here. Names of such that were closed are forgotten."""
-        found = next((host for host, one in self.meters.items() if one is meter), None)
+        found = next((host for host, one in self._meters.items() if one is meter), None)
         if found is None:
-            for host in [host for host in self.given if not self.meters[host].is_open]:
-                del self.meters[host], self.sharings[host]
-                self.given.remove(host)
-            found = "scanvolt-meter-%d" % next(self.numbers)
-            self.given.append(found)
-            self.meters[found], self.sharings[found] = meter, Sharing()
+            for host in [host for host in self._given if not self._meters[host].is_open]:
+                del self._meters[host], self._sharings[host]
+                self._given.remove(host)
+            found = "scanvolt-meter-%d" % next(self._numbers)
+            self._given.append(found)
+            self._meters[found], self._sharings[found] = meter, Sharing()
         return found
 
     def _parsed(self, name: str) -> Tuple[Any, str]:
@@ -86,7 +86,7 @@ class ScanvoltLibrary(highlevel.VisaLibraryBase):
             parsed = rname.ResourceName.from_string(name)
         except rname.InvalidResourceName:
             self._refused(StatusCode.error_invalid_resource_name)
-        given = self.settings.host(name)
+        given = self._settings.host(name)
         if given is not None:
             return parsed, given
         if not isinstance(parsed, rname.TCPIPInstr) or not HOST.fullmatch(parsed.host_address):
@@ -102,7 +102,7 @@ class ScanvoltLibrary(highlevel.VisaLibraryBase):
 
     def _done(self, number: Any, action: Callable[[Session], Value]) -> Value:
         """Does an action of a session, and returns its result. A fault is raised as VisaIOError."""
-        session = self.sessions.get(number)
+        session = self._sessions.get(number)
         status = StatusCode.error_invalid_object
         cause: Optional[Exception] = None
         if session is not None:
@@ -127,13 +127,13 @@ class ScanvoltLibrary(highlevel.VisaLibraryBase):
 
     def open_default_resource_manager(self) -> Tuple[Any, StatusCode]:
         """Opens the session of the resource manager (viOpenDefaultRM)."""
-        number: Any = next(self.numbers)
-        self.manager = number
-        return self.manager, self.handle_return_value(self.manager, StatusCode.success)
+        number: Any = next(self._numbers)
+        self._manager = number
+        return self._manager, self.handle_return_value(self._manager, StatusCode.success)
 
     def list_resources(self, session: Any, query: str = "?*::INSTR") -> Tuple[str, ...]:
         """The instruments that are on, and one that is always listed (viFindRsrc)."""
-        names = {"TCPIP0::%s::inst0::INSTR" % host for host in self.meters} | {FIRST} | set(self.settings.hosts)
+        names = {"TCPIP0::%s::inst0::INSTR" % host for host in self._meters} | {FIRST} | set(self._settings.hosts)
         return rname.filter(sorted(names), query)
 
     def open(self, session: Any, resource_name: str,
@@ -148,64 +148,64 @@ class ScanvoltLibrary(highlevel.VisaLibraryBase):
         status = StatusCode.success
         try:
             meter = self._meter(host)
-            opened = Session(meter, self.sharings[host.lower()], attributes.of_instrument(parsed, host, device), device,
+            opened = Session(meter, self._sharings[host.lower()], attributes.of_instrument(parsed, host, device), device,
                              lock_timeout)
         except FAULTS as fault:
             status = StatusCode.error_allocation if isinstance(fault, ConnectionError) else status_of(fault)
         self.handle_return_value(session, status)
-        number: Any = next(self.numbers)
+        number: Any = next(self._numbers)
         opened.number, opened.new_context = number, self._new_context
-        self.sessions[number] = opened
+        self._sessions[number] = opened
         return number, self.handle_return_value(number, StatusCode.success)
 
     def _new_context(self) -> int:
         """Makes the context of an event."""
-        number = next(self.numbers)
-        self.contexts[number] = constants.EventType.service_request
+        number = next(self._numbers)
+        self._contexts[number] = constants.EventType.service_request
         return number
 
     def close(self, session: Any) -> StatusCode:
         """Closes a session, an event, or the resource manager, which turns off all instruments that it turned on."""
-        if session in self.contexts:
-            del self.contexts[session]
-        elif session == self.manager:
-            made_elsewhere = [self.meters[host] for host in self.given]
-            for one in self.sessions.values():
+        if session in self._contexts:
+            del self._contexts[session]
+        elif session == self._manager:
+            made_elsewhere = [self._meters[host] for host in self._given]
+            for one in self._sessions.values():
                 if one.meter in made_elsewhere:
                     one.close()
-            for meter in self.meters.values():
+            for meter in self._meters.values():
                 if meter not in made_elsewhere:
                     meter.close()
-            self.meters.clear()
-            self.given.clear()
-            self.sharings.clear()
-            self.sessions.clear()
-            self.contexts.clear()
+            self._meters.clear()
+            self._given.clear()
+            self._sharings.clear()
+            self._sessions.clear()
+            self._contexts.clear()
         else:
             self._done(session, Session.close)
-            del self.sessions[session]
+            del self._sessions[session]
         return self.handle_return_value(None, StatusCode.success)
 
     def get_attribute(self, session: Any, attribute: Any) -> Tuple[Any, StatusCode]:
         """The state of an attribute of a session, an event or the resource manager (viGetAttribute)."""
-        if session in self.contexts:
+        if session in self._contexts:
             if attribute == constants.EventAttribute.event_type:
-                return self.contexts[session], self.handle_return_value(session, StatusCode.success)
+                return self._contexts[session], self.handle_return_value(session, StatusCode.success)
             self.handle_return_value(session, StatusCode.error_nonsupported_attribute)
-        if session == self.manager:
-            if attribute not in self.common:
+        if session == self._manager:
+            if attribute not in self._common:
                 self.handle_return_value(session, StatusCode.error_nonsupported_attribute)
-            return self.common[attribute].state, self.handle_return_value(session, StatusCode.success)
+            return self._common[attribute].state, self.handle_return_value(session, StatusCode.success)
         if attribute == constants.ResourceAttribute.resource_manager_session:
-            return self.manager, self.handle_return_value(session, StatusCode.success)
+            return self._manager, self.handle_return_value(session, StatusCode.success)
         state = self._done(session, lambda one: [one.get(attribute)])[0]
         if attribute == constants.ResourceAttribute.resource_lock_state:
-            state = self._lock_state(self.sessions[session].meter)
+            state = self._lock_state(self._sessions[session].meter)
         return state, self.handle_return_value(session, StatusCode.success)
 
     def _lock_state(self, meter: Meter) -> constants.AccessModes:
         """Whether any session to this instrument has its lock, or shares it."""
-        sessions = [one for one in self.sessions.values() if one.meter is meter]
+        sessions = [one for one in self._sessions.values() if one.meter is meter]
         if any(one.locks for one in sessions):
             return constants.AccessModes.exclusive_lock
         if any(one.sharing.shares for one in sessions):

@@ -32,36 +32,37 @@ class Session:
 
     def __init__(self, meter: Meter, sharing: Sharing, states: Dict[Name, attributes.Kept], device: str,
                  lock_timeout: Optional[int]) -> None:
-        self.meter, self.sharing, self.states = meter, sharing, states
-        self.connection = meter.connect()
+        self.meter, self.sharing, self._states = meter, sharing, states
+        self._connection = meter.connect()
         try:
-            self.link = self.connection.create_link(device, lock_timeout is not None, lock_timeout or 0)
+            self.link = self._connection.create_link(device, lock_timeout is not None, lock_timeout or 0)
         except Exception:
-            self.connection.close()
+            self._connection.close()
             raise
         self.link.lock_timeout = 0                          # a call that needs the lock of another link fails at once
         self.locks = 0 if lock_timeout is None else 1       # how often the lock was taken
-        self.number = 0
-        self.mechanisms = 0                                 # the mechanisms for which events are enabled
+        self.number = 0         # by which PyVISA knows it
+        self._mechanisms = 0                                 # the mechanisms for which events are enabled
         self.handlers: List[Tuple[Handler, Any]] = []
-        self.queued: Deque[ServiceRequest] = collections.deque()
-        self.suspended: Deque[ServiceRequest] = collections.deque()
+        self._queued: Deque[ServiceRequest] = collections.deque()
+        self._suspended: Deque[ServiceRequest] = collections.deque()
+        # makes the number of an event's context
         self.new_context: Callable[[], int] = lambda: 0
 
     def close(self) -> None:
         """Ends the connection, and with it the link, its lock and its service requests."""
-        if self.connection.is_open:
+        if self._connection.is_open:
             with contextlib.suppress(ProgramError, DeviceError):    # the locks of a program that ended have ended
                 self.sharing.leave(self)
-        self.connection.close()
+        self._connection.close()
 
     def get(self, name: Name) -> Any:
         """The state of an attribute."""
-        return attributes.get(self.states, name)
+        return attributes.get(self._states, name)
 
     def put(self, name: Name, state: Any) -> None:
         """Sets an attribute."""
-        attributes.put(self.states, name, state)
+        attributes.put(self._states, name, state)
 
     def _timed(self) -> None:
         """Sets the link's timeout to the session's, and gives the link the lock that sessions share."""
@@ -137,13 +138,13 @@ class Session:
             raise Refusal(StatusCode.error_invalid_mechanism)
         if mechanism & (HANDLER | SUSPENDED) and not self.handlers:
             raise Refusal(StatusCode.error_handler_not_installed)
-        already = mechanism & ~self.mechanisms == 0
-        if not self.connection.has_channel:
-            self.connection.listen(self.came)
-        if not self.mechanisms:
+        already = mechanism & ~self._mechanisms == 0
+        if not self._connection.has_channel:
+            self._connection.listen(self._came)
+        if not self._mechanisms:
             self.link.enable_srq(b"")
         others = ~(HANDLER | SUSPENDED) if mechanism & (HANDLER | SUSPENDED) else ~0
-        self.mechanisms = self.mechanisms & others | mechanism
+        self._mechanisms = self._mechanisms & others | mechanism
         self._resume()
         return StatusCode.success_event_already_enabled if already else StatusCode.success
 
@@ -151,12 +152,12 @@ class Session:
         """Turns off service requests by these mechanisms."""
         if kind not in (EventType.service_request, EventType.all_enabled):
             raise Refusal(StatusCode.error_invalid_event)
-        already = self.mechanisms & mechanism == 0
-        left = self.mechanisms & ~mechanism
-        if self.mechanisms and not left and self.connection.is_open:
+        already = self._mechanisms & mechanism == 0
+        left = self._mechanisms & ~mechanism
+        if self._mechanisms and not left and self._connection.is_open:
             with contextlib.suppress(ProgramError):     # a program that ended requests nothing
                 self.link.disable_srq()
-        self.mechanisms = left
+        self._mechanisms = left
         return StatusCode.success_event_already_disabled if already else StatusCode.success
 
     def discard(self, kind: int, mechanism: int) -> StatusCode:
@@ -164,25 +165,25 @@ class Session:
         if kind not in (EventType.service_request, EventType.all_enabled):
             raise Refusal(StatusCode.error_invalid_event)
         count = 0
-        for which, queue in ((QUEUE, self.queued), (SUSPENDED, self.suspended)):
+        for which, queue in ((QUEUE, self._queued), (SUSPENDED, self._suspended)):
             if mechanism & which:
                 count += len(queue)
                 queue.clear()
         return StatusCode.success if count else StatusCode.success_queue_already_empty
 
-    def came(self, request: ServiceRequest) -> None:
+    def _came(self, request: ServiceRequest) -> None:
         """Handles a service request: puts it into the queue, hands it to the handlers, or keeps it for them."""
         most = self.get(Name.max_queue_length)
-        if self.mechanisms & QUEUE and len(self.queued) < most:
-            self.queued.append(request)
-        if self.mechanisms & (HANDLER | SUSPENDED) and len(self.suspended) < most:
-            self.suspended.append(request)
+        if self._mechanisms & QUEUE and len(self._queued) < most:
+            self._queued.append(request)
+        if self._mechanisms & (HANDLER | SUSPENDED) and len(self._suspended) < most:
+            self._suspended.append(request)
         self._resume()
 
     def _resume(self) -> None:
         """Hands on what is kept for the handlers, if they are enabled. The handler added last is called first."""
-        while self.mechanisms & HANDLER and self.suspended:
-            self.suspended.popleft()
+        while self._mechanisms & HANDLER and self._suspended:
+            self._suspended.popleft()
             for handler, user_handle in reversed(self.handlers):
                 handler(self.number, EventType.service_request, self.new_context(), user_handle)
 
@@ -190,12 +191,12 @@ class Session:
         """Waits for a service request in the queue. At most `timeout` milliseconds pass."""
         if kind not in (EventType.service_request, EventType.all_enabled):
             raise Refusal(StatusCode.error_invalid_event)
-        if not self.mechanisms & QUEUE:
+        if not self._mechanisms & QUEUE:
             raise Refusal(StatusCode.error_not_enabled)
         most = self.meter.patience if timeout is None or timeout == LONGEST else timeout
-        if not self.meter.until(lambda: bool(self.queued), int(most)):
+        if not self.meter.until(lambda: bool(self._queued), int(most)):
             if timeout is None or timeout == LONGEST:
                 raise NoAnswer("no service request within %d ms of virtual time" % most)
             raise Refusal(StatusCode.error_timeout)
-        self.queued.popleft()
-        return StatusCode.success_queue_not_empty if self.queued else StatusCode.success
+        self._queued.popleft()
+        return StatusCode.success_queue_not_empty if self._queued else StatusCode.success

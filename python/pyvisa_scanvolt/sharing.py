@@ -27,46 +27,46 @@ class Sharing:
     """The locks of the sessions to one instrument."""
 
     def __init__(self) -> None:
-        self.key = ""
+        self._key = ""
         self.shares: "Dict[Session, int]" = {}              # how often each session took the shared lock
-        self.holder: "Optional[Session]" = None             # of these, the one whose link has the instrument's lock
-        self.exclusive: "Optional[Session]" = None          # of these, the one that has the exclusive lock too
+        self._holder: "Optional[Session]" = None             # of these, the one whose link has the instrument's lock
+        self._exclusive: "Optional[Session]" = None          # of these, the one that has the exclusive lock too
 
     def enter(self, session: "Session") -> None:
         """Before a call of a session: gives its link the instrument's lock if the session shares it."""
         if session not in self.shares:
             return
-        if self.exclusive not in (None, session):
+        if self._exclusive not in (None, session):
             raise Refusal(StatusCode.error_resource_locked)
-        if self.holder is not session:
+        if self._holder is not session:
             self._move(session)
 
     def _move(self, session: "Session") -> None:
         """Moves the instrument's lock to the link of a session."""
-        if self.holder is not None:
-            self.holder.link.unlock()
-        self.holder = None
+        if self._holder is not None:
+            self._holder.link.unlock()
+        self._holder = None
         session.link.lock(0)
-        self.holder = session
+        self._holder = session
 
     def lock_shared(self, session: "Session", timeout: int, requested: Optional[str]) -> Tuple[str, StatusCode]:
         """Takes the shared lock, with this key or a new one. Returns the key."""
         if requested is not None and not (isinstance(requested, str) and 0 < len(requested) <= KEY_MOST):
             raise Refusal(StatusCode.error_invalid_access_key)
         if session in self.shares:
-            if requested not in (None, self.key):
+            if requested not in (None, self._key):
                 raise Refusal(StatusCode.error_invalid_access_key)
             self.shares[session] += 1
-            return self.key, StatusCode.success_nested_shared
+            return self._key, StatusCode.success_nested_shared
         began = session.meter.clock
-        self._await(session, timeout, lambda: not self.shares or requested == self.key and self.exclusive is None)
+        self._await(session, timeout, lambda: not self.shares or requested == self._key and self._exclusive is None)
         if not self.shares:
             if session.locks == 0:
                 self._take(session, timeout, began)
-            self.key, self.holder = requested or "scanvolt-%d" % next(_numbers), session
-            self.exclusive = session if session.locks else None
+            self._key, self._holder = requested or "scanvolt-%d" % next(_numbers), session
+            self._exclusive = session if session.locks else None
         self.shares[session] = 1
-        return self.key, StatusCode.success
+        return self._key, StatusCode.success
 
     def lock_exclusive(self, session: "Session", timeout: int) -> StatusCode:
         """Takes the exclusive lock."""
@@ -74,10 +74,10 @@ class Sharing:
             session.locks += 1
             return StatusCode.success_nested_exclusive
         began, is_member = session.meter.clock, session in self.shares
-        self._await(session, timeout, lambda: self.exclusive is None if is_member else not self.shares)
+        self._await(session, timeout, lambda: self._exclusive is None if is_member else not self.shares)
         if is_member:
-            self.exclusive = session
-            if self.holder is not session:
+            self._exclusive = session
+            if self._holder is not session:
                 self._move(session)
         else:
             self._take(session, timeout, began)
@@ -93,7 +93,7 @@ class Sharing:
             if session not in self.shares:
                 session.link.unlock()
                 return StatusCode.success
-            self.exclusive = None
+            self._exclusive = None
             return StatusCode.success_nested_shared
         if session not in self.shares:
             raise Refusal(StatusCode.error_session_not_locked)
@@ -107,13 +107,13 @@ class Sharing:
         """Ends the share of a session, which may be about to close: another one gets the instrument's lock."""
         if self.shares.pop(session, None) is None:
             return
-        if self.exclusive is session:
-            self.exclusive = None
+        if self._exclusive is session:
+            self._exclusive = None
         if not self.shares:
-            self.key = ""
-        if self.holder is session:
+            self._key = ""
+        if self._holder is session:
             session.link.unlock()
-            self.holder = None
+            self._holder = None
             if self.shares:
                 self._move(next(iter(self.shares)))
 

@@ -33,14 +33,14 @@ class VisaIOError(errors.VisaIOError):
 
     def __init__(self, status: int, fault: Exception) -> None:
         super().__init__(status)
-        self.fault = fault
+        self._fault = fault
 
     @property
     def __notes__(self) -> List[str]:
         """The lines that a traceback shows below the error."""
-        if isinstance(self.fault, ConnectionError):
-            return [str(self.fault)]
-        found: List[str] = getattr(self.fault, "__notes__", [])
+        if isinstance(self._fault, ConnectionError):
+            return [str(self._fault)]
+        found: List[str] = getattr(self._fault, "__notes__", [])
         return found
 
 

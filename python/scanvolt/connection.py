@@ -35,17 +35,17 @@ class Pending(Generic[Value]):
         self.connection = connection
         self.call = call
         self.xid = xid
-        self.turned: Optional[int] = None       # the millisecond at which the instrument took the call
+        self._turned: Optional[int] = None       # the millisecond at which the instrument took the call
         self.clock: Optional[int] = None
-        self.body = b""
-        self.fault: Optional[Exception] = None
-        self.made: Optional[bytes] = None       # the reply that a fault on order makes, in place of the instrument
-        self.note: Optional[str] = None         # what that fault was
+        self._body = b""
+        self._fault: Optional[Exception] = None
+        self._made: Optional[bytes] = None       # the reply that a fault on order makes, in place of the instrument
+        self._note: Optional[str] = None         # what that fault was
 
     def __repr__(self) -> str:
         told = "not answered" if self.clock is None else "answered at %d ms" % self.clock
-        if self.fault is not None:
-            told = "ended at %d ms: %s" % (self.clock or 0, self.fault)
+        if self._fault is not None:
+            told = "ended at %d ms: %s" % (self.clock or 0, self._fault)
         return "<Pending %s, %s>" % (self.call, told)
 
     @property
@@ -58,10 +58,10 @@ class Pending(Generic[Value]):
         if self.done:
             return
         meter, own = self.connection.meter, cast("Pending[object]", self)
-        if meter.steps is not None:
-            meter.steps.expects(own)
+        if meter._steps is not None:
+            meter._steps.expects(own)
         else:
-            with meter.guard:
+            with meter._guard:
                 why = meter._hopeless(own)
             if why is not None:
                 raise NoAnswer(why)
@@ -72,21 +72,21 @@ class Pending(Generic[Value]):
     def result(self) -> Value:
         """Advances time until the call is answered. Returns its result, or raises the exception of its error."""
         self.wait()
-        if self.fault is not None:
-            raise self.fault
+        if self._fault is not None:
+            raise self._fault
         try:
-            return self.call.answer(self.body, self.xid)
+            return self.call.answer(self._body, self.xid)
         except DeviceError as fault:
-            assert self.clock is not None and self.turned is not None
-            fault.waited, fault.clock = self.clock - self.turned, self.clock
-            fault.tell = functools.partial(_notes, self, self.connection.meter.replay.moment())
-            if self.note is not None:
-                fault.tell = [self.note].copy
+            assert self.clock is not None and self._turned is not None
+            fault.waited, fault.clock = self.clock - self._turned, self.clock
+            fault.tell = functools.partial(_notes, self, self.connection.meter._replay.moment())
+            if self._note is not None:
+                fault.tell = [self._note].copy
             raise
 
     def _end(self, clock: int, body: bytes = b"", fault: Optional[Exception] = None) -> None:
         """Ends the call: it was answered, or can't be any more."""
-        self.clock, self.body, self.fault = clock, body, fault
+        self.clock, self._body, self._fault = clock, body, fault
         self.connection.meter._answered(cast("Pending[object]", self))
 
 
@@ -100,23 +100,23 @@ class Requests:
     """The service requests of a connection's interrupt channel. They go to a callback, or else into a queue."""
 
     def __init__(self, connection: "Connection") -> None:
-        self.connection = connection
+        self._connection = connection
         self.callback: Optional[Callback] = None
         self.queue: "queue.Queue[ServiceRequest]" = queue.Queue()
-        self.stream = RequestStream()
+        self._stream = RequestStream()
 
     def wait(self, milliseconds: int) -> ServiceRequest:
         """The next service request of the queue. Advances time until there is one; after this long raises TimeoutError."""
         most = checked(milliseconds, "wait")
-        if not self.connection.meter.until(lambda: not self.queue.empty(), most):
+        if not self._connection.meter.until(lambda: not self.queue.empty(), most):
             raise TimeoutError("no service request within %d ms of virtual time" % most)
         return self.queue.get_nowait()
 
     def close(self) -> None:
         """Closes the interrupt channel, if there is one. Requests that came stay in the queue."""
-        if self.connection.has_channel:
+        if self._connection.has_channel:
             with contextlib.suppress(ProgramError):     # a program that ended has no channel
-                self.connection.destroy_intr_chan()
+                self._connection.destroy_intr_chan()
 
 
 class Connection(Core):
@@ -124,14 +124,14 @@ class Connection(Core):
 
     def __init__(self, meter: "Meter", number: int, role: str) -> None:
         self.meter = meter
-        self.number = number
-        self.role = role
+        self.number = number                                # by which the script knows it, 0 to 15
+        self.role = role                                    # core, abort or portmap
         self.is_open = True
         self.has_channel = False                            # whether it has an interrupt channel
-        self.xid = 0
-        self.records = Records()
-        self.pending: "Deque[Pending[object]]" = collections.deque()
-        self.requests = Requests(self)
+        self._xid = 0
+        self._records = Records()
+        self._pending: "Deque[Pending[object]]" = collections.deque()
+        self.requests = Requests(self)                      # what `listen` returns
 
     def __repr__(self) -> str:
         return "<Connection %d, %s%s>" % (self.number, self.role, "" if self.is_open else ", closed")
@@ -159,9 +159,9 @@ class Connection(Core):
         """Sends a call. The instrument takes it after those sent before it are answered."""
         if not isinstance(call, Call):
             raise TypeError("start wants a call, such as link.calls.readstb(), and not %r" % (call,))
-        with self.meter.guard:
-            self.xid = (self.xid + 1) % 2 ** 32
-            pending = Pending(self, call, self.xid)
+        with self.meter._guard:
+            self._xid = (self._xid + 1) % 2 ** 32
+            pending = Pending(self, call, self._xid)
             self.meter._send(self, cast("Pending[object]", pending))
             return pending
 
@@ -169,7 +169,7 @@ class Connection(Core):
         """Makes a call: advances time until it is answered, and then by the meter's call_time."""
         pending = self.start(call)
         pending.wait()
-        if pending.fault is None and self.meter.call_time:
+        if pending._fault is None and self.meter.call_time:
             self.meter.advance(self.meter.call_time)
         return pending.result()
 

@@ -16,26 +16,26 @@ class Twins:
     """Which connections and calls of a meter stand for which of the meter from which it was forked."""
 
     def __init__(self) -> None:
-        self.connections: Dict[int, Connection] = {}
-        self.pending: "Dict[int, Pending[object]]" = {}
-        self.kept: List[object] = []          # the first ones: while they are kept, no other object has their id
+        self._connections: Dict[int, Connection] = {}
+        self._pending: "Dict[int, Pending[object]]" = {}
+        self._kept: List[object] = []          # the first ones: while they are kept, no other object has their id
 
-    def add(self, first: object, twin: Union[Connection, "Pending[object]"]) -> None:
-        self.kept.append(first)
+    def _add(self, first: object, twin: Union[Connection, "Pending[object]"]) -> None:
+        self._kept.append(first)
         if isinstance(twin, Connection):
-            self.connections[id(first)] = twin
+            self._connections[id(first)] = twin
         else:
-            self.pending[id(first)] = twin
+            self._pending[id(first)] = twin
 
     def of(self, one: One) -> One:
         """The twin of a connection, a link or a call that was open at the fork. Raises ValueError for any other."""
         found: object = None
         if isinstance(one, Link):
-            carrier = self.connections.get(id(one.carrier))
+            carrier = self._connections.get(id(one.carrier))
             if carrier is not None:
                 found = Link(carrier, Made(one.number, one.abort_port, one.most), one.io_timeout, one.lock_timeout)
         else:
-            found = self.connections.get(id(one)) or self.pending.get(id(one))
+            found = self._connections.get(id(one)) or self._pending.get(id(one))
         if found is None:
             raise ValueError("it wasn't open, or didn't wait, at the fork of this meter: %r" % (one,))
         return cast(One, found)
@@ -43,41 +43,41 @@ class Twins:
 
 def fork(meter: "Meter") -> "Meter":
     """A second instrument that is as this one is now: see Meter.fork."""
-    with meter.guard:
-        twin = type(meter)(meter.replay.path, patience=meter.patience, call_time=meter.call_time)
+    with meter._guard:
+        twin = type(meter)(meter._replay.path, patience=meter.patience, call_time=meter.call_time)
         try:
-            twin.replay.repeat(meter.replay)
+            twin._replay.repeat(meter._replay)
         except BaseException:
             twin.close()
             raise
-        twin.ahead, twin.clock, twin.dials = meter.ahead.copy(), meter.clock, meter.dials
-        twin.sent, twin.handed = meter.sent, meter.handed
+        twin._ahead, twin.clock, twin.dials = meter._ahead.copy(), meter.clock, meter.dials
+        twin._sent, twin._handed = meter._sent, meter._handed
         for number, connection in meter.connections.items():
             twin.connections[number] = _connection(connection, twin)
         twin.faults.told, twin.faults.ordered = list(meter.faults.told), [copy.copy(one) for one in meter.faults.ordered]
         for order in twin.faults.ordered:
             if order.connection is not None:
-                order.connection = twin.twins.connections.get(id(order.connection), order.connection)
-        for clock, connection, pending, body in meter.faults.late:
-            other = twin.twins.of(connection)
-            twin.faults.late.append((clock, other, _pending(pending, other), body))
+                order.connection = twin._twins._connections.get(id(order.connection), order.connection)
+        for clock, connection, pending, body in meter.faults._late:
+            other = twin._twins.of(connection)
+            twin.faults._late.append((clock, other, _pending(pending, other), body))
         return twin
 
 
 def _connection(first: Connection, twin: "Meter") -> Connection:
     """The connection of a twin: as the first, but its service requests go into its queue."""
     made = Connection(twin, first.number, first.role)
-    made.has_channel, made.xid = first.has_channel, first.xid
+    made.has_channel, made._xid = first.has_channel, first._xid
     for request in list(first.requests.queue.queue):
         made.requests.queue.put(request)
-    twin.twins.add(first, made)
-    made.pending.extend(_pending(one, made) for one in first.pending)
+    twin._twins._add(first, made)
+    made._pending.extend(_pending(one, made) for one in first._pending)
     return made
 
 
 def _pending(first: "Pending[object]", connection: Connection) -> "Pending[object]":
     """A call of a twin that isn't answered."""
     made = Pending(connection, first.call, first.xid)
-    made.turned, made.made, made.note = first.turned, first.made, first.note
-    connection.meter.twins.add(first, made)
+    made._turned, made._made, made._note = first._turned, first._made, first._note
+    connection.meter._twins._add(first, made)
     return made

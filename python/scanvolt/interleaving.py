@@ -30,14 +30,14 @@ class OrderFails(AssertionError):
             "interleavings(.., order=%r) repeats it. What the instrument saw:" % order, *told]))
 
 
-class Run:
+class _Run:
     """One run of the controllers: they start in the given order, and go on with the first that can, or by `pick`."""
 
     def __init__(self, meter: "Meter", controllers: Sequence[Controller], start: Sequence[int],
                  pick: Optional[Pick] = None) -> None:
-        self.start, self.then = start, pick
-        self.taken: List[Taken] = []
-        self.until = 0                  # turns that were taken when the first controller failed
+        self._start, self._then = start, pick
+        self._taken: List[Taken] = []
+        self._until = 0                  # turns that were taken when the first controller failed
         self.fault: Optional[BaseException] = None
         self.told: List[str] = []
         twin = meter.fork()
@@ -67,37 +67,37 @@ class Run:
 
     def _failed(self, fault: BaseException) -> None:
         if self.fault is None:
-            self.fault, self.until = fault, len(self.taken)
+            self.fault, self._until = fault, len(self._taken)
 
     def _pick(self, ready: List[Place]) -> Place:
         """The controller whose turn it is."""
         numbers = sorted(one.number for one in ready)
-        place = len(self.taken)
-        if place < len(self.start):
-            wanted = self.start[place]
+        place = len(self._taken)
+        if place < len(self._start):
+            wanted = self._start[place]
             if wanted not in numbers:
                 raise ValueError("%s can't go on at turn %d of this order, only %s" % (
                     LETTERS[wanted], place + 1, " and ".join(LETTERS[one] for one in numbers)))
             found = wanted
         else:
-            found = self.then(sorted(ready, key=lambda one: one.number)).number if self.then else numbers[0]
-        self.taken.append((numbers, found))
+            found = self._then(sorted(ready, key=lambda one: one.number)).number if self._then else numbers[0]
+        self._taken.append((numbers, found))
         return next(one for one in ready if one.number == found)
 
     @property
     def order(self) -> str:
         """The turns up to the fault, without those at the end that come by themselves."""
-        taken = self.taken[:self.until]
+        taken = self._taken[:self._until]
         while taken and taken[-1][1] == taken[-1][0][0]:
             taken.pop()
         return "".join(LETTERS[number] for _, number in taken)
 
     def next(self) -> Optional[List[int]]:
         """The start of the next order, if this one was the first with its start; None if it was the last."""
-        for place in range(len(self.taken) - 1, -1, -1):
-            numbers, found = self.taken[place]
+        for place in range(len(self._taken) - 1, -1, -1):
+            numbers, found = self._taken[place]
             if found != numbers[-1]:
-                return [one for _, one in self.taken[:place]] + [numbers[numbers.index(found) + 1]]
+                return [one for _, one in self._taken[:place]] + [numbers[numbers.index(found) + 1]]
         return None
 
 
@@ -107,25 +107,25 @@ def interleavings(meter: "Meter", controllers: Sequence[Controller], count: Opti
     if not 2 <= len(controllers) <= len(LETTERS):
         raise ValueError("interleavings wants 2 to %d controllers, and not %d" % (len(LETTERS), len(controllers)))
     if order is not None:
-        _check(Run(meter, controllers, _numbers(order, len(controllers))), 1)
+        _check(_Run(meter, controllers, _numbers(order, len(controllers))), 1)
         return 1
     if count is not None:
         for tried in range(1, count + 1):
-            _check(Run(meter, controllers, (), seeded(seed + tried - 1)), tried)
+            _check(_Run(meter, controllers, (), seeded(seed + tried - 1)), tried)
         return count
     start: Optional[List[int]] = []
     tried = 0
     while start is not None:
         if tried == MOST:
             raise RuntimeError("there are more than %d orders: let interleavings(.., count=1000) try some at random" % MOST)
-        run = Run(meter, controllers, start)
+        run = _Run(meter, controllers, start)
         tried += 1
         _check(run, tried)
         start = run.next()
     return tried
 
 
-def _check(run: Run, tried: int) -> None:
+def _check(run: _Run, tried: int) -> None:
     if run.fault is not None:
         raise OrderFails(run.order, run.fault, tried, run.told) from run.fault
 

@@ -45,35 +45,35 @@ def whole(seconds: float) -> int:
     return max(1, math.ceil(round(1000 * seconds, 3))) if seconds > 0 else 0
 
 
-class Keeper:
+class _Keeper:
     """What the functions do in a thread within a block: they advance this meter, or read its clock."""
 
     def __init__(self, meter: "Meter") -> None:
-        self.meter = meter
-        self.begin = meter.clock
+        self._meter = meter
+        self._begin = meter.clock
         grid = 1 if threading.get_ident() in keepers else GRID
-        self.since: Dict[str, int] = {name: -(-getattr(time, name + "_ns")() // grid) * grid for name in CLOCKS}
-        self.is_real = False        # whether waits are real now
-        self.seen = (meter.clock, meter.sent)
-        self.reads = self.polls = 0
+        self._since: Dict[str, int] = {name: -(-getattr(time, name + "_ns")() // grid) * grid for name in CLOCKS}
+        self._is_real = False        # whether waits are real now
+        self._seen = (meter.clock, meter._sent)
+        self._reads = self._polls = 0
 
     def read(self, name: str) -> int:
         """The clock of this name, in nanoseconds. Raises NeverEnds if it is read too often while no time passes."""
-        self.idle()
-        return self.since[name] + (self.meter.clock - self.begin) * 10 ** 6
+        self._idle()
+        return self._since[name] + (self._meter.clock - self._begin) * 10 ** 6
 
-    def idle(self) -> None:
+    def _idle(self) -> None:
         """Counts something that a loop does while no time passes. Raises NeverEnds if that is too often."""
-        clock, sent = self.meter.clock, self.meter.sent
-        if clock != self.seen[0]:
-            self.reads = self.polls = 0
-        elif sent != self.seen[1]:
-            self.reads = 0
-        self.seen = clock, sent
-        self.reads += 1
-        self.polls += 1
-        if self.reads > READS_MOST or self.polls > POLLS_MOST:
-            count, self.reads, self.polls = max(self.reads, self.polls) - 1, 0, 0
+        clock, sent = self._meter.clock, self._meter._sent
+        if clock != self._seen[0]:
+            self._reads = self._polls = 0
+        elif sent != self._seen[1]:
+            self._reads = 0
+        self._seen = clock, sent
+        self._reads += 1
+        self._polls += 1
+        if self._reads > READS_MOST or self._polls > POLLS_MOST:
+            count, self._reads, self._polls = max(self._reads, self._polls) - 1, 0, 0
             raise NeverEnds("the clock was read %d times at %d ms of the meter's clock, and no time passed: time "
                             "passes only in calls that wait. %s" % (count, clock, HELP))
 
@@ -82,39 +82,39 @@ class Keeper:
         if seconds < 0:
             raise ValueError("sleep length must be non-negative")
         if seconds == 0:
-            self.idle()
-        self.meter.advance(whole(seconds))
+            self._idle()
+        self._meter.advance(whole(seconds))
 
     def start(self, real: Callable[..., object], thread: threading.Thread) -> None:
         """Starts a thread, and waits really until it runs."""
-        before, self.is_real = self.is_real, True
+        before, self._is_real = self._is_real, True
         try:
             real(thread)
         finally:
-            self.is_real = before
+            self._is_real = before
 
     def wait(self, real: Callable[..., object], condition: Any, timeout: Optional[float] = None) -> object:
         """Lets time pass until the condition is notified, or its timeout is over. Returns whether it was notified."""
-        steps = self.meter.steps
-        if self.is_real or not condition._is_owned() or steps is not None and steps.stands_aside():
+        steps = self._meter._steps
+        if self._is_real or not condition._is_owned() or steps is not None and steps.stands_aside():
             return real(condition, timeout)
         with released(condition) as waiter:
             if timeout is None or whole(timeout) >= ENDLESS:
                 return self._endless(lambda: not waiter.locked(), lambda: waiter.acquire(timeout=SLICE))
             if timeout <= 0:
-                self.idle()
-            return self.meter.until(lambda: not waiter.locked(), whole(timeout))
+                self._idle()
+            return self._meter.until(lambda: not waiter.locked(), whole(timeout))
 
     def select(self, real: Callable[..., List[object]], selector: Any, timeout: Optional[float] = None) -> List[object]:
         """Lets time pass until a file of a loop is ready, a service request was handed on, or the timeout is over."""
         loop = loop_of(selector)
         if loop is None:
             return real(selector, timeout)
-        found, handed = real(selector, timeout if timeout and shuts_executor(loop) else 0), self.meter.handed
+        found, handed = real(selector, timeout if timeout and shuts_executor(loop) else 0), self._meter._handed
 
         def ready() -> bool:
             found.extend(real(selector, 0))
-            return bool(found) or self.meter.handed != handed
+            return bool(found) or self._meter._handed != handed
 
         def ready_really() -> bool:
             found.extend(real(selector, SLICE))
@@ -126,7 +126,7 @@ class Keeper:
             self._endless(ready, ready_really, len(selector.get_map()) > 1)     # a loop has one file of its own
         else:
             rest = whole(timeout)
-            while not self.meter.until(ready, min(rest, STRIDE)) and rest > STRIDE:
+            while not self._meter.until(ready, min(rest, STRIDE)) and rest > STRIDE:
                 rest -= STRIDE
         return found
 
@@ -134,8 +134,8 @@ class Keeper:
         """Waits without a timeout: lets time pass if a service request may end the wait, and then waits for what
         else may end it, in real time. `really` does so for a short while. Returns true, or raises NeverEnds.
         """
-        meter = self.meter
-        if (meter._has_channel or meter.steps or meter.awaited) and meter.until(holds, meter.patience):
+        meter = self._meter
+        if (meter._has_channel or meter._steps or meter._awaited) and meter.until(holds, meter.patience):
             return True
         if meter._give_up():
             return True
@@ -147,7 +147,7 @@ class Keeper:
             if really():
                 return True
         raise NeverEnds("a wait without a timeout at %d ms of the meter's clock: nothing ends it, neither in the "
-                        "meter's time nor in another thread. Give it a timeout" % self.meter.clock)
+                        "meter's time nor in another thread. Give it a timeout" % self._meter.clock)
 
 
 @contextlib.contextmanager
@@ -214,7 +214,7 @@ def check_python() -> None:
 
 def reads(name: str, in_seconds: bool = True) -> Callable[..., float]:
     """What reads a clock, in seconds or in nanoseconds."""
-    def read(keeper: Keeper, _real: object) -> float:
+    def read(keeper: _Keeper, _real: object) -> float:
         nanoseconds = keeper.read(name)
         return nanoseconds / 10 ** 9 if in_seconds else nanoseconds
     return read
@@ -226,15 +226,15 @@ def replaced() -> Iterator[Tuple[object, str, Callable[..., object]]]:
         yield time, name, reads(name)
         yield time, name + "_ns", reads(name, False)
     yield time, "sleep", lambda keeper, _real, seconds: keeper.sleep(seconds)
-    yield threading.Condition, "wait", Keeper.wait
-    yield threading.Thread, "start", Keeper.start
+    yield threading.Condition, "wait", _Keeper.wait
+    yield threading.Thread, "start", _Keeper.start
     yield threading, "_time", reads("monotonic")     # these modules imported time.monotonic by another name
     yield queue, "time", reads("monotonic")
     for kind in {next(one for one in kind.__mro__ if "select" in vars(one)) for kind in KINDS}:
-        yield kind, "select", Keeper.select
+        yield kind, "select", _Keeper.select
 
 
-keepers: Dict[int, List[Keeper]] = {}       # of each thread that is within blocks; the last is of the innermost
+keepers: Dict[int, List[_Keeper]] = {}       # of each thread that is within blocks; the last is of the innermost
 guard = threading.Lock()
 put_back = contextlib.ExitStack()
 
@@ -260,7 +260,7 @@ def replace() -> None:
 @contextlib.contextmanager
 def keeping_time(meter: "Meter") -> Iterator["Meter"]:
     """Within this block, the time of the thread that enters it is the meter's: see Meter.keeping_time."""
-    thread, keeper = threading.get_ident(), Keeper(meter)
+    thread, keeper = threading.get_ident(), _Keeper(meter)
     with guard:
         if not keepers:
             replace()

@@ -55,6 +55,7 @@ class Place:
 
     @property
     def name(self) -> str:
+        """The name of the thread."""
         return self.thread.name
 
 
@@ -66,25 +67,25 @@ class LockStep:
     """The `with` block of `Meter.threads`."""
 
     def __init__(self, meter: "Meter", count: int, pick: Optional[Pick] = None) -> None:
-        self.meter, self.count = meter, count
-        self.pick = pick or self._rotating
-        self.mutex, self.free = threading.Lock(), meter.guard
-        self.owner = threading.current_thread()
-        self.places: Dict[threading.Thread, Place] = {}
-        self.last = -1                          # the number of the thread that made the last call
-        self.version = 0                        # changes that a thread that waits has to look at
-        self.over = False
-        self.broken: Optional[str] = None
-        self.raised: List[Tuple[BaseException, threading.ExceptHookArgs]] = []      # by threads
-        self.real: Tuple[Any, Any, Any] = (None, None, None)
+        self._meter, self._count = meter, count
+        self._pick = pick or self._rotating
+        self._mutex, self._free = threading.Lock(), meter._guard
+        self._owner = threading.current_thread()
+        self._places: Dict[threading.Thread, Place] = {}
+        self._last = -1                          # the number of the thread that made the last call
+        self._version = 0                        # changes that a thread that waits has to look at
+        self._over = False
+        self._broken: Optional[str] = None
+        self._raised: List[Tuple[BaseException, threading.ExceptHookArgs]] = []      # by threads
+        self._real: Tuple[Any, Any, Any] = (None, None, None)
 
     # the block
     def __enter__(self) -> "LockStep":
-        if self.meter.steps is not None:
+        if self._meter._steps is not None:
             raise RuntimeError("the meter is in a block of `threads` already")
-        self.owner = threading.current_thread()
-        self.meter.steps, self.free, self.meter.guard = self, self.meter.guard, Guard(self)
-        self.real = threading.Thread.start, threading.Thread.join, threading.excepthook
+        self._owner = threading.current_thread()
+        self._meter._steps, self._free, self._meter._guard = self, self._meter._guard, _Guard(self)
+        self._real = threading.Thread.start, threading.Thread.join, threading.excepthook
         setattr(threading.Thread, "start", self._starting(threading.Thread.start))
         setattr(threading.Thread, "join", self._joining(threading.Thread.join))
         threading.excepthook = self._except
@@ -92,38 +93,38 @@ class LockStep:
 
     def __exit__(self, kind: Optional[Type[BaseException]], fault: Optional[BaseException],
                  trace: Optional[TracebackType]) -> None:
-        own = self.places.get(self.owner)
-        left = [one for one in self.places.values() if one is not own and not self._is_done(one)]
+        own = self._places.get(self._owner)
+        left = [one for one in self._places.values() if one is not own and not self._is_done(one)]
         told = "; ".join("thread %s %s" % (one.name, self._where(one)) for one in left)
-        with self.mutex:
-            self.over = True
-            setattr(threading.Thread, "start", self.real[0])
-            setattr(threading.Thread, "join", self.real[1])
-            threading.excepthook = self.real[2]
-            self.meter.steps, self.meter.guard = None, self.free
-        first = self.raised[0][0] if kind is None and self.raised else None
+        with self._mutex:
+            self._over = True
+            setattr(threading.Thread, "start", self._real[0])
+            setattr(threading.Thread, "join", self._real[1])
+            threading.excepthook = self._real[2]
+            self._meter._steps, self._meter._guard = None, self._free
+        first = self._raised[0][0] if kind is None and self._raised else None
         shown = first or fault
-        for one, given in self.raised:
+        for one, given in self._raised:
             if one is shown or any(isinstance(one, kind) and isinstance(shown, kind) for kind in (NoAnswer, NotInStep)):
                 continue            # it is raised, or is of the same deadlock
             threading.excepthook(given)
         if first is not None:
             raise first
-        if kind is None and (left or self.broken):
-            raise NotInStep(self.broken or "threads still run at the end of the block, join them there: " + told)
+        if kind is None and (left or self._broken):
+            raise NotInStep(self._broken or "threads still run at the end of the block, join them there: " + told)
 
     def _starting(self, real: Callable[[threading.Thread], None]) -> Callable[[threading.Thread], None]:
         """What starts a thread: one that this block's thread or one of its threads starts takes part."""
         def start(thread: threading.Thread) -> None:
             here = threading.current_thread()
             place = None
-            if not self.over and (here is self.owner or here in self.places) and len(self.places) < self.count:
-                with self.mutex:
-                    place = self.places[thread] = Place(thread, len(self.places), NEW)
+            if not self._over and (here is self._owner or here in self._places) and len(self._places) < self._count:
+                with self._mutex:
+                    place = self._places[thread] = Place(thread, len(self._places), NEW)
             try:
                 real(thread)
             except BaseException:
-                self.places.pop(thread, None)
+                self._places.pop(thread, None)
                 raise
             if place is not None and place.state == NEW:
                 place.state = RUNS
@@ -132,14 +133,14 @@ class LockStep:
     def _joining(self, real: Callable[[threading.Thread, Optional[float]], None]) -> Callable[..., None]:
         """What joins a thread: the block's thread doesn't wait for ever for one that sleeps outside of the meter."""
         def join(thread: threading.Thread, timeout: Optional[float] = None) -> None:
-            if timeout is not None or threading.current_thread() is not self.owner or thread not in self.places:
+            if timeout is not None or threading.current_thread() is not self._owner or thread not in self._places:
                 real(thread, timeout)
                 return
             while thread.is_alive():
-                if self.broken is not None:
-                    raise NotInStep(self.broken)
+                if self._broken is not None:
+                    raise NotInStep(self._broken)
                 real(thread, JOINS)
-                with self.mutex:
+                with self._mutex:
                     self._look()
         return join
 
@@ -147,8 +148,8 @@ class LockStep:
         """Breaks the lock step if all threads that are left sleep outside of the meter; those that wait within look themselves. One
         thread alone may sleep as long as it likes, unless it waits for another one without a timeout.
         """
-        alive = [one for one in self.places.values() if one.thread.is_alive()]
-        if not alive or self.broken or any(one.state not in (RUNS, AWAY) for one in alive):
+        alive = [one for one in self._places.values() if one.thread.is_alive()]
+        if not alive or self._broken or any(one.state not in (RUNS, AWAY) for one in alive):
             return
         is_stuck = len(alive) > 1 or is_endless(sys._current_frames().get(alive[0].thread.ident or 0))
         if all([self._sleeps(one, STUCK) for one in alive]) and is_stuck:
@@ -157,34 +158,34 @@ class LockStep:
     def _except(self, given: threading.ExceptHookArgs) -> None:
         """Keeps what a thread raised, for the end of the block."""
         fault = given.exc_value
-        if isinstance(fault, NotInStep) or isinstance(fault, Exception) and given.thread in self.places:
-            self.raised.append((fault, given))
+        if isinstance(fault, NotInStep) or isinstance(fault, Exception) and given.thread in self._places:
+            self._raised.append((fault, given))
         else:
-            self.real[2](given)
+            self._real[2](given)
 
     # the guard of the meter
-    def acquire(self) -> None:
+    def _acquire(self) -> None:
         """Waits for the turn of this thread, unless it has it."""
         place = self._own()
         if place is not None and place.depth == 0:
             self._wait(place, READY)
-            self.version += 1
-        if place is None or self.over and place.depth == 0:
-            self.free.__enter__()
+            self._version += 1
+        if place is None or self._over and place.depth == 0:
+            self._free.__enter__()
         else:
             place.depth += 1
 
-    def release(self) -> None:
-        """Undoes one `acquire`. The turn ends when the thread comes to the meter again, ends, or waits elsewhere."""
-        place = self.places.get(threading.current_thread())
+    def _release(self) -> None:
+        """Undoes one `_acquire`. The turn ends when the thread comes to the meter again, ends, or waits elsewhere."""
+        place = self._places.get(threading.current_thread())
         if place is None or place.depth == 0:
-            self.free.__exit__(None, None, None)
+            self._free.__exit__(None, None, None)
         else:
             place.depth -= 1
 
     def stands_aside(self) -> bool:
         """Whether this thread takes no part, since others are enough: then it waits in real time."""
-        return threading.current_thread() not in self.places and len(self.places) >= self.count
+        return threading.current_thread() not in self._places and len(self._places) >= self._count
 
     def expects(self, pending: "Pending[object]") -> None:
         """Notes for which call this thread will wait."""
@@ -194,17 +195,17 @@ class LockStep:
 
     def until(self, holds: Callable[[], bool], end: int) -> bool:
         """What Meter.until does, for a thread that takes part. One that doesn't may look at what it waits for."""
-        if end <= self.meter.clock and threading.current_thread() not in self.places:
+        if end <= self._meter.clock and threading.current_thread() not in self._places:
             return holds()
         place = self._own()
         if place is None:
-            return self.meter.until(holds, max(0, end - self.meter.clock))
+            return self._meter.until(holds, max(0, end - self._meter.clock))
         place.seen = -1
         expected, place.expected = place.expected, None
         while True:
             place.end, place.pending = end, expected
             self._wait(place, WAITS)
-            if self.over:
+            if self._over:
                 break
             place.depth += 1
             try:
@@ -212,48 +213,48 @@ class LockStep:
                     self._pass(place)
                 if holds():
                     return True
-                if self.meter.clock >= end:
+                if self._meter.clock >= end:
                     return False
             finally:
                 place.depth -= 1
-            place.seen = self.version
-        return self.meter.until(holds, max(0, end - self.meter.clock))
+            place.seen = self._version
+        return self._meter.until(holds, max(0, end - self._meter.clock))
 
     def _pass(self, place: Place) -> None:
         """Lets time pass until something happens, or the first of the threads has waited for long enough."""
         place.passes = False
-        ends = [one.end for one in self.places.values() if one.state == WAITS or one is place]
-        self.meter._pass_most(min(ends) - self.meter.clock)
-        self.version += 1
+        ends = [one.end for one in self._places.values() if one.state == WAITS or one is place]
+        self._meter._pass_most(min(ends) - self._meter.clock)
+        self._version += 1
 
     def _own(self) -> Optional[Place]:
         """The place of this thread. The thread of the block takes part if it uses the meter before others are enough."""
         thread = threading.current_thread()
-        if self.over:
+        if self._over:
             return None
-        with self.mutex:
-            if thread not in self.places:
-                if len(self.places) >= self.count or thread is not self.owner:
+        with self._mutex:
+            if thread not in self._places:
+                if len(self._places) >= self._count or thread is not self._owner:
                     raise NotInStep("threads(%d): thread %s uses the meter, but %s take part" % (
-                        self.count, thread.name, " and ".join(one.name for one in self.places.values()) or "none"))
-                self.places[thread] = Place(thread, len(self.places), RUNS)
-            return self.places[thread]
+                        self._count, thread.name, " and ".join(one.name for one in self._places.values()) or "none"))
+                self._places[thread] = Place(thread, len(self._places), RUNS)
+            return self._places[thread]
 
     # turns
     def _wait(self, place: Place, state: str) -> None:
         """Waits until this thread has the turn."""
-        with self.mutex:
+        with self._mutex:
             place.state, PLACES[place.thread] = state, place
             self._choose()
         began = monotonic()
         while not place.baton.acquire(timeout=POLL):
-            with self.mutex:
-                if self.over:
+            with self._mutex:
+                if self._over:
                     return
                 self._choose()
-                if len(self.places) < self.count and monotonic() - began > 10 * ASLEEP and not self.broken:
+                if len(self._places) < self._count and monotonic() - began > 10 * ASLEEP and not self._broken:
                     self._break("threads(%d): only %s came to the meter" % (
-                        self.count, " and ".join(one.name for one in self.places.values())))
+                        self._count, " and ".join(one.name for one in self._places.values())))
         fault, place.fault = place.fault, None
         if fault is not None:
             raise fault
@@ -266,45 +267,45 @@ class LockStep:
 
     def _break(self, why: str) -> None:
         """Ends the lock step: all threads that wait raise why."""
-        self.broken = why
-        for one in self.places.values():
+        self._broken = why
+        for one in self._places.values():
             if one.state in (READY, WAITS):
                 one.fault = NotInStep(why)
                 self._give(one)
 
     def _choose(self) -> None:
         """Gives the next turn, if no thread runs."""
-        if len(self.places) < self.count and not self.broken:
+        if len(self._places) < self._count and not self._broken:
             return
-        for one in self.places.values():
+        for one in self._places.values():
             if one.state in (NEW, RUNS, AWAY) and self._moves(one):
                 return
-        waiting = [one for one in self.places.values() if one.state == WAITS]
-        ready = [one for one in self.places.values() if one.state == READY]
-        looking = [one for one in waiting if one.seen < self.version]
+        waiting = [one for one in self._places.values() if one.state == WAITS]
+        ready = [one for one in self._places.values() if one.state == READY]
+        looking = [one for one in waiting if one.seen < self._version]
         if looking:
             self._give(looking[0])
         elif ready:
-            self._give(self.pick(ready))
+            self._give(self._pick(ready))
         elif waiting and not self._is_deadlock(waiting):
             waiting[0].passes = True
             self._give(waiting[0])
 
     def _rotating(self, ready: List[Place]) -> Place:
         """The first thread after the one that made the last call."""
-        found = next((one for one in ready if one.number > self.last), ready[0])
-        self.last = found.number
+        found = next((one for one in ready if one.number > self._last), ready[0])
+        self._last = found.number
         return found
 
     def _is_deadlock(self, waiting: List[Place]) -> bool:
         """Whether nothing can end the waits of all threads. Then each of them raises NoAnswer."""
         reasons: List[str] = []
         for one in waiting:
-            why = None if one.pending is None else self.meter._hopeless(one.pending)
+            why = None if one.pending is None else self._meter._hopeless(one.pending)
             if why is None:
                 return False
             reasons.append("thread %s: %s" % (one.name, why))
-        reasons += ["thread %s %s" % (one.name, self._where(one)) for one in self.places.values() if one.state == AWAY]
+        reasons += ["thread %s %s" % (one.name, self._where(one)) for one in self._places.values() if one.state == AWAY]
         for one in waiting:
             one.fault = NoAnswer("\n".join(["no thread can go on:"] + reasons))
         self._give(waiting[0])
@@ -366,17 +367,17 @@ class LockStep:
             where, os.path.basename(frame.f_code.co_filename), frame.f_lineno, frame.f_code.co_name)
 
 
-class Guard:
+class _Guard:
     """What guards a meter in lock step: a thread has the turn from when it comes to the meter on."""
 
     def __init__(self, steps: LockStep) -> None:
-        self.steps = steps
+        self._steps = steps
 
     def __enter__(self) -> None:
-        self.steps.acquire()
+        self._steps._acquire()
 
     def __exit__(self, *_: object) -> None:
-        self.steps.release()
+        self._steps._release()
 
 
 def is_inside(frame: Optional[FrameType]) -> bool:

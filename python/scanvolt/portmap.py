@@ -29,7 +29,7 @@ ENDING = (signal.SIGINT, signal.SIGTERM, signal.SIGHUP)
 PROGRAMS = (("core", CORE, 4096), ("abort", ABORT, 4097), ("interrupt", INTERRUPT, None))
 
 
-class Fault(Exception):
+class _Fault(Exception):
     """Why it can't be done, and the command's status."""
 
     def __init__(self, text: str, status: int = 2) -> None:
@@ -68,7 +68,7 @@ def mapper(port: int) -> Channel:
     try:
         return Channel("", 0, PATIENCE, loopback(port))
     except OSError as fault:
-        raise Fault("no port mapper answers, neither at %s nor at port %d of 127.0.0.1 (%s): is rpcbind there, "
+        raise _Fault("no port mapper answers, neither at %s nor at port %d of 127.0.0.1 (%s): is rpcbind there, "
                     "and does it run?" % (LOCAL, port, fault.strerror or fault)) from None
 
 
@@ -91,20 +91,20 @@ def register(port: int, wanted: Dict[int, Tuple[str, int]]) -> List[int]:
             for program, (name, wish) in wanted.items():
                 known = channel.do(calls.getport(program, 1))
                 if known:
-                    raise Fault("somebody else has registered the %s program, %d, at port %d; whoever did can unregister it by "
+                    raise _Fault("somebody else has registered the %s program, %d, at port %d; whoever did can unregister it by "
                                 "`rpcinfo -d %d 1`" % (name, program, known, program), 1)
                 if not channel.do(calls.set_port(program, 1, wish)):
-                    raise Fault("the port mapper refuses port %d of the %s program: run this as root" % (wish, name))
+                    raise _Fault("the port mapper refuses port %d of the %s program: run this as root" % (wish, name))
                 made.append(program)
-    except (Fault, RpcError, OSError) as fault:
+    except (_Fault, RpcError, OSError) as fault:
         take_back(port, made)
-        raise fault if isinstance(fault, Fault) else told(fault) from None
+        raise fault if isinstance(fault, _Fault) else told(fault) from None
     return made
 
 
-def told(fault: Exception) -> Fault:
+def told(fault: Exception) -> _Fault:
     """The fault to raise if a call to the port mapper failed."""
-    return Fault("the port mapper doesn't answer as one: %s" % fault)
+    return _Fault("the port mapper doesn't answer as one: %s" % fault)
 
 
 def take_back(port: int, made: List[int]) -> None:
@@ -115,7 +115,7 @@ def take_back(port: int, made: List[int]) -> None:
         with mapper(port) as channel:
             for program in made:
                 if not channel.do(calls.unset_port(program, 1)):
-                    raise Fault("the port mapper knows no port of program %d any more" % program)
+                    raise _Fault("the port mapper knows no port of program %d any more" % program)
     except (RpcError, OSError) as fault:
         raise told(fault) from None
 
@@ -130,7 +130,7 @@ def main(given_words: Optional[List[str]] = None) -> int:
         print("ready: " + ", ".join("%s %d" % pair for pair in wanted.values()), flush=True)
         signal.sigwait(ENDING)
         take_back(given.port, made)
-    except Fault as fault:
+    except _Fault as fault:
         print("%s: %s" % (NAME, fault), file=sys.stderr)
         return fault.status
     return 0

@@ -107,45 +107,45 @@ def in_a_line(data: bytes) -> str:
     return text if len(text) <= SHOWN_MOST else text[:SHOWN_MOST] + ".."
 
 
-class Heard:
+class _Heard:
     """What a program printed and wrote to standard error until it was `enough`, it ended, or the time was over."""
 
     def __init__(self, process: "subprocess.Popen[bytes]", seconds: float, enough: Callable[[bytes], bool]) -> None:
         assert process.stdout is not None and process.stderr is not None
         self.process = process
-        self.out, self.err = process.stdout.fileno(), process.stderr.fileno()
-        self.told: Dict[int, bytes] = {self.out: b"", self.err: b""}
-        self.open: Set[int] = {self.out, self.err}
+        self._out, self._err = process.stdout.fileno(), process.stderr.fileno()
+        self._told: Dict[int, bytes] = {self._out: b"", self._err: b""}
+        self._open: Set[int] = {self._out, self._err}
         until = time.monotonic() + seconds
-        while self.out in self.open and not enough(self.told[self.out]) and self._more(until):
+        while self._out in self._open and not enough(self._told[self._out]) and self._more(until):
             pass
-        self.late = self.out in self.open and not enough(self.told[self.out])
-        if not self.late and not enough(self.told[self.out]):       # its output ended; so should it
+        self.late = self._out in self._open and not enough(self._told[self._out])
+        if not self.late and not enough(self._told[self._out]):       # its output ended; so should it
             until = time.monotonic() + 1
-            while self.open and self._more(until):
+            while self._open and self._more(until):
                 pass
-        self.printed = self.told[self.out]
+        self.printed = self._told[self._out]
 
     def _more(self, until: float) -> bool:
         """Waits until a program prints something. Returns whether it did, or ended, by this time."""
         poll = select.poll()
-        for number in self.open:
+        for number in self._open:
             poll.register(number, select.POLLIN)
         ready = poll.poll(max(0.0, 1000 * (until - time.monotonic())))
         for number, _ in ready:
             piece = os.read(number, 65536)
-            self.told[number] = (self.told[number] + piece)[:HEARD_MOST]
+            self._told[number] = (self._told[number] + piece)[:HEARD_MOST]
             if not piece:
-                self.open.discard(number)
+                self._open.discard(number)
         return bool(ready)
 
     def text(self) -> str:
         """What it wrote to standard error, or else what it printed, in one line."""
-        return in_a_line(self.told[self.err] or self.printed)
+        return in_a_line(self._told[self._err] or self.printed)
 
     def ended(self) -> str:
         """How it ended. If it only closed its output, kills it."""
-        if self.open:
+        if self._open:
             self.process.kill()
         status = self.process.wait()
         return "it ended by signal %d" % -status if status < 0 else "it ended with status %d" % status
@@ -181,7 +181,7 @@ def _unlike(path: str) -> str:
             tied.process.stdin.close()
         except BrokenPipeError:
             pass
-        heard = Heard(tied.process, PATIENCE, lambda printed: not ANSWER.startswith(printed))
+        heard = _Heard(tied.process, PATIENCE, lambda printed: not ANSWER.startswith(printed))
         if heard.late:
             return "it says nothing for %g s" % PATIENCE
         if not ANSWER.startswith(heard.printed):
@@ -204,7 +204,7 @@ class Server:
     can't be read, or the record can't be written.
     """
 
-    sweeps = SWEEPS
+    _sweeps = SWEEPS
 
     def __init__(self, scenario: Optional[Name] = None, program: Optional[Name] = None, *, record: Union[None, bool, Name] = None,
                  control: bool = False, ports: Optional[Sequence[int]] = None) -> None:
@@ -276,7 +276,7 @@ class Server:
             except Taken as fault:
                 raise ProgramError(str(fault)) from None
             roles = dict(zip(self._roles, ports))
-            tied = started(serve_command(self.program, self.scenario, str(self.sweeps), roles, self.record))
+            tied = started(serve_command(self.program, self.scenario, str(self._sweeps), roles, self.record))
             try:
                 told = self._told(tied.process, "ready %s\n" % " ".join(map(str, ports)))
             except BaseException:
@@ -296,7 +296,7 @@ class Server:
     def _told(self, process: "subprocess.Popen[bytes]", ready: str) -> str:
         """Waits until a program prints that it is ready. Returns what it tells instead, or else nothing."""
         patience = PATIENCE + self._size() / READING
-        heard = Heard(process, patience, lambda printed: b"\n" in printed)
+        heard = _Heard(process, patience, lambda printed: b"\n" in printed)
         if heard.printed == ready.encode():
             return ""
         if heard.late:

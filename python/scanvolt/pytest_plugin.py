@@ -63,7 +63,7 @@ def pytest_addoption(parser: pytest.Parser) -> None:
 
 def _begun(item: pytest.Item) -> None:
     """Notes where each meter is before a test, and how many faults each relay has told."""
-    item.stash[BEFORE] = {number: one.replay.moment() for number, one in METERS.items()}
+    item.stash[BEFORE] = {number: one._replay.moment() for number, one in METERS.items()}
     item.stash[RELAYED_BEFORE] = {number: len(one.told) for number, one in RELAYS.items()}
 
 
@@ -74,7 +74,7 @@ def _reported(item: pytest.Item) -> Generator[None, Any, None]:
     before: Dict[int, Moment] = item.stash.get(BEFORE, {})
     if not report.failed:
         return
-    used = [one for number, one in sorted(METERS.items()) if before.get(number) != one.replay.moment()]
+    used = [one for number, one in sorted(METERS.items()) if before.get(number) != one._replay.moment()]
     for place, meter in enumerate(used[:SECTIONS], 1):
         name = item.nodeid + ("" if place == 1 else "_%d" % place)
         report.sections.append((SECTION, told(functools.partial(_of_meter, item, meter, name))))

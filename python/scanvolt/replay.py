@@ -45,29 +45,29 @@ class Program:
     """A running program. It ends when it is closed, when this object is collected, and when Python ends, even by SIGKILL."""
 
     def __init__(self, path: str) -> None:
-        self.path, self.owner = path, os.getpid()
-        self.tied = started([path, "replay"], subprocess.PIPE, 0)
-        self.process, self.close = self.tied.process, self.tied.end
+        self._path, self._owner = path, os.getpid()
+        self._tied = started([path, "replay"], subprocess.PIPE, 0)
+        self.process, self.close = self._tied.process, self._tied.end
         assert self.process.stdin is not None and self.process.stdout is not None
-        self.source, self.target = self.process.stdout.fileno(), self.process.stdin.fileno()
-        os.set_blocking(self.target, False)
-        self.printed, self.room = select.poll(), select.poll()
-        self.printed.register(self.source, select.POLLIN)
-        self.room.register(self.source, select.POLLIN)
-        self.room.register(self.target, select.POLLOUT)
+        self._source, self._target = self.process.stdout.fileno(), self.process.stdin.fileno()
+        os.set_blocking(self._target, False)
+        self._printed, self._room = select.poll(), select.poll()
+        self._printed.register(self._source, select.POLLIN)
+        self._room.register(self._source, select.POLLIN)
+        self._room.register(self._target, select.POLLOUT)
 
     def ask(self, lines: bytes, probes: int = 1) -> bytes:
         """Writes lines, `probes` of which are probes, the last line too. Returns what they print, up to the
         answer to the last probe.
         """
-        if os.getpid() != self.owner:
+        if os.getpid() != self._owner:
             raise ProgramError(FORKED)
         if not self.close.alive:
             raise ProgramError("the program was ended before")
         try:
             found = self._write(lines)
             while not (found.endswith(SEEN) and found.count(SEEN) == probes):
-                found += self._read(self.printed)
+                found += self._read(self._printed)
             return bytes(found)
         except BaseException:
             self.close()
@@ -78,29 +78,29 @@ class Program:
         found = bytearray()
         while lines:
             try:
-                lines = lines[os.write(self.target, lines):]
+                lines = lines[os.write(self._target, lines):]
             except BlockingIOError:
-                if self._waits(self.room):
-                    found += self._read(self.printed)
+                if self._waits(self._room):
+                    found += self._read(self._printed)
             except BrokenPipeError:
-                raise self.fault() from None
+                raise self._fault() from None
         return found
 
     def _waits(self, poll: select.poll) -> bool:
         """Waits until the pipes can be read or written. Returns whether there is something to read."""
         ready = poll.poll(1000 * PATIENCE)
         if not ready:
-            raise ProgramError("the program says nothing for %g s: %s" % (PATIENCE, self.path))
-        return any(one == self.source for one, _ in ready)
+            raise ProgramError("the program says nothing for %g s: %s" % (PATIENCE, self._path))
+        return any(one == self._source for one, _ in ready)
 
     def _read(self, poll: select.poll) -> bytes:
         self._waits(poll)
-        data = os.read(self.source, 65536)
+        data = os.read(self._source, 65536)
         if not data:
-            raise self.fault()
+            raise self._fault()
         return data
 
-    def fault(self) -> ProgramError:
+    def _fault(self) -> ProgramError:
         """The exception that says why the program ended: what it wrote to standard error, or its status."""
         assert self.process.stderr is not None
         told = b""
@@ -132,7 +132,7 @@ class Replay:
         self.path = path
         self.log: Optional[List[bytes]] = []        # all lines that were executed; None if they became too many
         self.size = 0                               # how many bytes they have
-        self.since = 0                              # milliseconds that passed after the last of them
+        self._since = 0                              # milliseconds that passed after the last of them
         self.checksum = 0                           # of all that was printed
         check_fits(path)
         self.program = Program(path)
@@ -148,7 +148,7 @@ class Replay:
 
     def moment(self) -> Moment:
         """Where the session is: how many entries its log has, and how many milliseconds passed after them."""
-        return len(self.log or ()), self.since
+        return len(self.log or ()), self._since
 
     def script(self, moment: Optional[Moment] = None) -> Sequence[str]:
         """The lines of a script that repeats the session, until now or until a moment of it. Raises ProgramError if it became
@@ -165,7 +165,7 @@ class Replay:
         for start in range(0, milliseconds, LONGEST_ASK):
             passed = min(LONGEST_ASK, milliseconds - start)
             found += self._kept(b"", self.program.ask(ticks(passed) + PROBE)[:-len(SEEN)])
-            self.since += passed
+            self._since += passed
         return found
 
     def seek(self, most: int) -> Tuple[int, bytes]:
@@ -186,9 +186,9 @@ class Replay:
         """Notes the lines that were executed, and the checksum of what they printed. Returns what they printed."""
         self.checksum = zlib.crc32(found, self.checksum)
         if self.log is not None and lines:
-            self.log += [ticks(self.since), lines] if self.since else [lines]
+            self.log += [ticks(self._since), lines] if self._since else [lines]
             self.size += len(lines)
-            self.since = 0
+            self._since = 0
             if self.size > LOG_MOST:
                 self.log = None
         return found
@@ -198,9 +198,9 @@ class Replay:
         for passed in range(1, most + 1):
             found = self.program.ask(b"tick\n" + PROBE)
             if found != SEEN:
-                self.since += passed
+                self._since += passed
                 return passed, self._kept(b"", found[:-len(SEEN)])
-        self.since += most
+        self._since += most
         return most, b""
 
     def _cells(self, most: int, cell: int) -> Tuple[int, bytes, int]:
@@ -217,10 +217,10 @@ class Replay:
         quiet = next((place for place, part in enumerate(parts) if part), len(lengths))
         passed = sum(lengths[:quiet])
         if quiet == len(lengths):
-            self.since += passed
+            self._since += passed
             return passed, b"", min(2 * cell, LAST_CELL)
         if quiet == len(lengths) - 1 and lengths[quiet] == 1:
-            self.since += passed + 1
+            self._since += passed + 1
             return passed + 1, self._kept(b"", parts[quiet]), cell
         self._begin_again(passed)
         return passed, b"", 1 if cell <= STEPS else cell // CELLS
@@ -229,7 +229,7 @@ class Replay:
         """Replaces the program by a second one, at the same moment or `further` milliseconds later."""
         self.program.close()
         self.program = Program(self.path)
-        self.since += further
+        self._since += further
         self._play_again()
 
     def repeat(self, other: "Replay") -> None:
@@ -237,14 +237,14 @@ class Replay:
         session became too long to be kept.
         """
         other.script()
-        self.log, self.size, self.since, self.checksum = list(other.log or ()), other.size, other.since, other.checksum
+        self.log, self.size, self._since, self.checksum = list(other.log or ()), other.size, other._since, other.checksum
         self._play_again()
 
     def _play_again(self) -> None:
         """Gives a program that was just started the lines of the session."""
         assert self.log is not None
         checksum = 0
-        for piece in pieces(b"".join(self.log) + ticks(self.since)):
+        for piece in pieces(b"".join(self.log) + ticks(self._since)):
             checksum = zlib.crc32(self.program.ask(piece + PROBE)[:-len(SEEN)], checksum)
         if checksum != self.checksum:
             raise ProgramError("a second program prints otherwise: %s" % self.path)

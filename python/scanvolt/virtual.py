@@ -80,23 +80,23 @@ class Meter:
                  patience: int = PATIENCE, call_time: int = 0) -> None:
         self.patience, self.call_time = patience, call_time
         entries = [] if scenario is None else read_scenario(scenario)
-        self.ahead: Deque[Entry] = collections.deque(entries)
+        self._ahead: Deque[Entry] = collections.deque(entries)
         self.clock = 0                  # milliseconds since the instrument was turned on
         self.dials = True               # whether the dialing of an interrupt channel succeeds
-        self.sent = self.handed = 0     # calls that were sent, and service requests that were handed on
-        self.connections: Dict[int, Connection] = {}
-        self.deliveries: "Deque[Callable[[], object]]" = collections.deque()
+        self._sent = self._handed = 0     # calls that were sent, and service requests that were handed on
+        self.connections: Dict[int, Connection] = {}        # those that are open, by number
+        self._deliveries: "Deque[Callable[[], object]]" = collections.deque()
         self.faults = Faults(self)      # faults on order
-        self.awaited: Dict[int, Awaited] = {}       # calls of tasks of asyncio
-        self.guard: ContextManager[object] = threading.RLock()
-        self.steps: Optional[LockStep] = None       # the block of `threads` that there is
-        self.twins = Twins()                        # of the meter from which this one was forked
-        self.ended: Optional[Exception] = None      # why the meter is off
-        self.replay = Replay(find_program() if program is None else str(program))
+        self._awaited: Dict[int, Awaited] = {}       # calls of tasks of asyncio
+        self._guard: ContextManager[object] = threading.RLock()
+        self._steps: Optional[LockStep] = None       # the block of `threads` that there is
+        self._twins = Twins()                        # of the meter from which this one was forked
+        self._ended: Optional[Exception] = None      # why the meter is off
+        self._replay = Replay(find_program() if program is None else str(program))
         METERS[next(_numbers)] = self
         for tell in STARTED:
             tell(self)
-        with self.guard:
+        with self._guard:
             self._play()
 
     def __repr__(self) -> str:
@@ -108,7 +108,7 @@ class Meter:
     @property
     def is_open(self) -> bool:
         """Whether the program runs: it wasn't ended on this side, nor found to have ended."""
-        return self.replay.program.close.alive
+        return self._replay.program.close.alive
 
     def __enter__(self) -> "Meter":
         return self
@@ -118,7 +118,7 @@ class Meter:
 
     def close(self) -> None:
         """Turns the instrument off: its connections and its program end."""
-        with self.guard:
+        with self._guard:
             self._end(ConnectionError("the meter is closed: its `with` block ended, or `close` was called"))
 
     def connect(self, role: str = "core") -> Connection:
@@ -128,7 +128,7 @@ class Meter:
         """
         if role not in ROLES:
             raise ValueError("no role of a connection: %r" % role)
-        with self.guard:
+        with self._guard:
             number = next((place for place in range(PLACES) if place not in self.connections), None)
             if number is None:
                 raise ConnectionError("all %d connections of the meter are taken" % PLACES)
@@ -140,7 +140,7 @@ class Meter:
         """Ends a connection: its links end, and its calls that wait get no reply, but raise this. If the program ended
         before, nothing is left to do.
         """
-        with self.guard:
+        with self._guard:
             if not connection.is_open:
                 return
             self._gone(connection, reason or ConnectionError("the connection was closed"))
@@ -152,7 +152,7 @@ class Meter:
         """Ends the interrupt channel of a connection, as if it had failed."""
         if not connection.has_channel:
             raise ValueError("the connection has no interrupt channel")
-        with self.guard:
+        with self._guard:
             connection.has_channel = False
             self._perform(b"close i%d\n" % connection.number)
 
@@ -162,13 +162,13 @@ class Meter:
 
         A float is rounded to the nearest microvolt.
         """
-        with self.guard:
+        with self._guard:
             self._perform(input_line(channel, volts))
             self._deliver()
 
     def external(self) -> None:
         """Gives the external trigger."""
-        with self.guard:
+        with self._guard:
             self._perform(b"external\n")
             self._deliver()
 
@@ -179,10 +179,10 @@ class Meter:
     def until(self, holds: Callable[[], bool], most: int) -> bool:
         """Lets time pass until this holds, but at most this many milliseconds. Returns whether it holds then."""
         end = self.clock + checked(most, "until")
-        if self.steps is not None:
-            return self.steps.until(holds, end)
+        if self._steps is not None:
+            return self._steps.until(holds, end)
         while True:
-            with self.guard:
+            with self._guard:
                 if holds():
                     return True
                 if self.clock >= end:
@@ -192,23 +192,23 @@ class Meter:
     @contextlib.contextmanager
     def _awaiting(self, pending: "Pending[Value]", awake: Callable[[Optional[Exception]], None]) -> Iterator[None]:
         """Within this block, `awake` is called when a call is answered, with None, or with NoAnswer if that can't be."""
-        self.awaited[id(pending)] = pending, awake
+        self._awaited[id(pending)] = pending, awake
         try:
             yield
         finally:
-            self.awaited.pop(id(pending), None)
+            self._awaited.pop(id(pending), None)
 
     def _answered(self, pending: Pending[object]) -> None:
         """Says that a call was answered, or ended."""
-        found = self.awaited.pop(id(pending), None)
+        found = self._awaited.pop(id(pending), None)
         if found is not None:
-            self.handed += 1
+            self._handed += 1
             found[1](None)
 
     def _give_up(self) -> bool:
         """Ends the waits of tasks of asyncio for calls that can't be answered. Returns whether there were any."""
-        with self.guard:
-            awaited, self.awaited = self.awaited, {}
+        with self._guard:
+            awaited, self._awaited = self._awaited, {}
             for pending, awake in awaited.values():
                 awake(NoAnswer(self._hopeless(pending) or "%s waits for more than %d ms of virtual time" % (
                     pending.call.name, self.patience)))
@@ -236,10 +236,10 @@ class Meter:
         become too long to be kept.
         """
         from .explaining.explanation import Explanation
-        with self.guard:
-            script = self.replay.script()
+        with self._guard:
+            script = self._replay.script()
             faults = list(self.faults.told)
-        return Explanation(script, self.replay.path, faults=faults)
+        return Explanation(script, self._replay.path, faults=faults)
 
     def threads(self, count: int, seed: Optional[int] = None) -> LockStep:
         """Makes threads that use the meter go in lock step, in this `with` block: so many, which are those that are started
@@ -278,13 +278,13 @@ class Meter:
         """What a connection, a link, or a call that waits, of the meter from which this one was forked, is here. Raises
         ValueError if it wasn't there at the fork.
         """
-        return self.twins.of(one)
+        return self._twins.of(one)
 
     def _hopeless(self, pending: "Pending[object]") -> Optional[str]:
         """Why a call can't be answered, since nothing is due within the meter's patience; None if it may be. It isn't asked
         if the patience is short, or if the call's timeouts are. No other thread may use the meter meanwhile.
         """
-        first = pending.connection.pending[0] if pending.connection.pending else pending
+        first = pending.connection._pending[0] if pending.connection._pending else pending
         if self.patience <= SHORT or first.call.wait <= self.patience:
             return None
         from .explaining import meters
@@ -297,14 +297,14 @@ class Meter:
 
     def _pass_most(self, most: int) -> None:
         """Lets at most this many milliseconds pass, and no more than up to the first at which something happens."""
-        if self.ahead:
-            most = min(most, self.ahead[0].clock - self.clock)
+        if self._ahead:
+            most = min(most, self._ahead[0].clock - self.clock)
         most = self.faults._at_most(most)
         if self._is_quiet():
-            passed, printed = most, self._asked(lambda: self.replay.pass_time(most))
+            passed, printed = most, self._asked(lambda: self._replay.pass_time(most))
         else:
             most = min(most, self._next_deadline(most))
-            passed, printed = self._asked(lambda: self.replay.seek(most))
+            passed, printed = self._asked(lambda: self._replay.seek(most))
         self.clock += passed
         self._take(printed)
         self.faults._come()
@@ -313,29 +313,29 @@ class Meter:
 
     def _send(self, connection: Connection, pending: Pending[object]) -> None:
         """Sends a call on a connection."""
-        with self.guard:
+        with self._guard:
             connection.check_open()
             record = pending.call.encode(pending.xid)
-            self.sent += 1
+            self._sent += 1
             ended = self.faults._before(pending)
-            connection.pending.append(pending)
+            connection._pending.append(pending)
             if ended is not None:
                 self.drop(connection, ended)
                 return
-            first = len(connection.pending) == 1
-            lines = b"" if pending.made else b"bytes %d %s\n" % (connection.number, record.hex().encode())
+            first = len(connection._pending) == 1
+            lines = b"" if pending._made else b"bytes %d %s\n" % (connection.number, record.hex().encode())
             lines += self._turn(connection) if first else b""
             if lines and 4 in self._perform(lines):
-                connection.pending.remove(pending)
+                connection._pending.remove(pending)
                 raise ConnectionError("there is no room for a further call of the connection")
             self._deliver()
 
     def _asked(self, question: Callable[[], Value]) -> Value:
         """Asks the program. If that fails or is interrupted, the meter is closed."""
-        if isinstance(self.ended, ProgramError):
-            raise ProgramError("the program was ended before: %s" % self.ended)
-        if self.ended is not None:
-            raise ConnectionError(str(self.ended))
+        if isinstance(self._ended, ProgramError):
+            raise ProgramError("the program was ended before: %s" % self._ended)
+        if self._ended is not None:
+            raise ConnectionError(str(self._ended))
         try:
             return question()
         except ProgramError as fault:
@@ -347,32 +347,32 @@ class Meter:
 
     def _is_quiet(self) -> bool:
         """Whether nothing can be printed while time passes."""
-        return not any(one.pending or one.has_channel for one in self.connections.values())
+        return not any(one._pending or one.has_channel for one in self.connections.values())
 
     def _next_deadline(self, most: int) -> int:
         """How many milliseconds remain to the next timeout of a call that waits."""
-        waiting = [one.pending[0] for one in self.connections.values() if one.pending]
-        ends = [one.turned + one.call.wait - self.clock for one in waiting if one.turned is not None]
+        waiting = [one._pending[0] for one in self.connections.values() if one._pending]
+        ends = [one._turned + one.call.wait - self.clock for one in waiting if one._turned is not None]
         return min([end for end in ends if end > 0], default=most)
 
     def _play(self) -> None:
         """Executes the entries of the scenario for this millisecond."""
-        while self.ahead and self.ahead[0].clock <= self.clock:
-            self._perform(self.ahead.popleft().line)
+        while self._ahead and self._ahead[0].clock <= self.clock:
+            self._perform(self._ahead.popleft().line)
 
     def _turn(self, connection: Connection) -> bytes:
         """The lines that make the instrument take the first call of a connection, and dial if the call asks for that.
         Calls before it that a fault on order answers are done then.
         """
-        while connection.pending and connection.pending[0].made is not None:
-            pending = connection.pending.popleft()
-            pending.turned, body = self.clock, pending.made or b""
+        while connection._pending and connection._pending[0]._made is not None:
+            pending = connection._pending.popleft()
+            pending._turned, body = self.clock, pending._made or b""
             if not self.faults._comes_later(pending, body):
                 pending._end(self.clock, body)
-        if not connection.pending:
+        if not connection._pending:
             return b""
-        pending = connection.pending[0]
-        pending.turned = self.clock
+        pending = connection._pending[0]
+        pending._turned = self.clock
         lines = b"turn %d\n" % connection.number
         if pending.call.program == calls.CORE and pending.call.procedure == calls.CREATE_INTR_CHAN:
             lines += b"dialed %d %s\n" % (connection.number, b"ok" if self.dials else b"failed")
@@ -380,7 +380,7 @@ class Meter:
 
     def _perform(self, lines: bytes) -> List[int]:
         """Executes events. Returns the reasons of those that were refused. Calls after answered ones are taken."""
-        return self._take(self._asked(lambda: self.replay.do(lines)))
+        return self._take(self._asked(lambda: self._replay.do(lines)))
 
     def _take(self, printed: bytes) -> List[int]:
         """Handles what was printed, and lets the instrument take further calls. Returns the reasons of refused events."""
@@ -393,13 +393,13 @@ class Meter:
                     refused.append(int(said))
                 else:
                     self._came(name, bytes.fromhex(said.decode()), answered)
-            lines = self._cut() + b"".join(self._turn(one) for one in answered if one.pending)
-            printed = self._asked(lambda: self.replay.do(lines)) if lines else b""
+            lines = self._cut() + b"".join(self._turn(one) for one in answered if one._pending)
+            printed = self._asked(lambda: self._replay.do(lines)) if lines else b""
         return refused
 
     def _cut(self) -> bytes:
         """The lines that end the connections that a fault on order cut."""
-        cut, self.faults.cut = self.faults.cut, []
+        cut, self.faults._cut = self.faults._cut, []
         for connection, reason in cut:
             self._gone(connection, reason)
         return b"".join(b"close c%d\n" % connection.number for connection, _ in cut)
@@ -410,14 +410,14 @@ class Meter:
         if connection is None:
             return
         if port[:1] == b"i":
-            for request in connection.requests.stream.push(data, self.clock):
+            for request in connection.requests._stream.push(data, self.clock):
                 if not self.faults._loses(connection, request):
-                    self.deliveries.append(functools.partial(self._hand, connection, request))
+                    self._deliveries.append(functools.partial(self._hand, connection, request))
             return
-        for record in connection.records.push(data):
-            if not connection.pending:
+        for record in connection._records.push(data):
+            if not connection._pending:
                 raise ProgramError("a reply that nobody waits for: %s" % record.body.hex())
-            self._answer(connection, connection.pending.popleft(), record.body)
+            self._answer(connection, connection._pending.popleft(), record.body)
             answered.append(connection)
 
     def _answer(self, connection: Connection, pending: Pending[object], body: bytes) -> None:
@@ -427,14 +427,14 @@ class Meter:
         if pending.call.program == calls.CORE and body[4:] == vxi11.words(1, 0, 0, 0, 0, 0):
             if pending.call.procedure == calls.CREATE_INTR_CHAN:
                 connection.has_channel = True
-                connection.requests.stream = RequestStream()
+                connection.requests._stream = RequestStream()
             elif pending.call.procedure == calls.DESTROY_INTR_CHAN:
                 connection.has_channel = False
 
     def _end(self, reason: Exception) -> None:
         """Ends the program, and all connections. The first reason is kept."""
-        self.ended = self.ended or reason
-        self.replay.close()
+        self._ended = self._ended or reason
+        self._replay.close()
         for connection in list(self.connections.values()):
             self._gone(connection, reason)
 
@@ -442,14 +442,14 @@ class Meter:
         """Ends a connection on this side: its calls end with this exception."""
         connection.is_open = connection.has_channel = False
         self.connections.pop(connection.number, None)
-        for pending in connection.pending:
+        for pending in connection._pending:
             pending._end(self.clock, fault=reason)
-        connection.pending.clear()
+        connection._pending.clear()
         self.faults._gone(connection, reason)
 
     def _hand(self, connection: Connection, request: ServiceRequest) -> None:
         """Hands on a service request."""
-        self.handed += 1
+        self._handed += 1
         if connection.requests.callback is None:
             connection.requests.queue.put(request)
         else:
@@ -457,5 +457,5 @@ class Meter:
 
     def _deliver(self) -> None:
         """Hands on the service requests that came. A callback may make calls, during which more of them come."""
-        while self.deliveries:
-            self.deliveries.popleft()()
+        while self._deliveries:
+            self._deliveries.popleft()()

@@ -29,23 +29,23 @@ class VisaMeter:
 
     def __init__(self, backend: str, options: Dict[str, Any], monkeypatch: "pytest.MonkeyPatch", folder: pathlib.Path) -> None:
         self.backend = backend
-        self.names: Dict[str, str] = dict(options.pop("names", None) or {})
-        self.ends = contextlib.ExitStack()
+        self._names: Dict[str, str] = dict(options.pop("names", None) or {})
+        self._ends = contextlib.ExitStack()
         self.server: Optional[Server] = None
         self._meter: Optional[Meter] = None
         try:
             own = self._virtual(options, monkeypatch, folder) if backend == "virtual" else self._sockets(options, monkeypatch)
-            self.name = next(iter(self.names), own)
+            self.name = next(iter(self._names), own)
             self.resource = self.open()
         except BaseException:
-            self.ends.close()
+            self._ends.close()
             raise
 
     def __enter__(self) -> "VisaMeter":
         return self
 
     def __exit__(self, kind: Optional[Type[BaseException]], *_: object) -> None:
-        self.ends.close()
+        self._ends.close()
 
     @property
     def meter(self) -> Meter:
@@ -64,18 +64,18 @@ class VisaMeter:
     def _manage(self) -> None:
         import pyvisa
         self.manager = pyvisa.ResourceManager()
-        self.ends.callback(self.manager.close)
+        self._ends.callback(self.manager.close)
 
     def _virtual(self, options: Dict[str, Any], monkeypatch: "pytest.MonkeyPatch", folder: pathlib.Path) -> str:
         """An instrument in virtual time, whose settings are in a file. Returns its name."""
         from pyvisa_scanvolt.settings import written
         path = folder / "settings"
-        path.write_text(written(self.names, **options), encoding="utf-8")
+        path.write_text(written(self._names, **options), encoding="utf-8")
         monkeypatch.setenv("PYVISA_LIBRARY", "%s@scanvolt" % path)
         self._manage()
         library: Any = self.manager.visalib
-        meter: Meter = library.meter(next(iter(self.names), VIRTUAL))
-        self.ends.enter_context(meter.keeping_time())
+        meter: Meter = library.meter(next(iter(self._names), VIRTUAL))
+        self._ends.enter_context(meter.keeping_time())
         self._meter = meter
         return VIRTUAL
 
@@ -87,12 +87,12 @@ class VisaMeter:
         rpc = importlib.import_module("pyvisa_py.protocols.rpc")
         from pyvisa_scanvolt.settings import Settings
         settings = Settings()
-        if len({host.lower() for host in self.names.values()}) > 1:
+        if len({host.lower() for host in self._names.values()}) > 1:
             raise ValueError("on sockets there is one instrument, and the names are of several: %s" % ", ".join(
-                sorted(set(self.names.values()))))
-        for name, host in {VIRTUAL: "scanvolt", **self.names}.items():
+                sorted(set(self._names.values()))))
+        for name, host in {VIRTUAL: "scanvolt", **self._names}.items():
             settings.add(name, host)
-        self.server = self.ends.enter_context(Server(options.get("scenario"), record=True, control=True))
+        self.server = self._ends.enter_context(Server(options.get("scenario"), record=True, control=True))
         monkeypatch.setattr(rpc, "PMAP_PORT", self.server.port_mapper)
         monkeypatch.setenv("PYVISA_LIBRARY", "@py")
         real = pyvisa.ResourceManager.open_resource

@@ -182,13 +182,13 @@ def replies(meter: Meter) -> None:
             attempt()
         except (DeviceError, RpcError):
             pass
-    meter.replay.do(b"open 9 core\n")
+    meter._replay.do(b"open 9 core\n")
     null = calls.null().encode(1)
     for data, taken in ((calls.create_link().encode(1), "refuse"), (encode_call(2, calls.CORE, 2, calls.NULL), "turn"),
                         (encode_call(3, calls.CORE, 1, 99), "turn"), (encode_call(4, 5, 1, 1), "turn"),
                         (encode_call(5, calls.CORE, 1, calls.DEVICE_READSTB, b"abc"), "turn"),
                         (null[:12] + words(3) + null[16:], "turn"), (record(b"no call"), "turn")):
-        meter.replay.do(b"bytes 9 %s\n%s 9\n" % (data.hex().encode(), taken.encode()))
+        meter._replay.do(b"bytes 9 %s\n%s 9\n" % (data.hex().encode(), taken.encode()))
     meter.dials = False
     try:
         second.listen()
@@ -209,7 +209,7 @@ def script_of(name: str) -> Sequence[str]:
     """The script of a session."""
     with Meter() as meter:
         SESSIONS[name](meter)
-        return meter.replay.script()
+        return meter._replay.script()
 
 
 @functools.lru_cache(None)

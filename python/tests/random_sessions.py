@@ -32,7 +32,7 @@ class Session:
             for _ in range(count):
                 self.act()
             self.leave()
-            self.script: Sequence[str] = self.meter.replay.script()
+            self.script: Sequence[str] = self.meter._replay.script()
 
     def act(self) -> None:
         """Does something. An error of the instrument is part of the session."""

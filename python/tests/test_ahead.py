@@ -71,7 +71,7 @@ class Session:
                 self.told.append("no answer")
             self.told.append(self.meter.clock)
         self.meter.advance(3000)
-        return self.told + [(one.clock, one.body) for one in self.pending]
+        return self.told + [(one.clock, one._body) for one in self.pending]
 
 
 def told(seed: int) -> List[object]:

@@ -111,7 +111,7 @@ class Sockets(unittest.TestCase):
             await link.write("*CLS;*SRE 0")
             if is_closed:
                 await client.close()
-                self.assertEqual((client.carriers, asyncio.all_tasks()), (set(), {asyncio.current_task()}))
+                self.assertEqual((client._carriers, asyncio.all_tasks()), (set(), {asyncio.current_task()}))
 
         faults: List[object] = []
         with warnings.catch_warnings():

@@ -162,8 +162,8 @@ class Sessions(Served):
         self.assertRaises(TimeoutError, requests.wait, 50)
         self.client.destroy_intr_chan()
         self.error(6, self.client.destroy_intr_chan)
-        requests.thread.join(5)
-        self.assertFalse(requests.thread.is_alive())
+        requests._thread.join(5)
+        self.assertFalse(requests._thread.is_alive())
 
     def test_a_callback_may_call(self) -> None:
         """The callback makes a call over the same connection."""

@@ -180,7 +180,7 @@ class Reports(unittest.TestCase):
         with tempfile.TemporaryDirectory() as folder, Meter() as meter:
             meter.connect().create_link().write("*RST")
             path, bad = pathlib.Path(folder, "session.replay"), pathlib.Path(folder, "bad.replay")
-            path.write_text("\n".join(meter.replay.script()) + "\n")
+            path.write_text("\n".join(meter._replay.script()) + "\n")
             bad.write_text("nonsense\n")
             status, text = self.run_with(str(path), str(path), "--all")
             self.assertEqual((status, "       2  *RST\n" in text), (0, True))

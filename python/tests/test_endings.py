@@ -104,7 +104,7 @@ class InVirtualTime(unittest.TestCase):
             yield link
 
     def kill(self) -> None:
-        process = self.meter.replay.program.process
+        process = self.meter._replay.program.process
         process.kill()
         process.wait()
 

@@ -60,11 +60,11 @@ class Explaining(WithMeter):
         self.link.write("CONF:VOLT (@1:128);:READ?")
         self.link.read()
         self.meter.advance(5)
-        script = self.meter.replay.script()
+        script = self.meter._replay.script()
         self.assertEqual(script[-1], "tick %d" % (128 + 5))
         with Meter() as other:
-            other.replay.do(("\n".join(script) + "\n").encode())
-            self.assertEqual(other.replay.checksum, self.meter.replay.checksum)
+            other._replay.do(("\n".join(script) + "\n").encode())
+            self.assertEqual(other._replay.checksum, self.meter._replay.checksum)
 
     def test_a_session_that_is_too_long(self) -> None:
         with mock.patch.object(replay, "LOG_MOST", -1):
@@ -114,11 +114,11 @@ class AtOnce(WithMeter):
         for seed in 13, 15, 20, 25, 26, 33, 38, 40:         # some leave calls that wait for ever
             session = Session(seed, 20)
             with Meter() as meter:
-                meter.replay.do(("\n".join(session.script) + "\n").encode())
-                found = Explanation(session.script, meter.replay.path)
+                meter._replay.do(("\n".join(session.script) + "\n").encode())
+                found = Explanation(session.script, meter._replay.path)
                 for call in found.story.waiting():
                     hopeless = meters._hopeless(found, call.conn, call.message.xid, 1000) is not None
-                    printed = b"c%d " % call.conn in meter.replay.pass_time(1000) if hopeless else False
+                    printed = b"c%d " % call.conn in meter._replay.pass_time(1000) if hopeless else False
                     said += hopeless
                     self.assertFalse(printed, (seed, call.words))
         self.assertGreater(said, 3)

@@ -84,13 +84,13 @@ class Ends(unittest.TestCase):
     def test_a_bad_line(self) -> None:
         meter = Meter()
         with self.assertRaisesRegex(ProgramError, "with status 2: scanvolt: bad line 2$"):
-            meter.replay.do(b"nonsense\n")
+            meter._replay.do(b"nonsense\n")
         self.assertRaisesRegex(ProgramError, "ended before", meter.set_input, 1, 1)
 
     def test_killed_between_calls(self) -> None:
         with Meter() as meter, meter.connect() as connection:
             link = connection.create_link()
-            meter.replay.program.process.kill()
+            meter._replay.program.process.kill()
             self.assertRaisesRegex(ProgramError, "ended by signal 9", link.readstb)
             self.assertRaises(ConnectionError, link.readstb)
             self.assertRaises(ProgramError, meter.connect)
@@ -101,7 +101,7 @@ class Ends(unittest.TestCase):
             link.write("TRIG:SOUR EXT;:INIT;*OPC?")
             other = meter.connect()
             reading = other.start(other.create_link(io_timeout=10 ** 9).calls.read())
-            killer = threading.Timer(0.3, lambda: meter.replay.program.process.kill())
+            killer = threading.Timer(0.3, lambda: meter._replay.program.process.kill())
             killer.start()
             self.addCleanup(killer.join)
             self.assertRaisesRegex(ProgramError, "ended by signal 9", link.read)
@@ -111,7 +111,7 @@ class Ends(unittest.TestCase):
         """A second program that prints something else isn't accepted in place of the first."""
         with Meter() as meter, meter.connect() as connection, connection.create_link() as link:
             link.write("CONF:VOLT (@1:128)")
-            meter.replay.checksum += 1
+            meter._replay.checksum += 1
             self.assertRaisesRegex(ProgramError, "prints otherwise", link.query, "READ?")
 
     def test_closed(self) -> None:
@@ -131,7 +131,7 @@ class NothingLeft(unittest.TestCase):
     def test_garbage(self) -> None:
         meter = Meter()
         meter.connect().create_link()
-        number = meter.replay.program.process.pid
+        number = meter._replay.program.process.pid
         self.assertTrue(is_there(number))
         del meter
         gc.collect()
@@ -139,7 +139,7 @@ class NothingLeft(unittest.TestCase):
 
     def test_an_exception(self) -> None:
         with self.assertRaises(LookupError), Meter() as meter:
-            number = meter.replay.program.process.pid
+            number = meter._replay.program.process.pid
             raise LookupError
         self.assertFalse(is_there(number))
 
@@ -153,7 +153,7 @@ class NothingLeft(unittest.TestCase):
         """It ends with the process that started it, even if that is killed, and it closes without waiting."""
         self.leaves(signal.SIGKILL, stopped=True)
         meter = Meter()
-        number = meter.replay.program.process.pid
+        number = meter._replay.program.process.pid
         stop(number)
         began = time.monotonic()
         meter.close()
@@ -164,7 +164,7 @@ class NothingLeft(unittest.TestCase):
         # If these tests were started in the background, Ctrl-C may still be ignored.
         text = ("import signal\nsignal.signal(signal.SIGINT, signal.default_int_handler)\n"
                 "from scanvolt.virtual import Meter\nmeter = Meter()\n"
-                "print(meter.replay.program.process.pid, flush=True)\n") + (
+                "print(meter._replay.program.process.pid, flush=True)\n") + (
                     "meter.connect()\nmeter.advance(2 ** 32 - 1)\n" if how else "")
         child = subprocess.Popen([sys.executable, "-c", text], stdout=subprocess.PIPE,
                                  stderr=subprocess.DEVNULL, cwd=TOP, text=True)

@@ -35,10 +35,10 @@ class Errors(Case):
 
     def test_the_instrument_is_not_asked(self) -> None:
         """A trigger that fails on order triggers nothing, and the script doesn't have it."""
-        before = len(self.meter.replay.script())
+        before = len(self.meter._replay.script())
         self.meter.faults.next("device_trigger", error=8)
         self.assertRaises(DeviceError, self.link.trigger)
-        self.assertEqual(len(self.meter.replay.script()), before)
+        self.assertEqual(len(self.meter._replay.script()), before)
         self.assertEqual(self.link.query("SYST:ERR?"), '0,"No error"')
 
     def test_which_call(self) -> None:

@@ -57,7 +57,7 @@ class Fork(unittest.TestCase):
             self.assertEqual((link.query("FETC?;:SYST:ERR?"), third.clock),
                              (self.link.query("FETC?;:SYST:ERR?"), self.meter.clock))
             self.assertEqual(third.explain().text(), self.meter.explain().text())
-            self.assertEqual(third.replay.script(), self.meter.replay.script())
+            self.assertEqual(third._replay.script(), self.meter._replay.script())
 
     def test_options(self) -> None:
         with Meter(patience=700, call_time=2) as meter, meter.fork() as twin:

@@ -105,9 +105,9 @@ class Orders(unittest.TestCase):
         self.assertRegex(str(caught.exception.fault), r"thread A waits outside of the meter, at test_interleavings.py:\d+ in waits")
 
     def test_the_meter_itself_is_left_alone(self) -> None:
-        before = list(self.meter.replay.script())
+        before = list(self.meter._replay.script())
         self.meter.interleavings(polls, polls, order="AB")
-        self.assertEqual((list(self.meter.replay.script()), self.meter.connections), (before, {}))
+        self.assertEqual((list(self.meter._replay.script()), self.meter.connections), (before, {}))
 
     def test_what_cannot_be(self) -> None:
         self.assertRaisesRegex(ValueError, "2 to 16 controllers, and not 1", self.meter.interleavings, polls)

@@ -354,7 +354,7 @@ class Ends(Case):
 
     def test_a_program_that_takes_long(self) -> None:
         """A thread that waits for the program is in the meter, and isn't told to sleep elsewhere."""
-        real = self.meter.replay.do
+        real = self.meter._replay.do
 
         def slow(lines: bytes) -> bytes:
             time.sleep(0.7)
@@ -363,7 +363,7 @@ class Ends(Case):
         def polls() -> None:
             self.link().readstb()
 
-        with mock.patch.object(self.meter.replay, "do", slow):
+        with mock.patch.object(self.meter._replay, "do", slow):
             run(self.meter, polls, polls)
 
     def test_a_callback_that_waits(self) -> None:

@@ -149,7 +149,7 @@ class Off(unittest.TestCase):
     def test_after_its_program(self) -> None:
         """The first reason is kept."""
         with Meter() as meter:
-            meter.replay.program.process.kill()
+            meter._replay.program.process.kill()
             self.assertRaisesRegex(ProgramError, "^the program ended by signal 9", meter.connect)
         self.assertRaisesRegex(ProgramError, "ended before: the program ended by signal 9", meter.connect)
 

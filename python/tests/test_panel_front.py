@@ -103,7 +103,7 @@ class Same(unittest.TestCase):
             one.lock()
             other.lock_timeout = 100
             start(other, other.calls.write(b"*IDN?"))
-            script = meter.replay.script()
+            script = meter._replay.script()
         wait = self.same(script)["waits"][0]
         self.assertEqual(wait, {
             "connection": 1, "link": 2, "call": 'device_write "*IDN?"', "for": "the lock", "since": 5, "until": 105,
@@ -124,7 +124,7 @@ class Shown(unittest.TestCase):
             link.write("CONF:VOLT (@1:4);:CALC:LIM:UPP 5;LOW -5;STAT ON;:READ?")
             meter.advance(4)
             meter.set_input(2, 1)
-            script: List[str] = [*meter.replay.script(), "input 129 5", "input 5 1000000001"]
+            script: List[str] = [*meter._replay.script(), "input 129 5", "input 5 1000000001"]
         found = {one["channel"]: one for one in self.state(script)["channels"]}
         keys = ("input", "reading", "is", "listed", "clock")
         self.assertEqual([(number, *(one[key] for key in keys)) for number, one in found.items()], [
@@ -139,7 +139,7 @@ class Shown(unittest.TestCase):
             link.write("FOO")
             meter.set_input(7, "-0.25")
             meter.external()
-            script = meter.replay.script()
+            script = meter._replay.script()
         log = self.state(script)["log"]
         self.assertEqual([(one["who"], one["what"], one["reply"], one["times"]) for one in log], [
             ("input", "EXTernal trigger", "", 1), ("input", "input 7 = -0.25 V", "", 1),
@@ -151,7 +151,7 @@ class Shown(unittest.TestCase):
             link = meter.connect().create_link()
             for _ in range(300):
                 link.query("*IDN?")
-            front = Telling(meter.replay.script()).front
+            front = Telling(meter._replay.script()).front
         self.assertLess(len(json.dumps(state_of(front))), 12000)
         self.assertLess(len(front.log), 100)
 
@@ -162,7 +162,7 @@ class Shown(unittest.TestCase):
                 for message in messages:
                     link.write(message)
                 meter.advance(milliseconds)
-                return Telling(meter.replay.script()).front.is_due()
+                return Telling(meter._replay.script()).front.is_due()
         self.assertFalse(is_due("*IDN?"))
         self.assertTrue(is_due("CONF:VOLT (@1:3);:INIT"))
         self.assertTrue(is_due("CONF:VOLT (@1:3);:INIT", milliseconds=2))

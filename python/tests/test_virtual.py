@@ -127,8 +127,8 @@ class Lines(unittest.TestCase):
         script = pathlib.Path(__file__).resolve().parents[2] / "examples/identity.replay"
         expected = [line for line in script.read_text().splitlines() if line]
         with Meter() as meter:
-            do = meter.replay.do
-            with mock.patch.object(meter.replay, "do", side_effect=do) as done:
+            do = meter._replay.do
+            with mock.patch.object(meter._replay, "do", side_effect=do) as done:
                 link = meter.connect().create_link(io_timeout=1000)
                 self.assertEqual(link.write("*IDN?\n"), 6)
                 self.assertEqual(link.read_piece(256), calls.Piece(b"SCANVOLT,SV32,0,1.0\n", 4))
@@ -199,17 +199,17 @@ class Moments(WithMeter):
         """After too many lines, time is tried millisecond by millisecond."""
         with mock.patch.object(replay, "LOG_MOST", 100):
             self.link.write("CONF:VOLT (@1:100);:TRIG:COUN 2")
-            program = self.meter.replay.program
+            program = self.meter._replay.program
             self.takes(200, lambda: self.link.query("READ?"))
-            self.assertIs(self.meter.replay.program, program)
+            self.assertIs(self.meter._replay.program, program)
 
     def test_a_second_program(self) -> None:
         """The second program takes the place of the first, and continues as the first would have."""
-        first = self.meter.replay.program
+        first = self.meter._replay.program
         self.link.write("CONF:VOLT (@1:100);:TRIG:COUN 2")
         for _ in range(3):
             self.takes(200, lambda: self.link.query("READ?"))
-        self.assertIsNot(self.meter.replay.program, first)
+        self.assertIsNot(self.meter._replay.program, first)
         self.assertIsNotNone(first.process.returncode)
         self.meter.set_input(1, 2)
         self.assertEqual(self.link.query("FETC?")[:20], "+1.250000,-0.300000,")

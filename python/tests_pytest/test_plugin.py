@@ -105,7 +105,7 @@ def test_what_a_failure_shows(pytester: pytest.Pytester) -> None:
                     time.monotonic()
 
         def test_died(meter):
-            meter.replay.program.process.kill()
+            meter._replay.program.process.kill()
             meter.advance(1)
     """)
     result = pytester.runpytest_subprocess(*PLUGIN)
@@ -231,7 +231,7 @@ def test_a_test_that_is_interrupted(pytester: pytest.Pytester) -> None:
     """No process remains."""
     pytester.makepyfile("""
         def test_one(meter):
-            print("process", meter.replay.program.process.pid)
+            print("process", meter._replay.program.process.pid)
             raise KeyboardInterrupt
     """)
     result = pytester.runpytest_subprocess(*PLUGIN, "-s")

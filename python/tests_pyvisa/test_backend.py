@@ -389,7 +389,7 @@ class Others(WithResource):
         self.assertEqual(left, [])
 
     def test_the_end(self) -> None:
-        process = self.meter.replay.program.process
+        process = self.meter._replay.program.process
         session, library = self.resource.session, self.manager.visalib
         self.resource.close()
         self.error(StatusCode.error_invalid_object, lambda: library.read_stb(session))
@@ -402,7 +402,7 @@ class Others(WithResource):
 
     def test_a_program_that_ends(self) -> None:
         self.resource.enable_event(SRQ, QUEUE)
-        self.meter.replay.program.process.kill()
+        self.meter._replay.program.process.kill()
         self.assertRaisesRegex(ProgramError, "ended by signal 9", self.resource.read_stb)
         self.error(StatusCode.error_connection_lost, self.resource.read_stb)
 

@@ -17,7 +17,7 @@ manager = pyvisa.ResourceManager("@scanvolt")
 resource = manager.open_resource("TCPIP::scanvolt::INSTR", read_termination="\\n")
 resource.enable_event(EventType.service_request, EventMechanism.queue)
 other = manager.open_resource("TCPIP::scanvolt2::INSTR")
-process = manager.visalib.meter(resource).replay.program.process
+process = manager.visalib.meter(resource)._replay.program.process
 """
 KILLED = OPENED + "process.kill()\nprocess.wait()\n"
 

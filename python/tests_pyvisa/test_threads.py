@@ -95,7 +95,7 @@ class Orders(unittest.TestCase):
             self.meter.interleavings(self.locks, self.forgets, order=caught.exception.order)
         self.assertEqual(self.meter.interleavings(self.locks, self.locks, count=10), 10)
         library: Any = pyvisa.ResourceManager("@scanvolt").visalib
-        self.assertLess(len(library.meters), 3)
+        self.assertLess(len(library._meters), 3)
 
     def test_the_meter_of_a_resource(self) -> None:
         with resource_of(self.meter) as one, resource_of(self.meter) as other:

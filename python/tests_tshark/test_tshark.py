@@ -160,7 +160,7 @@ class Comparing(unittest.TestCase):
             for call in self.SESSION:
                 pending = connection.start(call)
                 pending.result()
-                found.append(encode_reply(pending.xid, pending.body[len(encode_reply(0)) - 4:]))
+                found.append(encode_reply(pending.xid, pending._body[len(encode_reply(0)) - 4:]))
             return found
 
     def compared(self, replies: List[bytes], *given: str, mode: str = "compare") -> Tuple[int, str]:

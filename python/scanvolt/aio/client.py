@@ -29,12 +29,12 @@ class Client(Core):
                  port_mapper: int = 111) -> None:
         self.host, self.port, self.patience, self.port_mapper = host, port, patience, port_mapper
         self.is_open = False
-        self.xid = 0
-        self.records = Records()
-        self.streams: Optional[Streams] = None
-        self.turn: asyncio.Lock             # of the loop in which it is opened
-        self.listeners: List["asyncio.AbstractServer"] = []
-        self.carriers: "Set[asyncio.Task[None]]" = set()        # tasks that read the interrupt channels
+        self._xid = 0
+        self._records = Records()
+        self._streams: Optional[Streams] = None
+        self._turn: asyncio.Lock             # of the loop in which it is opened
+        self._listeners: List["asyncio.AbstractServer"] = []
+        self._carriers: "Set[asyncio.Task[None]]" = set()        # tasks that read the interrupt channels
 
     def __repr__(self) -> str:
         return "<Client of %s%s>" % (self, "" if self.is_open else ", closed")
@@ -55,12 +55,12 @@ class Client(Core):
             self.port = await self._found()
         port = whole(self.port, 1, 65535, "a connection wants a port")
         try:
-            self.streams = await asyncio.wait_for(asyncio.open_connection(self.host, port), self.patience)
+            self._streams = await asyncio.wait_for(asyncio.open_connection(self.host, port), self.patience)
         except asyncio.TimeoutError:
             raise TimeoutError("no connection within %g s: %s" % (self.patience, self)) from None
         except OSError as fault:
             raise type(fault)(fault.errno, "%s: %s" % (fault.strerror, self)) from None
-        self.is_open, self.turn, self.records = True, asyncio.Lock(), Records()
+        self.is_open, self._turn, self._records = True, asyncio.Lock(), Records()
 
     async def _found(self) -> int:
         """The core channel's port, as the port mapper says."""
@@ -76,21 +76,21 @@ class Client(Core):
 
     def _check_open(self) -> Streams:
         """The streams. Raises ConnectionError if the connection is closed."""
-        if self.streams is None:
+        if self._streams is None:
             raise ConnectionError("the connection is closed: %s" % self)
-        return self.streams
+        return self._streams
 
     async def close(self) -> None:
         """Closes the connection; the instrument destroys its links. After that, each call raises ConnectionError."""
         self.is_open = False
-        for listener in self.listeners:
+        for listener in self._listeners:
             listener.close()
-        self.listeners.clear()
-        carriers = list(self.carriers)
+        self._listeners.clear()
+        carriers = list(self._carriers)
         for carrier in carriers:
             carrier.cancel()
         await asyncio.gather(*carriers, return_exceptions=True)
-        streams, self.streams = self.streams, None
+        streams, self._streams = self._streams, None
         if streams is not None:
             streams[1].close()
             with contextlib.suppress(OSError):
@@ -99,9 +99,9 @@ class Client(Core):
     async def do(self, call: Call[Value]) -> Value:
         """Makes a call, and waits for its result."""
         self._check_open()
-        async with self.turn:
+        async with self._turn:
             streams = self._check_open()
-            self.xid = (self.xid + 1) % 2 ** 32
+            self._xid = (self._xid + 1) % 2 ** 32
             patience = self.patience + call.wait / 1000
             try:
                 body = await asyncio.wait_for(self._reply(call, *streams), patience)
@@ -111,17 +111,17 @@ class Client(Core):
             except BaseException:
                 await self.close()
                 raise
-            return call.answer(body, self.xid)
+            return call.answer(body, self._xid)
 
     async def _reply(self, call: Call[Value], reader: asyncio.StreamReader, writer: asyncio.StreamWriter) -> bytes:
         """Sends a call. Returns the record of its reply."""
-        writer.write(call.encode(self.xid))
+        writer.write(call.encode(self._xid))
         await writer.drain()
         while True:
             data = await reader.read(65536)
             if not data:
                 raise ConnectionError("the connection ended within %s: %s" % (call.name, self))
-            found = self.records.push(data)
+            found = self._records.push(data)
             if found:
                 return found[0].body
 
@@ -145,12 +145,12 @@ class Client(Core):
         def accepted(reader: asyncio.StreamReader, writer: asyncio.StreamWriter) -> None:
             """Begins to read a channel, in a task of this client: one that asyncio makes is reported when it is cancelled."""
             carrier = asyncio.create_task(carried(reader, writer))
-            self.carriers.add(carrier)
-            carrier.add_done_callback(self.carriers.discard)
+            self._carriers.add(carrier)
+            carrier.add_done_callback(self._carriers.discard)
 
         address = streams[1].get_extra_info("sockname")[0]
         listener = await asyncio.start_server(accepted, address, 0)
-        self.listeners.append(listener)
+        self._listeners.append(listener)
         number = Reader(socket.inet_aton(address)).word()
         await self.do(calls.create_intr_chan(number, listener.sockets[0].getsockname()[1]))
         return requests

@@ -22,15 +22,15 @@ class Connection(Core):
     """A connection to a meter. `close` ends it, and so does the end of an `async with` block."""
 
     def __init__(self, meter: "Meter", connection: virtual.Connection) -> None:
-        self.meter, self.connection = meter, connection
+        self.meter, self._connection = meter, connection
 
     def __str__(self) -> str:
-        return str(self.connection)
+        return str(self._connection)
 
     @property
     def is_open(self) -> bool:      # type: ignore[override]
         """Whether it is open."""
-        return self.connection.is_open
+        return self._connection.is_open
 
     async def __aenter__(self: OneConnection) -> OneConnection:
         return self
@@ -40,13 +40,13 @@ class Connection(Core):
 
     def close(self) -> None:
         """Closes the connection; the instrument destroys its links."""
-        self.connection.close()
+        self._connection.close()
 
     async def do(self, call: Call[Value]) -> Value:
         """Makes a call, and waits for its result. Meanwhile other tasks run; time passes when none can. A call that is
         cancelled goes on in the instrument.
         """
-        pending = self.connection.start(call)
+        pending = self._connection.start(call)
         if pending.done:
             await asyncio.sleep(0)
         else:
@@ -76,7 +76,7 @@ class Connection(Core):
     async def listen(self, callback: Optional[Callback] = None) -> Requests:
         """Makes the interrupt channel. Service requests go to the callback as time passes, or else into a queue."""
         requests = Requests(callback)
-        self.connection.on_service_request(requests._came)
+        self._connection.on_service_request(requests._came)
         await self.do(calls.create_intr_chan(calls.LOOPBACK, 1))
         return requests
 
@@ -91,17 +91,17 @@ class Meter:
     def __init__(self, program: Optional[Name] = None, scenario: Optional[Name] = None,
                  patience: int = virtual.PATIENCE, call_time: int = 0) -> None:
         self.virtual = virtual.Meter(program, scenario, patience, call_time)
-        self.keeping = contextlib.ExitStack()
+        self._keeping = contextlib.ExitStack()
 
     def __repr__(self) -> str:
         return repr(self.virtual)
 
     async def __aenter__(self: Itself) -> Itself:
-        self.keeping.enter_context(self.virtual.keeping_time())
+        self._keeping.enter_context(self.virtual.keeping_time())
         return self
 
     async def __aexit__(self, kind: Optional[Type[BaseException]], *_: object) -> None:
-        self.keeping.close()
+        self._keeping.close()
         self.close()
 
     @property

@@ -78,44 +78,44 @@ class Comparison:
         self.told = session.told    # whether --start was given
         self.others = others or not self.told
         self.late = False           # whether the time for the last difference was over before all was tried
-        self.ending = session.end - session.start - ENDING
-        self.entries = entries
-        self.program = program
-        self.found: Dict[int, bytearray] = {}
+        self._ending = session.end - session.start - ENDING
+        self._entries = entries
+        self._program = program
+        self._found: Dict[int, bytearray] = {}
         self.early = 0          # by how many milliseconds the start is taken earlier than the session says
         self.swapped = 0        # how many calls are taken later than the capture suggests
         self.farthest = 0       # the start tried that is farthest off, in milliseconds
 
-    def first(self, ticks: List[int], last: Optional[int] = None) -> Optional[Difference]:
+    def _first(self, ticks: List[int], last: Optional[int] = None) -> Optional[Difference]:
         """The first difference up to the point `last`. `ticks` says how many ticks pass before each point."""
         points = self.points if last is None else self.points[:last + 1]
-        lines = script(points, ticks, self.entries, mark=True)
-        blocks = replies(self.program, lines, len(points))
-        self.found = {}
+        lines = script(points, ticks, self._entries, mark=True)
+        blocks = replies(self._program, lines, len(points))
+        self._found = {}
         for number, (point, block) in enumerate(zip(points, blocks)):
-            difference = self.at(number, point, block)
+            difference = self._at(number, point, block)
             if difference:
                 return difference
         return None
 
-    def at(self, number: int, point: Point, block: List[List[str]]) -> Optional[Difference]:
+    def _at(self, number: int, point: Point, block: List[List[str]]) -> Optional[Difference]:
         """The first difference at a point."""
         for words in block:
             if words[0] == "refused":
                 return Difference("refused", number, found=words[1].encode())
             if words[0] in point.owners:
-                difference = self.sent(number, point.owners[words[0]], bytes.fromhex(words[1]))
+                difference = self._sent(number, point.owners[words[0]], bytes.fromhex(words[1]))
                 if difference:
                     return difference
         for flow, count in point.due:
-            found = self.found.get(id(flow), b"")
+            found = self._found.get(id(flow), b"")
             if len(found) < count:
                 return Difference("missing", number, flow, len(found))
         return None
 
-    def sent(self, number: int, flow: Flow, data: bytes) -> Optional[Difference]:
+    def _sent(self, number: int, flow: Flow, data: bytes) -> Optional[Difference]:
         """The first difference in what is sent on a flow."""
-        found = self.found.setdefault(id(flow), bytearray())
+        found = self._found.setdefault(id(flow), bytearray())
         begun = len(found)
         found += data
         if flow.wanted[begun:len(found)] == data:
@@ -124,7 +124,7 @@ class Comparison:
             if found[place] != flow.wanted[place]:
                 return Difference("differs", number, flow, place, bytes(found))
         # The capture doesn't have this stream to its end, or ends between a call and its reply.
-        if flow.loose or self.points[number].time >= self.ending:
+        if flow.loose or self.points[number].time >= self._ending:
             return None
         return Difference("more", number, flow, len(flow.wanted), bytes(found))
 
@@ -135,80 +135,80 @@ class Comparison:
         watch = watch or Watch()
         ticks = [point.ticks for point in self.points]
         while True:
-            difference = self.first(ticks)
+            difference = self._first(ticks)
             if difference is None:
                 return None, ticks
             watch.found(difference)
-            trial = self.better(ticks, difference, slack, watch)
+            trial = self._better(ticks, difference, slack, watch)
             if trial is None:
                 return difference, ticks
             ticks = trial
 
-    def better(self, ticks: List[int], difference: Difference, slack: int, watch: Watch) -> Optional[List[int]]:
+    def _better(self, ticks: List[int], difference: Difference, slack: int, watch: Watch) -> Optional[List[int]]:
         """Ticks with which there is no difference up to the point of `difference`, if some are found: one
         point is moved, or the start.
         """
-        if slack and self.reorder(ticks, difference):
+        if slack and self._reorder(ticks, difference):
             return ticks
         until = time.monotonic() + PATIENCE
         self.late = False
-        for trial in self.trials(ticks, difference, slack):
-            if self.is_over(until):
+        for trial in self._trials(ticks, difference, slack):
+            if self._is_over(until):
                 return None
-            if self.first(trial, difference.point) is None:
+            if self._first(trial, difference.point) is None:
                 return trial
-        steps = self.starts(difference) if slack else []
+        steps = self._starts(difference) if slack else []
         if steps:
             watch.starts(difference)
         for step in steps:
-            if self.is_over(until):
+            if self._is_over(until):
                 return None
             self.farthest = max(self.farthest, abs(step))
             trial = [max(0, point.ticks + step) for point in self.points]
-            if self.first(trial, difference.point) is None:
+            if self._first(trial, difference.point) is None:
                 self.early = step
                 return trial
         return None
 
-    def is_over(self, until: float) -> bool:
+    def _is_over(self, until: float) -> bool:
         """Whether the time for a difference is over. Notes that it is."""
         self.late = time.monotonic() >= until
         return self.late
 
-    def starts(self, difference: Difference) -> List[int]:
+    def _starts(self, difference: Difference) -> List[int]:
         """By how many milliseconds the server may have started earlier, the least first. Without a scenario, and
         with a start that was told, none is tried. With one, each start that is near, and those at which an entry of the scenario
         comes about the time of the reply that differs. Without --start, the server started no later than the
         first packet.
         """
-        if not (self.entries and self.others):
+        if not (self._entries and self.others):
             return []
         at = self.points[difference.point].ticks
-        found = set(self.farther(range(-NEAR, NEAR + 1)))
+        found = set(self._farther(range(-NEAR, NEAR + 1)))
         for kind in ("external", "input"):
-            ticks = {tick for tick, line in self.entries if line.startswith(kind)}
+            ticks = {tick for tick, line in self._entries if line.startswith(kind)}
             steps = {tick - at + off for tick in ticks for off in range(-BEHIND, BEFORE + 1)}
-            found.update(self.farther(steps)[:STARTS])
-        return self.farther(found)
+            found.update(self._farther(steps)[:STARTS])
+        return self._farther(found)
 
-    def farther(self, steps: Iterable[int]) -> List[int]:
+    def _farther(self, steps: Iterable[int]) -> List[int]:
         """Those of `steps` that are farther off than the start taken now, the least first."""
         found = [step for step in steps if abs(step) > abs(self.early) and (step > 0 or self.told)]
         return sorted(found, key=lambda step: (abs(step), -step))
 
-    def reorder(self, ticks: List[int], difference: Difference) -> bool:
+    def _reorder(self, ticks: List[int], difference: Difference) -> bool:
         """Whether the difference is gone if a call is taken after another connection's call."""
         flow = difference.flow
         if flow is None:
             return False
         reply = reply_at(flow, difference.place)
-        for _ in orders.later(self.points, dict(self.found), difference.point, flow, reply):
-            if self.first(ticks, difference.point) is None:
+        for _ in orders.later(self.points, dict(self._found), difference.point, flow, reply):
+            if self._first(ticks, difference.point) is None:
                 self.swapped += 1
                 return True
         return False
 
-    def trials(self, ticks: List[int], difference: Difference, slack: int) -> Iterator[List[int]]:
+    def _trials(self, ticks: List[int], difference: Difference, slack: int) -> Iterator[List[int]]:
         """Ticks with one point moved, earlier or later: the point of the call's turn, or that of its reply."""
         reply = reply_at(difference.flow, difference.place) if difference.flow else None
         places = [difference.point]
@@ -219,15 +219,15 @@ class Comparison:
         for count in range(1, slack + 1):
             for place in dict.fromkeys(places):
                 for step in (-count, count):
-                    trial = self.moved(ticks, place, step)
-                    if trial and self.is_near(trial, slack):
+                    trial = self._moved(ticks, place, step)
+                    if trial and self._is_near(trial, slack):
                         yield trial
 
-    def is_near(self, ticks: List[int], slack: int) -> bool:
+    def _is_near(self, ticks: List[int], slack: int) -> bool:
         return all(abs(count - max(0, point.ticks + self.early)) <= slack
                    for count, point in zip(ticks, self.points))
 
-    def moved(self, ticks: List[int], place: int, step: int) -> Optional[List[int]]:
+    def _moved(self, ticks: List[int], place: int, step: int) -> Optional[List[int]]:
         """The ticks with `step` more or fewer at a point. Points before and after it are moved if order wants it."""
         count = ticks[place] + step
         if count < 0:

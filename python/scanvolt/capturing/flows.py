@@ -42,8 +42,8 @@ class Flow:
 
     def __init__(self, name: str, loose: bool = False) -> None:
         self.name = name
-        self.wanted = bytearray()
-        self.records = Records()
+        self.wanted = bytearray()               # all bytes that were sent
+        self._records = Records()
         self.replies: List[Reply] = []
         # Bytes after these aren't compared: the capture doesn't have the stream, or the peer closed it.
         self.loose = loose
@@ -52,7 +52,7 @@ class Flow:
         """Takes bytes that were sent at this point. Returns the records that are complete now."""
         self.wanted += data
         point.due.append((self, len(self.wanted)))
-        return self.records.push(data)
+        return self._records.push(data)
 
 
 class Connection:
@@ -62,31 +62,31 @@ class Connection:
         self.stream = stream
         self.number = number
         self.role = role
-        self.flow = Flow(stream.name())
-        self.asks = Records()
-        self.backlog = b""      # bytes that the server has no room for yet
-        self.records: List[Record] = []
+        self.flow = Flow(stream.name())         # what the server sends on it
+        self._asks = Records()
+        self._backlog = b""      # bytes that the server has no room for yet
+        self.records: List[Record] = []         # those that came
         self.calls: List[CallMessage] = []
         self.turns: List[int] = []              # the point of each turn
         self.channel: Optional[Flow] = None     # the flow of its interrupt channel
         self.channels: List[Flow] = []          # of all that it had, in their order
 
-    def room(self) -> int:
+    def _room(self) -> int:
         """How many more bytes of the connection the server takes (docs/RULES.md says how: sv_rpc RecordBuf)."""
-        left = self.asks.left
-        if left is not None and len(self.asks.body) + left > LONGEST:
+        left = self._asks.left
+        if left is not None and len(self._asks.body) + left > LONGEST:
             return 0
         unanswered = self.records[len(self.flow.replies):]
         kept = sum(4 + len(record.body) for record in unanswered)
-        return max(0, ROOM - kept - self.asks.held())
+        return max(0, ROOM - kept - self._asks.held())
 
     def feed(self, data: bytes, lines: List[str]) -> None:
         """Gives the server as many bytes as it has room for; the others follow later."""
-        self.backlog += data
-        while self.backlog and self.room():
-            piece, self.backlog = self.backlog[:self.room()], self.backlog[self.room():]
+        self._backlog += data
+        while self._backlog and self._room():
+            piece, self._backlog = self._backlog[:self._room()], self._backlog[self._room():]
             lines.append("bytes %d %s" % (self.number, piece.hex()))
-            found = self.asks.push(piece)
+            found = self._asks.push(piece)
             self.records += found
             self.calls += [call_of(record.body) for record in found]
 

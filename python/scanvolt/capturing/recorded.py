@@ -15,13 +15,13 @@ from .told import counted, shown
 
 
 @dataclass
-class Sent:
+class _Sent:
     """A connection, or an interrupt channel: the bytes that came, those that the replay sends, and a connection's channels."""
 
     role: str
     came: bytearray = field(default_factory=bytearray)
     sent: bytearray = field(default_factory=bytearray)
-    channels: "List[Sent]" = field(default_factory=list)
+    channels: "List[_Sent]" = field(default_factory=list)
 
 
 def read(path: str) -> List[str]:
@@ -34,12 +34,12 @@ def read(path: str) -> List[str]:
     return text[:text.rfind(b"\n") + 1].decode("latin-1").splitlines()
 
 
-def replayed(program: str, record: List[str], ports: Tuple[int, int]) -> List[Sent]:
+def replayed(program: str, record: List[str], ports: Tuple[int, int]) -> List[_Sent]:
     """The connections of a record in the order in which they opened, with what a replay by these ports sends."""
     marked = [one for line in record for one in (line, MARK)]
     blocks = replies(program, marked, len(record), ["--core", str(ports[0]), "--abort", str(ports[1])])
-    found: List[Sent] = []
-    now: Dict[str, Sent] = {}       # by the names that the replay prints
+    found: List[_Sent] = []
+    now: Dict[str, _Sent] = {}       # by the names that the replay prints
     for number, (line, block) in enumerate(zip(record, blocks), 1):
         if len(blocks) > len(record) or ["refused"] in [words[:1] for words in block]:
             raise Fault("the replay refuses an event of the record, line %d or one before: %s" % (
@@ -50,19 +50,19 @@ def replayed(program: str, record: List[str], ports: Tuple[int, int]) -> List[Se
     return found
 
 
-def begin(words: Sequence[str], now: Dict[str, Sent], found: List[Sent]) -> None:
+def begin(words: Sequence[str], now: Dict[str, _Sent], found: List[_Sent]) -> None:
     """Takes an event of a record: a connection opens, bytes come on it, or its channel is connected."""
     if words[0] == "open":
-        found.append(Sent(words[2]))
+        found.append(_Sent(words[2]))
         now["c" + words[1]] = found[-1]
     elif words[0] == "bytes":
         now["c" + words[1]].came += bytes.fromhex(words[2])
     elif words[0] == "dialed" and words[2] == "ok":
-        now["i" + words[1]] = Sent("interrupt")
+        now["i" + words[1]] = _Sent("interrupt")
         now["c" + words[1]].channels.append(now["i" + words[1]])
 
 
-def differences(session: Session, found: List[Sent]) -> Iterator[str]:
+def differences(session: Session, found: List[_Sent]) -> Iterator[str]:
     """The lines that say how the record and the capture differ."""
     for role in ROLES:
         taken, sent = [one for one in session.connections if one.role == role], [one for one in found if one.role == role]
@@ -72,7 +72,7 @@ def differences(session: Session, found: List[Sent]) -> Iterator[str]:
             yield from of_connection(connection, one)
 
 
-def of_connection(connection: Connection, one: Sent) -> Iterator[str]:
+def of_connection(connection: Connection, one: _Sent) -> Iterator[str]:
     """How a connection and its channels differ."""
     asked = b"".join(what.data for what in connection.stream.happenings if what.kind == "sent")
     if not asked.startswith(one.came):
@@ -87,7 +87,7 @@ def of_connection(connection: Connection, one: Sent) -> Iterator[str]:
         yield from of_flow(flow, channel, flow.loose)
 
 
-def of_flow(flow: Flow, one: Sent, is_short: bool) -> Iterator[str]:
+def of_flow(flow: Flow, one: _Sent, is_short: bool) -> Iterator[str]:
     """How the bytes of a stream differ. If it is short, its peer may have taken fewer."""
     taken, sent = bytes(flow.wanted), bytes(one.sent)
     if taken == sent or is_short and sent.startswith(taken):

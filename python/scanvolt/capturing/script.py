@@ -21,34 +21,34 @@ def scenario(path: str) -> List[Scheduled]:
         raise Fault("the scenario can't be read: %s" % error) from None
 
 
-class Clock:
+class _Clock:
     """Writes ticks, and before and after each tick the entries of the scenario that are due."""
 
     def __init__(self, entries: List[Scheduled]) -> None:
-        self.entries = entries
-        self.next = 0
-        self.ticks = 0
+        self._entries = entries
+        self._next = 0
+        self._ticks = 0
 
-    def due(self, lines: List[str]) -> None:
-        while self.next < len(self.entries) and self.entries[self.next][0] <= self.ticks:
-            lines.append(self.entries[self.next][1])
-            self.next += 1
+    def _due(self, lines: List[str]) -> None:
+        while self._next < len(self._entries) and self._entries[self._next][0] <= self._ticks:
+            lines.append(self._entries[self._next][1])
+            self._next += 1
 
     def reach(self, ticks: int, lines: List[str]) -> None:
         """Lets time pass until this many ticks have passed since the start."""
-        self.due(lines)
-        while self.ticks < ticks:
-            count = min(ticks - self.ticks, MOST)
-            if self.next < len(self.entries):
-                count = min(count, self.entries[self.next][0] - self.ticks)
+        self._due(lines)
+        while self._ticks < ticks:
+            count = min(ticks - self._ticks, MOST)
+            if self._next < len(self._entries):
+                count = min(count, self._entries[self._next][0] - self._ticks)
             lines.append("tick" if count == 1 else "tick %d" % count)
-            self.ticks += count
-            self.due(lines)
+            self._ticks += count
+            self._due(lines)
 
 
 def script(points: List[Point], ticks: List[int], entries: List[Scheduled], mark: bool = False) -> List[str]:
     """The lines of these points. `ticks` says how many ticks pass before each."""
-    clock = Clock(entries)
+    clock = _Clock(entries)
     lines: List[str] = []
     for point, count in zip(points, ticks):
         clock.reach(count, lines)

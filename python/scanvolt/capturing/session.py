@@ -28,88 +28,89 @@ class Session:
 
     def __init__(self, streams: List[Stream], ports: Dict[str, Set[int]], end: int,
                  start: Optional[int] = None, as_told: bool = False) -> None:
-        self.ports = ports
-        self.as_told = as_told      # whether replies keep the ports that they tell
+        self._ports = ports
+        self._as_told = as_told      # whether replies keep the ports that they tell
         self.points: List[Point] = []
-        self.numbers: Dict[int, Connection] = {}        # the connections that are open, by number
-        self.connections: List[Connection] = []
+        self._numbers: Dict[int, Connection] = {}        # the connections that are open, by number
+        self.connections: List[Connection] = []     # all that there were, in their order
         self.dropped = 0        # connections that the server dropped: it has room for sixteen
-        self.by_stream: Dict[int, Connection] = {}
+        self._by_stream: Dict[int, Connection] = {}
         self.channels: Dict[int, Flow] = {}             # the flows of interrupt channels, by their streams
         self.unseen = 0         # interrupt channels that the capture doesn't have
         roles = {port: role for role, found in ports.items() for port in found}
-        self.roles = {id(one): roles.get(one.callee[1]) for one in streams}
-        self.others = [one for one in streams if one.callee[1] not in roles]
+        self._roles = {id(one): roles.get(one.callee[1]) for one in streams}
+        self._others = [one for one in streams if one.callee[1] not in roles]
         happenings = [what for one in streams for what in one.happenings]
         happenings.sort(key=lambda what: what.number)
-        of_server = [what.time for what in happenings if self.roles[id(what.stream)]]
-        self.told = start is not None
+        of_server = [what.time for what in happenings if self._roles[id(what.stream)]]
+        self.told = start is not None               # whether --start was given
+        # the time of the server's start
         self.start = start if start is not None else min(of_server, default=0)
         self.end = end          # the time of the last packet
-        self.swept = self.start
-        self.play(happenings)
+        self._swept = self.start
+        self._play(happenings)
 
-    def point(self, time: int) -> Point:
+    def _point(self, time: int) -> Point:
         """A new point, when a sweep began."""
-        self.swept = max(self.swept, time)
-        point = Point(time - self.start, (self.swept - self.start) // MILLISECOND)
-        for number, connection in self.numbers.items():
+        self._swept = max(self._swept, time)
+        point = Point(time - self.start, (self._swept - self.start) // MILLISECOND)
+        for number, connection in self._numbers.items():
             point.owners["c%d" % number] = connection.flow
             if connection.channel:
                 point.owners["i%d" % number] = connection.channel
         self.points.append(point)
         return point
 
-    def here(self) -> int:
+    def _here(self) -> int:
         return len(self.points) - 1
 
-    def play(self, happenings: List[Happening]) -> None:
+    def _play(self, happenings: List[Happening]) -> None:
         """Plays what happened. Calls that came together are taken in the order of their replies."""
         burst: List[Happening] = []
         for place, what in enumerate(happenings):
-            server = self.roles[id(what.stream)]
+            server = self._roles[id(what.stream)]
             if server and what.kind in ("opened", "sent"):
                 if burst and what.time - burst[-1].time > TOGETHER:
-                    self.bring(burst, [])
+                    self._bring(burst, [])
                     burst = []
                 burst.append(what)
             elif server or id(what.stream) in self.channels:
-                self.bring(burst, answers(happenings[place:place + 2 * CONNECTIONS]))
+                self._bring(burst, answers(happenings[place:place + 2 * CONNECTIONS]))
                 burst = []
-                self.one(what, server)
-        self.bring(burst, [])
+                self._one(what, server)
+        self._bring(burst, [])
 
-    def one(self, what: Happening, server: Optional[str]) -> None:
+    def _one(self, what: Happening, server: Optional[str]) -> None:
         """Plays what the server did, or what happened on an interrupt channel."""
         if not server:
-            self.on_channel(what)
-        elif id(what.stream) in self.by_stream:
-            connection = self.by_stream[id(what.stream)]
+            self._on_channel(what)
+        elif id(what.stream) in self._by_stream:
+            connection = self._by_stream[id(what.stream)]
             if what.kind == "answered":
-                self.answer(connection, what)
+                self._answer(connection, what)
             else:
-                self.close(connection, what)
+                self._close(connection, what)
 
-    def bring(self, burst: List[Happening], order: List[Stream]) -> None:
+    def _bring(self, burst: List[Happening], order: List[Stream]) -> None:
         """Plays a burst: connections open, bytes come, and calls are taken."""
         if not burst:
             return
-        point = self.point(burst[0].time)
+        point = self._point(burst[0].time)
         for what in burst:
             if what.kind == "opened":
-                self.open(what.stream, point)
-            elif id(what.stream) in self.by_stream:
-                self.by_stream[id(what.stream)].feed(what.data, point.lines)
-        ready = [one for one in self.in_order(burst) if one.is_ready()]
+                self._open(what.stream, point)
+            elif id(what.stream) in self._by_stream:
+                self._by_stream[id(what.stream)].feed(what.data, point.lines)
+        ready = [one for one in self._in_order(burst) if one.is_ready()]
         for connection in as_answered(ready, order):
-            connection.turn(self.here(), point.lines)
-        self.swept = max(self.swept, burst[-1].time)
+            connection.turn(self._here(), point.lines)
+        self._swept = max(self._swept, burst[-1].time)
 
-    def in_order(self, burst: List[Happening]) -> List[Connection]:
+    def _in_order(self, burst: List[Happening]) -> List[Connection]:
         """The connections on which bytes came, ordered by when their last bytes came."""
         found: List[Connection] = []
         for what in burst:
-            connection = self.by_stream.get(id(what.stream))
+            connection = self._by_stream.get(id(what.stream))
             if connection is None:
                 continue
             if connection in found:
@@ -117,72 +118,72 @@ class Session:
             found.append(connection)
         return found
 
-    def open(self, stream: Stream, point: Point) -> None:
+    def _open(self, stream: Stream, point: Point) -> None:
         """A connection opens under the lowest free number. If no number is free, it is dropped."""
-        free = [number for number in range(CONNECTIONS) if number not in self.numbers]
+        free = [number for number in range(CONNECTIONS) if number not in self._numbers]
         if not free:
             self.dropped += 1
             return
-        role = self.roles[id(stream)]
+        role = self._roles[id(stream)]
         assert role is not None
         connection = Connection(stream, free[0], role)
-        self.numbers[free[0]] = connection
-        self.by_stream[id(stream)] = connection
+        self._numbers[free[0]] = connection
+        self._by_stream[id(stream)] = connection
         self.connections.append(connection)
         point.lines.append("open %d %s" % (free[0], connection.role))
         point.owners["c%d" % free[0]] = connection.flow
 
-    def close(self, connection: Connection, what: Happening) -> None:
+    def _close(self, connection: Connection, what: Happening) -> None:
         """A connection closes, and with it its interrupt channel."""
-        point = self.point(what.time - WRITING)
+        point = self._point(what.time - WRITING)
         point.lines.append("close c%d" % connection.number)
-        del self.numbers[connection.number]
-        del self.by_stream[id(what.stream)]
+        del self._numbers[connection.number]
+        del self._by_stream[id(what.stream)]
 
-    def answer(self, connection: Connection, what: Happening) -> None:
+    def _answer(self, connection: Connection, what: Happening) -> None:
         """The server sent bytes. A call that waited for the reply is taken."""
-        point = self.point(what.time - WRITING)
+        point = self._point(what.time - WRITING)
         for record in connection.flow.push(what.data, point):
-            self.reply(connection, record, point)
+            self._reply(connection, record, point)
         lines: List[str] = []
         connection.feed(b"", lines)
         # A sweep that reads the end of the stream closes the connection, and takes no call.
         left = connection.stream.left
         ends = not lines and left is not None and left <= what.time + READING
         if lines or connection.is_ready() and not ends:
-            point = self.point(self.swept)
+            point = self._point(self._swept)
             point.lines += lines
             if connection.is_ready():
-                connection.turn(self.here(), point.lines)
+                connection.turn(self._here(), point.lines)
 
-    def reply(self, connection: Connection, record: Record, point: Point) -> None:
+    def _reply(self, connection: Connection, record: Record, point: Point) -> None:
         """A reply is complete. Handles what it says about ports and interrupt channels."""
         place, flow = len(connection.flow.replies), connection.flow
-        turn = connection.turns[place] if place < len(connection.turns) else self.here()
+        turn = connection.turns[place] if place < len(connection.turns) else self._here()
         if place >= len(connection.calls):
-            flow.replies.append(Reply(record.start, record.end, "no call", turn, self.here()))
+            flow.replies.append(Reply(record.start, record.end, "no call", turn, self._here()))
             return
         call = connection.calls[place]
-        flow.replies.append(Reply(record.start, record.end, name(call), turn, self.here(), call))
+        flow.replies.append(Reply(record.start, record.end, name(call), turn, self._here(), call))
         kind = (call.program, call.procedure)
         if kind == (calls.CORE, calls.CREATE_LINK):
-            self.tell_port(flow, record.start + RESULT_AT + LINK_PORT)
+            self._tell_port(flow, record.start + RESULT_AT + LINK_PORT)
         elif kind == (calls.PORT_MAPPER, calls.GETPORT):
-            self.tell_port(flow, record.start + RESULT_AT + ASKED_PORT)
+            self._tell_port(flow, record.start + RESULT_AT + ASKED_PORT)
         elif kind in ((calls.CORE, calls.CREATE_INTR_CHAN), (calls.CORE, calls.DESTROY_INTR_CHAN)):
-            self.on_dial(connection, call, error_of(record.body, call.xid), point)
+            self._on_dial(connection, call, error_of(record.body, call.xid), point)
 
-    def tell_port(self, flow: Flow, place: int) -> None:
+    def _tell_port(self, flow: Flow, place: int) -> None:
         """Puts the port of the replaying server in place of a port of this session."""
-        if self.as_told:
+        if self._as_told:
             return
         for role, port in TOLD.items():
-            for told in map(words, self.ports[role]):
+            for told in map(words, self._ports[role]):
                 if flow.wanted[place:place + len(told)] == told:
                     flow.wanted[place:place + len(told)] = words(port)
                     return
 
-    def on_dial(self, connection: Connection, call: CallMessage, error: Optional[int], point: Point) -> None:
+    def _on_dial(self, connection: Connection, call: CallMessage, error: Optional[int], point: Point) -> None:
         """What became of an interrupt channel, as the reply to a call about it says."""
         number = connection.number
         turn = self.points[connection.turns[len(connection.flow.replies) - 1]]
@@ -193,7 +194,7 @@ class Session:
             turn.lines.insert(turn.lines.index("turn %d" % number), "close i%d" % number)
         if opens:
             point.lines.append("dialed %d ok" % number)
-            connection.channel = self.channel(call, turn)
+            connection.channel = self._channel(call, turn)
             connection.channels.append(connection.channel)
             point.owners["i%d" % number] = connection.channel
         elif creates and error == NOT_ESTABLISHED:
@@ -201,26 +202,26 @@ class Session:
         elif not creates:
             connection.channel = None
 
-    def channel(self, call: CallMessage, turn: Point) -> Flow:
+    def _channel(self, call: CallMessage, turn: Point) -> Flow:
         """The flow of the interrupt channel that a call opened."""
         reader = Reader(call.arguments)
         end = (".".join(map(str, reader.take(4))), reader.word())
-        for one in self.others:
+        for one in self._others:
             if one.callee == end and one.begun - self.start >= turn.time:
-                self.others.remove(one)
+                self._others.remove(one)
                 self.channels[id(one)] = Flow(one.name())
                 return self.channels[id(one)]
         self.unseen += 1
         return Flow("interrupt channel to %s:%d" % end, loose=True)
 
-    def on_channel(self, what: Happening) -> None:
+    def _on_channel(self, what: Happening) -> None:
         """The server sent bytes on an interrupt channel, or its peer closed it."""
         flow = self.channels[id(what.stream)]
         if what.kind == "sent":
-            point = self.point(what.time - WRITING)
+            point = self._point(what.time - WRITING)
             for record in flow.push(what.data, point):
                 flow.replies.append(Reply(record.start, record.end, "device_intr_srq",
-                                          self.here(), self.here()))
+                                          self._here(), self._here()))
         elif what.kind == "closed":
             flow.loose = True
 

@@ -37,11 +37,12 @@ class Stream:
     happenings: List[Happening] = field(default_factory=list)
 
     def name(self) -> str:
+        """Who called whom, in words."""
         return "%s:%d to %s:%d" % (self.caller + self.callee)
 
 
 @dataclass
-class Piece:
+class _Piece:
     """Bytes of the caller or of the callee, in order: the packet that brought them, and the bytes that tshark prints."""
 
     packet: Packet
@@ -49,9 +50,9 @@ class Piece:
     data: bytes
 
 
-def followed(path: str, packets: Dict[int, Packet], numbers: List[int]) -> Dict[int, List[Piece]]:
+def followed(path: str, packets: Dict[int, Packet], numbers: List[int]) -> Dict[int, List[_Piece]]:
     """The bytes of these streams in both directions, as tshark follows them."""
-    found: Dict[int, List[Piece]] = defaultdict(list)
+    found: Dict[int, List[_Piece]] = defaultdict(list)
     for start in range(0, len(numbers), AT_ONCE):
         words = ["-q"]
         for number in numbers[start:start + AT_ONCE]:
@@ -61,7 +62,7 @@ def followed(path: str, packets: Dict[int, Packet], numbers: List[int]) -> Dict[
     return found
 
 
-def pieces(lines: Iterable[str], packets: Dict[int, Packet]) -> Iterable[Piece]:
+def pieces(lines: Iterable[str], packets: Dict[int, Packet]) -> Iterable[_Piece]:
     """The pieces in the lines that tshark prints: `packet: NUMBER`, `peer: 0` for the caller, and after `data:`
     lines of base64.
     """
@@ -72,7 +73,7 @@ def pieces(lines: Iterable[str], packets: Dict[int, Packet]) -> Iterable[Piece]:
             text += line.strip()
             continue
         if packet is not None and text:
-            yield Piece(packet, called, decoded(text))
+            yield _Piece(packet, called, decoded(text))
             packet, text = None, ""
         head, _, number = line.partition(": ")
         if head == "  - packet":
@@ -91,88 +92,88 @@ def decoded(text: str) -> bytes:
         raise Fault("tshark prints what isn't base64: %s" % text[:60]) from None
 
 
-class Direction:
+class _Direction:
     """One direction of a stream: how much of it the capture has, and how much the other side acknowledged."""
 
     def __init__(self) -> None:
-        self.reached = 0        # the end of the farthest packet, in bytes
-        self.known = 0          # the bytes that the other side acknowledged
+        self._reached = 0        # the end of the farthest packet, in bytes
+        self._known = 0          # the bytes that the other side acknowledged
         self.end: Optional[Packet] = None       # the packet that ended the direction
 
     def take(self, packet: Packet) -> None:
         """Takes a packet of this side. Its bytes are counted from 1: 0 is the beginning of the stream."""
         if packet.size:
-            self.reached = max(self.reached, packet.seq + packet.size - 1)
+            self._reached = max(self._reached, packet.seq + packet.size - 1)
         if packet.flags & FIN and self.end is None:
             self.end = packet
 
     def acknowledged(self, packet: Packet) -> None:
         """Takes a packet of the other side."""
         if packet.flags & ACK and not packet.flags & RST:
-            self.known = max(self.known, packet.ack - 1)
+            self._known = max(self._known, packet.ack - 1)
 
     def size(self) -> int:
         """How many bytes the direction must have."""
-        return max(self.reached, self.known - (1 if self.end is not None else 0))
+        return max(self._reached, self._known - (1 if self.end is not None else 0))
 
 
-class Following:
+class _Following:
     """A stream while its packets come."""
 
     def __init__(self, packet: Packet) -> None:
         self.stream = Stream(packet.source, packet.target, packet.time)
-        self.sides = {True: Direction(), False: Direction()}
-        self.answered = False
-        self.opened: Optional[Packet] = None
-        self.reset: Optional[Packet] = None
-        self.pieces: List[Piece] = []
+        self._sides = {True: _Direction(), False: _Direction()}
+        self._answered = False
+        self._opened: Optional[Packet] = None
+        self._reset: Optional[Packet] = None
+        self._pieces: List[_Piece] = []
 
     def take(self, packet: Packet) -> None:
         """Takes a packet of the stream."""
         called = packet.source == self.stream.caller
         if packet.flags & SYN:
-            self.answered = self.answered or not called
+            self._answered = self._answered or not called
             return
-        if self.reset is not None or not self.answered:
+        if self._reset is not None or not self._answered:
             return
-        self.sides[not called].acknowledged(packet)
-        if called and self.opened is None:
-            self.opened = packet
+        self._sides[not called].acknowledged(packet)
+        if called and self._opened is None:
+            self._opened = packet
         if packet.flags & RST:
-            self.reset = packet
+            self._reset = packet
             return
-        self.sides[called].take(packet)
+        self._sides[called].take(packet)
         if called and packet.flags & FIN and self.stream.left is None:
             self.stream.left = packet.time
 
-    def play(self, found: List[Piece]) -> None:
+    def play(self, found: List[_Piece]) -> None:
         """What happened, given these bytes. The bytes of a direction are in order, even if its packets weren't."""
-        self.pieces = found
-        if self.opened is None:
+        self._pieces = found
+        if self._opened is None:
             return
-        self.tell(self.opened, "opened")
-        latest = {True: self.opened, False: self.opened}
+        self._tell(self._opened, "opened")
+        latest = {True: self._opened, False: self._opened}
         for one in found:
             latest[one.called] = later(latest[one.called], one.packet)
-            self.tell(latest[one.called], "sent" if one.called else "answered", one.data)
-        end = self.sides[False].end
+            self._tell(latest[one.called], "sent" if one.called else "answered", one.data)
+        end = self._sides[False].end
         ends = [] if end is None else [later(end, latest[False])]
-        ends += [] if self.reset is None else [self.reset]
+        ends += [] if self._reset is None else [self._reset]
         if ends:
             over = min(ends, key=lambda packet: packet.number)
             kept = [one for one in self.stream.happenings if one.number <= over.number]
             self.stream.happenings[:] = kept
-            self.tell(over, "reset" if over.source == self.stream.caller else "closed")
+            self._tell(over, "reset" if over.source == self.stream.caller else "closed")
 
-    def tell(self, packet: Packet, kind: str, data: bytes = b"") -> None:
+    def _tell(self, packet: Packet, kind: str, data: bytes = b"") -> None:
         """Adds something that happened with this packet."""
         self.stream.happenings.append(Happening(packet.time, packet.number, kind, self.stream, data))
 
     def whole(self) -> None:
         """Raises Fault if bytes are missing that a packet of the capture had or that the other side acknowledged."""
-        for called, side in self.sides.items():
+        for called, side in self._sides.items():
             count = 0
-            for one in self.pieces:
+            for one in self._pieces:
                 if one.called == called:
                     if LACKS.fullmatch(one.data):
                         break
@@ -191,7 +192,7 @@ def streams(path: str, packets: List[Packet], ports: Set[int]) -> List[Stream]:
     """The streams of a capture, in the order in which they began. Raises Fault if a stream of one of the server's
     ports began before the capture.
     """
-    begun: Dict[int, Following] = {}
+    begun: Dict[int, _Following] = {}
     for packet in packets:
         if packet.stream not in begun:
             if packet.flags & (SYN | ACK) != SYN:
@@ -199,7 +200,7 @@ def streams(path: str, packets: List[Packet], ports: Set[int]) -> List[Stream]:
                     raise Fault("packet %d: the connection %s:%d to %s:%d began before the capture" % (
                         (packet.number,) + packet.source + packet.target))
                 continue
-            begun[packet.stream] = Following(packet)
+            begun[packet.stream] = _Following(packet)
         begun[packet.stream].take(packet)
     found = followed(path, {packet.number: packet for packet in packets}, sorted(begun))
     for number, follow in begun.items():

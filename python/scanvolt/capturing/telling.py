@@ -21,41 +21,41 @@ class Telling(Watch):
     """Prints what a comparison finds and tries."""
 
     def __init__(self, session: Session, slack: int) -> None:
-        self.session = session
-        self.slack = slack
-        self.shown: Optional[Difference] = None
-        self.begun = False
+        self._session = session
+        self._slack = slack
+        self._shown: Optional[Difference] = None
+        self._begun = False
 
     def begin(self) -> None:
         """Prints what the capture has, before anything else."""
-        if not self.begun:
-            self.begun = True
-            say(["capture: " + summary(self.session)])
+        if not self._begun:
+            self._begun = True
+            say(["capture: " + summary(self._session)])
 
-    def show(self, head: str, difference: Difference) -> None:
+    def _show(self, head: str, difference: Difference) -> None:
         """Prints a difference, unless it was the last one that was printed."""
         self.begin()
-        if difference != self.shown:
-            self.shown = difference
-            say(["capture: " + head] + told(self.session, difference))
+        if difference != self._shown:
+            self._shown = difference
+            say(["capture: " + head] + told(self._session, difference))
 
     def found(self, difference: Difference) -> None:
         """Prints the first difference, and that other ticks are tried."""
-        if self.shown is None:
-            self.show("at the times of the capture, the first difference is this:", difference)
-            if self.slack:
+        if self._shown is None:
+            self._show("at the times of the capture, the first difference is this:", difference)
+            if self._slack:
                 say(["capture: other ticks are tried, up to %s earlier or later, for at most %g s" % (
-                    counted(self.slack, "millisecond"), compare.PATIENCE)])
+                    counted(self._slack, "millisecond"), compare.PATIENCE)])
 
     def starts(self, difference: Difference) -> None:
         """Prints the difference that other ticks don't settle, and that other starts are tried."""
-        self.show("other ticks settle that; then the first difference is this:", difference)
+        self._show("other ticks settle that; then the first difference is this:", difference)
         say(["capture: other starts of the server are tried, for at most %g s" % compare.PATIENCE])
 
     def remains(self, difference: Difference, comparison: Comparison) -> None:
         """Prints the difference that remains."""
-        if difference != self.shown:
-            self.show("the difference that remains with other ticks:", difference)
-        elif self.slack:
+        if difference != self._shown:
+            self._show("the difference that remains with other ticks:", difference)
+        elif self._slack:
             say(["capture: the difference remains with " + (
                 "what could be tried in %g s" % compare.PATIENCE if comparison.late else "all that was tried")])

@@ -19,7 +19,7 @@ Requested = Tuple[int, str]         # its xid and its handle
 
 
 @dataclass(frozen=True)
-class Sent(Call[None]):
+class _Sent(Call[None]):
     """A call that is sent as the bytes that were captured."""
 
     data: bytes = b""
@@ -32,72 +32,72 @@ class Again:
     """A captured session, made again in virtual time."""
 
     def __init__(self, session: Session, ticks: List[int], program: Optional[Name], scenario: Optional[Name]) -> None:
-        self.session = session
-        self.ticks = ticks
-        self.open: Dict[int, Connection] = {}
-        self.left: Dict[int, Deque[Tuple[CallMessage, bytes, bool]]] = {}
-        self.done: List[List[Pending[None]]] = []       # the calls of each connection, open or ended
-        self.place: Dict[int, int] = {}                 # for each open connection, its place in `done`
-        self.requests: List[Requested] = []
-        self.captured = iter(session.connections)
+        self._session = session
+        self._ticks = ticks
+        self._open: Dict[int, Connection] = {}
+        self._left: Dict[int, Deque[Tuple[CallMessage, bytes, bool]]] = {}
+        self._done: List[List[Pending[None]]] = []       # the calls of each connection, open or ended
+        self._place: Dict[int, int] = {}                 # for each open connection, its place in `done`
+        self._requests: List[Requested] = []
+        self._captured = iter(session.connections)
         with Meter(program, scenario) as meter:
-            self.meter = meter
+            self._meter = meter
             for point, clock in zip(session.points, ticks):
                 meter.advance(max(0, clock - meter.clock))
                 for line in point.lines:
-                    self.play(*line.split(" ", 2))
+                    self._play(*line.split(" ", 2))
 
-    def play(self, kind: str, where: str, what: str = "") -> None:
+    def _play(self, kind: str, where: str, what: str = "") -> None:
         """Plays an event of the session."""
         if kind == "open":
-            self.begin(int(where), what)
+            self._begin(int(where), what)
         elif kind == "turn":
-            self.turn(int(where))
+            self._turn(int(where))
         elif kind == "close" and where[0] == "c":
-            self.meter.drop(self.open.pop(int(where[1:])))
+            self._meter.drop(self._open.pop(int(where[1:])))
         elif kind == "close":
-            self.meter.drop_channel(self.open[int(where[1:])])
+            self._meter.drop_channel(self._open[int(where[1:])])
 
-    def begin(self, number: int, role: str) -> None:
+    def _begin(self, number: int, role: str) -> None:
         """Opens a connection, and notes all its calls, which `turn` then sends."""
-        connection = self.meter.connect(role)
+        connection = self._meter.connect(role)
         if connection.number != number:
             raise Fault("in virtual time connection %d is %d" % (number, connection.number))
-        connection.on_service_request(lambda one: self.requests.append((one.xid, one.handle.decode("latin-1"))))
-        captured = next(self.captured)
-        self.open[number], self.left[number] = connection, deque(sent(captured))
-        self.place[number] = len(self.done)
-        self.done.append([])
+        connection.on_service_request(lambda one: self._requests.append((one.xid, one.handle.decode("latin-1"))))
+        captured = next(self._captured)
+        self._open[number], self._left[number] = connection, deque(sent(captured))
+        self._place[number] = len(self._done)
+        self._done.append([])
 
-    def turn(self, number: int) -> None:
+    def _turn(self, number: int) -> None:
         """Sends the next call of a connection."""
-        call, data, dials = self.left[number].popleft()
-        self.meter.dials = dials
-        again = Sent(call.program, call.procedure, call.arguments, lambda _: None, 0, data)
-        self.done[self.place[number]].append(self.open[number].start(again))
+        call, data, dials = self._left[number].popleft()
+        self._meter.dials = dials
+        again = _Sent(call.program, call.procedure, call.arguments, lambda _: None, 0, data)
+        self._done[self._place[number]].append(self._open[number].start(again))
 
     def differences(self) -> List[str]:
         """The lines that say what differs from the capture."""
         told = []
-        for captured, done in zip(self.session.connections, self.done):
+        for captured, done in zip(self._session.connections, self._done):
             flow = captured.flow
             for place, reply in enumerate(flow.replies):
                 wanted = bytes(flow.wanted[reply.start:reply.end])
-                found = record(done[place].body) if place < len(done) and done[place].body else b""
-                late = place < len(done) and (done[place].clock or 0) > self.ticks[reply.due]
+                found = record(done[place]._body) if place < len(done) and done[place]._body else b""
+                late = place < len(done) and (done[place].clock or 0) > self._ticks[reply.due]
                 if found != wanted or late:
                     told.append("reply %d (%s) of %s: %s in the capture, %s in virtual time%s" % (
                         place + 1, reply.name, flow.name, wanted.hex(), found.hex() or "none", " later" * late))
-        if self.requests != requested(self.session):
+        if self._requests != requested(self._session):
             told.append("service requests %s in the capture, %s in virtual time" % (
-                requested(self.session), self.requests))
+                requested(self._session), self._requests))
         return told
 
     def summary(self) -> str:
         """The line that says how much was the same."""
-        count = sum(len(one.flow.replies) for one in self.session.connections)
+        count = sum(len(one.flow.replies) for one in self._session.connections)
         return "%s and %s are the same in virtual time" % (
-            counted(count, "reply", "replies"), counted(len(self.requests), "service request"))
+            counted(count, "reply", "replies"), counted(len(self._requests), "service request"))
 
 
 def sent(captured: Captured) -> List[Tuple[CallMessage, bytes, bool]]:

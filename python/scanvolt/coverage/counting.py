@@ -70,21 +70,21 @@ def everything() -> List[Item]:
 
 def count(story: Story) -> "Counter[Item]":
     """How often a session has met each."""
-    return Counting(story).found
+    return _Counting(story).found
 
 
-class Counting:
+class _Counting:
     """Counts what a story has."""
 
     def __init__(self, story: Story) -> None:
-        self.story, self.lines = story, story.lines
+        self._story, self._lines = story, story.lines
         self.found: "Counter[Item]" = Counter()
-        self.headers, self.place = Headers(), -1
+        self._headers, self._place = Headers(), -1
         if story.moments:
             for name, bit in registers():
-                if self.lines.bits(name, -1) >> bit & 1:
+                if self._lines.bits(name, -1) >> bit & 1:
                     self.found[_bit(name, bit, "set")] += 1
-        for step in self.lines.steps:
+        for step in self._lines.steps:
             self._step(step)
         for call in story.calls:
             self._call(call)
@@ -117,15 +117,15 @@ class Counting:
 
     def _unit(self, step: Step) -> None:
         """The header of a unit, if the instrument knows it."""
-        if step.kind == "finish" or step.is_unit and step.place <= self.place:
-            self.headers.begin()
-            self.place = -1
+        if step.kind == "finish" or step.is_unit and step.place <= self._place:
+            self._headers.begin()
+            self._place = -1
         if not step.is_unit:
             return
-        self.place = step.place
+        self._place = step.place
         if step.kind == "interrupt":
             self.found[INTERRUPT] += 1
-        header = self.headers.of(step.text)
+        header = self._headers.of(step.text)
         if header is not None:
             self.found[COMMANDS, header] += 1
 

@@ -26,11 +26,11 @@ class Headers:
     """Recognizes the headers of a session's units, one after the other."""
 
     def __init__(self) -> None:
-        self.path: Path = ()
+        self._path: Path = ()
 
     def begin(self) -> None:
         """A message begins, at the root."""
-        self.path = ()
+        self._path = ()
 
     def of(self, unit: bytes) -> Optional[str]:
         """The header of the next unit, as the table has it; None if the table has none such."""
@@ -41,8 +41,8 @@ class Headers:
         is_query, nodes = text.endswith("?"), tuple(text.rstrip("?").lstrip(":").split(":"))
         if text.startswith("*"):
             return TABLE.get((nodes, is_query))
-        whole = nodes if text.startswith(":") else self.path + nodes
+        whole = nodes if text.startswith(":") else self._path + nodes
         header = TABLE.get((whole, is_query))
         if header is not None:
-            self.path = whole[:-1]
+            self._path = whole[:-1]
         return header

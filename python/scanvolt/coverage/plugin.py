@@ -18,62 +18,62 @@ class Coverage:
     """The plugin. `least` is how many percent have to be met; `everything` prints each entry."""
 
     def __init__(self, config: pytest.Config, least: float, everything: bool) -> None:
-        self.config, self.least, self.everything = config, least, everything
-        self.open: List[Replay] = []
-        self.found: "Counter[Item]" = Counter()
-        self.faults: List[str] = []
-        STARTED.append(self.started)
+        self._config, self._least, self._everything = config, least, everything
+        self._open: List[Replay] = []
+        self._found: "Counter[Item]" = Counter()
+        self._faults: List[str] = []
+        STARTED.append(self._started)
 
-    def started(self, meter: Meter) -> None:
+    def _started(self, meter: Meter) -> None:
         """A meter was turned on."""
-        self.open.append(meter.replay)
+        self._open.append(meter._replay)
 
-    def count(self, ended: bool) -> None:
+    def _count(self, ended: bool) -> None:
         """Counts the sessions that have ended, or all of them."""
         left = []
-        for replay in self.open:
+        for replay in self._open:
             if replay.program.close.alive and not ended:
                 left.append(replay)
                 continue
             try:
-                self.found += count(Story(lines_of(replay.script(), replay.path)))
+                self._found += count(Story(lines_of(replay.script(), replay.path)))
             except (ProgramError, ValueError) as fault:
-                self.faults.append(str(fault))
-        self.open = left
+                self._faults.append(str(fault))
+        self._open = left
 
     def pytest_runtest_logfinish(self) -> None:
         """After each test."""
-        self.count(False)
+        self._count(False)
 
     def _finish(self, session: pytest.Session) -> None:
         """After the last test: a worker of pytest-xdist hands on what it has; else too little coverage fails."""
-        if self.started in STARTED:
-            STARTED.remove(self.started)
-        self.count(True)
-        output: Optional[Dict[str, Any]] = getattr(self.config, "workeroutput", None)
+        if self._started in STARTED:
+            STARTED.remove(self._started)
+        self._count(True)
+        output: Optional[Dict[str, Any]] = getattr(self._config, "workeroutput", None)
         if output is not None:
-            output[OUTPUT] = [[name, words, number] for (name, words), number in self.found.items()], self.faults
-        elif session.exitstatus == 0 and Report(self.found).below(self.least):
+            output[OUTPUT] = [[name, words, number] for (name, words), number in self._found.items()], self._faults
+        elif session.exitstatus == 0 and Report(self._found).below(self._least):
             session.exitstatus = pytest.ExitCode.TESTS_FAILED
 
     def _gather(self, node: Any) -> None:
         """A worker has ended."""
         rows, faults = getattr(node, "workeroutput", {}).get(OUTPUT, ((), ()))
-        self.found += Counter({(name, words): number for name, words, number in rows})
-        self.faults += faults
+        self._found += Counter({(name, words): number for name, words, number in rows})
+        self._faults += faults
 
     pytest_sessionfinish = pytest.hookimpl(tryfirst=True)(_finish)
     pytest_testnodedown = pytest.hookimpl(optionalhook=True)(_gather)
 
     def pytest_terminal_summary(self, terminalreporter: Any) -> None:
         """The table and the summary."""
-        report = Report(self.found)
+        report = Report(self._found)
         terminalreporter.section("coverage of the instrument")
-        for line in report.lines(self.everything):
+        for line in report.lines(self._everything):
             terminalreporter.write_line(line)
-        for fault in sorted(set(self.faults)):
+        for fault in sorted(set(self._faults)):
             terminalreporter.write_line("a session isn't counted: " + fault)
         terminalreporter.write_line(report.summary())
-        below = report.below(self.least)
+        below = report.below(self._least)
         if below:
             terminalreporter.write_line(below, red=True)

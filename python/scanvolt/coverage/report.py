@@ -11,43 +11,43 @@ class Report:
     """What was met of all that can be: of entries that aren't in the lists, nothing is said."""
 
     def __init__(self, found: Mapping[Item, int]) -> None:
-        self.counts: "Counter[Item]" = Counter({item: found.get(item, 0) for item in everything()})
-        self.lists: Dict[str, List[Item]] = {}
+        self._counts: "Counter[Item]" = Counter({item: found.get(item, 0) for item in everything()})
+        self._lists: Dict[str, List[Item]] = {}
         for item in everything():
-            self.lists.setdefault(item[0], []).append(item)
+            self._lists.setdefault(item[0], []).append(item)
 
-    def met(self, items: List[Item]) -> int:
-        return sum(self.counts[item] > 0 for item in items)
+    def _met(self, items: List[Item]) -> int:
+        return sum(self._counts[item] > 0 for item in items)
 
     @property
     def parts(self) -> Tuple[int, int]:
         """How many were met, and how many there are."""
-        return self.met(list(self.counts)), len(self.counts)
+        return self._met(list(self._counts)), len(self._counts)
 
     @property
-    def percent(self) -> float:
+    def _percent(self) -> float:
         met, there = self.parts
         return 100 * met / there
 
     def summary(self) -> str:
         """The summary in one line."""
-        parts = ["%s %d of %d" % (name, self.met(items), len(items)) for name, items in self.lists.items()]
-        return "coverage of the instrument: %d of %d, %.0f %%: %s" % (*self.parts, self.percent, ", ".join(parts))
+        parts = ["%s %d of %d" % (name, self._met(items), len(items)) for name, items in self._lists.items()]
+        return "coverage of the instrument: %d of %d, %.0f %%: %s" % (*self.parts, self._percent, ", ".join(parts))
 
     def lines(self, everything_met: bool = False) -> List[str]:
         """The table: of each list what wasn't met; if all is wanted, also how often the rest was met."""
         found: List[str] = []
-        for name, items in self.lists.items():
-            missing = [words for _, words in items if not self.counts[_, words]]
-            found.append("%-24s%4d of %-4d%s" % (name, self.met(items), len(items), "" if missing else "all"))
+        for name, items in self._lists.items():
+            missing = [words for _, words in items if not self._counts[_, words]]
+            found.append("%-24s%4d of %-4d%s" % (name, self._met(items), len(items), "" if missing else "all"))
             if everything_met:
-                found += ["%8d  %s" % (self.counts[item], item[1]) for item in items]
+                found += ["%8d  %s" % (self._counts[item], item[1]) for item in items]
             elif missing:
                 found.append(" " * INDENT + wrapped("not met: " + "; ".join(missing), WIDTH - INDENT, INDENT))
         return found
 
     def below(self, least: float) -> str:
         """Says so if less than so many percent were met; empty if not."""
-        if self.percent >= least:
+        if self._percent >= least:
             return ""
-        return "coverage of the instrument: %.1f %% is below %g %%" % (self.percent, least)
+        return "coverage of the instrument: %.1f %% is below %g %%" % (self._percent, least)

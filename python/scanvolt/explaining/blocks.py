@@ -43,68 +43,68 @@ class Block:
         """Its millisecond."""
         return self.moment.clock
 
-    def repeats(self, other: "Block") -> bool:
+    def _repeats(self, other: "Block") -> bool:
         """Whether it is the same call as another one, with the same reply, and nothing changed."""
         mine, others = ((one.who, one.head, one.reply, one.kind) for one in (self, other))
         return self.kind == "call" and mine == others and not self.rows and not other.rows
 
 
-class Ordered:
+class _Ordered:
     """The blocks of faults on order, between the blocks of what the instrument saw."""
 
     def __init__(self, story: Story) -> None:
-        self.left, self.last = list(story.faults), story.moments[0] if story.moments else None
+        self._left, self._last = list(story.faults), story.moments[0] if story.moments else None
 
     def before(self, moment: Moment) -> List[Block]:
         """The faults that came before an event."""
-        count = sum((one.line, one.clock) < (moment.line, moment.clock) for one in self.left)
-        found, self.last = self._blocks(count), moment
+        count = sum((one.line, one.clock) < (moment.line, moment.clock) for one in self._left)
+        found, self._last = self._blocks(count), moment
         return found
 
     def rest(self) -> List[Block]:
         """The faults that came after the last event."""
-        return self._blocks(len(self.left))
+        return self._blocks(len(self._left))
 
     def _blocks(self, count: int) -> List[Block]:
-        taken, self.left = self.left[:count], self.left[count:]
-        return [Block(replace(self.last, clock=one.clock), one.who, str(one), "fault", is_fault=True)
-                for one in taken if self.last is not None]
+        taken, self._left = self._left[:count], self._left[count:]
+        return [Block(replace(self._last, clock=one.clock), one.who, str(one), "fault", is_fault=True)
+                for one in taken if self._last is not None]
 
 
 class Blocks:
     """Makes the blocks of a session."""
 
     def __init__(self, reasons: Reasons) -> None:
-        self.reasons, self.doers, self.telling, self.story = reasons, reasons.doers, reasons.telling, reasons.story
-        self.everything = self.telling.everything
+        self._reasons, self._doers, self._telling, self._story = reasons, reasons.doers, reasons.telling, reasons.story
+        self._everything = self._telling.everything
 
     def all(self) -> List[Block]:
         """All that happened, folded."""
         found: List[Block] = []
-        faults = Ordered(self.story)
-        for moment in self.story.moments:
+        faults = _Ordered(self._story)
+        for moment in self._story.moments:
             found += faults.before(moment)
-            for block in self.of(moment):
+            for block in self._of(moment):
                 last = found[-1] if found else None
-                if last and last.kind == block.kind == "reading" and not self.everything:
+                if last and last.kind == block.kind == "reading" and not self._everything:
                     last.times, last.last, last.rows = last.times + 1, block.clock, block.rows
-                elif last and last.repeats(block) and not self.everything:
+                elif last and last._repeats(block) and not self._everything:
                     last.times, last.last = last.times + 1, block.clock
                 else:
                     found.append(block)
         return found + faults.rest()
 
-    def of(self, moment: Moment) -> Iterator[Block]:
+    def _of(self, moment: Moment) -> Iterator[Block]:
         """The blocks of an event."""
-        kind, rows = moment.kind, self.rows(moment)
-        call = self.story.of_moment.get(moment.number)
-        replied = self.story.replied.get(moment.number, [])
+        kind, rows = moment.kind, self._rows(moment)
+        call = self._story.of_moment.get(moment.number)
+        replied = self._story.replied.get(moment.number, [])
         if moment.refused is not None:
             yield self._refused(moment, rows)
             return
-        if kind == "bytes" and not self.everything:
+        if kind == "bytes" and not self._everything:
             yield from self._queued(moment, rows)
-        elif kind == "dialed" and call and call in replied and not self.everything:
+        elif kind == "dialed" and call and call in replied and not self._everything:
             yield Block(moment, call.who, call.words, "call", call.reply.words, call.reply.is_fault, rows, call)
             return
         elif kind in ("turn", "refuse") and call:
@@ -122,27 +122,27 @@ class Blocks:
                 waited = "   after %s" % millis(moment.clock - one.turned.clock) if one.turned else ""
                 yield Block(moment, one.who, one.words, "answer", one.reply.words + waited, one.reply.is_fault, [], one)
 
-    def rows(self, moment: Moment) -> List[Row]:
+    def _rows(self, moment: Moment) -> List[Row]:
         """What the steps of an event changed, and the service requests that it sends."""
         rows: List[Row] = []
         for step in moment.steps:
-            told = [words for words in map(self.telling.change, step.changes) if words]
+            told = [words for words in map(self._telling.change, step.changes) if words]
             if step.kind == "interrupt":
                 told.insert(0, "comes before the last response was read to its end")
-            if told or step.is_unit or step.conn is not None or self.everything:
-                rows.append(Row(self.doers.label(step), "; ".join(told), step, step.kind))
-        for conn, handle in self.story.requests.get(moment.number, ()):
+            if told or step.is_unit or step.conn is not None or self._everything:
+                rows.append(Row(self._doers.label(step), "; ".join(told), step, step.kind))
+        for conn, handle in self._story.requests.get(moment.number, ()):
             rows.append(Row("service request", '"%s" to c%d' % (escaped(handle), conn), None, "request"))
         return rows
 
     def _refused(self, moment: Moment, rows: List[Row]) -> Block:
         assert moment.refused is not None
         reply = "refused %d: %s" % (moment.refused, REFUSED.get(moment.refused, "unknown"))
-        return Block(moment, "script", " ".join(moment.words)[:40], "refused", reply, True, rows if self.everything else [])
+        return Block(moment, "script", " ".join(moment.words)[:40], "refused", reply, True, rows if self._everything else [])
 
     def _queued(self, moment: Moment, rows: List[Row]) -> Iterator[Block]:
         """Calls that come and aren't taken with the next event."""
-        for one in self.story.came.get(moment.number, ()):
+        for one in self._story.came.get(moment.number, ()):
             if one.turned is None or one.turned.number > moment.number + 1:
                 yield Block(moment, one.who, one.words, "queued", "comes, and isn't taken yet", False, [], one)
         if rows:
@@ -150,7 +150,7 @@ class Blocks:
 
     def _dials_at_once(self, call: Call, moment: Moment) -> bool:
         """Whether a create_intr_chan is connected in the same millisecond: then that is told and not the wait."""
-        return bool(not self.everything and call.waits and call.waits[0].what == "dial" and call.ended
+        return bool(not self._everything and call.waits and call.waits[0].what == "dial" and call.ended
                     and call.ended is not moment and call.ended.clock == moment.clock)
 
     def _turn(self, moment: Moment, call: Call, ended: bool, rows: List[Row]) -> Block:
@@ -158,12 +158,12 @@ class Blocks:
         block = Block(moment, call.who, call.words, "call", "", False, rows, call)
         if ended:
             block.reply, block.is_fault = call.reply.words, call.reply.is_fault
-            if len(rows) == 1 and rows[0].kind == "unit" and not rows[0].words and not self.everything:
+            if len(rows) == 1 and rows[0].kind == "unit" and not rows[0].words and not self._everything:
                 block.rows = []
         elif call.waits and rows and rows[0].kind == "event":
             wait = call.waits[0]
             block.kind, block.reply, block.rows = "waits", rows[0].words, rows[1:]
-            brief = self.reasons.brief(wait, wait.begin.number)
+            brief = self._reasons.brief(wait, wait.begin.number)
             if wait.what != "lock" and brief:
                 block.rows.insert(0, Row("", "because " + brief))
         return block
@@ -172,9 +172,9 @@ class Blocks:
         """A millisecond that passes."""
         changed = {change.name for change in moment.changes()}
         kind = "reading" if len(moment.steps) == 1 and changed <= READING and "reading" in changed else "time"
-        shown = [row for row in rows if row.kind != "timeout" or row.words or self.everything]
+        shown = [row for row in rows if row.kind != "timeout" or row.words or self._everything]
         head = self._brings(moment)
-        if kind == "time" and not self.everything and shown and shown[0].words.startswith(head + "; "):
+        if kind == "time" and not self._everything and shown and shown[0].words.startswith(head + "; "):
             shown[0].words = shown[0].words[len(head) + 2:]
         return Block(moment, "time", head, kind, "", False, shown)
 
@@ -187,17 +187,17 @@ class Blocks:
         if state is not None and state.new == "waiting":
             return "a scan is done, the next one waits"
         if late:
-            return "timeout of " + " and ".join(self.doers.label(step).replace(" times out", "") for step in late)
-        return self.doers.event(moment)
+            return "timeout of " + " and ".join(self._doers.label(step).replace(" times out", "") for step in late)
+        return self._doers.event(moment)
 
     def _event(self, moment: Moment, rows: List[Row]) -> Block:
         """An event of the script that takes no call."""
         kind, reply = moment.kind, ""
         if kind == "external" and not rows:
-            source, state = self.telling.at("source", moment.steps[0]), self.telling.at("state", moment.steps[0])
+            source, state = self._telling.at("source", moment.steps[0]), self._telling.at("state", moment.steps[0])
             reply = "ignored: the scan %s" % ("waits for another trigger, %s" % source.upper()
                                               if state == "waiting" else "is %s" % state)
         if kind in ("turn", "refuse"):
             reply = "takes no call"
         who = "script" if kind in ("input", "external") or len(moment.words) < 2 else "c" + moment.words[1].lstrip("ci")
-        return Block(moment, who, self.doers.event(moment), "event", reply, False, rows)
+        return Block(moment, who, self._doers.event(moment), "event", reply, False, rows)

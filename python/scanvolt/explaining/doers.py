@@ -14,6 +14,7 @@ class Doers:
     """Names who did what in a session."""
 
     def __init__(self, telling: Telling) -> None:
+        # the session, for what takes its doers from here
         self.telling, self.story, self.lines = telling, telling.story, telling.lines
 
     def label(self, step: Step) -> str:

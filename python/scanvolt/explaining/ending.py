@@ -16,25 +16,25 @@ class Ending:
     """Tells the end of a session. `tried` is what ended the waits when it was tried."""
 
     def __init__(self, reasons: Reasons, tried: Optional[Tried] = None) -> None:
-        self.reasons, self.tried = reasons, tried
-        self.story, self.telling, self.lines = reasons.story, reasons.telling, reasons.lines
+        self._reasons, self._tried = reasons, tried
+        self._story, self._telling, self._lines = reasons.story, reasons.telling, reasons.lines
 
     def text(self) -> List[str]:
         """The end, in lines."""
-        found = ["at the end, %s:" % millis(self.story.clock)]
+        found = ["at the end, %s:" % millis(self._story.clock)]
         in_line: List[Call] = []        # that wait for the lock
-        for call in self.story.waiting():
+        for call in self._story.waiting():
             if call.waits[-1].what == "lock":
                 in_line.append(call)
             found += self._in_line(call, len(in_line)) if call.waits[-1].what == "lock" and len(in_line) > 1 else self._call(call)
-        if not self.story.waiting():
+        if not self._story.waiting():
             found.append("  no call waits")
         return found + self._held() + self._state()
 
     def first_lines(self) -> List[str]:
         """What an exception says of it: what waits and why, or else what is held, in two lines."""
         found = self.text()
-        if self.story.waiting():
+        if self._story.waiting():
             return [found[1].strip(), " ".join(found[2].split())]
         return [one.strip() for one in found[1:3]]
 
@@ -43,7 +43,7 @@ class Ending:
 
     def _in_line(self, call: Call, place: int) -> List[str]:
         """A call that waits for the lock behind others, in a line."""
-        wait, behind = call.waits[-1], self.story.behind(call)
+        wait, behind = call.waits[-1], self._story.behind(call)
         most = "until %s at most" % millis(wait.deadline) if wait.deadline is not None else "without a limit"
         after = "; behind it %s" % call_list(behind) if behind else ""
         return ["  %s  %s waits for the lock too, since %s, place %d in line, %s%s" % (
@@ -51,32 +51,32 @@ class Ending:
 
     def _call(self, call: Call) -> List[str]:
         """A call that waits."""
-        wait, behind = call.waits[-1], self.story.behind(call)
-        found = ["  %s  %s" % (call.who, self.reasons.headline(call, wait))]
-        reasons = self.reasons.why(wait, self.story.end)
+        wait, behind = call.waits[-1], self._story.behind(call)
+        found = ["  %s  %s" % (call.who, self._reasons.headline(call, wait))]
+        reasons = self._reasons.why(wait, self._story.end)
         found += self._labelled("because", ["  " * depth + why for depth, why in enumerate(reasons)])
-        if self.tried is not None:
+        if self._tried is not None:
             found += self._labelled("would end it", self._ends(call))
-            others = [one.what for one in self.tried.of(call) if not one.is_end]
+            others = [one.what for one in self._tried.of(call) if not one.is_end]
             found += self._labelled("would not", [", ".join(others)] if others else [])
-            left = self.tried.left_of(call)
+            left = self._tried.left_of(call)
             found += self._labelled("not tried", [", ".join(left)] if left else [])
-        found += self._labelled("due", [self.due(call)])
+        found += self._labelled("due", [self._due(call)])
         if behind:
             found += self._labelled("behind it", ["%s: not taken before it is answered" % call_list(behind)])
         return found
 
     def _ends(self, call: Call) -> List[str]:
         """What ended the wait when it was tried: when, and with which reply."""
-        assert self.tried is not None
-        rows = [(one.what, "at %s: %s" % (millis(one.clock), one.words)) for one in self.tried.of(call) if one.is_end]
+        assert self._tried is not None
+        rows = [(one.what, "at %s: %s" % (millis(one.clock), one.words)) for one in self._tried.of(call) if one.is_end]
         wide = max((len(what) for what, _ in rows), default=0)
         return ["%-*s  %s" % (wide, what, seen) for what, seen in rows]
 
-    def due(self, call: Call) -> str:
+    def _due(self, call: Call) -> str:
         """What ends the wait by itself as time passes, if anything does."""
-        wait, clock = call.waits[-1], self.story.clock
-        scan = self.reasons.due(self.story.end)
+        wait, clock = call.waits[-1], self._story.clock
+        scan = self._reasons.due(self._story.end)
         found = []
         if wait.what in ("input", "response") and scan is not None:
             found.append("this scan, in %s" % millis(scan))
@@ -86,24 +86,24 @@ class Ending:
 
     def _held(self) -> List[str]:
         """A unit that is held while no call waits for it."""
-        held = self.story.held_at(self.lines.steps[-1]) if self.lines.steps and self.story.value("held") != "none" else None
-        if held is None or any(call.waits[-1].what in ("input", "response") for call in self.story.waiting()):
+        held = self._story.held_at(self._lines.steps[-1]) if self._lines.steps and self._story.value("held") != "none" else None
+        if held is None or any(call.waits[-1].what in ("input", "response") for call in self._story.waiting()):
             return []
         since = "unit `%s` since %s" % (unit(held.text), millis(held.moment.clock))
         found = [since + ": every device_write and device_read will wait",
-                 self.reasons.scan(self.story.end)]
-        ends = [] if self.tried is None else ["%s, at %s" % (one.what, millis(one.clock)) for one in self.tried.of_held()]
+                 self._reasons.scan(self._story.end)]
+        ends = [] if self._tried is None else ["%s, at %s" % (one.what, millis(one.clock)) for one in self._tried.of_held()]
         found += ["would end it: " + "; or ".join(ends)] if ends else []
-        left = [] if self.tried is None else [one.what for one in self.tried.left if one.what != TIME]
+        left = [] if self._tried is None else [one.what for one in self._tried.left if one.what != TIME]
         found += ["not tried: " + ", ".join(left)] if left else []
         return ["  %-10s%s" % ("held" if place == 0 else "", line) for place, line in enumerate(found)]
 
     def _state(self) -> List[str]:
         """Errors, lock, status byte, and what can be read."""
-        value = self.story.value
-        errors, taken = numbers(value("errors")), self.lines.last("lock", self.story.end)
+        value = self._story.value
+        errors, taken = numbers(value("errors")), self._lines.last("lock", self._story.end)
         held = "free" if value("lock") == "none" or taken is None else "%s, since %s" % (
-            self.telling.link(int(str(value("lock")))), self.reasons.doers.by(taken.step))
+            self._telling.link(int(str(value("lock")))), self._reasons.doers.by(taken.step))
         registers: List[Tuple[str, str]] = [("STB", "poll"), ("SRE", "sre"), ("ESR", "esr"), ("ESE", "ese")]
         shown = ["%s %s" % (label, shown_bits(name, as_number(value(name)))) for label, name in registers]
         found = ["  errors    " + (folded(errors) or "none"), "  lock      " + held, "  status    " + "; ".join(shown)]
@@ -112,7 +112,7 @@ class Ending:
         if as_number(value("text")):
             found.append("  text      %s bytes of a message that hasn't ended" % value("text"))
         return found + ["  c%-9d%s of a call that isn't whole" % (conn, counted(count, "byte"))
-                        for conn, count in self.story.unfinished()]
+                        for conn, count in self._story.unfinished()]
 
 
 def folded(errors: Sequence[int]) -> str:

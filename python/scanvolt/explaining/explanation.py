@@ -29,7 +29,7 @@ class Explanation:
     def __init__(self, script: Sequence[str], program: str, patience: Optional[float] = None,
                  ports: Optional[Ports] = None, faults: Sequence[Told] = ()) -> None:
         self.script, self.program = script, program
-        self.story = Story(lines_of(script, program, patience, ports))
+        self.story = Story(lines_of(script, program, patience, ports))      # the session, for other views
         self.story.faults = faults
         self.reasons = Reasons(Doers(Telling(self.story)))
 

@@ -23,25 +23,25 @@ class Lanes:
     """Makes the data of the lanes."""
 
     def __init__(self, reasons: Reasons, slots: Slots) -> None:
-        self.reasons, self.slots, self.story, self.lines = reasons, slots, reasons.story, reasons.lines
-        self.why = Why(reasons)
+        self._reasons, self._slots, self._story, self._lines = reasons, slots, reasons.story, reasons.lines
+        self._why = Why(reasons)
 
     def places(self) -> List[Tuple[int, int]]:
         """The lanes of calls: connection and link."""
-        found: Set[Tuple[int, int]] = {self.place(call) for call in self.calls()}
+        found: Set[Tuple[int, int]] = {self._place(call) for call in self.calls()}
         return sorted(found)
 
     def calls(self) -> List[Call]:
         """The calls that are on the page."""
-        return [one for one in self.story.calls if one.arrived.number >= self.slots.first and (one.turned or one.gone is None)]
+        return [one for one in self._story.calls if one.arrived.number >= self._slots.first and (one.turned or one.gone is None)]
 
-    def place(self, call: Call) -> Tuple[int, int]:
+    def _place(self, call: Call) -> Tuple[int, int]:
         """The lane of a call. Calls of no link are on the first of their connection."""
         return call.conn, call.link or self._of_connection(call.conn)
 
     def call(self, call: Call) -> Dict[str, Any]:
         """A call: its lane, its name and words, where it was taken and ended, its reply and its waits."""
-        slots, (conn, link) = self.slots, self.place(call)
+        slots, (conn, link) = self._slots, self._place(call)
         found: Dict[str, Any] = {"c": conn, "l": link, "n": call.name.replace("device_", ""), "w": call.words, "t": _short(call)}
         if call.turned:
             found["s"] = slots.at(call.turned.steps[0])
@@ -68,27 +68,27 @@ class Lanes:
 
     def _wait(self, wait: Wait) -> Optional[Row]:
         """A wait: from where to where, for what, why, until when at most, and how it ended."""
-        begin, end = self.slots.at(wait.begin), self.slots.at(wait.end) if wait.end else None
+        begin, end = self._slots.at(wait.begin), self._slots.at(wait.end) if wait.end else None
         if begin == end:
             return None
-        held = self.story.held_at(wait.begin)
+        held = self._story.held_at(wait.begin)
         what = "`%s`" % unit(held.text, 24) if held else "a message"
-        others = {"lock": "lock: " + self.reasons.telling.holder(wait.begin), "dial": "connecting"}
+        others = {"lock": "lock: " + self._reasons.telling.holder(wait.begin), "dial": "connecting"}
         short = others.get(wait.what, "%s: %s" % (wait.what, what))
         how = {"timeout": "timed out", "resume": "resumed"}.get(wait.end.kind, "ended") if wait.end else ""
-        return [begin, end, short, self.reasons.why(wait, wait.begin.number), wait.deadline, how]
+        return [begin, end, short, self._reasons.why(wait, wait.begin.number), wait.deadline, how]
 
     def units(self) -> List[Row]:
         """Program units: place, text, connection, whether it put an error into the queue, and where it is done if it was held."""
-        held = {one.unit.number: one.until for one in self.story.held}
+        held = {one.unit.number: one.until for one in self._story.held}
         found = []
-        for step in self.slots.found:
+        for step in self._slots.found:
             if step.is_unit:
-                change, call = step.of("errors"), self.story.call_of(step)
+                change, call = step.of("errors"), self._story.call_of(step)
                 bad = change is not None and len(numbers(change.new)) > len(numbers(change.old))
                 until = held.get(step.number)
-                done = None if step.number not in held else self.slots.at(until) if until else -1
-                found.append([self.slots.at(step), unit(step.text, 60), call.conn if call else -1, int(bad), done])
+                done = None if step.number not in held else self._slots.at(until) if until else -1
+                found.append([self._slots.at(step), unit(step.text, 60), call.conn if call else -1, int(bad), done])
         return found
 
     def signals(self) -> List[Dict[str, Any]]:
@@ -96,35 +96,35 @@ class Lanes:
         found = [self._plain("lock", "owner", self._owner), self._plain("state", "state", lambda one: one.new),
                  self._plain("errors", "count", self._count)]
         found[1].update(n="scan", r=self._history("readings", as_number))
-        for change, row in zip(self.slots.kept("state"), found[1]["H"]):
-            row.append(SOURCES[str(self.lines.at("source", change.step.number))])
+        for change, row in zip(self._slots.kept("state"), found[1]["H"]):
+            row.append(SOURCES[str(self._lines.at("source", change.step.number))])
         for register, group, wanted in REGISTERS:
             found += [self._bit(register, bit, group) for bit in wanted
                       if self._flips(register, bit) or register == "poll" and bit in ALWAYS]
         for name in ("sre", "ese"):
-            if self.slots.kept(name):
+            if self._slots.kept(name):
                 history = self._history(name, functools.partial(_word, name))
                 found.append({"id": name, "g": "enables", "k": "word", "n": name.upper(), "H": history})
         return found
 
     def _plain(self, name: str, kind: str, value: Callable[[Change], object]) -> Dict[str, Any]:
         """The lane of a value that isn't a register."""
-        changes = self.slots.kept(name)
-        chains = [[self.slots.at(one.step), self.slots.tree(self.why.errors(one.step.number) if name == "errors" else
-                                                            self.why.plain(name, one.step.number))] for one in changes[-CHAINS:]]
-        history = [[self.slots.at(one.step), value(one)] for one in changes]
+        changes = self._slots.kept(name)
+        chains = [[self._slots.at(one.step), self._slots.tree(self._why.errors(one.step.number) if name == "errors" else
+                                                            self._why.plain(name, one.step.number))] for one in changes[-CHAINS:]]
+        history = [[self._slots.at(one.step), value(one)] for one in changes]
         return {"id": name, "g": "instrument", "k": kind, "n": name, "H": history, "y": chains, "f": self._before(name)}
 
     def _before(self, name: str) -> object:
         """What a value was before the first step of the page, if that isn't power on."""
-        first = next((step.number for step in self.lines.steps if self.slots.is_kept(step)), 0)
-        value = self.lines.at(name, first - 1)
+        first = next((step.number for step in self._lines.steps if self._slots.is_kept(step)), 0)
+        value = self._lines.at(name, first - 1)
         if name == "lock":
-            return None if value == "none" else [int(str(value)), self.story.owners.get(int(str(value)))]
+            return None if value == "none" else [int(str(value)), self._story.owners.get(int(str(value)))]
         return len(numbers(value)) if name == "errors" else value
 
     def _owner(self, change: Change) -> object:
-        return None if change.new == "none" else [int(str(change.new)), self.story.owners.get(int(str(change.new)))]
+        return None if change.new == "none" else [int(str(change.new)), self._story.owners.get(int(str(change.new)))]
 
     def _count(self, change: Change) -> object:
         old, new = numbers(change.old), numbers(change.new)
@@ -133,8 +133,8 @@ class Lanes:
     def _history(self, name: str, shown: Callable[[Value], object]) -> List[Row]:
         """A value at each place where it changes."""
         found: List[Row] = []
-        for change in self.slots.kept(name):
-            place, value = self.slots.at(change.step), shown(change.new)
+        for change in self._slots.kept(name):
+            place, value = self._slots.at(change.step), shown(change.new)
             if found and found[-1][0] == place:
                 found[-1][1] = value
             elif not found or found[-1][1] != value:
@@ -142,30 +142,30 @@ class Lanes:
         return found
 
     def _flips(self, register: str, bit: int) -> List[Change]:
-        return [one for one in self.slots.kept(register) if (as_number(one.old) ^ as_number(one.new)) >> bit & 1]
+        return [one for one in self._slots.kept(register) if (as_number(one.old) ^ as_number(one.new)) >> bit & 1]
 
     def _bit(self, register: str, bit: int, group: str) -> Dict[str, Any]:
         """The lane of a bit."""
         flips = self._flips(register, bit)
         first = as_number(flips[0].old) >> bit & 1 if flips else as_number(start_of(register)) >> bit & 1
-        chains = [[self.slots.at(one.step), self.slots.tree(self.why.bit(register, bit, one.step.number, False))]
+        chains = [[self._slots.at(one.step), self._slots.tree(self._why.bit(register, bit, one.step.number, False))]
                   for one in flips[-CHAINS:]]
         return {"id": "%s.%d" % (register, bit), "g": group, "k": "bit", "n": NAMES[register][bit], "f": first,
                 "d": stands(register, bit),
-                "H": [[self.slots.at(one.step), as_number(one.new) >> bit & 1] for one in flips], "y": chains}
+                "H": [[self._slots.at(one.step), as_number(one.new) >> bit & 1] for one in flips], "y": chains}
 
     def requests(self) -> List[Row]:
         """Service requests: place, connection, handle, and the link whose lane shows it."""
         found: List[Row] = []
-        for number, sent in self.story.requests.items():
-            moment = self.story.moments[number]
-            if moment.number >= self.slots.first:
-                found += [[self.slots.last(moment), conn, handle.decode("latin-1"), self._of_connection(conn)]
+        for number, sent in self._story.requests.items():
+            moment = self._story.moments[number]
+            if moment.number >= self._slots.first:
+                found += [[self._slots.last(moment), conn, handle.decode("latin-1"), self._of_connection(conn)]
                           for conn, handle in sent]
         return found
 
     def _of_connection(self, conn: int) -> int:
-        return min((one for one, owner in self.story.owners.items() if owner == conn), default=0)
+        return min((one for one, owner in self._story.owners.items() if owner == conn), default=0)
 
 
 def _short(call: Call) -> str:

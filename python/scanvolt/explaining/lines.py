@@ -100,9 +100,9 @@ class Lines:
         self.script = script
         self.moments: List[Moment] = []
         self.steps: List[Step] = []
-        self.now: Dict[str, Value] = {}
+        self.now: Dict[str, Value] = {}             # the newest value of each name
         self.history: Dict[str, List[Change]] = {}
-        self.places: Dict[str, List[int]] = {}      # the steps of those changes
+        self._places: Dict[str, List[int]] = {}      # the steps of those changes
         self.clock: Optional[int] = None            # the time of `@ end`; None before that
 
     def read(self, told: str) -> "Lines":
@@ -172,25 +172,25 @@ class Lines:
             here = Change(name, old, new, step)
             step.changes.append(here)
             self.history.setdefault(name, []).append(here)
-            self.places.setdefault(name, []).append(step.number)
+            self._places.setdefault(name, []).append(step.number)
         self.now[name] = new
 
     def _poll(self) -> None:
         """The status byte as a poll would return it: bit 6 is RQS, not MSS. It may change twice in a step and be as before."""
-        self._change("poll", self.number("stb") & ~64 | self.number("rqs") << 6)
+        self._change("poll", self._number("stb") & ~64 | self._number("rqs") << 6)
         change = self.steps[-1].of("poll")
         if change is not None and change.old == change.new:
             self.steps[-1].changes.remove(change)
             self.history["poll"].pop()
-            self.places["poll"].pop()
+            self._places["poll"].pop()
 
-    def number(self, name: str) -> int:
+    def _number(self, name: str) -> int:
         """A value now that is a number."""
         return as_number(self.now.get(name, start_of(name)))
 
     def at(self, name: str, number: int) -> Value:
         """A value after the step of this number."""
-        place = bisect.bisect_right(self.places.get(name, ()), number)
+        place = bisect.bisect_right(self._places.get(name, ()), number)
         return self.history[name][place - 1].new if place else start_of(name)
 
     def bits(self, name: str, number: int) -> int:
@@ -199,7 +199,7 @@ class Lines:
 
     def last(self, name: str, number: int, wanted: Callable[[Change], bool] = lambda change: True) -> Optional[Change]:
         """The newest change of a value in a step of at most this number."""
-        place = bisect.bisect_right(self.places.get(name, ()), number)
+        place = bisect.bisect_right(self._places.get(name, ()), number)
         return next((self.history[name][one] for one in range(place - 1, -1, -1) if wanted(self.history[name][one])), None)
 
 

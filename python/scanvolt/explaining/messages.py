@@ -17,7 +17,7 @@ class Text:
     """The bytes that came and whose messages haven't ended."""
 
     def __init__(self) -> None:
-        self.pieces: List[Tuple[bytes, "Call"]] = []
+        self.pieces: List[Tuple[bytes, "Call"]] = []       # each with the call that wrote it
 
     def add(self, call: "Call") -> None:
         """A write was taken."""

@@ -19,10 +19,10 @@ def of_meter(meter: "Meter", moment: "Optional[Moment]" = None) -> Optional[Expl
     """The explanation of a meter's session, until now or until a moment of it; None if there can't be one in a few seconds, as
     with an earlier program.
     """
-    if meter.replay.log is None or meter.replay.size > MOST:
+    if meter._replay.log is None or meter._replay.size > MOST:
         return None
     try:
-        return Explanation(meter.replay.script(moment), meter.replay.path, PATIENCE)
+        return Explanation(meter._replay.script(moment), meter._replay.path, PATIENCE)
     except (ProgramError, ValueError):
         return None
 
@@ -31,7 +31,7 @@ def why_no_answer(meter: "Meter", pending: "Pending[object]") -> Optional[str]:
     """Why a call can't be answered, if nothing is due within the meter's patience that could end the wait for it; None if it may
     be answered.
     """
-    if meter.ahead and meter.ahead[0].clock <= meter.clock + meter.patience:
+    if meter._ahead and meter._ahead[0].clock <= meter.clock + meter.patience:
         return None
     found = of_meter(meter)
     return None if found is None else _hopeless(found, pending.connection.number, pending.xid, meter.patience)

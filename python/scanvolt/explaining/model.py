@@ -32,7 +32,7 @@ class Model:
     """Finds the causes of bits."""
 
     def __init__(self, doers: Doers) -> None:
-        self.doers, self.telling, self.story, self.lines = doers, doers.telling, doers.story, doers.lines
+        self._doers, self._telling, self._story, self._lines = doers, doers.telling, doers.story, doers.lines
 
     def title(self, name: str, bit: int) -> str:
         """A bit's name for people: `STB.RQS`."""
@@ -40,16 +40,16 @@ class Model:
 
     def flip(self, name: str, bit: int, number: int, new: Optional[int] = None) -> Optional[Change]:
         """The newest change of a bit, at most at the step of this number; to this value if one is given."""
-        return self.lines.last(name, number, lambda one: (as_number(one.old) ^ as_number(one.new)) >> bit & 1 == 1
+        return self._lines.last(name, number, lambda one: (as_number(one.old) ^ as_number(one.new)) >> bit & 1 == 1
                                and (new is None or as_number(one.new) >> bit & 1 == new))
 
     def bit(self, name: str, bit: int, number: int, depth: int = 0) -> Node:
         """Why a bit is what it is after a step."""
-        value, change = self.lines.bits(name, number) >> bit & 1, self.flip(name, bit, number)
+        value, change = self._lines.bits(name, number) >> bit & 1, self.flip(name, bit, number)
         word = "set" if value else "clear"
         if change is None:
             return Node("%s is %s, and was so at power on" % (self.title(name, bit), word))
-        node = Node("%s is %s since %s" % (self.title(name, bit), word, self.doers.by(change.step)), change.step)
+        node = Node("%s is %s since %s" % (self.title(name, bit), word, self._doers.by(change.step)), change.step)
         if depth < DEPTH:
             node.children = self.causes(name, bit, value, change, depth + 1)
         return node
@@ -60,7 +60,7 @@ class Model:
         if name.endswith(SET_BY_COMMANDS):
             return []
         found = self._found(name, bit, value, step, depth)
-        return found or [Node("that was so for a moment within this step, %s" % self.doers.what(step), step)]
+        return found or [Node("that was so for a moment within this step, %s" % self._doers.what(step), step)]
 
     def _found(self, name: str, bit: int, value: int, step: Step, depth: int) -> List[Node]:
         if (name, bit) in SUMS:
@@ -75,13 +75,13 @@ class Model:
             return self._scan(step)
         return self._measured(name, bit, value, step)
 
-    def both(self, one: str, other: str, step: Step) -> Tuple[int, int]:
+    def _both(self, one: str, other: str, step: Step) -> Tuple[int, int]:
         """Which bits rose in both of two registers together in a step, and which fell."""
-        before = self.lines.bits(one, step.number - 1) & self.lines.bits(other, step.number - 1)
-        after = self.lines.bits(one, step.number) & self.lines.bits(other, step.number)
+        before = self._lines.bits(one, step.number - 1) & self._lines.bits(other, step.number - 1)
+        after = self._lines.bits(one, step.number) & self._lines.bits(other, step.number)
         return after & ~before, before & ~after
 
-    def newer(self, name: str, bit: int, step: Step, depth: int) -> Node:
+    def _newer(self, name: str, bit: int, step: Step, depth: int) -> Node:
         """A bit on which a rise rests: with its causes if it rose in the same step, else since when it is set."""
         change = self.flip(name, bit, step.number)
         if change is not None and change.step is step:
@@ -95,59 +95,59 @@ class Model:
     def _sum(self, registers: Tuple[str, str], value: int, step: Step, depth: int) -> List[Node]:
         """A summary bit: which bits of the events and of their enable came together, or parted."""
         event, enable = registers
-        rose, fell = self.both(event, enable, step)
+        rose, fell = self._both(event, enable, step)
         found: List[Node] = []
         for bit in range(16):
             if value and rose >> bit & 1:
-                found += [self.newer(event, bit, step, depth), self.newer(enable, bit, step, depth)]
+                found += [self._newer(event, bit, step, depth), self._newer(enable, bit, step, depth)]
             elif not value and fell >> bit & 1:
-                gone = event if not self.lines.bits(event, step.number) >> bit & 1 else enable
+                gone = event if not self._lines.bits(event, step.number) >> bit & 1 else enable
                 found.append(self.bit(gone, bit, step.number, depth))
         return found
 
     def _request(self, value: int, step: Step, depth: int) -> List[Node]:
         """RQS: bits of the status byte that are newly set or newly enabled; or a poll; or no enabled bit that is left."""
-        rose, fell = self.both("stb", "sre", step)
-        call = self.story.call_of(step)
+        rose, fell = self._both("stb", "sre", step)
+        call = self._story.call_of(step)
         found: List[Node] = []
         if value:
             for bit in range(8):
                 if (rose & ~MASTER) >> bit & 1:
-                    found += [self.newer("poll", bit, step, depth), self.newer("sre", bit, step, depth)]
+                    found += [self._newer("poll", bit, step, depth), self._newer("sre", bit, step, depth)]
             return found
         if call is not None and call.name == "device_readstb" and not fell & ~MASTER:
             return [Node("a poll clears RQS; the other bits stay")]
-        if not self.lines.bits("stb", step.number) & self.lines.bits("sre", step.number) & ~MASTER:
+        if not self._lines.bits("stb", step.number) & self._lines.bits("sre", step.number) & ~MASTER:
             found.append(Node("no bit is left that *SRE enables"))
-        return found + [self.bit("poll" if not self.lines.bits("poll", step.number) >> bit & 1 else "sre", bit, step.number,
+        return found + [self.bit("poll" if not self._lines.bits("poll", step.number) >> bit & 1 else "sre", bit, step.number,
                                  depth)
                         for bit in range(8) if (fell & ~MASTER) >> bit & 1]
 
     def _response(self, value: int, step: Step, _depth: int) -> List[Node]:
         """MAV: the response, and the queries that it answers."""
         if not value:
-            call = self.story.call_of(step)
+            call = self._story.call_of(step)
             last = call.name if call is not None and step.kind in ("event", "resume") else ""
             return [Node({"device_read": "the response was read to its end",
                           "device_clear": "device_clear dropped the response"}.get(
                 last, "a message came before the response was read to its end"), step)]
-        found = [Node("response of %s" % counted(self.lines.bits("response", step.number), "byte"), step)]
-        return found + [Node("to the query at %s" % self.doers.by(one), one) for one in self._queries(step)]
+        found = [Node("response of %s" % counted(self._lines.bits("response", step.number), "byte"), step)]
+        return found + [Node("to the query at %s" % self._doers.by(one), one) for one in self._queries(step)]
 
     def _queries(self, step: Step) -> List[Step]:
         """The units whose answers became a response, the first first."""
         found: List[Step] = []
-        for one in reversed(self.lines.steps[:step.number]):
+        for one in reversed(self._lines.steps[:step.number]):
             answers = one.of("answers")
             if one.kind == "finish" and one.of("text") is not None or one.of("response") is not None:
                 break
             if answers is not None and as_number(answers.new) > as_number(answers.old):
-                found.insert(0, self.story.held_at(one) or one if one.kind == "release" else one)
+                found.insert(0, self._story.held_at(one) or one if one.kind == "release" else one)
         return found
 
     def _queue(self, value: int, step: Step, _depth: int) -> List[Node]:
         """The error queue."""
-        queue = numbers(self.lines.at("errors", step.number))
+        queue = numbers(self._lines.at("errors", step.number))
         return [Node("error %s" % error(queue[0]), step)] if value and queue else [Node("the error queue is empty", step)]
 
     def _standard(self, bit: int, value: int, step: Step) -> List[Node]:
@@ -155,8 +155,8 @@ class Model:
         if not value:
             return [Node("`%s` clears the standard events" % unit(step.text), step)]
         if bit == OPC:
-            pending = self.lines.last("opc", step.number - 1, lambda one: one.new == 1)
-            found = [] if pending is None else [Node("*OPC pending since %s" % self.doers.by(pending.step), pending.step)]
+            pending = self._lines.last("opc", step.number - 1, lambda one: one.new == 1)
+            found = [] if pending is None else [Node("*OPC pending since %s" % self._doers.by(pending.step), pending.step)]
             return found + [Node("the scan is idle", step)]
         change = step.of("errors")
         low = -100 * CLASSES[bit] - 99
@@ -172,7 +172,7 @@ class Model:
         name = register + ".cond"
         change = step.of(name)
         if change is None or not (as_number(change.old) ^ as_number(change.new)) >> bit & 1:
-            return [Node("%s was there for a moment within this step, %s" % (self.title(name, bit), self.doers.what(step)), step)]
+            return [Node("%s was there for a moment within this step, %s" % (self.title(name, bit), self._doers.what(step)), step)]
         rises = as_number(change.new) >> bit & 1
         child = Node("%s %s" % (self.title(name, bit), "rose, with PTR" if rises else "fell, with NTR"), step)
         child.children = self.causes(name, bit, rises, change, depth + 1) if depth < DEPTH else []
@@ -180,12 +180,12 @@ class Model:
 
     def _scan(self, step: Step) -> List[Node]:
         """A condition of the operation register: the state of the scan."""
-        state, source = str(self.lines.at("state", step.number)), str(self.lines.at("source", step.number))
+        state, source = str(self._lines.at("state", step.number)), str(self._lines.at("source", step.number))
         said = "the scan waits for %s trigger" % a(SOURCES[source]) if state == "waiting" else "the scan is %s" % state
-        return [Node("%s since %s" % (said, self.doers.by(step)), step)]
+        return [Node("%s since %s" % (said, self._doers.by(step)), step)]
 
     def _at(self, step: Step, name: str) -> Value:
-        return self.lines.at(name, step.number)
+        return self._lines.at(name, step.number)
 
     def _measured(self, name: str, bit: int, value: int, step: Step) -> List[Node]:
         """A condition that a reading, an input or a limit changed."""
@@ -197,10 +197,10 @@ class Model:
         if name == "lim.cond" and bit == 2:
             inside = "is outside the limits" if value else "is inside the limits"
             return [Node("the monitored input, channel %s, %s, %s: %s" % (at("monitor"), inside, limits,
-                                                                          self.doers.what(step)), step)]
+                                                                          self._doers.what(step)), step)]
         said = reading(newest) + ("; limits %s" % limits if name == "lim.cond" else "")
         if newest == "none":
-            return [Node("there is no reading: %s" % self.doers.what(step), step)]
+            return [Node("there is no reading: %s" % self._doers.what(step), step)]
         if value:
             return [Node("%s: %s" % (stands(name, bit), said), step)]
         return [Node("not so any more: %s" % said, step)]

@@ -11,6 +11,7 @@ class Reasons:
     """Tells why calls of a session wait."""
 
     def __init__(self, doers: Doers) -> None:
+        # the session, for what takes its reasons from here
         self.doers, self.telling, self.story, self.lines = doers, doers.telling, doers.story, doers.lines
 
     def scan(self, number: int) -> str:

@@ -16,16 +16,16 @@ class Slots:
     """The places. A step that isn't worth one is at the place before it. Only the steps from the moment `first` on count."""
 
     def __init__(self, story: Story, most: int = 0, kept: int = 0) -> None:
-        self.story = story
+        self._story = story
         most, kept = most or MOST, kept or KEPT
         self.first = story.calls[-kept].arrived.number if len(story.calls) > most else 0
-        self.found: List[Step] = []
-        self.of: List[int] = []
-        self.folded = self._runs()
+        self.found: List[Step] = []         # the step of each place
+        self._of: List[int] = []
+        self.folded = self._runs()          # moments that take one of many readings in a row
         for step in story.lines.steps:
             if step.moment.number >= self.first and step.moment.number not in self.folded and self._shown(step):
                 self.found.append(step)
-            self.of.append(max(0, len(self.found) - 1))
+            self._of.append(max(0, len(self.found) - 1))
 
     def is_kept(self, step: Step) -> bool:
         """Whether a step is on the page."""
@@ -33,15 +33,15 @@ class Slots:
 
     def at(self, step: Step) -> int:
         """The place of a step."""
-        return self.of[step.number]
+        return self._of[step.number]
 
     def last(self, moment: Moment) -> int:
         """The place of a moment's last step."""
-        return self.of[moment.steps[-1].number]
+        return self._of[moment.steps[-1].number]
 
     def kept(self, name: str) -> List[Change]:
         """The changes of a value that are on the page."""
-        return [one for one in self.story.lines.history.get(name, ()) if self.is_kept(one.step)]
+        return [one for one in self._story.lines.history.get(name, ()) if self.is_kept(one.step)]
 
     def tree(self, node: Node) -> List[object]:
         """Causes as the page has them: words, place, causes."""
@@ -50,7 +50,7 @@ class Slots:
 
     def _runs(self) -> Set[int]:
         """The moments that only take one of several readings in a row."""
-        only = [moment.number for moment in self.story.moments if moment.kind == "tick" and len(moment.steps) == 1
+        only = [moment.number for moment in self._story.moments if moment.kind == "tick" and len(moment.steps) == 1
                 and {one.name for one in moment.changes()} <= READING and moment.steps[0].of("reading") is not None]
         runs: Dict[int, List[int]] = {}
         start = -1
@@ -70,5 +70,5 @@ class Slots:
             return True
         if moment.kind == "bytes":
             return any(one.turned is None or one.turned.number > moment.number + 1
-                       for one in self.story.came.get(moment.number, ()))
-        return moment.kind != "tick" or bool(told) or moment.number in self.story.replied
+                       for one in self._story.came.get(moment.number, ()))
+        return moment.kind != "tick" or bool(told) or moment.number in self._story.replied

@@ -74,7 +74,7 @@ class Held:
     until: Optional[Step] = None
 
 
-class Port:
+class _Port:
     """What is known of a connection while the story is read: its calls that aren't answered, and its bytes."""
 
     def __init__(self) -> None:
@@ -87,20 +87,21 @@ class Story:
     """The story of a session."""
 
     def __init__(self, lines: Lines) -> None:
+        # what the program printed, and the script
         self.lines, self.moments, self.script = lines, lines.moments, lines.script
-        self.clock = lines.clock or 0
-        self.calls: List[Call] = []
-        self.held: List[Held] = []
+        self.clock = lines.clock or 0               # the millisecond of the end
+        self.calls: List[Call] = []                 # all of them, in the order in which they came
+        self.held: List[Held] = []                  # all held units
         self.owners: Dict[int, int] = {}            # the connection of each link that ever was
         self.of_moment: Dict[int, Call] = {}        # the call that a moment's event takes or ends
-        self.of_step: Dict[int, Optional[Call]] = {}
+        self._of_step: Dict[int, Optional[Call]] = {}
         self.replied: Dict[int, List[Call]] = {}    # the calls that were answered in a moment
         self.came: Dict[int, List[Call]] = {}       # the calls whose last byte came in a moment
         self.requests: Dict[int, List[Tuple[int, bytes]]] = {}     # service requests: connection, handle
         self.faults: Sequence[Told] = ()            # on order, in their order
-        self.strays: List[Step] = []                # units whose bytes aren't in what was written
+        self._strays: List[Step] = []                # units whose bytes aren't in what was written
         self.executed: Dict[int, Call] = {}         # whose text is executed when a wait begins, by the step of that
-        self._ports: Dict[int, Port] = {}
+        self._ports: Dict[int, _Port] = {}
         self._of_conn: Dict[int, List[Call]] = {}
         for moment in self.moments:
             self._events(moment)
@@ -116,7 +117,7 @@ class Story:
         words = moment.words
         if moment.refused is None:
             if words[0] == "open":
-                self._ports[int(words[1])] = Port()
+                self._ports[int(words[1])] = _Port()
             elif words[0] == "bytes":
                 self._bytes(moment, int(words[1]), bytes.fromhex("".join(words[2:])))
             elif moment.taken is not None or words[0] == "refuse":
@@ -179,10 +180,10 @@ class Story:
         if step.is_unit:
             call = self._running = self._text.writer(step.place, step.text)
             if call is None:
-                self.strays.append(step)
+                self._strays.append(step)
         elif step.kind == "finish":
             self._text.end()
-        self.of_step[step.number] = call
+        self._of_step[step.number] = call
         for change in step.changes:
             if change.name.endswith(".wait"):
                 self._wait(change, int(change.name[1:-5]), moment)
@@ -236,7 +237,7 @@ class Story:
 
     def call_of(self, step: Step) -> Optional[Call]:
         """The call to which a step belongs: the one that is taken or resumes, or that wrote the unit."""
-        return self.of_step.get(step.number)
+        return self._of_step.get(step.number)
 
     def held_at(self, step: Step) -> Optional[Step]:
         """The unit that is held after a step, or that this step releases."""

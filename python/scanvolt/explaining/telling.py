@@ -16,8 +16,9 @@ class Telling:
     """Tells changes of a session."""
 
     def __init__(self, story: Story, everything: bool = False) -> None:
+        # the session, for what takes its telling from here, and whether noise is told too
         self.story, self.lines, self.everything = story, story.lines, everything
-        self.by_name: Dict[str, Callable[[Change], Optional[str]]] = {
+        self._by_name: Dict[str, Callable[[Change], Optional[str]]] = {
             "poll": self._poll, "errors": self._errors, "lost": self._lost, "lock": self._lock, "held": self._held,
             "state": self._state,
             "source": lambda one: "trigger source %s" % SOURCES[str(one.new)], "reading": self._reading, "text": self._text,
@@ -28,16 +29,16 @@ class Telling:
             "lower": lambda one: "lower limit %s" % volts(as_number(one.new)),
             "limits": lambda one: "limits %s" % ("on" if one.new else "off"),
         }
-        self.by_tail: Dict[str, Callable[[Change], Optional[str]]] = {"wait": self._wait, "open": self._open,
+        self._by_tail: Dict[str, Callable[[Change], Optional[str]]] = {"wait": self._wait, "open": self._open,
                                                                       "faulted": self._faulted}
-        self.by_head: Dict[str, Callable[[Change], Optional[str]]] = {
+        self._by_head: Dict[str, Callable[[Change], Optional[str]]] = {
             "link": lambda one: "link %s ended" % one.name[5:] if one.new == "none" else None,
             "srq": lambda one: "service requests of link %s %s" % (one.name[4:], one.new)}
 
     def change(self, change: Change) -> Optional[str]:
         """A change in words; None if it is noise."""
         head, _, tail = change.name.partition(".")
-        how = self.by_name.get(change.name) or self.by_tail.get(tail) or self.by_head.get(head)
+        how = self._by_name.get(change.name) or self._by_tail.get(tail) or self._by_head.get(head)
         if how is None and change.name in NAMES and change.name not in NOISE:
             how = self._bits
         found = None if how is None else how(change)

@@ -23,15 +23,15 @@ class Trial:
     def __init__(self, story: Story, path: str) -> None:
         self.story, self.clock, self.doing = story, story.clock, ""
         self.ended: Dict[int, Seen] = {}
-        self.told: List[Tuple[CallMessage, bytes]] = []     # replies to calls of this trial
-        self.queues: Dict[int, List[Tuple[Optional[int], CallMessage]]] = {}
-        self.records: Dict[int, Records] = {}
-        self.xid = WORD - PLACES * PLACES
+        self._told: List[Tuple[CallMessage, bytes]] = []     # replies to calls of this trial
+        self._queues: Dict[int, List[Tuple[Optional[int], CallMessage]]] = {}
+        self._records: Dict[int, Records] = {}
+        self._xid = WORD - PLACES * PLACES
         for call in story.calls:
             if call.is_open:
-                self.queues.setdefault(call.conn, []).append((call.number, call.message))
+                self._queues.setdefault(call.conn, []).append((call.number, call.message))
         self.log: List[str] = []        # the lines that were added to the session
-        self.late: List[int] = []       # connections whose next call is to be taken
+        self._late: List[int] = []       # connections whose next call is to be taken
         self.program = Program(path)
 
     def begin(self) -> None:
@@ -62,8 +62,8 @@ class Trial:
                 if part:
                     self._take(part, place < count - 1)
             milliseconds -= count
-            while self.late:
-                self.do("turn %d\n" % self.late.pop(0))
+            while self._late:
+                self.do("turn %d\n" % self._late.pop(0))
 
     def skip(self, milliseconds: int) -> None:
         """Lets time pass in which nothing is due, at once."""
@@ -74,34 +74,34 @@ class Trial:
 
     def send(self, conn: int, call: "Sent[object]", watched: Optional[int] = None) -> None:
         """Sends a call on a connection, and has it taken if none is before it. `watched` is a number for `ended`."""
-        self.xid += 1
-        data = call.encode(self.xid)
+        self._xid += 1
+        data = call.encode(self._xid)
         message = read_call(Records().push(data)[0].body)
-        queue = self.queues.setdefault(conn, [])
+        queue = self._queues.setdefault(conn, [])
         queue.append((watched, message))
         self.do("bytes %d %s\n" % (conn, data.hex()) + ("turn %d\n" % conn if len(queue) == 1 else ""))
 
     def close(self, conn: int) -> None:
         """Closes a connection: its calls get no reply."""
-        for number, _ in self.queues.pop(conn, []):
+        for number, _ in self._queues.pop(conn, []):
             if number is not None:
                 self.ended[number] = (self.clock, "no reply, its connection is closed", self.doing)
         self.do("close c%d\n" % conn)
 
     def fresh(self, role: str = "core") -> int:
         """Opens a connection that nobody has. Raises ValueError if all are taken."""
-        number = next((one for one in range(PLACES) if one not in self.queues and self.value("c%d.role" % one) == "closed"), None)
+        number = next((one for one in range(PLACES) if one not in self._queues and self.value("c%d.role" % one) == "closed"), None)
         if number is None:
             raise ValueError("all connections are taken")
-        self.queues[number] = []
+        self._queues[number] = []
         self.do("open %d %s\n" % (number, role))
         return number
 
     def link(self, conn: int) -> int:
         """Makes a link on a connection of this trial. Raises ValueError if there is none left."""
-        before = len(self.told)
+        before = len(self._told)
         self.send(conn, calls.create_link())
-        number = answer(*self.told[-1]).value if len(self.told) > before else None
+        number = answer(*self._told[-1]).value if len(self._told) > before else None
         if number is None:
             raise ValueError("all links are taken")
         return number
@@ -110,7 +110,7 @@ class Trial:
         """Whether no call that waited for a message waits any more."""
         return not any(self.story.calls[number].waits and self.story.calls[number].waits[-1].what in MESSAGE
                        if number >= 0 else True
-                       for queue in self.queues.values() for number, _ in queue[:1] if number is not None)
+                       for queue in self._queues.values() for number, _ in queue[:1] if number is not None)
 
     def value(self, name: str) -> Value:
         """A value at the end of the session."""
@@ -123,19 +123,19 @@ class Trial:
             if port[:1] != b"c":
                 continue
             conn = int(port[1:])
-            for record in self.records.setdefault(conn, Records()).push(bytes.fromhex(said.decode())):
+            for record in self._records.setdefault(conn, Records()).push(bytes.fromhex(said.decode())):
                 self._answered(conn, record.body, is_late)
 
     def _answered(self, conn: int, body: bytes, is_late: bool) -> None:
-        queue = self.queues.get(conn)
+        queue = self._queues.get(conn)
         if not queue:
             raise ProgramError("a second program prints otherwise")
         number, message = queue.pop(0)
         if number is None:
-            self.told.append((message, body))
+            self._told.append((message, body))
         else:
             self.ended[number] = (self.clock, answer(message, body).words, self.doing)
         if queue and is_late:
-            self.late.append(conn)
+            self._late.append(conn)
         elif queue:
             self.do("turn %d\n" % conn)

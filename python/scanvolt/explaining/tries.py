@@ -59,8 +59,8 @@ class Tried:
     """
 
     def __init__(self) -> None:
-        self.ended: Dict[str, Dict[int, Seen]] = {}
-        self.kinds: Dict[str, Kind] = {}
+        self.ended: Dict[str, Dict[int, Seen]] = {}     # by kind and call, how the call ended
+        self._kinds: Dict[str, Kind] = {}
         self.left: List[Kind] = []
         self.logs: Dict[str, List[str]] = {}
 
@@ -69,7 +69,7 @@ class Tried:
         found, timeout = [], self.ended.get(TIME, {}).get(call.number)
         for what, ended in self.ended.items():
             seen = ended.get(call.number)
-            if not self.kinds[what].is_for(call):
+            if not self._kinds[what].is_for(call):
                 continue
             if seen is not None and (what == TIME or timeout is None or seen[:2] != timeout[:2]):
                 found.append(Outcome(seen[2], seen[1], seen[0]))
@@ -109,7 +109,7 @@ def tried(story: Story, program: str) -> Tried:
         if run.ended is None:
             found.left.append(run.kind)
         else:
-            found.ended[run.kind.what], found.kinds[run.kind.what] = run.ended, run.kind
+            found.ended[run.kind.what], found._kinds[run.kind.what] = run.ended, run.kind
             found.logs[run.kind.what] = run.trial.log if run.trial is not None else []
     return found
 
@@ -119,15 +119,15 @@ class _Run(threading.Thread):
 
     def __init__(self, story: Story, program: str, kind: Kind) -> None:
         super().__init__(daemon=True)
-        self.story, self.program, self.kind = story, program, kind
+        self._story, self._program, self.kind = story, program, kind
         self.trial: Optional[Trial] = None
         self.ended: Optional[Dict[int, Seen]] = None
-        self.stopped = False
+        self._stopped = False
 
     def run(self) -> None:
         try:
-            self.trial = Trial(self.story, self.program)
-            if self.stopped:
+            self.trial = Trial(self._story, self._program)
+            if self._stopped:
                 return
             self.trial.begin()
             self.trial.doing = self.kind.what
@@ -142,7 +142,7 @@ class _Run(threading.Thread):
 
     def stop(self) -> None:
         """Ends the program of a try that takes too long. The thread itself closes what belongs to it."""
-        self.stopped = True
+        self._stopped = True
         if self.trial is not None and self.ended is None:
             self.trial.program.process.kill()
 

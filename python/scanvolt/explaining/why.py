@@ -16,20 +16,20 @@ class Why:
     """Answers why. `tried` is what ended the waits at the end when it was tried."""
 
     def __init__(self, reasons: Reasons, tried: Optional[Tried] = None) -> None:
-        self.reasons, self.tried = reasons, tried
-        self.doers, self.telling, self.story, self.lines = reasons.doers, reasons.telling, reasons.story, reasons.lines
-        self.model = Model(self.doers)
+        self._reasons, self._tried = reasons, tried
+        self._doers, self._telling, self._story, self._lines = reasons.doers, reasons.telling, reasons.story, reasons.lines
+        self.model = Model(self._doers)
 
     def tree(self, text: str) -> Node:
         """The tree for a name and a moment. Raises Unknown."""
         one = asked(text)
         number = self._number(one)
         if one.name.startswith("wait "):
-            return self.wait(one.name[5:], number)
+            return self._wait(one.name[5:], number)
         if one.bit is not None:
             return self.bit(one.name, one.bit, number)
         if one.name in NAMES:
-            value = self.lines.bits(one.name, number)
+            value = self._lines.bits(one.name, number)
             return Node("%s is %d" % (LABELS[one.name], value), None,
                         [self.bit(one.name, bit, number) for bit in range(15, -1, -1) if value >> bit & 1])
         return self.errors(number) if one.name == "errors" else self.plain(one.name, number)
@@ -37,24 +37,24 @@ class Why:
     def _number(self, one: Asked) -> int:
         """The newest step at or before a moment."""
         if one.clock is None and one.line is None:
-            return self.story.end
-        return next((step.number for step in reversed(self.lines.steps)
+            return self._story.end
+        return next((step.number for step in reversed(self._lines.steps)
                      if (step.moment.clock <= one.clock if one.clock is not None else step.moment.line <= (one.line or 0))), -1)
 
     def bit(self, name: str, bit: int, number: int, lacks: bool = True) -> Node:
         """Why a bit is what it is; for a clear one also who had set it, and what it lacks."""
         node = self.model.bit(name, bit, number)
-        if self.lines.bits(name, number) >> bit & 1:
+        if self._lines.bits(name, number) >> bit & 1:
             return node
         before = None if node.step is None else self.model.flip(name, bit, node.step.number - 1, 1)
         if before is not None:
-            node.children.append(Node("it had been set at %s" % self.doers.by(before.step), before.step,
+            node.children.append(Node("it had been set at %s" % self._doers.by(before.step), before.step,
                                       self.model.causes(name, bit, 1, before, 1)))
         if lacks:
-            node.children += self.lacks(name, bit, number)
+            node.children += self._lacks(name, bit, number)
         return node
 
-    def lacks(self, name: str, bit: int, number: int) -> List[Node]:
+    def _lacks(self, name: str, bit: int, number: int) -> List[Node]:
         """What a bit that is clear lacks to be set."""
         if name == "poll" and bit == RQS:
             event, enable, labels = "stb", "sre", ("STB", "SRE")
@@ -63,7 +63,7 @@ class Why:
             labels = (LABELS[event], LABELS[enable])
         else:
             return []
-        has, wants = (self.lines.bits(one, number) & (~MASTER if bit == RQS else -1) for one in (event, enable))
+        has, wants = (self._lines.bits(one, number) & (~MASTER if bit == RQS else -1) for one in (event, enable))
         said = "; ".join("%s has %s" % (label, ", ".join(bits(one, value)) or "nothing")
                          for label, one, value in zip(labels, (event, enable), (has, wants)))
         if bit == RQS and has & wants:
@@ -73,30 +73,30 @@ class Why:
         node = Node("%s: no bit is in both" % said)
         if bit == RQS:
             node.children = [Node("to get %s: %s" % (self.model.title("poll", one), lack.text))
-                             for one in range(8) if wants >> one & 1 for lack in self.lacks("poll", one, number)]
+                             for one in range(8) if wants >> one & 1 for lack in self._lacks("poll", one, number)]
         return [node]
 
     def errors(self, number: int) -> Node:
         """Which step put each error of the queue there."""
-        queue = numbers(self.lines.at("errors", number))
+        queue = numbers(self._lines.at("errors", number))
         if queue:
             rows = zip(queue, self._origins(number))
             return Node("%d error%s in the queue, the oldest first" % (len(queue), "" if len(queue) == 1 else "s"), None,
-                        [Node("%s: %s" % (error(one), self.doers.by(step)), step) for one, step in rows])
-        change = self.lines.last("errors", number)
+                        [Node("%s: %s" % (error(one), self._doers.by(step)), step) for one, step in rows])
+        change = self._lines.last("errors", number)
         if change is None:
             return Node("the error queue is empty, and was so at power on")
-        node = Node("the error queue is empty since %s" % self.doers.by(change.step), change.step)
-        before = self.lines.last("errors", number, lambda one: len(numbers(one.new)) > len(numbers(one.old)))
+        node = Node("the error queue is empty since %s" % self._doers.by(change.step), change.step)
+        before = self._lines.last("errors", number, lambda one: len(numbers(one.new)) > len(numbers(one.old)))
         if before is not None:
             node.children.append(Node("the last error was %s: %s" % (error(numbers(before.new)[-1]),
-                                                                     self.doers.by(before.step)), before.step))
+                                                                     self._doers.by(before.step)), before.step))
         return node
 
     def _origins(self, number: int) -> List[Step]:
         """The steps that put the errors of the queue there."""
         found: List[Step] = []
-        for change in self.lines.history.get("errors", ()):
+        for change in self._lines.history.get("errors", ()):
             old, new = numbers(change.old), numbers(change.new)
             if change.step.number > number:
                 break
@@ -110,16 +110,16 @@ class Why:
 
     def plain(self, name: str, number: int) -> Node:
         """A value that isn't a register."""
-        value, change = self.lines.at(name, number), self.lines.last(name, number)
+        value, change = self._lines.at(name, number), self._lines.last(name, number)
         said = self._said(name, value)
         if change is None:
             return Node(said + ", and was so at power on")
-        node = Node("%s since %s" % (said, self.doers.by(change.step)), change.step)
+        node = Node("%s since %s" % (said, self._doers.by(change.step)), change.step)
         if name == "lock":
             node.children = self._lock(value, change.step, number)
         elif name == "state" and value != "idle":
             node.children = [self.plain("source", number)] if value == "waiting" else []
-            node.children.append(Node(self.reasons.scan(number)))
+            node.children.append(Node(self._reasons.scan(number)))
         elif name == "held" and value != "none":
             node.children = [self.plain("state", number)]
         return node
@@ -127,7 +127,7 @@ class Why:
     def _said(self, name: str, value: Value) -> str:
         """A value in words."""
         if name == "lock":
-            return "the lock is free" if value == "none" else "%s holds the lock" % self.telling.link(int(str(value)))
+            return "the lock is free" if value == "none" else "%s holds the lock" % self._telling.link(int(str(value)))
         if name == "reading":
             return "there is no reading" if value == "none" else reading(value)
         if name in ("range", "upper", "lower"):
@@ -140,35 +140,35 @@ class Why:
     def _lock(self, value: Value, step: Step, number: int) -> List[Node]:
         """Who waits for the lock, or who held it before."""
         if value != "none":
-            waiting = [one for one in self.story.calls if any(wait.what == "lock" and wait.is_on(number) for wait in one.waits)]
+            waiting = [one for one in self._story.calls if any(wait.what == "lock" and wait.is_on(number) for wait in one.waits)]
             return [Node("for it waits %s, since %s" % (call_words(one), millis(one.waits[0].begin.moment.clock)),
                          one.waits[0].begin)
                     for one in waiting]
-        before = self.lines.last("lock", step.number - 1)
+        before = self._lines.last("lock", step.number - 1)
         if before is None or before.new == "none":
             return []
-        return [Node("before, %s held it since %s" % (self.telling.link(int(str(before.new))), self.doers.by(before.step)),
+        return [Node("before, %s held it since %s" % (self._telling.link(int(str(before.new))), self._doers.by(before.step)),
                      before.step)]
 
-    def wait(self, port: str, number: int) -> Node:
+    def _wait(self, port: str, number: int) -> Node:
         """Why the newest call of a connection waits, or waited."""
         call, wait = self._newest(port, number)
         over = wait.end is not None and wait.end.number <= number
         most = ", until %s at most" % millis(wait.deadline) if wait.deadline is not None else ""
-        node = Node("%s: %s%s" % (call.who, self.reasons.headline(call, wait, over), most), wait.begin)
+        node = Node("%s: %s%s" % (call.who, self._reasons.headline(call, wait, over), most), wait.begin)
         parent = node
-        for reason in self.reasons.why(wait, wait.begin.number if over else number):
+        for reason in self._reasons.why(wait, wait.begin.number if over else number):
             parent.children.append(Node(reason))
             parent = parent.children[-1]
         if over and wait.end is not None:
-            node.children.append(Node("it ended at %s: %s" % (self.doers.by(wait.end), call.reply.words), wait.end))
-        elif self.tried is not None and wait.end is None:
-            node.children.append(Node("would end it", None, [Node(str(one)) for one in self.tried.of(call) if one.is_end]))
+            node.children.append(Node("it ended at %s: %s" % (self._doers.by(wait.end), call.reply.words), wait.end))
+        elif self._tried is not None and wait.end is None:
+            node.children.append(Node("would end it", None, [Node(str(one)) for one in self._tried.of(call) if one.is_end]))
         return node
 
     def _newest(self, port: str, number: int) -> Tuple[Call, Wait]:
         """The newest call of a connection that waited, and its wait."""
-        found = [(one, wait) for one in self.story.calls if "c%d" % one.conn == port for wait in one.waits
+        found = [(one, wait) for one in self._story.calls if "c%d" % one.conn == port for wait in one.waits
                  if wait.begin.number <= number]
         if not found:
             raise Unknown("no call of %s waited" % port)

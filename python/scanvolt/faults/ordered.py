@@ -32,6 +32,7 @@ class Order:
     much: int = 0
 
     def fits(self, connection: "Connection", call: str) -> bool:
+        """Whether it is for this call of this connection."""
         return self.call in (None, call) and self.connection in (None, connection)
 
     def __str__(self) -> str:
@@ -47,11 +48,11 @@ class Faults:
     """
 
     def __init__(self, meter: "Meter") -> None:
-        self.meter = meter
-        self.ordered: List[Order] = []
-        self.told: List[Told] = []
-        self.late: "List[Tuple[int, Connection, Pending[object], bytes]]" = []      # replies that come at a time
-        self.cut: "List[Tuple[Connection, ConnectionError]]" = []                   # connections to be closed
+        self._meter = meter
+        self.ordered: List[Order] = []      # faults that haven't come
+        self.told: List[Told] = []          # faults that came
+        self._late: "List[Tuple[int, Connection, Pending[object], bytes]]" = []      # replies that come at a time
+        self._cut: "List[Tuple[Connection, ConnectionError]]" = []                   # connections to be closed
 
     def __repr__(self) -> str:
         return "<Faults: %d ordered, %d came>" % (len(self.ordered), len(self.told))
@@ -82,13 +83,13 @@ class Faults:
 
     def withdraw(self) -> None:
         """Withdraws all orders of faults that haven't come."""
-        with self.meter.guard:
+        with self._meter._guard:
             self.ordered.clear()
 
     def _order(self, kind: str, call: Optional[str], connection: "Optional[Connection]", much: int) -> None:
         if call is not None and call not in CALLS:
             raise ValueError("no call of VXI-11: %r; there are %s" % (call, ", ".join(CALLS)))
-        with self.meter.guard:
+        with self._meter._guard:
             self.ordered.append(Order(kind, call, connection, much))
 
     def _taken(self, connection: "Connection", call: str, *kinds: str) -> Optional[Order]:
@@ -100,12 +101,12 @@ class Faults:
 
     def _tell(self, who: str, said: str) -> str:
         """Notes a fault for the traces."""
-        replay = self.meter.replay
+        replay = self._meter._replay
         try:
             line = len(replay.script())
         except ProgramError:            # the session became too long to be told
             line = 0
-        self.told.append(Told(line, self.meter.clock, who, said))
+        self.told.append(Told(line, self._meter.clock, who, said))
         return said
 
     def _before(self, pending: "Pending[object]") -> Optional[ConnectionError]:
@@ -118,20 +119,20 @@ class Faults:
             return ConnectionError("%s: %s" % (self._tell(
                 who(pending), "the connection ended before %s came to the instrument" % call.name), HOW))
         named = "%d, %s" % (order.much, ERRORS.get(order.much, "reserved error"))
-        pending.made = encode_reply(pending.xid, words(order.much))[MARK:]
-        pending.note = "%s: %s" % (self._tell(
+        pending._made = encode_reply(pending.xid, words(order.much))[MARK:]
+        pending._note = "%s: %s" % (self._tell(
             who(pending), "%s was answered with error %s; the instrument wasn't asked" % (call.name, named)), HOW)
         return None
 
     def _reply(self, pending: "Pending[object]", body: bytes) -> bool:
         """Does what is ordered for a reply of the instrument. Returns whether the reply comes at another time, or not."""
-        clock, connection, name = self.meter.clock, pending.connection, pending.call.name
+        clock, connection, name = self._meter.clock, pending.connection, pending.call.name
         order = self._taken(connection, name, "delay", "drop_after") if self.ordered else None
         if order is not None and order.kind == "drop_after":
             size = min(order.much, MARK + len(body))
             fault = ConnectionError("%s: %s" % (self._tell(who(pending), "the connection ended after %d of %d bytes of the "
                                                            "reply to %s" % (size, MARK + len(body), name)), HOW))
-            self.cut.append((connection, fault))
+            self._cut.append((connection, fault))
             if size < MARK + len(body):
                 pending._end(clock, fault=fault)
                 return True
@@ -142,10 +143,10 @@ class Faults:
 
     def _comes_later(self, pending: "Pending[object]", body: bytes, clock: int = 0) -> bool:
         """Whether a reply comes later than now: at this millisecond, or behind a late one of its connection. Then keeps it."""
-        clock = max([clock] + [one[0] for one in self.late if one[1] is pending.connection])
-        if clock <= self.meter.clock:
+        clock = max([clock] + [one[0] for one in self._late if one[1] is pending.connection])
+        if clock <= self._meter.clock:
             return False
-        self.late.append((clock, pending.connection, pending, body))
+        self._late.append((clock, pending.connection, pending, body))
         return True
 
     def _loses(self, connection: "Connection", request: ServiceRequest) -> bool:
@@ -158,21 +159,21 @@ class Faults:
 
     def _at_most(self, most: int) -> int:
         """How many of these milliseconds may pass up to the next reply that is late."""
-        return min([one[0] - self.meter.clock for one in self.late] + [most])
+        return min([one[0] - self._meter.clock for one in self._late] + [most])
 
     def _come(self) -> None:
         """Ends the calls whose late replies come now."""
-        due = [one for one in self.late if one[0] <= self.meter.clock]
-        self.late = [one for one in self.late if one[0] > self.meter.clock]
+        due = [one for one in self._late if one[0] <= self._meter.clock]
+        self._late = [one for one in self._late if one[0] > self._meter.clock]
         for _, _, pending, body in due:
-            pending._end(self.meter.clock, body)
+            pending._end(self._meter.clock, body)
 
     def _gone(self, connection: "Connection", reason: Exception) -> None:
         """Ends the calls whose late replies won't come, since their connection ended."""
-        for _, other, pending, _ in self.late:
+        for _, other, pending, _ in self._late:
             if other is connection:
-                pending._end(self.meter.clock, fault=reason)
-        self.late = [one for one in self.late if one[1] is not connection]
+                pending._end(self._meter.clock, fault=reason)
+        self._late = [one for one in self._late if one[1] is not connection]
 
 
 def who(pending: "Pending[object]") -> str:

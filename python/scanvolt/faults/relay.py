@@ -19,7 +19,7 @@ _numbers = itertools.count()
 
 
 @dataclass
-class Order:
+class _Order:
     """A fault that was ordered: of which kind, towards whom, after how many further bytes, and how much."""
 
     kind: str
@@ -28,11 +28,11 @@ class Order:
     much: int = 0
 
 
-class Way:
+class _Way:
     """One direction of a connection: the bytes from a socket to another, in a thread."""
 
     def __init__(self, relay: "Relay", source: socket.socket, target: socket.socket, towards: str, number: int) -> None:
-        self.relay, self.source, self.target = relay, source, target
+        self._relay, self._source, self._target = relay, source, target
         self.towards, self.number = towards, number
         self.thread = threading.Thread(target=self._run, daemon=True, name="relay towards the %s" % towards)
 
@@ -40,43 +40,43 @@ class Way:
         """Passes bytes on until one side ends."""
         try:
             while True:
-                data = self.source.recv(65536)
+                data = self._source.recv(65536)
                 if not data:
                     break
                 while data:
                     data = self._step(data)
         except OSError:         # one of them is closed
             pass
-        for one in self.source, self.target:
+        for one in self._source, self._target:
             shut(one)
 
     def _step(self, data: bytes) -> bytes:
         """Passes on the bytes before the next fault, or does the fault. Returns those that are left."""
-        order, count = self.relay._due(self.towards, len(data))
+        order, count = self._relay._due(self.towards, len(data))
         if order is None or count:
             self._send(data[:count or len(data)])
             return data[count or len(data):]
         if order.kind == "drop":
             size = min(order.much, len(data))
-            self.relay._tell(self, "drops %d bytes: %s" % (size, data[:size].hex()))
+            self._relay._tell(self, "drops %d bytes: %s" % (size, data[:size].hex()))
             if size < order.much:
-                self.relay._again(Order("drop", self.towards, 0, order.much - size))
+                self._relay._again(_Order("drop", self.towards, 0, order.much - size))
             return data[size:]
         if order.kind == "delay":
-            self.relay._tell(self, "waits %d ms" % order.much)
-            self.relay.closed.wait(order.much / 1000)
+            self._relay._tell(self, "waits %d ms" % order.much)
+            self._relay._closed.wait(order.much / 1000)
             return data
-        self.relay._tell(self, "ends the connection; %d bytes that came aren't passed on" % len(data))
+        self._relay._tell(self, "ends the connection; %d bytes that came aren't passed on" % len(data))
         raise ConnectionAbortedError
 
     def _send(self, data: bytes) -> None:
-        size = self.relay.sizes.get(self.towards, 0)
+        size = self._relay._sizes.get(self.towards, 0)
         if not size or len(data) <= size:
-            self.target.sendall(data)
+            self._target.sendall(data)
             return
-        self.relay._tell(self, "splits %d bytes into pieces of %d" % (len(data), size))
+        self._relay._tell(self, "splits %d bytes into pieces of %d" % (len(data), size))
         for start in range(0, len(data), size):
-            self.target.sendall(data[start:start + size])
+            self._target.sendall(data[start:start + size])
             time.sleep(0.001)           # else the system joins the pieces
 
 
@@ -91,24 +91,24 @@ class Relay:
     """
 
     def __init__(self, port: int, host: str = "127.0.0.1") -> None:
-        self.peer = (host, whole(port, 1, 65535, "a relay wants the port of a server"))
-        self.orders: List[Order] = []
-        self.sizes: Dict[str, int] = {}
+        self._peer = (host, whole(port, 1, 65535, "a relay wants the port of a server"))
+        self._orders: List[_Order] = []
+        self._sizes: Dict[str, int] = {}
         self.told: List[str] = []
-        self.guard = threading.Lock()
-        self.closed = threading.Event()
-        self.began = time.monotonic()
-        self.sockets: List[socket.socket] = []
-        self.ways: List[Way] = []
-        self.listener = socket.create_server(("127.0.0.1", 0))
-        self.listener.settimeout(TURN)
-        self.port: int = self.listener.getsockname()[1]
-        self.thread = threading.Thread(target=self._serve, daemon=True, name="relay")
-        self.thread.start()
+        self._guard = threading.Lock()
+        self._closed = threading.Event()
+        self._began = time.monotonic()
+        self._sockets: List[socket.socket] = []
+        self._ways: List[_Way] = []
+        self._listener = socket.create_server(("127.0.0.1", 0))
+        self._listener.settimeout(TURN)
+        self.port: int = self._listener.getsockname()[1]
+        self._thread = threading.Thread(target=self._serve, daemon=True, name="relay")
+        self._thread.start()
         RELAYS[next(_numbers)] = self
 
     def __repr__(self) -> str:
-        return "<Relay of port %d to %s:%d%s>" % (self.port, *self.peer, ", closed" if self.closed.is_set() else "")
+        return "<Relay of port %d to %s:%d%s>" % (self.port, *self._peer, ", closed" if self._closed.is_set() else "")
 
     def __enter__(self: Itself) -> Itself:
         return self
@@ -131,17 +131,17 @@ class Relay:
     def split(self, size: int, towards: str = CLIENT) -> None:
         """From now on passes bytes on in pieces of at most this size; 0 ends that."""
         self._towards(towards)
-        self.sizes[towards] = whole(size, 0, WORD, "split wants a size in bytes")
+        self._sizes[towards] = whole(size, 0, WORD, "split wants a size in bytes")
 
     def close(self) -> None:
         """Ends the relay and its connections."""
-        self.closed.set()
-        self.thread.join()
-        for one in self.sockets:
+        self._closed.set()
+        self._thread.join()
+        for one in self._sockets:
             shut(one)
-        for way in self.ways:
+        for way in self._ways:
             way.thread.join()
-        for one in self.sockets:
+        for one in self._sockets:
             one.close()
 
     @staticmethod
@@ -151,46 +151,46 @@ class Relay:
 
     def _order(self, kind: str, towards: str, after: int, much: int) -> None:
         self._towards(towards)
-        order = Order(kind, towards, whole(after, 0, WORD, "%s wants a number of bytes before it" % kind), much)
-        with self.guard:
-            self.orders.append(order)
+        order = _Order(kind, towards, whole(after, 0, WORD, "%s wants a number of bytes before it" % kind), much)
+        with self._guard:
+            self._orders.append(order)
 
-    def _again(self, order: Order) -> None:
+    def _again(self, order: _Order) -> None:
         """Puts back what is left of an order."""
-        with self.guard:
-            self.orders.insert(0, order)
+        with self._guard:
+            self._orders.insert(0, order)
 
-    def _due(self, towards: str, size: int) -> Tuple[Optional[Order], int]:
+    def _due(self, towards: str, size: int) -> Tuple[Optional[_Order], int]:
         """The fault that comes within so many bytes, and after how many; it is taken if that is 0."""
-        with self.guard:
-            order = next((one for one in self.orders if one.towards == towards), None)
+        with self._guard:
+            order = next((one for one in self._orders if one.towards == towards), None)
             if order is None:
                 return None, 0
             count = min(order.after, size)
             order.after -= count
             if count == 0:
-                self.orders.remove(order)
+                self._orders.remove(order)
             return order, count
 
-    def _tell(self, way: Way, words: str) -> None:
+    def _tell(self, way: _Way, words: str) -> None:
         """Notes a fault for the traces."""
         told = "%.3f s, connection %d, towards the %s: the relay %s" % (
-            time.monotonic() - self.began, way.number, way.towards, words)
-        with self.guard:
+            time.monotonic() - self._began, way.number, way.towards, words)
+        with self._guard:
             self.told.append(told)
 
     def _serve(self) -> None:
         """Accepts clients, and connects each to the server."""
-        with self.listener:
-            while not self.closed.is_set():
+        with self._listener:
+            while not self._closed.is_set():
                 try:
-                    client = self.listener.accept()[0]
+                    client = self._listener.accept()[0]
                 except socket.timeout:
                     continue
                 client.settimeout(None)
-                self.sockets.append(client)
+                self._sockets.append(client)
                 try:
-                    server = socket.create_connection(self.peer)
+                    server = socket.create_connection(self._peer)
                 except OSError:                 # the client sees a connection that ends
                     shut(client)
                     continue
@@ -198,12 +198,12 @@ class Relay:
 
     def _begin(self, client: socket.socket, server: socket.socket) -> None:
         """Starts both directions of a connection."""
-        self.sockets.append(server)
-        number = len(self.ways) // 2
+        self._sockets.append(server)
+        number = len(self._ways) // 2
         for one in client, server:
             one.setsockopt(socket.IPPROTO_TCP, socket.TCP_NODELAY, 1)
-        self.ways += [Way(self, client, server, SERVER, number), Way(self, server, client, CLIENT, number)]
-        for way in self.ways[-2:]:
+        self._ways += [_Way(self, client, server, SERVER, number), _Way(self, server, client, CLIENT, number)]
+        for way in self._ways[-2:]:
             way.thread.start()
 
 

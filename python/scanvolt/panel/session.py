@@ -28,19 +28,19 @@ class Sessions:
     """Explains the record of a server, one time after the other."""
 
     def __init__(self, watch: Watch) -> None:
-        self.watch = watch
+        self._watch = watch
         self._guard = threading.Lock()
 
     def _script(self) -> List[str]:
         """The record, and the time that is known to have passed after it. Raises TooLong."""
-        watch = self.watch
+        watch = self._watch
         if watch.spool.size > LONGEST:
             raise TooLong(TOO_LONG % (watch.spool.size / 1e6, LONGEST / 1e6, watch.server.core, watch.server.abort))
         place, ahead = watch.explained()
         return (watch.spool.read(0, place) + ticks(ahead)).decode("latin-1").splitlines()
 
     def _explained(self) -> Explanation:
-        server = self.watch.server
+        server = self._watch.server
         return Explanation(self._script(), server.program, ports=(server.core, server.abort))
 
     def live(self, is_whole: bool = False) -> bytes:
@@ -48,7 +48,7 @@ class Sessions:
 
         Raises TooLong and ProgramError.
         """
-        if not is_whole and self.watch.spool.size > FOLLOWABLE:
+        if not is_whole and self._watch.spool.size > FOLLOWABLE:
             raise TooLong(LONG)
         with self._guard:
             found = self._explained()
@@ -61,4 +61,4 @@ class Sessions:
     def page(self) -> bytes:
         """The page that needs nothing else, with all that happened. Raises TooLong and ProgramError."""
         with self._guard:
-            return self._explained().page("scanvolt, port %d" % self.watch.server.core).encode()
+            return self._explained().page("scanvolt, port %d" % self._watch.server.core).encode()

@@ -14,7 +14,7 @@ class Spool:
 
     def __init__(self, path: Optional[str] = None, most: int = MOST) -> None:
         self.path, self.most = path, most
-        self.size = 0
+        self.size = 0           # bytes that it has
         self.fault = ""
         if path is None:
             with tempfile.TemporaryFile() as file:

@@ -40,26 +40,26 @@ ENDS = 2.0              # seconds that a server may take to end once its record 
 DIFFERS = "the record isn't what the server answered; start the panel anew"
 
 
-class Clock:
+class _Clock:
     """A lower bound of the server's clock, from when it was known, and from its signs of life."""
 
     def __init__(self) -> None:
-        self.base, self.at, self.seen = 0, time.monotonic(), time.monotonic()
+        self._base, self._at, self.seen = 0, time.monotonic(), time.monotonic()
 
     def known(self, clock: int, at: float) -> None:
         """The server's clock was at least this at this time, when the record came."""
-        self.base, self.at, self.seen = clock, at, max(self.seen, at)
+        self._base, self._at, self.seen = clock, at, max(self.seen, at)
 
     def sign(self, asked: float) -> None:
         """The server answered a question of this time."""
         if asked - self.seen > PAUSE:
-            self.base, self.at = self.least(self.seen), asked
+            self._base, self._at = self.least(self.seen), asked
         self.seen = asked
 
     def least(self, until: Optional[float] = None) -> int:
         """What the clock is at least: at this time, or when the server gave its last sign."""
-        passed = (self.seen if until is None else until) - self.at
-        return self.base + max(0, int(1000 * passed) - MARGIN)
+        passed = (self.seen if until is None else until) - self._at
+        return self._base + max(0, int(1000 * passed) - MARGIN)
 
 
 class Watch(threading.Thread):
@@ -77,13 +77,13 @@ class Watch(threading.Thread):
             self.server.close()
             os.close(self._record)
             raise
-        self.started = time.time()
-        self.front, self.version = Front(), 0
+        self._began = time.time()
+        self.front, self.version = Front(), 0       # what the panel shows, and how often that changed
         self.changed = threading.Condition()
         self.ended = ""             # how the server ended
         self.fault = ""             # why it isn't followed any further
-        self.silent = False         # whether the server doesn't answer
-        self.clock = Clock()
+        self._silent = False         # whether the server doesn't answer
+        self.clock = _Clock()
         self._shot: State = state_of(self.front)
         self._shot_of, self._is_wanted, self._is_over, self._is_last = 0, False, False, False
         self._settled = self._due_since = self._came = 0.0
@@ -169,7 +169,7 @@ class Watch(threading.Thread):
             elif self._flight:
                 self._is_wanted = True
                 self.changed.wait_for(lambda: not self._is_wanted or not self.is_alive(), SOON)
-            clock = max(self.front.clock, self.clock.least(None if self.silent or self.ended else time.monotonic()))
+            clock = max(self.front.clock, self.clock.least(None if self._silent or self.ended else time.monotonic()))
             return {"version": self._shot_of, "clock": clock, "server": self._about(), **self._shot}
 
     def explained(self) -> Tuple[int, int]:
@@ -190,8 +190,8 @@ class Watch(threading.Thread):
         """How server and panel do."""
         server = self.server
         ports = {"core": server.core, "abort": server.abort, "port_mapper": server.port_mapper, "control": server.control}
-        return {"program": server.program, "process": server.process.pid, "started": self.started, "ended": self.ended,
-                "silent": self.silent, "fault": self.fault, "record": self.spool.path, "bytes": self.spool.size,
+        return {"program": server.program, "process": server.process.pid, "started": self._began, "ended": self.ended,
+                "silent": self._silent, "fault": self.fault, "record": self.spool.path, "bytes": self.spool.size,
                 "behind": self.spool.size - self.place, "ports": ports}
 
     def _lost(self, fault: str) -> None:
@@ -263,8 +263,8 @@ class Watch(threading.Thread):
             self.clock.sign(asked)
 
     def _is_silent(self, is_so: bool) -> None:
-        if self.silent != is_so:
-            self.silent = is_so
+        if self._silent != is_so:
+            self._silent = is_so
             self._tell()
 
     def _hang_up(self) -> None:
@@ -398,10 +398,10 @@ class Watch(threading.Thread):
             self.clock.known(clock, self._came)
 
 
-class Lasting(Server):
+class _Lasting(Server):
     """A server that goes on as long as it can."""
 
-    sweeps = SWEEPS
+    _sweeps = SWEEPS
 
 
 def _how(status: int, process: "subprocess.Popen[bytes]") -> str:
@@ -426,7 +426,7 @@ def _served(scenario: Optional[Name], program: Optional[Name], ports: Optional[L
         except OSError:         # what a user may have is less
             pass
         try:
-            return Lasting(scenario, program, record=path, control=True, ports=ports), source
+            return _Lasting(scenario, program, record=path, control=True, ports=ports), source
         except ProgramError as fault:
             os.close(source)
             raise ProgramError(str(fault).replace(path, "the record")) from None

@@ -40,7 +40,7 @@ VOLTS = re.compile(r"[+-]?[0-9]{1,20}(\.[0-9]{0,20})?([eE][+-]?[0-9]{1,2})?")
 JSON, TEXT, HTML = "application/json", "text/plain; charset=utf-8", "text/html; charset=utf-8"
 
 
-class Refused(Exception):
+class _Refused(Exception):
     """A request that isn't done: its status, and why."""
 
     def __init__(self, status: HTTPStatus, why: str) -> None:
@@ -56,16 +56,16 @@ class Panel(socketserver.ThreadingTCPServer):
     request_queue_size = 64
 
     def __init__(self, watch: Watch, port: int = 0) -> None:
-        self.watch, self.sessions, self.token = watch, Sessions(watch), secrets.token_urlsafe(18)
-        self.page = page(watch.server)
-        self.is_closing = False
-        self.streams = threading.BoundedSemaphore(STREAMS)
+        self._watch, self._sessions, self.token = watch, Sessions(watch), secrets.token_urlsafe(18)
+        self._page = page(watch.server)
+        self._is_closing = False
+        self._streams = threading.BoundedSemaphore(STREAMS)
         assert watch.server.control is not None
-        self.control = Control(watch.server.control)
+        self._control = Control(watch.server.control)
         self._guard = threading.Lock()
         self._text, self._of = b"", -1.0
         try:
-            super().__init__((HOST, port), Handler)
+            super().__init__((HOST, port), _Handler)
         except OSError as fault:
             raise OSError(fault.errno, fault.strerror, "port %d" % port) from None
 
@@ -80,31 +80,31 @@ class Panel(socketserver.ThreadingTCPServer):
         return "http://%s:%d/?token=%s" % (HOST, self.port, self.token)
 
     @property
-    def hosts(self) -> Tuple[str, str]:
+    def _hosts(self) -> Tuple[str, str]:
         """What a browser of this machine calls it."""
         return "%s:%d" % (HOST, self.port), "localhost:%d" % self.port
 
     def server_close(self) -> None:
         """Ends the streams, and listens no more."""
-        self.is_closing = True
-        with self.watch.changed:
-            self.watch.changed.notify_all()
+        self._is_closing = True
+        with self._watch.changed:
+            self._watch.changed.notify_all()
         super().server_close()
-        self.control.close()
+        self._control.close()
 
     def handle_error(self, request: object, client_address: object) -> None:
         """A browser that is gone is no fault."""
 
-    def state(self) -> bytes:
+    def _state(self) -> bytes:
         """The state as JSON. Streams share it for a moment."""
         with self._guard:
             now = time.monotonic()
             if now - self._of >= QUICKEST / 2:
-                self._text, self._of = json.dumps(self.watch.state(), separators=(",", ":")).encode(), now
+                self._text, self._of = json.dumps(self._watch.state(), separators=(",", ":")).encode(), now
             return self._text
 
 
-class Handler(http.server.BaseHTTPRequestHandler):
+class _Handler(http.server.BaseHTTPRequestHandler):
     """Answers requests."""
 
     server: Panel
@@ -127,14 +127,14 @@ class Handler(http.server.BaseHTTPRequestHandler):
     def _do(self, known: Dict[str, Callable[[], None]]) -> None:
         """Does what the path says, or says why not, in a line."""
         self.path, _, asked = self.path.partition("?")
-        self.asked = dict(urllib.parse.parse_qsl(asked))
+        self._asked = dict(urllib.parse.parse_qsl(asked))
         try:
             self._check_host()
             how = known.get("/inputs" if self.path.startswith("/inputs/") else self.path)
             if how is None:
-                raise Refused(HTTPStatus.NOT_FOUND, "there is nothing at %s for %s" % (self.path[:80], self.command))
+                raise _Refused(HTTPStatus.NOT_FOUND, "there is nothing at %s for %s" % (self.path[:80], self.command))
             how()
-        except Refused as fault:
+        except _Refused as fault:
             self._refuse(fault.status, str(fault))
         except (ControlError, ProgramError) as fault:
             self._refuse(HTTPStatus.SERVICE_UNAVAILABLE, str(fault))
@@ -147,17 +147,17 @@ class Handler(http.server.BaseHTTPRequestHandler):
 
     def _check_host(self) -> None:
         """Refuses names that aren't this machine's, and pages of other origins."""
-        if self.headers.get("Host") not in self.server.hosts:
-            raise Refused(HTTPStatus.FORBIDDEN, "the Host isn't %s" % self.server.hosts[0])
+        if self.headers.get("Host") not in self.server._hosts:
+            raise _Refused(HTTPStatus.FORBIDDEN, "the Host isn't %s" % self.server._hosts[0])
         origin = self.headers.get("Origin")
-        if origin is not None and origin not in ["http://" + one for one in self.server.hosts]:
-            raise Refused(HTTPStatus.FORBIDDEN, "a page of another origin asks")
+        if origin is not None and origin not in ["http://" + one for one in self.server._hosts]:
+            raise _Refused(HTTPStatus.FORBIDDEN, "a page of another origin asks")
         if self.path != "/" and self.headers.get("Sec-Fetch-Site", "none") not in ("none", "same-origin"):
-            raise Refused(HTTPStatus.FORBIDDEN, "a page of another site asks")
+            raise _Refused(HTTPStatus.FORBIDDEN, "a page of another site asks")
 
     def _check_token(self) -> None:
-        if not hmac.compare_digest(self.asked.get("token", "").encode(), self.server.token.encode()):
-            raise Refused(HTTPStatus.FORBIDDEN, "the token in the address is missing or wrong")
+        if not hmac.compare_digest(self._asked.get("token", "").encode(), self.server.token.encode()):
+            raise _Refused(HTTPStatus.FORBIDDEN, "the token in the address is missing or wrong")
 
     def _send(self, data: bytes, kind: str, status: HTTPStatus = HTTPStatus.OK, more: Optional[Dict[str, str]] = None) -> None:
         self._head(kind, status, {"Content-Length": str(len(data)), **(more or {})})
@@ -174,31 +174,31 @@ class Handler(http.server.BaseHTTPRequestHandler):
 
     # what is shown
     def _page(self) -> None:
-        self._send(self.server.page, HTML)
+        self._send(self.server._page, HTML)
 
     def _static(self) -> None:
         self._send(*static(self.path))
 
     def _state(self) -> None:
-        self.server.watch.catch_up()
-        self._send(json.dumps(self.server.watch.state()).encode() + b"\n", JSON)
+        self.server._watch.catch_up()
+        self._send(json.dumps(self.server._watch.state()).encode() + b"\n", JSON)
 
     def _session(self) -> None:
-        self.server.watch.catch_up()
-        self._send(self.server.sessions.live("all" in self.asked), JSON)
+        self.server._watch.catch_up()
+        self._send(self.server._sessions.live("all" in self._asked), JSON)
 
     def _session_page(self) -> None:
-        self.server.watch.catch_up()
-        self._send(self.server.sessions.page(), HTML, more={"Content-Disposition": KEPT % "html"})
+        self.server._watch.catch_up()
+        self._send(self.server._sessions.page(), HTML, more={"Content-Disposition": KEPT % "html"})
 
     def _record(self) -> None:
         """The whole lines of the record, with all that the server has answered, and the time that it took for that."""
-        watch = self.server.watch
+        watch = self.server._watch
         watch.catch_up()
         (size, ahead), place = watch.explained(), 0
         rest = ticks(ahead)
         if watch.spool.fault:
-            raise Refused(HTTPStatus.GONE, watch.spool.fault)
+            raise _Refused(HTTPStatus.GONE, watch.spool.fault)
         self._head(TEXT, HTTPStatus.OK, {"Content-Length": str(size + len(rest)), "Content-Disposition": KEPT % "replay"})
         while place < size:
             piece = watch.spool.read(place, min(PIECE, size - place))
@@ -208,8 +208,8 @@ class Handler(http.server.BaseHTTPRequestHandler):
 
     def _events(self) -> None:
         """The state, each time it changes, as server-sent events."""
-        if not self.server.streams.acquire(blocking=False):
-            raise Refused(HTTPStatus.SERVICE_UNAVAILABLE, "there are %d streams already" % STREAMS)
+        if not self.server._streams.acquire(blocking=False):
+            raise _Refused(HTTPStatus.SERVICE_UNAVAILABLE, "there are %d streams already" % STREAMS)
         try:
             self.close_connection = True
             self._head("text/event-stream", HTTPStatus.OK, {})
@@ -217,40 +217,40 @@ class Handler(http.server.BaseHTTPRequestHandler):
         except OSError:                 # the browser is gone, or reads nothing
             pass
         finally:
-            self.server.streams.release()
+            self.server._streams.release()
 
     def _stream(self) -> None:
-        watch, seen = self.server.watch, -1
-        while not self.server.is_closing:
+        watch, seen = self.server._watch, -1
+        while not self.server._is_closing:
             seen = watch.version
-            self.wfile.write(b"data: %s\n\n" % self.server.state())
+            self.wfile.write(b"data: %s\n\n" % self.server._state())
             time.sleep(QUICKEST)
             with watch.changed:
-                watch.changed.wait_for(lambda: watch.version != seen or self.server.is_closing, ALIVE)
+                watch.changed.wait_for(lambda: watch.version != seen or self.server._is_closing, ALIVE)
 
     # what is changed
     def _body(self) -> str:
         said = self.headers.get("Content-Length", "0")
         if not said.isdigit() or self.headers.get("Transfer-Encoding"):
-            raise Refused(HTTPStatus.LENGTH_REQUIRED, "the length of the body is missing")
+            raise _Refused(HTTPStatus.LENGTH_REQUIRED, "the length of the body is missing")
         if len(said) > 9 or int(said) > BODY_MOST:
-            raise Refused(HTTPStatus.REQUEST_ENTITY_TOO_LARGE, "a voltage has at most %d bytes" % BODY_MOST)
+            raise _Refused(HTTPStatus.REQUEST_ENTITY_TOO_LARGE, "a voltage has at most %d bytes" % BODY_MOST)
         return self.rfile.read(int(said)).decode("latin-1").strip()
 
     def _input(self) -> None:
         self._check_token()
         number, said = self.path[len("/inputs/"):], self._body()
         if not re.fullmatch("[1-9][0-9]{0,2}", number) or int(number) > CHANNELS:
-            raise Refused(HTTPStatus.NOT_FOUND, "a channel is a whole number, 1 to %d, and not `%s`" % (CHANNELS, number[:40]))
+            raise _Refused(HTTPStatus.NOT_FOUND, "a channel is a whole number, 1 to %d, and not `%s`" % (CHANNELS, number[:40]))
         try:
             micro = microvolts(said if VOLTS.fullmatch(said) else "none")
         except ValueError:
-            raise Refused(HTTPStatus.BAD_REQUEST, NO_VOLTAGE % said) from None
-        self.server.control.set_input(int(number), said)
+            raise _Refused(HTTPStatus.BAD_REQUEST, NO_VOLTAGE % said) from None
+        self.server._control.set_input(int(number), said)
         self._send(json.dumps({"channel": int(number), "input": micro / 10 ** 6}).encode() + b"\n", JSON)
 
     def _external(self) -> None:
         self._check_token()
         self._body()
-        self.server.control.external()
+        self.server._control.external()
         self._send(b'{"external": true}\n', JSON)

@@ -110,6 +110,7 @@ class LinkCall(Call[Value]):
         return "%s on link %d" % (self.name, self.link)
 
     def timeout(self, number: int) -> Optional[int]:
+        """The timeout after which the call ends with this error. None if it isn't an error of a timeout."""
         return {LOCKED: self.lock_timeout, IO_TIMEOUT: self.io_timeout}.get(number)
 
 

@@ -40,9 +40,9 @@ class Channel:
         peer = (host, port) if connected is None else connected.getpeername()
         self.name = "%s:%d" % peer[:2] if isinstance(peer, tuple) else str(peer)
         self.is_open = True
-        self.xid = 0
-        self.records = Records()
-        self.turn = threading.Lock()
+        self._xid = 0
+        self._records = Records()
+        self._turn = threading.Lock()
 
     def __repr__(self) -> str:
         return "<%s of %s%s>" % (type(self).__name__, self.name, "" if self.is_open else ", closed")
@@ -68,13 +68,13 @@ class Channel:
 
     def do(self, call: Call[Value]) -> Value:
         """Makes a call, and waits for its result."""
-        with self.turn:
+        with self._turn:
             self.check_open()
-            self.xid = (self.xid + 1) % 2 ** 32
+            self._xid = (self._xid + 1) % 2 ** 32
             began = monotonic()
             body = self._reply(call)
             try:
-                return call.answer(body, self.xid)
+                return call.answer(body, self._xid)
             except DeviceError as fault:
                 fault.waited = 1000 * (monotonic() - began)
                 raise
@@ -84,7 +84,7 @@ class Channel:
         patience = self.patience + call.wait / 1000
         try:
             self.socket.settimeout(patience)
-            self.socket.sendall(call.encode(self.xid))
+            self.socket.sendall(call.encode(self._xid))
             return self._record(call)
         except socket.timeout:
             self.close()
@@ -102,7 +102,7 @@ class Channel:
             data = self.socket.recv(65536)
             if not data:
                 raise ConnectionError("the connection ended within %s: %s" % (call.name, self.name))
-            found = self.records.push(data)
+            found = self._records.push(data)
             if found:
                 return found[0].body
 
@@ -152,7 +152,7 @@ class Client(Channel, Core):
         if port is None:
             port = port_of(host, calls.CORE, 1, port_mapper, patience)
         super().__init__(host, port, patience)
-        self.requests: Optional[ServiceRequests] = None
+        self._requests: Optional[ServiceRequests] = None
 
     def abort(self, link: Link) -> None:
         """Aborts the call that waits on a link. It uses a connection of its own, so it doesn't wait for other
@@ -174,14 +174,14 @@ class Client(Channel, Core):
         except BaseException:
             requests.close()
             raise
-        self.requests = requests
+        self._requests = requests
         return requests
 
     def close(self) -> None:
         """Closes the connection, and the interrupt channel's listener."""
         super().close()
-        if self.requests is not None:
-            self.requests.close()
+        if self._requests is not None:
+            self._requests.close()
 
 
 class ServiceRequests:
@@ -190,12 +190,12 @@ class ServiceRequests:
     def __init__(self, address: str, callback: Optional[Callback] = None) -> None:
         self.callback = callback
         self.queue: "queue.Queue[ServiceRequest]" = queue.Queue()
-        self.listener = socket.create_server((address, 0))
-        self.port: int = self.listener.getsockname()[1]
-        self.channel: Optional[socket.socket] = None
-        self.closed = False
-        self.thread = threading.Thread(target=self._serve, daemon=True, name="service requests")
-        self.thread.start()
+        self._listener = socket.create_server((address, 0))
+        self.port: int = self._listener.getsockname()[1]
+        self._channel: Optional[socket.socket] = None
+        self._closed = False
+        self._thread = threading.Thread(target=self._serve, daemon=True, name="service requests")
+        self._thread.start()
 
     def wait(self, milliseconds: int) -> ServiceRequest:
         """The next service request. Raises TimeoutError if none comes within this many milliseconds."""
@@ -207,23 +207,23 @@ class ServiceRequests:
 
     def close(self) -> None:
         """Stops listening; requests that came stay in the queue."""
-        self.closed = True
-        for one in (self.listener, self.channel):
+        self._closed = True
+        for one in (self._listener, self._channel):
             if one is not None:
                 _shut(one)
-        if self.thread is not threading.current_thread():
-            self.thread.join()
+        if self._thread is not threading.current_thread():
+            self._thread.join()
 
     def _serve(self) -> None:
         """Accepts the one connection, and hands on what it carries until it ends."""
-        with self.listener:
+        with self._listener:
             channel = self._accepted()
         if channel is None:
             return
         stream = RequestStream()
         with channel:
-            self.channel = channel
-            while not self.closed:
+            self._channel = channel
+            while not self._closed:
                 try:
                     data = channel.recv(65536)
                 except OSError:
@@ -235,10 +235,10 @@ class ServiceRequests:
 
     def _accepted(self) -> Optional[socket.socket]:
         """The connection from the instrument; None if this is closed before one comes."""
-        self.listener.settimeout(0.2)
-        while not self.closed:
+        self._listener.settimeout(0.2)
+        while not self._closed:
             try:
-                channel = self.listener.accept()[0]
+                channel = self._listener.accept()[0]
             except socket.timeout:
                 continue
             except OSError:
@@ -256,7 +256,7 @@ class ServiceRequests:
             self.callback(request)
         except Exception:
             kind, fault, trace = sys.exc_info()
-            threading.excepthook(threading.ExceptHookArgs((kind, fault, trace, self.thread)))
+            threading.excepthook(threading.ExceptHookArgs((kind, fault, trace, self._thread)))
 
 
 def _shut(one: socket.socket) -> None:

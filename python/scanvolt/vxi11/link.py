@@ -111,14 +111,14 @@ class Link:
                  lock_timeout: int = 0) -> None:
         self.carrier = carrier
         self.number = made.link
-        self.abort_port = made.abort_port
+        self.abort_port = made.abort_port   # the port of the abort channel
         self.most = made.most               # bytes that one device_write may have
         self.io_timeout = io_timeout
         self.lock_timeout = lock_timeout
-        self.is_destroyed = False
+        self._is_destroyed = False
 
     def __repr__(self) -> str:
-        ended = self.is_destroyed or not self.carrier.is_open
+        ended = self._is_destroyed or not self.carrier.is_open
         return "<Link %d of %s%s>" % (self.number, self.carrier, ", closed" if ended else "")
 
     def __enter__(self: Itself) -> Itself:
@@ -222,4 +222,4 @@ class Link:
     def destroy(self) -> None:
         """Ends the link, and with it its lock and its service requests."""
         self.carrier.do(self.calls.destroy())
-        self.is_destroyed = True
+        self._is_destroyed = True

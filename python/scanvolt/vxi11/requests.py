@@ -27,11 +27,11 @@ class RequestStream:
     """
 
     def __init__(self) -> None:
-        self.records = Records()
+        self._records = Records()
 
     def push(self, data: bytes, clock: Optional[int] = None) -> List[ServiceRequest]:
         """Takes a piece. Returns the service requests that are complete now."""
-        found = [_request(one.body, clock) for one in self.records.push(data)]
+        found = [_request(one.body, clock) for one in self._records.push(data)]
         return [one for one in found if one is not None]
 
 

@@ -88,10 +88,10 @@ class Records:
     def __init__(self) -> None:
         self.count = 0                          # bytes that came
         self.start = 0                          # where the unfinished record begins
-        self.mark = b""                         # the bytes of a fragment's mark that have come
+        self._mark = b""                         # the bytes of a fragment's mark that have come
         self.left: Optional[int] = None         # bytes of the fragment that are still to come; None in a mark
-        self.last = False
-        self.body = bytearray()
+        self._last = False
+        self.body = bytearray()                 # of the unfinished record, so far
 
     def push(self, data: bytes) -> List[Record]:
         """Takes a piece. Returns the records that are complete now."""
@@ -100,7 +100,7 @@ class Records:
             data = self._step(data)
             if self.left == 0:
                 self.left = None
-                if self.last:
+                if self._last:
                     found.append(Record(self.start, self.count, bytes(self.body)))
                     self.start, self.body = self.count, bytearray()
         return found
@@ -108,11 +108,11 @@ class Records:
     def _step(self, data: bytes) -> bytes:
         """Takes the bytes that belong to the present mark or fragment. Returns those after them."""
         if self.left is None:
-            size = 4 - len(self.mark)
-            self.mark += data[:size]
-            if len(self.mark) == 4:
-                word = int.from_bytes(self.mark, "big")
-                self.last, self.left, self.mark = word >= LAST, word % LAST, b""
+            size = 4 - len(self._mark)
+            self._mark += data[:size]
+            if len(self._mark) == 4:
+                word = int.from_bytes(self._mark, "big")
+                self._last, self.left, self._mark = word >= LAST, word % LAST, b""
         else:
             size = self.left
             self.body += data[:size]
@@ -122,7 +122,7 @@ class Records:
 
     def held(self) -> int:
         """How many bytes the unfinished record has, with a mark."""
-        return 4 + len(self.body) + len(self.mark)
+        return 4 + len(self.body) + len(self._mark)
 
 
 def encode_call(xid: int, program: int, version: int, procedure: int, arguments: bytes = b"") -> bytes:

@@ -16,11 +16,11 @@ class Milliseconds:
     """An attribute that is a count of milliseconds. It is checked when it is set."""
 
     def __set_name__(self, owner: type, name: str) -> None:
-        self.name = name
+        self._name = name
 
     def __get__(self, one: object, owner: type) -> int:
-        found: int = vars(one)[self.name]
+        found: int = vars(one)[self._name]
         return found
 
     def __set__(self, one: object, count: int) -> None:
-        vars(one)[self.name] = milliseconds(count, self.name)
+        vars(one)[self._name] = milliseconds(count, self._name)

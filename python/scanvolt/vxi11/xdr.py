@@ -22,8 +22,8 @@ class Reader:
     """Reads one value after the other. Each method raises XdrError if bytes are missing or wrong."""
 
     def __init__(self, data: bytes) -> None:
-        self.data = data
-        self.place = 0
+        self.data = data    # all bytes
+        self.place = 0      # how many of them were read
 
     def take(self, count: int) -> bytes:
         """The next bytes, as they are."""
