@@ -42,7 +42,7 @@ PICTURES := $(addprefix docs/,$(shell grep -oh 'pictures/[a-z-]*\.svg' $(DOC_FIL
 # program: they print nothing if they pass. If rows differ, tools/row-diff shows them.
 test: lint rows
 	@$(RT) ci || { status=$$?; tools/row-diff || :; exit $$status; }
-	@RT='$(RT)' python/proved
+	@RT='$(RT)' python/run-proved-tests
 
 # Prints faults of layout, length and edits; it takes seconds.
 lint:
@@ -101,7 +101,7 @@ soak: $(PROOF)
 # Checks the types of the Python package and runs its tests and those of the examples of drivers, with the program that
 # `tools/serve BUILD=1` builds, or with SERVER. It needs some Debian packages, and says which.
 python:
-	@python/check '$(GIVEN)'
+	@python/run-all-tests '$(GIVEN)'
 
 # Installs the proved program, its man page, its version, the scenario and scripts of the examples, and the licence.
 install: $(PROOF)

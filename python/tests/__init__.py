@@ -1,1 +1,1 @@
-"""Tests of the package that need only the standard library."""
+"""Tests of the package. Those in this folder need only the standard library, those in its folders also what these are named after."""

@@ -1,6 +1,6 @@
 """The pieces of Python in README.md that need only the standard library do what README.md says.
 
-tests_pyvisa/test_scripts.py has the piece with PyVISA, tests_pytest/test_plugin.py the one with pytest.
+tests/pyvisa/test_scripts.py has the piece with PyVISA, tests/pytest_plugin/test_plugin.py the one with pytest.
 """
 import pathlib
 import re

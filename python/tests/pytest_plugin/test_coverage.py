@@ -5,7 +5,7 @@ from importlib.util import find_spec
 
 import pytest
 
-TOP = pathlib.Path(__file__).resolve().parent.parent
+TOP = pathlib.Path(__file__).resolve().parents[2]
 PLUGIN = ("-p", "scanvolt.pytest_plugin")
 TESTS = """
     from scanvolt.virtual import Meter

@@ -4,7 +4,7 @@ import pathlib
 import pytest
 
 pytest.importorskip("pyvisa")
-TOP = pathlib.Path(__file__).resolve().parent.parent
+TOP = pathlib.Path(__file__).resolve().parents[2]
 PLUGIN = ("-p", "scanvolt.pytest_plugin", "--strict-markers")
 DRIVER = """
     import time

@@ -6,7 +6,7 @@ import sys
 import tempfile
 import unittest
 
-TOP = pathlib.Path(__file__).resolve().parent.parent
+TOP = pathlib.Path(__file__).resolve().parents[2]
 PIECES = re.findall(r"```python\n(.*?)```", TOP.joinpath("README.md").read_text(), re.DOTALL)
 OPENED = """\
 import os

@@ -12,7 +12,7 @@ from scanvolt import __version__
 from scanvolt.explaining.explanation import Explanation
 from scanvolt.program import find_program
 
-TOP = pathlib.Path(__file__).resolve().parent.parent
+TOP = pathlib.Path(__file__).resolve().parents[2]
 PIECES = re.findall(r"```python\n(.*?)```", TOP.joinpath("README.md").read_text(), re.DOTALL)
 PLUGIN = ("-p", "scanvolt.pytest_plugin")
 BOTH = """
