@@ -4,6 +4,7 @@
 PORTMAP is the port of the instrument's port mapper, 4111 if not said: that of `make serve`. Real
 instruments have 111.
 """
+
 import sys
 import time
 

@@ -1,9 +1,13 @@
 """Fixtures: each test has an instrument of its own, once in virtual time and once on sockets."""
+
+from __future__ import annotations
+
 import contextlib
 import importlib.util
 import pathlib
 import sys
-from typing import Callable, Iterator, List, NamedTuple
+from collections.abc import Callable, Iterator
+from typing import NamedTuple
 
 import pytest
 import pyvisa
@@ -53,7 +57,7 @@ def stand(request: pytest.FixtureRequest) -> Iterator[Stand]:
 @pytest.fixture
 def connect(stand: Stand) -> Iterator[Callable[[], Voltmeter]]:
     """Makes voltmeters, each with a link of its own."""
-    resources: List[pyvisa.Resource] = []
+    resources: list[pyvisa.Resource] = []
 
     def make() -> Voltmeter:
         resources.append(stand.manager.open_resource(stand.address, open_timeout=5000, timeout=5000))

@@ -1,7 +1,7 @@
 """Tests of the driver: scans, limits, alarms, errors, and two controllers that share an instrument."""
+
 import pytest
 import pyvisa
-
 from voltmeter import Limits, VoltmeterError
 
 pytestmark = pytest.mark.scanvolt(scenario="stand.scenario")

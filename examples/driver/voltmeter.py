@@ -1,8 +1,11 @@
 """A driver for the voltmeter, over a PyVISA resource of any backend. The tests test this driver."""
+
+from __future__ import annotations
+
 import contextlib
 import enum
 import time
-from typing import Iterator, List, Optional
+from collections.abc import Iterator
 
 import pyvisa
 from pyvisa.constants import EventMechanism, EventType
@@ -63,13 +66,13 @@ class Voltmeter:
         if not first.startswith("0,"):
             raise VoltmeterError(first)
 
-    def configure(self, channels: List[int], volts: float = 10, scans: int = 1) -> None:
+    def configure(self, channels: list[int], volts: float = 10, scans: int = 1) -> None:
         """Sets which channels are scanned, in which order, at which range (1, 10 or 100 V), and how often."""
         listed = ",".join(str(channel) for channel in channels)
         self.command("CONF:VOLT (@%s);:VOLT:RANG %g;:TRIG:COUN %d" % (listed, volts, scans))
         self.channels = len(channels)
 
-    def scan(self) -> List[List[Optional[float]]]:
+    def scan(self) -> list[list[float | None]]:
         """The voltages of each scan, in the order of the channels; None for an overload."""
         answer = self.resource.query("READ?")
         readings = [float(text) for text in answer.split(",")]
@@ -106,7 +109,7 @@ class Voltmeter:
         raise TimeoutError("no alarm in %g seconds" % seconds)
 
     @contextlib.contextmanager
-    def alone(self) -> Iterator["Voltmeter"]:
+    def alone(self) -> Iterator[Voltmeter]:
         """Locks the instrument: no other link can use it meanwhile."""
         self.resource.lock_excl()
         try:

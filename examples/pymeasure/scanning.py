@@ -1,4 +1,5 @@
 """A driver for the voltmeter, with pymeasure."""
+
 import time
 
 import pyvisa

@@ -1,4 +1,5 @@
 """Tests of the driver: each runs in virtual time, and over sockets by PyVISA-py."""
+
 import pytest
 import pyvisa
 from scanning import ScanningVoltmeter, VoltmeterError

@@ -4,6 +4,9 @@ So `pip install ./python` needs no other package, and no network. The same sourc
 sorted, have the date SOURCE_DATE_EPOCH or else 1 January 1980, and no owner. pip runs the functions whose names have
 no underscore in front, in the folder of pyproject.toml.
 """
+
+from __future__ import annotations
+
 import ast
 import base64
 import gzip
@@ -15,11 +18,11 @@ import re
 import tarfile
 import time
 import zipfile
-from typing import Dict, List, Optional, Tuple, Union
+from typing import Optional, Union
 
-Settings = Optional[Dict[str, object]]
-Value = Union[str, List[str], Dict[str, str]]
-Files = List[Tuple[str, bytes]]
+Settings = Optional[dict[str, object]]
+Value = Union[str, list[str], dict[str, str]]
+Files = list[tuple[str, bytes]]
 PACKAGES = ("scanvolt", "pyvisa_scanvolt")
 OLDEST = 315532800          # 1 January 1980, the first date that a wheel can have
 SUFFIXES = (".py", ".html", ".css", ".js")      # of the packages' files
@@ -29,12 +32,12 @@ WHEEL = "Wheel-Version: 1.0\nGenerator: scanvolt_build\nRoot-Is-Purelib: %s\nTag
 PROGRAM, IN_PROGRAM = "program", ("bin/scanvolt", "share/scanvolt/VERSION", "share/doc/scanvolt/KIT")
 
 
-def project(text: str) -> Dict[str, Dict[str, Value]]:
+def project(text: str) -> dict[str, dict[str, Value]]:
     """The tables of pyproject.toml. Reads only as much of TOML as that file has: one line for each key, and as
     values texts, lists of texts, and inline tables of texts. Raises ValueError at any other line.
     """
-    tables: Dict[str, Dict[str, Value]] = {}
-    table: Dict[str, Value] = {}
+    tables: dict[str, dict[str, Value]] = {}
+    table: dict[str, Value] = {}
     for line in text.splitlines():
         if re.fullmatch(r"\[[\w.-]+\]", line):
             table = tables.setdefault(line[1:-1], {})
@@ -49,7 +52,7 @@ def project(text: str) -> Dict[str, Dict[str, Value]]:
     return tables
 
 
-def _settings() -> Dict[str, Dict[str, Value]]:
+def _settings() -> dict[str, dict[str, Value]]:
     return project(pathlib.Path("pyproject.toml").read_text(encoding="utf-8"))
 
 
@@ -150,7 +153,7 @@ def _wheel(folder: str, files: Files, tag: str = PURE) -> str:
 
 
 def build_wheel(wheel_directory: str, config_settings: Settings = None,
-                metadata_directory: Optional[str] = None) -> str:
+                metadata_directory: str | None = None) -> str:
     """Writes the wheel into a folder. Returns its name. With the setting `program`, the prefix of an installation, it is the
     wheel of a platform that has the program inside.
     """
@@ -161,7 +164,7 @@ def build_wheel(wheel_directory: str, config_settings: Settings = None,
 
 
 def build_editable(wheel_directory: str, config_settings: Settings = None,
-                   metadata_directory: Optional[str] = None) -> str:
+                   metadata_directory: str | None = None) -> str:
     """Writes a wheel that makes Python load the packages from here, for `pip install --editable`."""
     return _wheel(wheel_directory, [("scanvolt.pth", os.fsencode(os.getcwd()) + b"\n")])
 

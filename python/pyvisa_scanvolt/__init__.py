@@ -16,6 +16,9 @@ While another session has the lock, `lock_excl` waits, and all other calls retur
 by an access key: the instrument's one lock goes to the session that makes a call. What isn't supported raises VisaIOError with
 VISA's status, such as VI_ERROR_NSUP_OPER.
 """
+
+from __future__ import annotations
+
 from typing import TYPE_CHECKING, Any
 
 if TYPE_CHECKING:
@@ -28,7 +31,7 @@ if TYPE_CHECKING:
 __tracebackhide__ = True        # pytest shows the line that calls the package, and not these frames
 
 
-def meter_of(resource: "Resource") -> "Meter":
+def meter_of(resource: Resource) -> Meter:
     """The instrument of a resource that a manager of this backend opened. Raises TypeError for any other resource."""
     from .library import ScanvoltLibrary
     library = getattr(resource, "visalib", None)
@@ -37,7 +40,7 @@ def meter_of(resource: "Resource") -> "Meter":
     return library.meter(resource)
 
 
-def resource_of(meter: "Meter", **options: Any) -> Any:
+def resource_of(meter: Meter, **options: Any) -> Any:
     """Opens a session to a Meter, such as a fork, with these options of `open_resource`. So `Meter.interleavings` runs drivers
     over PyVISA: each controller makes its driver with `resource_of(meter)`, and closes that at its end. The resource manager
     doesn't turn such a meter off.
@@ -48,7 +51,7 @@ def resource_of(meter: "Meter", **options: Any) -> Any:
     return manager.open_resource("TCPIP::%s::INSTR" % library.host_of(meter), **options)
 
 
-def __getattr__(name: str) -> "type[ScanvoltLibrary]":
+def __getattr__(name: str) -> type[ScanvoltLibrary]:
     """WRAPPER_CLASS, for which PyVISA asks. PyVISA is imported only then."""
     if name not in ("WRAPPER_CLASS", "ScanvoltLibrary"):
         raise AttributeError("module %s has no attribute %s" % (__name__, name))

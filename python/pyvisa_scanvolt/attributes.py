@@ -1,5 +1,9 @@
 """The attributes of a session, by VISA's names: their initial states, and the states that may be set."""
-from typing import Any, Callable, Dict, NamedTuple, Optional
+
+from __future__ import annotations
+
+from collections.abc import Callable
+from typing import Any, NamedTuple
 
 from pyvisa import constants
 from pyvisa.constants import ResourceAttribute as Name
@@ -19,7 +23,7 @@ class Kept(NamedTuple):
     """An attribute: its state, and which states may be set. Without `accepts` it is read-only."""
 
     state: Any
-    accepts: Optional[Callable[[Any], bool]] = None
+    accepts: Callable[[Any], bool] | None = None
 
 
 def _number(most: int) -> Callable[[Any], bool]:
@@ -34,7 +38,7 @@ def _only(*states: Any) -> Callable[[Any], bool]:
     return lambda state: state in states
 
 
-def common() -> Dict[Name, Kept]:
+def common() -> dict[Name, Kept]:
     """The attributes of every session, also that of the resource manager."""
     return {
         Name.resource_manufacturer_name: Kept("scanvolt"),
@@ -46,7 +50,7 @@ def common() -> Dict[Name, Kept]:
     }
 
 
-def of_instrument(parsed: Any, host: str, device: str) -> Dict[Name, Kept]:
+def of_instrument(parsed: Any, host: str, device: str) -> dict[Name, Kept]:
     """The attributes of a session to an instrument, by its parsed resource name."""
     states = common()
     states.update({
@@ -74,7 +78,7 @@ def of_instrument(parsed: Any, host: str, device: str) -> Dict[Name, Kept]:
     return states
 
 
-def _of_interface(parsed: Any, host: str, device: str) -> Dict[Name, Kept]:
+def _of_interface(parsed: Any, host: str, device: str) -> dict[Name, Kept]:
     """The attributes of the interface that a resource name has."""
     interface = parsed.interface_type
     states = {
@@ -94,14 +98,14 @@ def _of_interface(parsed: Any, host: str, device: str) -> Dict[Name, Kept]:
     return states
 
 
-def get(states: Dict[Name, Kept], name: Name) -> Any:
+def get(states: dict[Name, Kept], name: Name) -> Any:
     """The state of an attribute."""
     if name not in states:
         raise Refusal(StatusCode.error_nonsupported_attribute)
     return states[name].state
 
 
-def put(states: Dict[Name, Kept], name: Name, state: Any) -> None:
+def put(states: dict[Name, Kept], name: Name, state: Any) -> None:
     """Sets an attribute."""
     if name not in states:
         raise Refusal(StatusCode.error_nonsupported_attribute)

@@ -1,7 +1,11 @@
 """The library that PyVISA calls. It finds sessions by number, and instruments by host name."""
+
+from __future__ import annotations
+
 import itertools
 import re
-from typing import Any, Callable, Dict, Iterable, List, NoReturn, Optional, Tuple, TypeVar, Union
+from collections.abc import Callable, Iterable
+from typing import Any, NoReturn, TypeVar
 
 from pyvisa import constants, errors, highlevel, rname
 from pyvisa.constants import StatusCode
@@ -38,7 +42,7 @@ class ScanvoltLibrary(highlevel.VisaLibraryBase):
         return (LibraryPath(NONE),)
 
     @staticmethod
-    def get_debug_info() -> Dict[str, Any]:
+    def get_debug_info() -> dict[str, Any]:
         """The path of the program, or why none was found."""
         from scanvolt.program import ProgramError, find_program
         try:
@@ -48,11 +52,11 @@ class ScanvoltLibrary(highlevel.VisaLibraryBase):
 
     def _init(self) -> None:
         self._settings = settings.Settings() if self.library_path == NONE else settings.read(str(self.library_path))
-        self._sharings: Dict[str, Sharing] = {}
-        self._meters: Dict[str, Meter] = {}
-        self._given: List[str] = []          # the hosts of instruments that were made elsewhere
-        self._sessions: Dict[int, Session] = {}
-        self._contexts: Dict[int, constants.EventType] = {}
+        self._sharings: dict[str, Sharing] = {}
+        self._meters: dict[str, Meter] = {}
+        self._given: list[str] = []          # the hosts of instruments that were made elsewhere
+        self._sessions: dict[int, Session] = {}
+        self._contexts: dict[int, constants.EventType] = {}
         self._numbers = itertools.count(1)
         self._manager: Any = None
         self._common = attributes.common()
@@ -80,7 +84,7 @@ class ScanvoltLibrary(highlevel.VisaLibraryBase):
             self._meters[found], self._sharings[found] = meter, Sharing()
         return found
 
-    def _parsed(self, name: str) -> Tuple[Any, str]:
+    def _parsed(self, name: str) -> tuple[Any, str]:
         """The parts of a resource name, and its host. Raises VisaIOError if no instrument here can have that name."""
         try:
             parsed = rname.ResourceName.from_string(name)
@@ -104,7 +108,7 @@ class ScanvoltLibrary(highlevel.VisaLibraryBase):
         """Does an action of a session, and returns its result. A fault is raised as VisaIOError."""
         session = self._sessions.get(number)
         status = StatusCode.error_invalid_object
-        cause: Optional[Exception] = None
+        cause: Exception | None = None
         if session is not None:
             try:
                 return action(session)
@@ -125,20 +129,20 @@ class ScanvoltLibrary(highlevel.VisaLibraryBase):
         self._done(number, action)
         return self.handle_return_value(number, StatusCode.success)
 
-    def open_default_resource_manager(self) -> Tuple[Any, StatusCode]:
+    def open_default_resource_manager(self) -> tuple[Any, StatusCode]:
         """Opens the session of the resource manager (viOpenDefaultRM)."""
         number: Any = next(self._numbers)
         self._manager = number
         return self._manager, self.handle_return_value(self._manager, StatusCode.success)
 
-    def list_resources(self, session: Any, query: str = "?*::INSTR") -> Tuple[str, ...]:
+    def list_resources(self, session: Any, query: str = "?*::INSTR") -> tuple[str, ...]:
         """The instruments that are on, and one that is always listed (viFindRsrc)."""
         names = {"TCPIP0::%s::inst0::INSTR" % host for host in self._meters} | {FIRST} | set(self._settings.hosts)
         return rname.filter(sorted(names), query)
 
     def open(self, session: Any, resource_name: str,
              access_mode: constants.AccessModes = constants.AccessModes.no_lock,
-             open_timeout: int = constants.VI_TMO_IMMEDIATE) -> Tuple[Any, StatusCode]:
+             open_timeout: int = constants.VI_TMO_IMMEDIATE) -> tuple[Any, StatusCode]:
         """Opens a session to an instrument, with its lock if access_mode asks for that (viOpen)."""
         if access_mode not in (constants.AccessModes.no_lock, constants.AccessModes.exclusive_lock):
             self.handle_return_value(session, StatusCode.error_invalid_access_mode)
@@ -186,7 +190,7 @@ class ScanvoltLibrary(highlevel.VisaLibraryBase):
             del self._sessions[session]
         return self.handle_return_value(None, StatusCode.success)
 
-    def get_attribute(self, session: Any, attribute: Any) -> Tuple[Any, StatusCode]:
+    def get_attribute(self, session: Any, attribute: Any) -> tuple[Any, StatusCode]:
         """The state of an attribute of a session, an event or the resource manager (viGetAttribute)."""
         if session in self._contexts:
             if attribute == constants.EventAttribute.event_type:
@@ -216,21 +220,21 @@ class ScanvoltLibrary(highlevel.VisaLibraryBase):
         """Sets an attribute of a session (viSetAttribute)."""
         return self._plain(session, lambda one: one.put(attribute, attribute_state))
 
-    def write(self, session: Any, data: bytes) -> Tuple[int, StatusCode]:
+    def write(self, session: Any, data: bytes) -> tuple[int, StatusCode]:
         """Writes bytes. Returns how many were taken (viWrite)."""
         count = self._done(session, lambda one: one.write(bytes(data)))
         return count, self.handle_return_value(session, StatusCode.success)
 
-    def read(self, session: Any, count: int) -> Tuple[bytes, StatusCode]:
+    def read(self, session: Any, count: int) -> tuple[bytes, StatusCode]:
         """Reads at most `count` bytes (viRead)."""
         data, status = self._done(session, lambda one: one.read(count))
         return data, self.handle_return_value(session, status)
 
-    def buffer_write(self, session: Any, data: bytes) -> Tuple[int, StatusCode]:
+    def buffer_write(self, session: Any, data: bytes) -> tuple[int, StatusCode]:
         """Nothing is buffered."""
         return self.write(session, data)
 
-    def buffer_read(self, session: Any, count: int) -> Tuple[bytes, StatusCode]:
+    def buffer_read(self, session: Any, count: int) -> tuple[bytes, StatusCode]:
         """Nothing is buffered."""
         return self.read(session, count)
 
@@ -238,7 +242,7 @@ class ScanvoltLibrary(highlevel.VisaLibraryBase):
         """Nothing is buffered."""
         return self._plain(session, lambda one: None)
 
-    def read_stb(self, session: Any) -> Tuple[int, StatusCode]:
+    def read_stb(self, session: Any) -> tuple[int, StatusCode]:
         """Reads the status byte (viReadSTB)."""
         status_byte = self._done(session, Session.read_stb)
         return status_byte, self.handle_return_value(session, StatusCode.success)
@@ -256,7 +260,7 @@ class ScanvoltLibrary(highlevel.VisaLibraryBase):
         return self._plain(session, lambda one: one.control_ren(mode))
 
     def lock(self, session: Any, lock_type: constants.Lock, timeout: int,
-             requested_key: Optional[str] = None) -> Tuple[str, StatusCode]:
+             requested_key: str | None = None) -> tuple[str, StatusCode]:
         """Takes the exclusive lock, or a shared one by an access key. Waits for it up to `timeout` milliseconds (viLock)."""
         key, status = self._done(session, lambda one: one.lock(lock_type, int(timeout), requested_key))
         return key, self.handle_return_value(session, status)
@@ -281,13 +285,13 @@ class ScanvoltLibrary(highlevel.VisaLibraryBase):
         return self._told(session, lambda one: one.discard(event_type, mechanism))
 
     def wait_on_event(self, session: Any, in_event_type: constants.EventType,
-                      timeout: Optional[int]) -> Tuple[constants.EventType, Any, StatusCode]:
+                      timeout: int | None) -> tuple[constants.EventType, Any, StatusCode]:
         """Waits for a service request, up to `timeout` milliseconds (viWaitOnEvent)."""
         status = self._told(session, lambda one: one.wait(in_event_type, timeout))
         return constants.EventType.service_request, self._new_context(), status
 
     def install_handler(self, session: Any, event_type: constants.EventType, handler: Any,
-                        user_handle: Any) -> Tuple[Any, Any, Any, StatusCode]:
+                        user_handle: Any) -> tuple[Any, Any, Any, StatusCode]:
         """Adds a handler of service requests. It is called while they are turned on (viInstallHandler)."""
         if event_type != constants.EventType.service_request:
             self.handle_return_value(session, StatusCode.error_invalid_event)
@@ -304,10 +308,10 @@ class ScanvoltLibrary(highlevel.VisaLibraryBase):
 
         return self._plain(session, uninstall)
 
-    def status_description(self, session: Any, status: StatusCode) -> Tuple[str, StatusCode]:
+    def status_description(self, session: Any, status: StatusCode) -> tuple[str, StatusCode]:
         """A status in words."""
         known = errors.completion_and_error_messages.get(status)
-        words: Union[str, Tuple[str, ...], List[str]] = known or ("unknown status",)
+        words: str | tuple[str, ...] | list[str] = known or ("unknown status",)
         return words if isinstance(words, str) else words[-1], StatusCode.success
 
     def _unsupported(self, session: Any, *_rest: Any, **_named: Any) -> Any:

@@ -1,11 +1,16 @@
 """A session to an instrument: a connection of its own with one link, as other VISAs make it for TCPIP."""
+
+from __future__ import annotations
+
 import collections
 import contextlib
-from typing import Any, Callable, Deque, Dict, List, Optional, Tuple
+from collections.abc import Callable
+from typing import Any
 
 from pyvisa import constants
-from pyvisa.constants import EventMechanism, EventType, StatusCode
+from pyvisa.constants import EventMechanism, EventType
 from pyvisa.constants import ResourceAttribute as Name
+from pyvisa.constants import StatusCode
 
 from scanvolt.program import ProgramError
 from scanvolt.virtual import Meter, NoAnswer
@@ -30,8 +35,8 @@ class Session:
     calls.
     """
 
-    def __init__(self, meter: Meter, sharing: Sharing, states: Dict[Name, attributes.Kept], device: str,
-                 lock_timeout: Optional[int]) -> None:
+    def __init__(self, meter: Meter, sharing: Sharing, states: dict[Name, attributes.Kept], device: str,
+                 lock_timeout: int | None) -> None:
         self.meter, self.sharing, self._states = meter, sharing, states
         self._connection = meter.connect()
         try:
@@ -43,9 +48,9 @@ class Session:
         self.locks = 0 if lock_timeout is None else 1       # how often the lock was taken
         self.number = 0         # by which PyVISA knows it
         self._mechanisms = 0                                 # the mechanisms for which events are enabled
-        self.handlers: List[Tuple[Handler, Any]] = []
-        self._queued: Deque[ServiceRequest] = collections.deque()
-        self._suspended: Deque[ServiceRequest] = collections.deque()
+        self.handlers: list[tuple[Handler, Any]] = []
+        self._queued: collections.deque[ServiceRequest] = collections.deque()
+        self._suspended: collections.deque[ServiceRequest] = collections.deque()
         # makes the number of an event's context
         self.new_context: Callable[[], int] = lambda: 0
 
@@ -74,7 +79,7 @@ class Session:
         self._timed()
         return self.link.write(data, bool(self.get(Name.send_end_enabled)))
 
-    def read(self, count: int) -> Tuple[bytes, StatusCode]:
+    def read(self, count: int) -> tuple[bytes, StatusCode]:
         """Reads up to END, up to the termination character if it is enabled, or up to `count` bytes. If several of
         these are true, the first decides the status.
         """
@@ -115,7 +120,7 @@ class Session:
         else:
             self.link.remote()
 
-    def lock(self, kind: int, timeout: int, key: Optional[str]) -> Tuple[str, StatusCode]:
+    def lock(self, kind: int, timeout: int, key: str | None) -> tuple[str, StatusCode]:
         """Takes the exclusive lock, or a shared one. Waits for it up to `timeout` milliseconds. Returns the access key."""
         if kind == constants.Lock.shared:
             return self.sharing.lock_shared(self, timeout, key)
@@ -187,7 +192,7 @@ class Session:
             for handler, user_handle in reversed(self.handlers):
                 handler(self.number, EventType.service_request, self.new_context(), user_handle)
 
-    def wait(self, kind: int, timeout: Optional[int]) -> StatusCode:
+    def wait(self, kind: int, timeout: int | None) -> StatusCode:
         """Waits for a service request in the queue. At most `timeout` milliseconds pass."""
         if kind not in (EventType.service_request, EventType.all_enabled):
             raise Refusal(StatusCode.error_invalid_event)

@@ -3,9 +3,12 @@
 A file of settings has lines `KEY = VALUE`, and comments after `#`. A key is a resource name, whose value is the host of the
 instrument that has this name, such as scanvolt; or scenario (a file, relative to this one), patience, or call_time.
 """
+
+from __future__ import annotations
+
 import pathlib
+from collections.abc import Mapping
 from dataclasses import dataclass, field
-from typing import Dict, Mapping, Optional
 
 from pyvisa import rname
 
@@ -20,10 +23,10 @@ Names = Mapping[str, str]
 class Settings:
     """The options of the meters, and the host of each name, by the name in capitals."""
 
-    scenario: Optional[str] = None
+    scenario: str | None = None
     patience: int = PATIENCE
     call_time: int = 0
-    hosts: Dict[str, str] = field(default_factory=dict)
+    hosts: dict[str, str] = field(default_factory=dict)
 
     def add(self, name: str, host: str) -> None:
         """Gives an instrument a resource name. Raises ValueError if that is none of an instrument."""
@@ -36,12 +39,12 @@ class Settings:
         """An instrument with these options."""
         return Meter(None, self.scenario, self.patience, self.call_time)
 
-    def host(self, name: str) -> Optional[str]:
+    def host(self, name: str) -> str | None:
         """The host that has this name, if it was given here."""
         return self.hosts.get(whole_name(name) or "")
 
 
-def whole_name(name: str) -> Optional[str]:
+def whole_name(name: str) -> str | None:
     """A resource name with all its parts, in capitals; None if it is none."""
     try:
         return str(rname.ResourceName.from_string(name)).upper()

@@ -4,8 +4,12 @@ The instrument's lock belongs to one link. While sessions share a lock, the one 
 link, and no time passes meanwhile. Sessions without the key are refused by the instrument. A session that waits for
 a shared lock to end waits here, and not in the instrument, whose lock it could get between two calls.
 """
+
+from __future__ import annotations
+
 import itertools
-from typing import TYPE_CHECKING, Callable, Dict, Optional, Tuple
+from collections.abc import Callable
+from typing import TYPE_CHECKING
 
 from pyvisa.constants import StatusCode
 
@@ -28,11 +32,11 @@ class Sharing:
 
     def __init__(self) -> None:
         self._key = ""
-        self.shares: "Dict[Session, int]" = {}              # how often each session took the shared lock
-        self._holder: "Optional[Session]" = None             # of these, the one whose link has the instrument's lock
-        self._exclusive: "Optional[Session]" = None          # of these, the one that has the exclusive lock too
+        self.shares: dict[Session, int] = {}              # how often each session took the shared lock
+        self._holder: Session | None = None             # of these, the one whose link has the instrument's lock
+        self._exclusive: Session | None = None          # of these, the one that has the exclusive lock too
 
-    def enter(self, session: "Session") -> None:
+    def enter(self, session: Session) -> None:
         """Before a call of a session: gives its link the instrument's lock if the session shares it."""
         if session not in self.shares:
             return
@@ -41,7 +45,7 @@ class Sharing:
         if self._holder is not session:
             self._move(session)
 
-    def _move(self, session: "Session") -> None:
+    def _move(self, session: Session) -> None:
         """Moves the instrument's lock to the link of a session."""
         if self._holder is not None:
             self._holder.link.unlock()
@@ -49,7 +53,7 @@ class Sharing:
         session.link.lock(0)
         self._holder = session
 
-    def lock_shared(self, session: "Session", timeout: int, requested: Optional[str]) -> Tuple[str, StatusCode]:
+    def lock_shared(self, session: Session, timeout: int, requested: str | None) -> tuple[str, StatusCode]:
         """Takes the shared lock, with this key or a new one. Returns the key."""
         if requested is not None and not (isinstance(requested, str) and 0 < len(requested) <= KEY_MOST):
             raise Refusal(StatusCode.error_invalid_access_key)
@@ -68,7 +72,7 @@ class Sharing:
         self.shares[session] = 1
         return self._key, StatusCode.success
 
-    def lock_exclusive(self, session: "Session", timeout: int) -> StatusCode:
+    def lock_exclusive(self, session: Session, timeout: int) -> StatusCode:
         """Takes the exclusive lock."""
         if session.locks:
             session.locks += 1
@@ -84,7 +88,7 @@ class Sharing:
         session.locks = 1
         return StatusCode.success
 
-    def unlock(self, session: "Session") -> StatusCode:
+    def unlock(self, session: Session) -> StatusCode:
         """Undoes one lock: an exclusive one before a shared one."""
         if session.locks:
             session.locks -= 1
@@ -103,7 +107,7 @@ class Sharing:
         self.leave(session)
         return StatusCode.success
 
-    def leave(self, session: "Session") -> None:
+    def leave(self, session: Session) -> None:
         """Ends the share of a session, which may be about to close: another one gets the instrument's lock."""
         if self.shares.pop(session, None) is None:
             return
@@ -118,7 +122,7 @@ class Sharing:
                 self._move(next(iter(self.shares)))
 
     @staticmethod
-    def _await(session: "Session", timeout: int, holds: Callable[[], bool]) -> None:
+    def _await(session: Session, timeout: int, holds: Callable[[], bool]) -> None:
         """Waits until the locks of other sessions here allow one, for at most this many milliseconds. Raises NoAnswer if that is
         more than the meter's patience, and that was in vain.
         """
@@ -130,7 +134,7 @@ class Sharing:
         raise Refusal(StatusCode.error_timeout if timeout else StatusCode.error_resource_locked)
 
     @staticmethod
-    def _take(session: "Session", timeout: int, began: int) -> None:
+    def _take(session: Session, timeout: int, began: int) -> None:
         """Takes the instrument's lock with the link of a session, in what is left of a timeout."""
         try:
             session.link.lock(max(0, timeout - (session.meter.clock - began)))

@@ -1,5 +1,6 @@
 """VISA's statuses for what the instrument and its connection return."""
-from typing import Dict, List, Tuple, Type
+
+from __future__ import annotations
 
 from pyvisa import errors
 from pyvisa.constants import StatusCode
@@ -7,7 +8,7 @@ from pyvisa.constants import StatusCode
 from scanvolt.vxi11 import DeviceError, RpcError
 
 __tracebackhide__ = True        # pytest shows the line that calls the package, and not these frames
-OF_DEVICE: Dict[int, StatusCode] = {
+OF_DEVICE: dict[int, StatusCode] = {
     3: StatusCode.error_resource_not_found,
     4: StatusCode.error_connection_lost,
     5: StatusCode.error_invalid_parameter,
@@ -36,15 +37,15 @@ class VisaIOError(errors.VisaIOError):
         self._fault = fault
 
     @property
-    def __notes__(self) -> List[str]:
+    def __notes__(self) -> list[str]:
         """The lines that a traceback shows below the error."""
         if isinstance(self._fault, ConnectionError):
             return [str(self._fault)]
-        found: List[str] = getattr(self._fault, "__notes__", [])
+        found: list[str] = getattr(self._fault, "__notes__", [])
         return found
 
 
-FAULTS: Tuple[Type[Exception], ...] = (Refusal, DeviceError, RpcError, ConnectionError)
+FAULTS: tuple[type[Exception], ...] = (Refusal, DeviceError, RpcError, ConnectionError)
 
 
 def status_of(fault: Exception) -> StatusCode:

@@ -3,16 +3,18 @@
 The kind is `proved` or `unproved`. Version and kind are `unknown` where no file beside the program tells them.
 Status: 0 the program fits this package, 1 there is none, or it doesn't fit.
 """
+
+from __future__ import annotations
+
 import argparse
 import sys
-from typing import List, Optional
 
 from . import __version__
 from .about import version_and_kind
 from .program import ProgramError, check_fits, found
 
 
-def main(given: Optional[List[str]] = None) -> int:
+def main(given: list[str] | None = None) -> int:
     """Runs the command. Returns its status."""
     argparse.ArgumentParser(prog="python3 -m scanvolt", description=__doc__,
                             formatter_class=argparse.RawDescriptionHelpFormatter).parse_args(given)

@@ -1,8 +1,10 @@
 """What is known of a program: its version, and whether it is proved. Files beside the program say so, since the
 program itself doesn't tell (`*IDN?` has the same answer in all releases).
 """
+
+from __future__ import annotations
+
 import pathlib
-from typing import Tuple
 
 from .program import BUILT
 
@@ -27,7 +29,7 @@ def is_shipped_proved(kit: pathlib.Path) -> bool:
         return False
 
 
-def version_and_kind(program: str) -> Tuple[str, str]:
+def version_and_kind(program: str) -> tuple[str, str]:
     """The version of a program and its kind, `proved` or `unproved`; `unknown` for what can't be known.
 
     A program that was built in a checkout has the version of the checkout. One that was installed as

@@ -1,9 +1,12 @@
 """Connections to a meter in virtual time, the calls that were sent on them, and their service requests."""
+
+from __future__ import annotations
+
 import collections
 import contextlib
 import functools
 import queue
-from typing import TYPE_CHECKING, Deque, Generic, List, Optional, Type, TypeVar, cast
+from typing import TYPE_CHECKING, Generic, TypeVar, cast
 
 from .program import ProgramError
 from .replay import Moment
@@ -31,16 +34,16 @@ class NoAnswer(Exception):
 class Pending(Generic[Value]):
     """A call that was sent. `clock` is the millisecond of its reply, or None before that."""
 
-    def __init__(self, connection: "Connection", call: Call[Value], xid: int) -> None:
+    def __init__(self, connection: Connection, call: Call[Value], xid: int) -> None:
         self.connection = connection
         self.call = call
         self.xid = xid
-        self._turned: Optional[int] = None       # the millisecond at which the instrument took the call
-        self.clock: Optional[int] = None
+        self._turned: int | None = None       # the millisecond at which the instrument took the call
+        self.clock: int | None = None
         self._body = b""
-        self._fault: Optional[Exception] = None
-        self._made: Optional[bytes] = None       # the reply that a fault on order makes, in place of the instrument
-        self._note: Optional[str] = None         # what that fault was
+        self._fault: Exception | None = None
+        self._made: bytes | None = None       # the reply that a fault on order makes, in place of the instrument
+        self._note: str | None = None         # what that fault was
 
     def __repr__(self) -> str:
         told = "not answered" if self.clock is None else "answered at %d ms" % self.clock
@@ -84,13 +87,13 @@ class Pending(Generic[Value]):
                 fault.tell = [self._note].copy
             raise
 
-    def _end(self, clock: int, body: bytes = b"", fault: Optional[Exception] = None) -> None:
+    def _end(self, clock: int, body: bytes = b"", fault: Exception | None = None) -> None:
         """Ends the call: it was answered, or can't be any more."""
         self.clock, self._body, self._fault = clock, body, fault
         self.connection.meter._answered(cast("Pending[object]", self))
 
 
-def _notes(pending: Pending[Value], moment: Moment) -> List[str]:
+def _notes(pending: Pending[Value], moment: Moment) -> list[str]:
     """The notes of the error with which a call ended at a moment of the session."""
     from .explaining import meters
     return meters.notes(pending.connection.meter, pending.connection.number, pending.xid, moment)
@@ -99,10 +102,10 @@ def _notes(pending: Pending[Value], moment: Moment) -> List[str]:
 class Requests:
     """The service requests of a connection's interrupt channel. They go to a callback, or else into a queue."""
 
-    def __init__(self, connection: "Connection") -> None:
+    def __init__(self, connection: Connection) -> None:
         self._connection = connection
-        self.callback: Optional[Callback] = None
-        self.queue: "queue.Queue[ServiceRequest]" = queue.Queue()
+        self.callback: Callback | None = None
+        self.queue: queue.Queue[ServiceRequest] = queue.Queue()
         self._stream = RequestStream()
 
     def wait(self, milliseconds: int) -> ServiceRequest:
@@ -122,7 +125,7 @@ class Requests:
 class Connection(Core):
     """A connection to a meter. `close` ends it, and so does the end of a `with` block."""
 
-    def __init__(self, meter: "Meter", number: int, role: str) -> None:
+    def __init__(self, meter: Meter, number: int, role: str) -> None:
         self.meter = meter
         self.number = number                                # by which the script knows it, 0 to 15
         self.role = role                                    # core, abort or portmap
@@ -130,7 +133,7 @@ class Connection(Core):
         self.has_channel = False                            # whether it has an interrupt channel
         self._xid = 0
         self._records = Records()
-        self._pending: "Deque[Pending[object]]" = collections.deque()
+        self._pending: collections.deque[Pending[object]] = collections.deque()
         self.requests = Requests(self)                      # what `listen` returns
 
     def __repr__(self) -> str:
@@ -142,7 +145,7 @@ class Connection(Core):
     def __enter__(self: Itself) -> Itself:
         return self
 
-    def __exit__(self, kind: Optional[Type[BaseException]], *_: object) -> None:
+    def __exit__(self, kind: type[BaseException] | None, *_: object) -> None:
         self.close()
 
     def close(self) -> None:
@@ -179,13 +182,13 @@ class Connection(Core):
         with self.meter.connect("abort") as channel:
             channel.do(calls.device_abort(link.number))
 
-    def listen(self, callback: Optional[Callback] = None) -> Requests:
+    def listen(self, callback: Callback | None = None) -> Requests:
         """Makes the interrupt channel. Service requests go to the callback as time passes, or else into a queue."""
         if callback is not None:
             self.on_service_request(callback)
         self.create_intr_chan(calls.LOOPBACK, 1)
         return self.requests
 
-    def on_service_request(self, callback: Optional[Callback]) -> None:
+    def on_service_request(self, callback: Callback | None) -> None:
         """From now on service requests go to this callback, or into the queue if it is None."""
         self.requests.callback = checked_callback(callback)

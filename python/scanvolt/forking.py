@@ -1,6 +1,9 @@
 """The same instrument twice: `Meter.fork` plays its history to a second program."""
+
+from __future__ import annotations
+
 import copy
-from typing import TYPE_CHECKING, Any, Dict, List, TypeVar, Union, cast
+from typing import TYPE_CHECKING, Any, TypeVar, Union, cast
 
 from .connection import Connection, Pending
 from .vxi11 import Link, Made
@@ -9,18 +12,18 @@ if TYPE_CHECKING:
     from .virtual import Meter
 
 __tracebackhide__ = True        # pytest shows the line that calls the package, and not these frames
-One = TypeVar("One", bound=Union[Connection, Link, "Pending[Any]"])
+One = TypeVar("One", bound=Union[Connection, Link, Pending[Any]])
 
 
 class Twins:
     """Which connections and calls of a meter stand for which of the meter from which it was forked."""
 
     def __init__(self) -> None:
-        self._connections: Dict[int, Connection] = {}
-        self._pending: "Dict[int, Pending[object]]" = {}
-        self._kept: List[object] = []          # the first ones: while they are kept, no other object has their id
+        self._connections: dict[int, Connection] = {}
+        self._pending: dict[int, Pending[object]] = {}
+        self._kept: list[object] = []          # the first ones: while they are kept, no other object has their id
 
-    def _add(self, first: object, twin: Union[Connection, "Pending[object]"]) -> None:
+    def _add(self, first: object, twin: Connection | Pending[object]) -> None:
         self._kept.append(first)
         if isinstance(twin, Connection):
             self._connections[id(first)] = twin
@@ -41,7 +44,7 @@ class Twins:
         return cast(One, found)
 
 
-def fork(meter: "Meter") -> "Meter":
+def fork(meter: Meter) -> Meter:
     """A second instrument that is as this one is now: see Meter.fork."""
     with meter._guard:
         twin = type(meter)(meter._replay.path, patience=meter.patience, call_time=meter.call_time)
@@ -64,7 +67,7 @@ def fork(meter: "Meter") -> "Meter":
         return twin
 
 
-def _connection(first: Connection, twin: "Meter") -> Connection:
+def _connection(first: Connection, twin: Meter) -> Connection:
     """The connection of a twin: as the first, but its service requests go into its queue."""
     made = Connection(twin, first.number, first.role)
     made.has_channel, made._xid = first.has_channel, first._xid
@@ -75,7 +78,7 @@ def _connection(first: Connection, twin: "Meter") -> Connection:
     return made
 
 
-def _pending(first: "Pending[object]", connection: Connection) -> "Pending[object]":
+def _pending(first: Pending[object], connection: Connection) -> Pending[object]:
     """A call of a twin that isn't answered."""
     made = Pending(connection, first.call, first.xid)
     made._turned, made._made, made._note = first._turned, first._made, first._note

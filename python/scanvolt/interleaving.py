@@ -1,6 +1,10 @@
 """Controllers of one instrument in every order of their calls: `Meter.interleavings`."""
+
+from __future__ import annotations
+
 import threading
-from typing import TYPE_CHECKING, Callable, List, Optional, Sequence, Tuple
+from collections.abc import Callable, Sequence
+from typing import TYPE_CHECKING
 
 from .lockstep import LockStep, Pick, Place, seeded
 
@@ -12,7 +16,7 @@ Controller = Callable[["Meter"], object]
 LETTERS = "ABCDEFGHIJKLMNOP"
 MOST = 10000            # orders that are tried, unless a number is given
 SHOWN = 12              # lines of the timeline that a failure shows
-Taken = Tuple[List[int], int]   # at a turn: the controllers that could go on, and the one that did
+Taken = tuple[list[int], int]   # at a turn: the controllers that could go on, and the one that did
 
 
 class OrderFails(AssertionError):
@@ -33,20 +37,20 @@ class OrderFails(AssertionError):
 class _Run:
     """One run of the controllers: they start in the given order, and go on with the first that can, or by `pick`."""
 
-    def __init__(self, meter: "Meter", controllers: Sequence[Controller], start: Sequence[int],
-                 pick: Optional[Pick] = None) -> None:
+    def __init__(self, meter: Meter, controllers: Sequence[Controller], start: Sequence[int],
+                 pick: Pick | None = None) -> None:
         self._start, self._then = start, pick
-        self._taken: List[Taken] = []
+        self._taken: list[Taken] = []
         self._until = 0                  # turns that were taken when the first controller failed
-        self.fault: Optional[BaseException] = None
-        self.told: List[str] = []
+        self.fault: BaseException | None = None
+        self.told: list[str] = []
         twin = meter.fork()
         with twin:
             self._run(twin, controllers)
             if self.fault is not None:
                 self.told = twin.explain().lines(SHOWN)
 
-    def _run(self, twin: "Meter", controllers: Sequence[Controller]) -> None:
+    def _run(self, twin: Meter, controllers: Sequence[Controller]) -> None:
         """Runs the controllers, each in a thread. Keeps the first fault."""
         threads = [threading.Thread(target=self._controlled, args=(one, twin), name=LETTERS[place], daemon=True)
                    for place, one in enumerate(controllers)]
@@ -59,7 +63,7 @@ class _Run:
         except Exception as fault:
             self._failed(fault)
 
-    def _controlled(self, controller: Controller, twin: "Meter") -> None:
+    def _controlled(self, controller: Controller, twin: Meter) -> None:
         try:
             controller(twin)
         except Exception as fault:
@@ -69,7 +73,7 @@ class _Run:
         if self.fault is None:
             self.fault, self._until = fault, len(self._taken)
 
-    def _pick(self, ready: List[Place]) -> Place:
+    def _pick(self, ready: list[Place]) -> Place:
         """The controller whose turn it is."""
         numbers = sorted(one.number for one in ready)
         place = len(self._taken)
@@ -92,7 +96,7 @@ class _Run:
             taken.pop()
         return "".join(LETTERS[number] for _, number in taken)
 
-    def next(self) -> Optional[List[int]]:
+    def next(self) -> list[int] | None:
         """The start of the next order, if this one was the first with its start; None if it was the last."""
         for place in range(len(self._taken) - 1, -1, -1):
             numbers, found = self._taken[place]
@@ -101,8 +105,8 @@ class _Run:
         return None
 
 
-def interleavings(meter: "Meter", controllers: Sequence[Controller], count: Optional[int] = None, seed: int = 0,
-                  order: Optional[str] = None) -> int:
+def interleavings(meter: Meter, controllers: Sequence[Controller], count: int | None = None, seed: int = 0,
+                  order: str | None = None) -> int:
     """Runs controllers in the orders of their calls: see Meter.interleavings."""
     if not 2 <= len(controllers) <= len(LETTERS):
         raise ValueError("interleavings wants 2 to %d controllers, and not %d" % (len(LETTERS), len(controllers)))
@@ -113,7 +117,7 @@ def interleavings(meter: "Meter", controllers: Sequence[Controller], count: Opti
         for tried in range(1, count + 1):
             _check(_Run(meter, controllers, (), seeded(seed + tried - 1)), tried)
         return count
-    start: Optional[List[int]] = []
+    start: list[int] | None = []
     tried = 0
     while start is not None:
         if tried == MOST:
@@ -130,7 +134,7 @@ def _check(run: _Run, tried: int) -> None:
         raise OrderFails(run.order, run.fault, tried, run.told) from run.fault
 
 
-def _numbers(order: str, count: int) -> List[int]:
+def _numbers(order: str, count: int) -> list[int]:
     """The controllers of an order such as ABBA."""
     for letter in order:
         if letter not in LETTERS[:count]:

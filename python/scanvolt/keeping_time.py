@@ -9,6 +9,9 @@ Some parts that this uses are private to Python, and are alike in Python 3.9 to 
 time.monotonic. A Python that lacks one is refused as a block begins. Of a loop it uses `_selector`, and of a frame in
 threading the names `join` and `_wait_for_tstate_lock`; it does without them, too. `sys._current_frames` is documented.
 """
+
+from __future__ import annotations
+
 import contextlib
 import functools
 import math
@@ -17,8 +20,9 @@ import selectors
 import sys
 import threading
 import time
+from collections.abc import Callable, Iterator
 from types import FrameType
-from typing import TYPE_CHECKING, Any, Callable, Dict, Iterator, List, Optional, Tuple
+from typing import TYPE_CHECKING, Any
 
 if TYPE_CHECKING:
     from .virtual import Meter
@@ -48,11 +52,11 @@ def whole(seconds: float) -> int:
 class _Keeper:
     """What the functions do in a thread within a block: they advance this meter, or read its clock."""
 
-    def __init__(self, meter: "Meter") -> None:
+    def __init__(self, meter: Meter) -> None:
         self._meter = meter
         self._begin = meter.clock
         grid = 1 if threading.get_ident() in keepers else GRID
-        self._since: Dict[str, int] = {name: -(-getattr(time, name + "_ns")() // grid) * grid for name in CLOCKS}
+        self._since: dict[str, int] = {name: -(-getattr(time, name + "_ns")() // grid) * grid for name in CLOCKS}
         self._is_real = False        # whether waits are real now
         self._seen = (meter.clock, meter._sent)
         self._reads = self._polls = 0
@@ -93,7 +97,7 @@ class _Keeper:
         finally:
             self._is_real = before
 
-    def wait(self, real: Callable[..., object], condition: Any, timeout: Optional[float] = None) -> object:
+    def wait(self, real: Callable[..., object], condition: Any, timeout: float | None = None) -> object:
         """Lets time pass until the condition is notified, or its timeout is over. Returns whether it was notified."""
         steps = self._meter._steps
         if self._is_real or not condition._is_owned() or steps is not None and steps.stands_aside():
@@ -105,7 +109,7 @@ class _Keeper:
                 self._idle()
             return self._meter.until(lambda: not waiter.locked(), whole(timeout))
 
-    def select(self, real: Callable[..., List[object]], selector: Any, timeout: Optional[float] = None) -> List[object]:
+    def select(self, real: Callable[..., list[object]], selector: Any, timeout: float | None = None) -> list[object]:
         """Lets time pass until a file of a loop is ready, a service request was handed on, or the timeout is over."""
         loop = loop_of(selector)
         if loop is None:
@@ -151,7 +155,7 @@ class _Keeper:
 
 
 @contextlib.contextmanager
-def released(condition: Any) -> "Iterator[threading.Lock]":
+def released(condition: Any) -> Iterator[threading.Lock]:
     """Does what Condition.wait does around its waiting: frees the condition's lock, and takes it again at the end.
     The lock that this yields is free as soon as the condition was notified.
     """
@@ -173,7 +177,7 @@ def others() -> bool:
     return any(one is not own and not joins(frames.get(one.ident or 0), own) for one in threading.enumerate())
 
 
-def joins(frame: Optional[FrameType], thread: threading.Thread) -> bool:
+def joins(frame: FrameType | None, thread: threading.Thread) -> bool:
     """Whether a frame is in Thread.join, of this thread."""
     return (frame is not None and frame.f_code.co_filename == threading.__file__
             and frame.f_code.co_name in ("join", "_wait_for_tstate_lock") and frame.f_locals.get("self") is thread)
@@ -220,7 +224,7 @@ def reads(name: str, in_seconds: bool = True) -> Callable[..., float]:
     return read
 
 
-def replaced() -> Iterator[Tuple[object, str, Callable[..., object]]]:
+def replaced() -> Iterator[tuple[object, str, Callable[..., object]]]:
     """What is replaced: where, by which name, and what does it for the threads within a block."""
     for name in CLOCKS:
         yield time, name, reads(name)
@@ -234,7 +238,7 @@ def replaced() -> Iterator[Tuple[object, str, Callable[..., object]]]:
         yield kind, "select", _Keeper.select
 
 
-keepers: Dict[int, List[_Keeper]] = {}       # of each thread that is within blocks; the last is of the innermost
+keepers: dict[int, list[_Keeper]] = {}       # of each thread that is within blocks; the last is of the innermost
 guard = threading.Lock()
 put_back = contextlib.ExitStack()
 
@@ -258,7 +262,7 @@ def replace() -> None:
 
 
 @contextlib.contextmanager
-def keeping_time(meter: "Meter") -> Iterator["Meter"]:
+def keeping_time(meter: Meter) -> Iterator[Meter]:
     """Within this block, the time of the thread that enters it is the meter's: see Meter.keeping_time."""
     thread, keeper = threading.get_ident(), _Keeper(meter)
     with guard:

@@ -7,17 +7,21 @@ that started it, and needs code between fork and exec, which isn't safe beside o
 would cost one more process for each program, and could be killed itself. Only a process that is killed in the moment
 between the start of a program and these calls leaves the program behind.
 """
+
+from __future__ import annotations
+
 import fcntl
 import os
 import signal
 import subprocess
 import weakref
-from typing import Optional, Sequence, Set, Type, TypeVar
+from collections.abc import Sequence
+from typing import TypeVar
 
 __tracebackhide__ = True        # pytest shows the line that calls the package, and not these frames
 Itself = TypeVar("Itself", bound="Tied")
 GRACE = 1.0             # seconds that a program has to end after SIGTERM
-_ends: Set[int] = set()     # the write ends that are open
+_ends: set[int] = set()     # the write ends that are open
 
 
 def _let_go() -> None:
@@ -37,7 +41,7 @@ def _tie(source: int, group: int) -> None:
     fcntl.fcntl(source, fcntl.F_SETFL, fcntl.fcntl(source, fcntl.F_GETFL) | os.O_ASYNC)
 
 
-def _end(process: "subprocess.Popen[bytes]", end: int, owner: int, grace: float) -> None:
+def _end(process: subprocess.Popen[bytes], end: int, owner: int, grace: float) -> None:
     """Ends a program by SIGTERM, or after that time by SIGKILL, and what it started. A fork of its owner leaves it
     alone, and only closes its pipes.
     """
@@ -65,11 +69,11 @@ class Tied:
     once. Raises OSError if it can't be run.
     """
 
-    def __init__(self, command: Sequence[str], stdin: Optional[int] = subprocess.DEVNULL, grace: float = GRACE) -> None:
+    def __init__(self, command: Sequence[str], stdin: int | None = subprocess.DEVNULL, grace: float = GRACE) -> None:
         source, target = os.pipe()
         _ends.add(target)
         try:
-            self.process: "subprocess.Popen[bytes]" = subprocess.Popen(
+            self.process: subprocess.Popen[bytes] = subprocess.Popen(
                 command, stdin=stdin, stdout=subprocess.PIPE, stderr=subprocess.PIPE, bufsize=0,
                 pass_fds=(source,), start_new_session=True)
         except BaseException:
@@ -85,5 +89,5 @@ class Tied:
     def __enter__(self: Itself) -> Itself:
         return self
 
-    def __exit__(self, kind: Optional[Type[BaseException]], *_: object) -> None:
+    def __exit__(self, kind: type[BaseException] | None, *_: object) -> None:
         self.end()

@@ -1,4 +1,7 @@
 """A server while it runs: its control port, which sets inputs, and the record that it writes (docs/INSTRUMENT.md)."""
+
+from __future__ import annotations
+
 import os
 import pathlib
 import select
@@ -8,7 +11,7 @@ import tempfile
 import threading
 import time
 import weakref
-from typing import Callable, List, Optional, Union
+from collections.abc import Callable
 
 from .stimulus import Name, Volts, input_line
 
@@ -34,7 +37,7 @@ class Control:
     def __init__(self, port: int, patience: float = PATIENCE) -> None:
         self.port, self.patience = port, patience
         self._guard = threading.Lock()
-        self._socket: Optional[socket.socket] = None
+        self._socket: socket.socket | None = None
         self._owner = os.getpid()
 
     def set_input(self, channel: int, volts: Volts) -> None:
@@ -110,9 +113,9 @@ def _gone(folder: str, owner: int) -> None:
 class Record:
     """The file to which a server writes its session as a script: none, one that stays, or (for True) one that `end` removes."""
 
-    def __init__(self, wanted: Union[None, bool, Name]) -> None:
-        self.path: Optional[str] = None
-        self._remove: Optional[Callable[[], object]] = None
+    def __init__(self, wanted: None | bool | Name) -> None:
+        self.path: str | None = None
+        self._remove: Callable[[], object] | None = None
         if wanted is True:
             folder = tempfile.mkdtemp(prefix="scanvolt-")
             self._remove = weakref.finalize(self, _gone, folder, os.getpid())
@@ -126,7 +129,7 @@ class Record:
             with open(self.path, "ab"):
                 pass
 
-    def lines(self, control: Optional[Control], runs: bool) -> List[str]:
+    def lines(self, control: Control | None, runs: bool) -> list[str]:
         """The whole lines, with all that the server has answered, and the time that has passed since. Raises OSError.
 
         The server writes at the end of a sweep, so perhaps just after an answer. It takes lines of its control port between two
@@ -134,7 +137,7 @@ class Record:
         record only before the next event: so if the server still runs, what has passed since is told by the clock, and a few
         milliseconds are left out.
         """
-        from .replay import ticks           # which imports this module
+        from .replay import ticks  # which imports this module
         assert self.path is not None
         try:
             if control is not None:

@@ -8,14 +8,18 @@ Where a thread is that has the turn is read from its frames (`sys._current_frame
 which Event, Queue, Barrier and Future use, it waits for another thread. If it sleeps for long in any other place, that is
 told, since the threads that wait in the meter would wait for ever.
 """
+
+from __future__ import annotations
+
 import os
 import random
 import sys
 import threading
 import weakref
-from time import monotonic          # of this machine, also within a meter's keeping_time
+from collections.abc import Callable, Iterator
+from time import monotonic  # of this machine, also within a meter's keeping_time
 from types import FrameType, TracebackType
-from typing import TYPE_CHECKING, Any, Callable, Dict, Iterator, List, Optional, Tuple, Type
+from typing import TYPE_CHECKING, Any
 
 from .connection import NoAnswer, Pending
 
@@ -47,11 +51,11 @@ class Place:
         self.depth = 0                          # how deep it is in the meter
         self.end, self.seen = 0, -1             # until when it waits, and up to which change it has looked
         self.passes = False                     # whether it is to let time pass
-        self.expected: "Optional[Pending[object]]" = None       # the call that its next wait is for
-        self.pending: "Optional[Pending[object]]" = None        # the call for which it waits
+        self.expected: Pending[object] | None = None       # the call that its next wait is for
+        self.pending: Pending[object] | None = None        # the call for which it waits
         self.released: Callable[[], bool] = lambda: False       # whether what it waits for elsewhere has come
-        self.fault: Optional[Exception] = None                  # what it has to raise
-        self.asleep: Tuple[float, str] = (0.0, "")              # since when it sleeps, and its processor time then
+        self.fault: Exception | None = None                  # what it has to raise
+        self.asleep: tuple[float, str] = (0.0, "")              # since when it sleeps, and its processor time then
 
     @property
     def name(self) -> str:
@@ -59,28 +63,28 @@ class Place:
         return self.thread.name
 
 
-Pick = Callable[[List[Place]], Place]
-PLACES: "weakref.WeakKeyDictionary[threading.Thread, Place]" = weakref.WeakKeyDictionary()   # where each was in a meter last
+Pick = Callable[[list[Place]], Place]
+PLACES: weakref.WeakKeyDictionary[threading.Thread, Place] = weakref.WeakKeyDictionary()   # where each was in a meter last
 
 
 class LockStep:
     """The `with` block of `Meter.threads`."""
 
-    def __init__(self, meter: "Meter", count: int, pick: Optional[Pick] = None) -> None:
+    def __init__(self, meter: Meter, count: int, pick: Pick | None = None) -> None:
         self._meter, self._count = meter, count
         self._pick = pick or self._rotating
         self._mutex, self._free = threading.Lock(), meter._guard
         self._owner = threading.current_thread()
-        self._places: Dict[threading.Thread, Place] = {}
+        self._places: dict[threading.Thread, Place] = {}
         self._last = -1                          # the number of the thread that made the last call
         self._version = 0                        # changes that a thread that waits has to look at
         self._over = False
-        self._broken: Optional[str] = None
-        self._raised: List[Tuple[BaseException, threading.ExceptHookArgs]] = []      # by threads
-        self._real: Tuple[Any, Any, Any] = (None, None, None)
+        self._broken: str | None = None
+        self._raised: list[tuple[BaseException, threading.ExceptHookArgs]] = []      # by threads
+        self._real: tuple[Any, Any, Any] = (None, None, None)
 
     # the block
-    def __enter__(self) -> "LockStep":
+    def __enter__(self) -> LockStep:
         if self._meter._steps is not None:
             raise RuntimeError("the meter is in a block of `threads` already")
         self._owner = threading.current_thread()
@@ -91,8 +95,8 @@ class LockStep:
         threading.excepthook = self._except
         return self
 
-    def __exit__(self, kind: Optional[Type[BaseException]], fault: Optional[BaseException],
-                 trace: Optional[TracebackType]) -> None:
+    def __exit__(self, kind: type[BaseException] | None, fault: BaseException | None,
+                 trace: TracebackType | None) -> None:
         own = self._places.get(self._owner)
         left = [one for one in self._places.values() if one is not own and not self._is_done(one)]
         told = "; ".join("thread %s %s" % (one.name, self._where(one)) for one in left)
@@ -130,9 +134,9 @@ class LockStep:
                 place.state = RUNS
         return start
 
-    def _joining(self, real: Callable[[threading.Thread, Optional[float]], None]) -> Callable[..., None]:
+    def _joining(self, real: Callable[[threading.Thread, float | None], None]) -> Callable[..., None]:
         """What joins a thread: the block's thread doesn't wait for ever for one that sleeps outside of the meter."""
-        def join(thread: threading.Thread, timeout: Optional[float] = None) -> None:
+        def join(thread: threading.Thread, timeout: float | None = None) -> None:
             if timeout is not None or threading.current_thread() is not self._owner or thread not in self._places:
                 real(thread, timeout)
                 return
@@ -187,7 +191,7 @@ class LockStep:
         """Whether this thread takes no part, since others are enough: then it waits in real time."""
         return threading.current_thread() not in self._places and len(self._places) >= self._count
 
-    def expects(self, pending: "Pending[object]") -> None:
+    def expects(self, pending: Pending[object]) -> None:
         """Notes for which call this thread will wait."""
         place = self._own()
         if place is not None:
@@ -227,7 +231,7 @@ class LockStep:
         self._meter._pass_most(min(ends) - self._meter.clock)
         self._version += 1
 
-    def _own(self) -> Optional[Place]:
+    def _own(self) -> Place | None:
         """The place of this thread. The thread of the block takes part if it uses the meter before others are enough."""
         thread = threading.current_thread()
         if self._over:
@@ -291,15 +295,15 @@ class LockStep:
             waiting[0].passes = True
             self._give(waiting[0])
 
-    def _rotating(self, ready: List[Place]) -> Place:
+    def _rotating(self, ready: list[Place]) -> Place:
         """The first thread after the one that made the last call."""
         found = next((one for one in ready if one.number > self._last), ready[0])
         self._last = found.number
         return found
 
-    def _is_deadlock(self, waiting: List[Place]) -> bool:
+    def _is_deadlock(self, waiting: list[Place]) -> bool:
         """Whether nothing can end the waits of all threads. Then each of them raises NoAnswer."""
-        reasons: List[str] = []
+        reasons: list[str] = []
         for one in waiting:
             why = None if one.pending is None else self._meter._hopeless(one.pending)
             if why is None:
@@ -333,7 +337,7 @@ class LockStep:
             self._break("thread %s %s for %g s, and the others can't go on" % (place.name, self._where(place), ASLEEP))
         return True
 
-    def _in_another(self, place: Place) -> Optional[Callable[[], bool]]:
+    def _in_another(self, place: Place) -> Callable[[], bool] | None:
         """If a thread waits in the lock step of another meter: a function that says whether it goes on there."""
         other = PLACES.get(place.thread, place)
         if other is place or other.state not in (READY, WAITS):
@@ -380,12 +384,12 @@ class _Guard:
         self._steps._release()
 
 
-def is_inside(frame: Optional[FrameType]) -> bool:
+def is_inside(frame: FrameType | None) -> bool:
     """Whether a frame was called by this package, which waits for its program."""
     return any(map(is_own, callers(frame)))
 
 
-def callers(frame: Optional[FrameType]) -> Iterator[FrameType]:
+def callers(frame: FrameType | None) -> Iterator[FrameType]:
     """A frame, the one that called it, and so on."""
     while frame is not None:
         yield frame
@@ -398,18 +402,18 @@ def is_own(frame: FrameType) -> bool:
     return name.startswith(PACKAGE) and name != STARTER
 
 
-def is_idle(frame: Optional[FrameType]) -> bool:
+def is_idle(frame: FrameType | None) -> bool:
     """Whether a frame is that of a worker of an executor which has nothing to do."""
     return frame is not None and frame.f_code.co_name == "_worker" and frame.f_code.co_filename.endswith(WORKER)
 
 
-def is_endless(frame: Optional[FrameType]) -> bool:
+def is_endless(frame: FrameType | None) -> bool:
     """Whether a frame is that of Condition.wait, without a timeout."""
     return (frame is not None and frame.f_code.co_filename == threading.__file__ and frame.f_code.co_name == "wait"
             and frame.f_locals.get("timeout", "none given") is None)
 
 
-def wait_of(thread: threading.Thread) -> Optional[Callable[[], bool]]:
+def wait_of(thread: threading.Thread) -> Callable[[], bool] | None:
     """If a thread waits for another one: a function that says whether that has come. Else None."""
     frame = sys._current_frames().get(thread.ident or 0)
     if is_idle(frame):

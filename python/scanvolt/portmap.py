@@ -10,13 +10,15 @@ this program, which then unregisters them.
 Status: 0 it was ended; 1 somebody else has registered one of the programs; 2 it can't be done: no port
 mapper answers, say, or the port mapper refuses. Standard error has the reason.
 """
+
+from __future__ import annotations
+
 import argparse
 import errno
 import os
 import signal
 import socket
 import sys
-from typing import Dict, List, Optional, Tuple
 
 from .vxi11 import Channel, RpcError, calls
 from .vxi11.calls import ABORT, CORE, INTERRUPT, PORT
@@ -44,7 +46,7 @@ def port_of(text: str) -> int:
     return int(text)
 
 
-def words(given: Optional[List[str]]) -> argparse.Namespace:
+def words(given: list[str] | None) -> argparse.Namespace:
     """The arguments of the command line."""
     parser = argparse.ArgumentParser(
         prog=NAME, description=__doc__, formatter_class=argparse.RawDescriptionHelpFormatter)
@@ -83,9 +85,9 @@ def loopback(port: int) -> socket.socket:
     return socket.create_connection(("127.0.0.1", port), PATIENCE)
 
 
-def register(port: int, wanted: Dict[int, Tuple[str, int]]) -> List[int]:
+def register(port: int, wanted: dict[int, tuple[str, int]]) -> list[int]:
     """Registers programs with their ports. If one fails, those already registered are unregistered."""
-    made: List[int] = []
+    made: list[int] = []
     try:
         with mapper(port) as channel:
             for program, (name, wish) in wanted.items():
@@ -107,7 +109,7 @@ def told(fault: Exception) -> _Fault:
     return _Fault("the port mapper doesn't answer as one: %s" % fault)
 
 
-def take_back(port: int, made: List[int]) -> None:
+def take_back(port: int, made: list[int]) -> None:
     """Unregisters programs."""
     if not made:
         return
@@ -120,7 +122,7 @@ def take_back(port: int, made: List[int]) -> None:
         raise told(fault) from None
 
 
-def main(given_words: Optional[List[str]] = None) -> int:
+def main(given_words: list[str] | None = None) -> int:
     """Runs the command. Returns its status."""
     given = words(given_words)
     wanted = {program: (name, getattr(given, name)) for name, program, _ in PROGRAMS if getattr(given, name)}

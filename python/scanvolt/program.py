@@ -1,11 +1,15 @@
 """The program `scanvolt`: finds it, checks that it fits this package, and starts servers of it on free ports."""
+
+from __future__ import annotations
+
 import os
 import pathlib
 import select
 import shutil
 import subprocess
 import time
-from typing import TYPE_CHECKING, Callable, Dict, Iterable, List, Mapping, Optional, Sequence, Set, Tuple, Type, TypeVar, Union
+from collections.abc import Callable, Iterable, Mapping, Sequence
+from typing import TYPE_CHECKING, TypeVar, Union
 
 from . import __version__
 from .lifeline import GRACE, Tied
@@ -33,14 +37,14 @@ OF_SCENARIO = ("scanvolt: bad line", "scanvolt: input")     # what it says if it
 BAD_WORDS = {"scanvolt: bad words": "scanvolt: bad words; `man scanvolt` has the words that it takes"}
 HEARD_MOST = 65536      # bytes of what a program printed that are kept
 SHOWN_MOST = 200        # characters of what a program printed that are shown
-Name = Union[str, "os.PathLike[str]"]
+Name = Union[str, os.PathLike[str]]
 
 
 class ProgramError(Exception):
     """The program is missing, ended, printed what it shouldn't, or doesn't fit this package."""
 
 
-def find_program(start: Optional[Name] = None) -> str:
+def find_program(start: Name | None = None) -> str:
     """The path of the program: what SCANVOLT says, else the one in the wheel of this package, else the one on PATH, else
     the one built in a checkout. `found` says which.
 
@@ -49,7 +53,7 @@ def find_program(start: Optional[Name] = None) -> str:
     return found(start)[0]
 
 
-def found(start: Optional[Name] = None) -> Tuple[str, str]:
+def found(start: Name | None = None) -> tuple[str, str]:
     """The path of the program, and where it was found: SCANVOLT, the wheel, PATH, or a checkout. Raises ProgramError."""
     if os.environ.get("SCANVOLT"):
         named = os.path.abspath(os.environ["SCANVOLT"])
@@ -72,7 +76,7 @@ def _runs(path: str) -> bool:
     return os.path.isfile(path) and os.access(path, os.X_OK)
 
 
-def _folders(start: Optional[Name]) -> Iterable[pathlib.Path]:
+def _folders(start: Name | None) -> Iterable[pathlib.Path]:
     """Folders that may be the top of a checkout."""
     for place in (start, __file__, os.curdir):
         if place is None:
@@ -81,19 +85,19 @@ def _folders(start: Optional[Name]) -> Iterable[pathlib.Path]:
         yield from (resolved, *resolved.parents)
 
 
-def free_ports(count: int) -> List[int]:
+def free_ports(count: int) -> list[int]:
     """Ports of 127.0.0.1 that are free at this moment."""
     return list(free([0] * count))
 
 
-def serve_command(program: str, scenario: str, sweeps: str, ports: Mapping[str, int], record: Optional[str]) -> List[str]:
+def serve_command(program: str, scenario: str, sweeps: str, ports: Mapping[str, int], record: str | None) -> list[str]:
     """The command line by which a program serves. `ports` has the port of each role."""
     command = [program, "serve", "--scenario=" + scenario, "--sweeps=" + sweeps]
     command += ["--%s=%d" % one for one in ports.items()]
     return command + ([] if record is None else ["--record=" + record])
 
 
-def started(command: List[str], stdin: int = subprocess.DEVNULL, grace: float = GRACE) -> Tied:
+def started(command: list[str], stdin: int = subprocess.DEVNULL, grace: float = GRACE) -> Tied:
     """Starts a program, which has this many seconds to end. Raises ProgramError if it can't be run."""
     try:
         return Tied(command, stdin, grace)
@@ -110,12 +114,12 @@ def in_a_line(data: bytes) -> str:
 class _Heard:
     """What a program printed and wrote to standard error until it was `enough`, it ended, or the time was over."""
 
-    def __init__(self, process: "subprocess.Popen[bytes]", seconds: float, enough: Callable[[bytes], bool]) -> None:
+    def __init__(self, process: subprocess.Popen[bytes], seconds: float, enough: Callable[[bytes], bool]) -> None:
         assert process.stdout is not None and process.stderr is not None
         self.process = process
         self._out, self._err = process.stdout.fileno(), process.stderr.fileno()
-        self._told: Dict[int, bytes] = {self._out: b"", self._err: b""}
-        self._open: Set[int] = {self._out, self._err}
+        self._told: dict[int, bytes] = {self._out: b"", self._err: b""}
+        self._open: set[int] = {self._out, self._err}
         until = time.monotonic() + seconds
         while self._out in self._open and not enough(self._told[self._out]) and self._more(until):
             pass
@@ -151,7 +155,7 @@ class _Heard:
         return "it ended by signal %d" % -status if status < 0 else "it ended with status %d" % status
 
 
-_fitting: Set[Tuple[str, int, int]] = set()     # the programs that were found to fit: path, time and size
+_fitting: set[tuple[str, int, int]] = set()     # the programs that were found to fit: path, time and size
 
 
 def check_fits(path: str) -> None:
@@ -206,8 +210,8 @@ class Server:
 
     _sweeps = SWEEPS
 
-    def __init__(self, scenario: Optional[Name] = None, program: Optional[Name] = None, *, record: Union[None, bool, Name] = None,
-                 control: bool = False, ports: Optional[Sequence[int]] = None) -> None:
+    def __init__(self, scenario: Name | None = None, program: Name | None = None, *, record: None | bool | Name = None,
+                 control: bool = False, ports: Sequence[int] | None = None) -> None:
         self.program = os.fspath(program) if program is not None else find_program()
         self.scenario = os.devnull if scenario is None else os.fspath(scenario)
         check_fits(self.program)
@@ -218,14 +222,14 @@ class Server:
         self._record = Record(record)
         self._tied, listening = self._started()
         self.core, self.abort, self.port_mapper = listening[:3]
-        self.control: Optional[int] = listening[3] if control else None
+        self.control: int | None = listening[3] if control else None
         self._inputs = Control(listening[3]) if control else None
         self.process = self._tied.process
 
     def __enter__(self: Itself) -> Itself:
         return self
 
-    def __exit__(self, kind: Optional[Type[BaseException]], *_: object) -> None:
+    def __exit__(self, kind: type[BaseException] | None, *_: object) -> None:
         self.close()
 
     def close(self) -> None:
@@ -236,7 +240,7 @@ class Server:
         self._record.end()
 
     @property
-    def record(self) -> Optional[str]:
+    def record(self) -> str | None:
         """The path of the record; None without one."""
         return self._record.path
 
@@ -251,7 +255,7 @@ class Server:
         """Fires the external trigger. Raises as `set_input` does."""
         self._controlled().external()
 
-    def explain(self) -> "Explanation":
+    def explain(self) -> Explanation:
         """What the instrument saw until now, told from the record by the server's own ports.
 
         Raises OSError if the record can't be read, and ProgramError without `record`.
@@ -267,7 +271,7 @@ class Server:
             raise ProgramError("this server has no control port: start it by Server(control=True)")
         return self._inputs
 
-    def _started(self) -> Tuple[Tied, Tuple[int, ...]]:
+    def _started(self) -> tuple[Tied, tuple[int, ...]]:
         """Starts a program and waits until it listens. Returns the program and its ports."""
         told = ""
         for _ in range(TRIES):
@@ -293,7 +297,7 @@ class Server:
             self._record.check()                # as well
         raise ProgramError("%s doesn't serve: %s" % (self.program, told))
 
-    def _told(self, process: "subprocess.Popen[bytes]", ready: str) -> str:
+    def _told(self, process: subprocess.Popen[bytes], ready: str) -> str:
         """Waits until a program prints that it is ready. Returns what it tells instead, or else nothing."""
         patience = PATIENCE + self._size() / READING
         heard = _Heard(process, patience, lambda printed: b"\n" in printed)

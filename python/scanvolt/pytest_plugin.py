@@ -11,9 +11,13 @@ The report of a failed test has a section that says what the instrument saw. For
 record that its server keeps; or from a capture, if `--scanvolt-capture` names one that is written while the tests run. If a test
 used a Relay, a section says which faults that did.
 """
+
+from __future__ import annotations
+
 import functools
 import time
-from typing import Any, Callable, Dict, Generator, Iterator, Tuple, TypeVar
+from collections.abc import Callable, Generator, Iterator
+from typing import Any, TypeVar
 
 import pytest
 
@@ -34,9 +38,9 @@ OF_METER = OPTIONS[:3]
 SECTION = "what the instrument saw"
 SECTIONS = 3        # instruments of a test that are told
 RELAYED = "faults on order of the relay"
-BEFORE = pytest.StashKey[Dict[int, Moment]]()
-SERVED = pytest.StashKey[Tuple[Server, float]]()        # the server of a test, and when it was ready
-RELAYED_BEFORE = pytest.StashKey[Dict[int, int]]()
+BEFORE = pytest.StashKey[dict[int, Moment]]()
+SERVED = pytest.StashKey[tuple[Server, float]]()        # the server of a test, and when it was ready
+RELAYED_BEFORE = pytest.StashKey[dict[int, int]]()
 
 
 def pytest_configure(config: pytest.Config) -> None:
@@ -71,7 +75,7 @@ def _reported(item: pytest.Item) -> Generator[None, Any, None]:
     """Adds a section to the report of a failed test for each instrument that the test used."""
     outcome = yield
     report = outcome.get_result()
-    before: Dict[int, Moment] = item.stash.get(BEFORE, {})
+    before: dict[int, Moment] = item.stash.get(BEFORE, {})
     if not report.failed:
         return
     used = [one for number, one in sorted(METERS.items()) if before.get(number) != one._replay.moment()]
@@ -81,7 +85,7 @@ def _reported(item: pytest.Item) -> Generator[None, Any, None]:
     if SERVED in item.stash:
         report.sections.append((SECTION, told(functools.partial(_of_server, item, *item.stash[SERVED]))))
         del item.stash[SERVED]
-    relayed: Dict[int, int] = item.stash.get(RELAYED_BEFORE, {})
+    relayed: dict[int, int] = item.stash.get(RELAYED_BEFORE, {})
     lines = [line for number, one in sorted(RELAYS.items()) for line in one.told[relayed.get(number, 0):]]
     if lines:
         report.sections.append((RELAYED, "\n".join(lines)))
@@ -125,7 +129,7 @@ def pytest_report_header() -> str:
     return "scanvolt: %s, program %s (found by %s, version %s, kind %s)" % (__version__, path, where, *version_and_kind(path))
 
 
-def options_of(request: pytest.FixtureRequest) -> Dict[str, Any]:
+def options_of(request: pytest.FixtureRequest) -> dict[str, Any]:
     """The options that the marker of a test gives."""
     marker = request.node.get_closest_marker("scanvolt")
     options = {} if marker is None else dict(marker.kwargs)

@@ -4,11 +4,14 @@ After the lines comes a probe, an event that is always refused in the same way: 
 prints `refused 8`. No other line prints that here. When it is printed, all that the lines before it print has
 been printed: the program flushes its output before it reads on (docs/REPLAY.md).
 """
+
+from __future__ import annotations
+
 import os
 import select
 import subprocess
 import zlib
-from typing import Iterator, List, Optional, Sequence, Tuple
+from collections.abc import Iterator, Sequence
 
 from .program import ProgramError, check_fits, started
 
@@ -22,7 +25,7 @@ LONGEST_ASK = 50000         # milliseconds that pass before the program has to a
 STEPS = 64                  # single milliseconds that are tried before longer steps, the cells
 CELLS = 64                  # cells that are tried at once
 FIRST_CELL, LAST_CELL = 16, 1024    # milliseconds of the first cells, and of the longest
-Moment = Tuple[int, int]    # of a session: entries of the log, and milliseconds after them
+Moment = tuple[int, int]    # of a session: entries of the log, and milliseconds after them
 LOG_MOST = 4000000          # bytes of lines that are kept for a second program, which takes about 20 ms to read them
 
 
@@ -130,7 +133,7 @@ class Replay:
 
     def __init__(self, path: str) -> None:
         self.path = path
-        self.log: Optional[List[bytes]] = []        # all lines that were executed; None if they became too many
+        self.log: list[bytes] | None = []        # all lines that were executed; None if they became too many
         self.size = 0                               # how many bytes they have
         self._since = 0                              # milliseconds that passed after the last of them
         self.checksum = 0                           # of all that was printed
@@ -150,7 +153,7 @@ class Replay:
         """Where the session is: how many entries its log has, and how many milliseconds passed after them."""
         return len(self.log or ()), self._since
 
-    def script(self, moment: Optional[Moment] = None) -> Sequence[str]:
+    def script(self, moment: Moment | None = None) -> Sequence[str]:
         """The lines of a script that repeats the session, until now or until a moment of it. Raises ProgramError if it became
         too long to be kept.
         """
@@ -168,7 +171,7 @@ class Replay:
             self._since += passed
         return found
 
-    def seek(self, most: int) -> Tuple[int, bytes]:
+    def seek(self, most: int) -> tuple[int, bytes]:
         """Lets time pass up to the first millisecond that prints something, but at most `most`. Returns how
         many passed, and what was printed.
         """
@@ -193,7 +196,7 @@ class Replay:
                 self.log = None
         return found
 
-    def _steps(self, most: int) -> Tuple[int, bytes]:
+    def _steps(self, most: int) -> tuple[int, bytes]:
         """Passes single milliseconds, up to the first that prints."""
         for passed in range(1, most + 1):
             found = self.program.ask(b"tick\n" + PROBE)
@@ -203,7 +206,7 @@ class Replay:
         self._since += most
         return most, b""
 
-    def _cells(self, most: int, cell: int) -> Tuple[int, bytes, int]:
+    def _cells(self, most: int, cell: int) -> tuple[int, bytes, int]:
         """Tries cells of this many milliseconds, and after them one of a single millisecond.
 
         Returns how many milliseconds passed, what the last one printed, and the length of the next cells. If
@@ -232,7 +235,7 @@ class Replay:
         self._since += further
         self._play_again()
 
-    def repeat(self, other: "Replay") -> None:
+    def repeat(self, other: Replay) -> None:
         """Executes what another session executed, instead of what this one did: nothing. Raises ProgramError if that
         session became too long to be kept.
         """

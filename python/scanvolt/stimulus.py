@@ -1,10 +1,13 @@
 """What happens to an instrument, and when: reads a scenario, as `scanvolt serve` takes it (docs/INSTRUMENT.md)."""
+
+from __future__ import annotations
+
 import decimal
 import operator
 import os
 import re
 from dataclasses import dataclass
-from typing import List, Optional, Tuple, Union
+from typing import Union
 
 from .foreign import without_additions
 from .vxi11.whole import whole
@@ -15,7 +18,7 @@ MOST_MICROVOLTS = 10 ** 9
 LONGEST_LINE = 65536        # bytes
 SHOWN_MOST = 40             # characters of a bad word that are shown
 DIGITS, CHANNEL, LEVEL = re.compile(b"[0-9]{1,18}"), re.compile(b"[1-9][0-9]{0,2}"), re.compile(b"-?[0-9]{1,18}")
-Name = Union[str, "os.PathLike[str]"]
+Name = Union[str, os.PathLike[str]]
 Volts = Union[decimal.Decimal, int, float, str]
 
 
@@ -25,7 +28,7 @@ class Entry:
 
     clock: int
     line: bytes
-    channel: Optional[int] = None
+    channel: int | None = None
     microvolts: int = 0
 
 
@@ -57,7 +60,7 @@ def microvolts(volts: Volts) -> int:
     return int(whole)
 
 
-def _plain(volts: Volts) -> Union[decimal.Decimal, int, float, str]:
+def _plain(volts: Volts) -> decimal.Decimal | int | float | str:
     """A number as Python's own: those of NumPy are written otherwise, or aren't known to Decimal."""
     if isinstance(volts, (str, decimal.Decimal)):
         return volts
@@ -74,7 +77,7 @@ def input_line(channel: int, volts: Volts) -> bytes:
     return b"input %d %d\n" % (number, microvolts(volts))
 
 
-def read_scenario(name: Name) -> List[Entry]:
+def read_scenario(name: Name) -> list[Entry]:
     """The entries of a scenario's file. Raises ValueError at the first bad line, and OSError if the file
     can't be read.
     """
@@ -84,11 +87,11 @@ def read_scenario(name: Name) -> List[Entry]:
     return entries
 
 
-def checked_scenario(name: Name) -> Tuple[List[Entry], List[Bad]]:
+def checked_scenario(name: Name) -> tuple[list[Entry], list[Bad]]:
     """The entries of a scenario's file, and its bad lines. Raises OSError if the file can't be read."""
     with open(name, "rb") as file:
         lines, faults = without_additions(file.read(), os.fspath(name))
-    entries: List[Entry] = []
+    entries: list[Entry] = []
     bad = [Bad(*fault) for fault in faults]
     for number, line in enumerate(lines, 1):
         if line:

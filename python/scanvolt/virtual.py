@@ -12,14 +12,17 @@ Meter is the instrument, Connection a connection to it, on which `create_link` m
 that was started, and Requests are the service requests of a connection. Milliseconds are whole numbers, 0 to 4,294,967,295; any
 other raises TypeError or ValueError at once.
 """
+
+from __future__ import annotations
+
 import collections
 import contextlib
 import functools
 import itertools
 import threading
 import weakref
-from typing import (TYPE_CHECKING, Any, Callable, ContextManager, Deque, Dict, Iterator, List, Optional, Tuple, Type,
-                    TypeVar)
+from collections.abc import Callable, Iterator
+from typing import TYPE_CHECKING, Any, Optional, TypeVar
 
 from . import vxi11
 from .connection import Connection, NoAnswer, Pending, Requests
@@ -45,10 +48,10 @@ __all__ = ["Connection", "Meter", "NeverEnds", "NoAnswer", "NotInStep", "OrderFa
 __tracebackhide__ = True        # pytest shows the line that calls the package, and not these frames
 Value = TypeVar("Value")
 PLACES = 16             # connections that the instrument has room for
-METERS: "weakref.WeakValueDictionary[int, Meter]" = weakref.WeakValueDictionary()       # those that there are, in their order
-STARTED: "List[Callable[[Meter], object]]" = []      # what is told of each meter that is turned on
+METERS: weakref.WeakValueDictionary[int, Meter] = weakref.WeakValueDictionary()       # those that there are, in their order
+STARTED: list[Callable[[Meter], object]] = []      # what is told of each meter that is turned on
 _numbers = itertools.count()
-Awaited = Tuple["Pending[Any]", Callable[[Optional[Exception]], None]]
+Awaited = tuple[Pending[Any], Callable[[Optional[Exception]], None]]
 PATIENCE = 600000       # milliseconds of virtual time that a call may wait
 SHORT = 10000           # milliseconds of patience that take no longer to pass than to be explained
 
@@ -76,22 +79,22 @@ class Meter:
     patience = Milliseconds()
     call_time = Milliseconds()
 
-    def __init__(self, program: Optional[Name] = None, scenario: Optional[Name] = None,
+    def __init__(self, program: Name | None = None, scenario: Name | None = None,
                  patience: int = PATIENCE, call_time: int = 0) -> None:
         self.patience, self.call_time = patience, call_time
         entries = [] if scenario is None else read_scenario(scenario)
-        self._ahead: Deque[Entry] = collections.deque(entries)
+        self._ahead: collections.deque[Entry] = collections.deque(entries)
         self.clock = 0                  # milliseconds since the instrument was turned on
         self.dials = True               # whether the dialing of an interrupt channel succeeds
         self._sent = self._handed = 0     # calls that were sent, and service requests that were handed on
-        self.connections: Dict[int, Connection] = {}        # those that are open, by number
-        self._deliveries: "Deque[Callable[[], object]]" = collections.deque()
+        self.connections: dict[int, Connection] = {}        # those that are open, by number
+        self._deliveries: collections.deque[Callable[[], object]] = collections.deque()
         self.faults = Faults(self)      # faults on order
-        self._awaited: Dict[int, Awaited] = {}       # calls of tasks of asyncio
-        self._guard: ContextManager[object] = threading.RLock()
-        self._steps: Optional[LockStep] = None       # the block of `threads` that there is
+        self._awaited: dict[int, Awaited] = {}       # calls of tasks of asyncio
+        self._guard: contextlib.AbstractContextManager[object] = threading.RLock()
+        self._steps: LockStep | None = None       # the block of `threads` that there is
         self._twins = Twins()                        # of the meter from which this one was forked
-        self._ended: Optional[Exception] = None      # why the meter is off
+        self._ended: Exception | None = None      # why the meter is off
         self._replay = Replay(find_program() if program is None else str(program))
         METERS[next(_numbers)] = self
         for tell in STARTED:
@@ -110,10 +113,10 @@ class Meter:
         """Whether the program runs: it wasn't ended on this side, nor found to have ended."""
         return self._replay.program.close.alive
 
-    def __enter__(self) -> "Meter":
+    def __enter__(self) -> Meter:
         return self
 
-    def __exit__(self, kind: Optional[Type[BaseException]], *_: object) -> None:
+    def __exit__(self, kind: type[BaseException] | None, *_: object) -> None:
         self.close()
 
     def close(self) -> None:
@@ -136,7 +139,7 @@ class Meter:
             self.connections[number] = Connection(self, number, role)
             return self.connections[number]
 
-    def drop(self, connection: Connection, reason: Optional[ConnectionError] = None) -> None:
+    def drop(self, connection: Connection, reason: ConnectionError | None = None) -> None:
         """Ends a connection: its links end, and its calls that wait get no reply, but raise this. If the program ended
         before, nothing is left to do.
         """
@@ -190,7 +193,7 @@ class Meter:
                 self._pass_most(end - self.clock)
 
     @contextlib.contextmanager
-    def _awaiting(self, pending: "Pending[Value]", awake: Callable[[Optional[Exception]], None]) -> Iterator[None]:
+    def _awaiting(self, pending: Pending[Value], awake: Callable[[Exception | None], None]) -> Iterator[None]:
         """Within this block, `awake` is called when a call is answered, with None, or with NoAnswer if that can't be."""
         self._awaited[id(pending)] = pending, awake
         try:
@@ -214,7 +217,7 @@ class Meter:
                     pending.call.name, self.patience)))
         return bool(awaited)
 
-    def keeping_time(self) -> ContextManager["Meter"]:
+    def keeping_time(self) -> contextlib.AbstractContextManager[Meter]:
         """Makes Python's time the meter's, for the thread that enters this `with` block; other threads keep real time.
 
         time.sleep, asyncio.sleep, and waits with a timeout (Event, Condition, Semaphore, queue.Queue) advance the
@@ -231,7 +234,7 @@ class Meter:
         """
         return keeping_time(self)
 
-    def explain(self) -> "Explanation":
+    def explain(self) -> Explanation:
         """What the instrument saw until now, as another program tells it. Raises ProgramError if it can't, or if the session has
         become too long to be kept.
         """
@@ -241,7 +244,7 @@ class Meter:
             faults = list(self.faults.told)
         return Explanation(script, self._replay.path, faults=faults)
 
-    def threads(self, count: int, seed: Optional[int] = None) -> LockStep:
+    def threads(self, count: int, seed: int | None = None) -> LockStep:
         """Makes threads that use the meter go in lock step, in this `with` block: so many, which are those that are started
         in the block, and if they are fewer, the thread of the block itself.
 
@@ -254,8 +257,8 @@ class Meter:
         return LockStep(self, whole(count, 1, PLACES, "threads wants a number of threads"),
                         None if seed is None else seeded(seed))
 
-    def interleavings(self, *controllers: "Controller", count: Optional[int] = None, seed: int = 0,
-                      order: Optional[str] = None) -> int:
+    def interleavings(self, *controllers: Controller, count: int | None = None, seed: int = 0,
+                      order: str | None = None) -> int:
         """Runs two or more controllers in every order of their calls; with `count`, in so many orders at random by seed; with
         `order`, in that one. Each is a function that takes a meter, a fork of this one, and opens its own connections.
 
@@ -265,7 +268,7 @@ class Meter:
         from .interleaving import interleavings
         return interleavings(self, controllers, count, seed, order)
 
-    def fork(self) -> "Meter":
+    def fork(self) -> Meter:
         """A second instrument that is as this one is now, to try what else might happen. Its program executes what this one
         has executed. It has the same connections: `twin_of` returns them. It isn't closed with this one.
 
@@ -280,7 +283,7 @@ class Meter:
         """
         return self._twins.of(one)
 
-    def _hopeless(self, pending: "Pending[object]") -> Optional[str]:
+    def _hopeless(self, pending: Pending[object]) -> str | None:
         """Why a call can't be answered, since nothing is due within the meter's patience; None if it may be. It isn't asked
         if the patience is short, or if the call's timeouts are. No other thread may use the meter meanwhile.
         """
@@ -353,7 +356,7 @@ class Meter:
         """How many milliseconds remain to the next timeout of a call that waits."""
         waiting = [one._pending[0] for one in self.connections.values() if one._pending]
         ends = [one._turned + one.call.wait - self.clock for one in waiting if one._turned is not None]
-        return min([end for end in ends if end > 0], default=most)
+        return min((end for end in ends if end > 0), default=most)
 
     def _play(self) -> None:
         """Executes the entries of the scenario for this millisecond."""
@@ -378,15 +381,15 @@ class Meter:
             lines += b"dialed %d %s\n" % (connection.number, b"ok" if self.dials else b"failed")
         return lines
 
-    def _perform(self, lines: bytes) -> List[int]:
+    def _perform(self, lines: bytes) -> list[int]:
         """Executes events. Returns the reasons of those that were refused. Calls after answered ones are taken."""
         return self._take(self._asked(lambda: self._replay.do(lines)))
 
-    def _take(self, printed: bytes) -> List[int]:
+    def _take(self, printed: bytes) -> list[int]:
         """Handles what was printed, and lets the instrument take further calls. Returns the reasons of refused events."""
-        refused: List[int] = []
+        refused: list[int] = []
         while printed:
-            answered: List[Connection] = []
+            answered: list[Connection] = []
             for line in printed.splitlines():
                 name, _, said = line.partition(b" ")
                 if name == b"refused":
@@ -404,7 +407,7 @@ class Meter:
             self._gone(connection, reason)
         return b"".join(b"close c%d\n" % connection.number for connection, _ in cut)
 
-    def _came(self, port: bytes, data: bytes, answered: List[Connection]) -> None:
+    def _came(self, port: bytes, data: bytes, answered: list[Connection]) -> None:
         """Handles bytes that came on a port: replies, or service requests."""
         connection = self.connections.get(int(port[1:]))
         if connection is None:

@@ -3,10 +3,13 @@
 While it is there, `pyvisa.ResourceManager()` is the manager of this instrument, also for a driver that makes its own, and
 the names that the marker gives lead to it. In virtual time, the time of the test's thread is the meter's.
 """
+
+from __future__ import annotations
+
 import contextlib
 import importlib
 import pathlib
-from typing import TYPE_CHECKING, Any, Dict, Optional, Type
+from typing import TYPE_CHECKING, Any
 
 from .program import Server
 from .virtual import Meter
@@ -27,12 +30,12 @@ class VisaMeter:
     `backend` is virtual or sockets. `name` is the instrument's resource name: the first that the marker gives, or its own.
     """
 
-    def __init__(self, backend: str, options: Dict[str, Any], monkeypatch: "pytest.MonkeyPatch", folder: pathlib.Path) -> None:
+    def __init__(self, backend: str, options: dict[str, Any], monkeypatch: pytest.MonkeyPatch, folder: pathlib.Path) -> None:
         self.backend = backend
-        self._names: Dict[str, str] = dict(options.pop("names", None) or {})
+        self._names: dict[str, str] = dict(options.pop("names", None) or {})
         self._ends = contextlib.ExitStack()
-        self.server: Optional[Server] = None
-        self._meter: Optional[Meter] = None
+        self.server: Server | None = None
+        self._meter: Meter | None = None
         try:
             own = self._virtual(options, monkeypatch, folder) if backend == "virtual" else self._sockets(options, monkeypatch)
             self.name = next(iter(self._names), own)
@@ -41,10 +44,10 @@ class VisaMeter:
             self._ends.close()
             raise
 
-    def __enter__(self) -> "VisaMeter":
+    def __enter__(self) -> VisaMeter:
         return self
 
-    def __exit__(self, kind: Optional[Type[BaseException]], *_: object) -> None:
+    def __exit__(self, kind: type[BaseException] | None, *_: object) -> None:
         self._ends.close()
 
     @property
@@ -54,11 +57,11 @@ class VisaMeter:
             raise AttributeError("on sockets there is no Meter, but visa_meter.server; backend='virtual' has one")
         return self._meter
 
-    def open(self, name: Optional[str] = None, **options: Any) -> Any:
+    def open(self, name: str | None = None, **options: Any) -> Any:
         """Opens a further session, to this instrument unless another one's name is given. The options are those of
         open_resource; messages end with a new line, and the timeout is 5 s, unless they say otherwise.
         """
-        given: Dict[str, Any] = {"read_termination": END, "write_termination": END, "timeout": TIMEOUT, **options}
+        given: dict[str, Any] = {"read_termination": END, "write_termination": END, "timeout": TIMEOUT, **options}
         return self.manager.open_resource(name or self.name, **given)
 
     def _manage(self) -> None:
@@ -66,7 +69,7 @@ class VisaMeter:
         self.manager = pyvisa.ResourceManager()
         self._ends.callback(self.manager.close)
 
-    def _virtual(self, options: Dict[str, Any], monkeypatch: "pytest.MonkeyPatch", folder: pathlib.Path) -> str:
+    def _virtual(self, options: dict[str, Any], monkeypatch: pytest.MonkeyPatch, folder: pathlib.Path) -> str:
         """An instrument in virtual time, whose settings are in a file. Returns its name."""
         from pyvisa_scanvolt.settings import written
         path = folder / "settings"
@@ -79,7 +82,7 @@ class VisaMeter:
         self._meter = meter
         return VIRTUAL
 
-    def _sockets(self, options: Dict[str, Any], monkeypatch: "pytest.MonkeyPatch") -> str:
+    def _sockets(self, options: dict[str, Any], monkeypatch: pytest.MonkeyPatch) -> str:
         """An instrument on sockets, by PyVISA-py, which would otherwise ask port 111. Its name in virtual time leads to it too.
         Returns its name.
         """

@@ -1,4 +1,7 @@
 """Chromium, headless, driven over a pipe by its DevTools protocol. It needs nothing but chromium itself."""
+
+from __future__ import annotations
+
 import base64
 import json
 import os
@@ -7,7 +10,7 @@ import shutil
 import subprocess
 import tempfile
 import time
-from typing import Any, Dict, List, Optional, Type
+from typing import Any
 
 CHROMIUM = shutil.which("chromium")
 KEYS = {"ArrowRight": 39, "Enter": 13}
@@ -34,12 +37,12 @@ class Browser:
         os.close(theirs)
         os.close(back)
         self._rest, self._number = b"", 0
-        self.events: List[Dict[str, Any]] = []
+        self.events: list[dict[str, Any]] = []
 
-    def __enter__(self) -> "Browser":
+    def __enter__(self) -> Browser:
         return self
 
-    def __exit__(self, kind: Optional[Type[BaseException]], *_: object) -> None:
+    def __exit__(self, kind: type[BaseException] | None, *_: object) -> None:
         self.close()
 
     def close(self) -> None:
@@ -50,16 +53,16 @@ class Browser:
         os.close(self._from)
         shutil.rmtree(self._folder, ignore_errors=True)
 
-    def page(self, address: str, wide: int = 1400, high: int = 900, dark: bool = False) -> "Page":
+    def page(self, address: str, wide: int = 1400, high: int = 900, dark: bool = False) -> Page:
         """A new page at an address."""
         target = self.call("Target.createTarget", None, url="about:blank")["targetId"]
         session = self.call("Target.attachToTarget", None, targetId=target, flatten=True)["sessionId"]
         return Page(self, target, session, address, (wide, high), dark)
 
-    def call(self, method: str, session: Optional[str], **parameters: object) -> Dict[str, Any]:
+    def call(self, method: str, session: str | None, **parameters: object) -> dict[str, Any]:
         """Calls a method, and returns its result."""
         self._number += 1
-        message: Dict[str, Any] = {"id": self._number, "method": method, "params": parameters}
+        message: dict[str, Any] = {"id": self._number, "method": method, "params": parameters}
         if session is not None:
             message["sessionId"] = session
         os.write(self._to, json.dumps(message).encode() + b"\0")
@@ -71,11 +74,11 @@ class Browser:
             if told.get("id") == self._number:
                 if "error" in told:
                     raise RuntimeError("%s: %s" % (method, told["error"]))
-                result: Dict[str, Any] = told["result"]
+                result: dict[str, Any] = told["result"]
                 return result
             self.events.append(told)
 
-    def _told(self, until: float) -> Optional[Dict[str, Any]]:
+    def _told(self, until: float) -> dict[str, Any] | None:
         """The next message of the browser; None if none comes by this time."""
         while b"\0" not in self._rest:
             if not select.select([self._from], [], [], max(0.0, until - time.monotonic()))[0]:
@@ -85,7 +88,7 @@ class Browser:
                 raise ConnectionError("the browser ended")
             self._rest += piece
         text, _, self._rest = self._rest.partition(b"\0")
-        found: Dict[str, Any] = json.loads(text)
+        found: dict[str, Any] = json.loads(text)
         return found
 
 
@@ -101,7 +104,7 @@ class Page:
         self._call("Emulation.setEmulatedMedia", features=[scheme])
         self._call("Page.navigate", url=address)
 
-    def _call(self, method: str, **parameters: object) -> Dict[str, Any]:
+    def _call(self, method: str, **parameters: object) -> dict[str, Any]:
         return self.browser.call(method, self.session, **parameters)
 
     def run(self, script: str) -> Any:
@@ -165,7 +168,7 @@ class Page:
         with open(path, "wb") as file:
             file.write(self.png())
 
-    def faults(self) -> List[str]:
+    def faults(self) -> list[str]:
         """What came on the console: errors, and what the policy refused."""
         self.run("1")
         found = []
@@ -178,7 +181,7 @@ class Page:
                 found.append("%(text)s %(url)s" % {"url": "", **one["params"]["entry"]})
         return found
 
-    def requests(self) -> List[str]:
+    def requests(self) -> list[str]:
         """The addresses that were asked for."""
         self.run("1")
         return [one["params"]["request"]["url"] for one in self.browser.events

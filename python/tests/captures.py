@@ -3,6 +3,9 @@
 They are lines such as tshark prints, of a session with a server that answers each call with one word: the
 voltage of channel 1, in microvolts. Here small scripts take the place of `tshark` and `scanvolt replay`.
 """
+
+from __future__ import annotations
+
 import base64
 import contextlib
 import io
@@ -11,7 +14,7 @@ import pathlib
 import subprocess
 import sys
 import tempfile
-from typing import List, Optional, Sequence, Tuple
+from collections.abc import Sequence
 from unittest import mock
 
 from scanvolt.capturing.command import main
@@ -53,7 +56,7 @@ class Capture:
     """A connection to the core port, packet by packet. Times are in milliseconds since START."""
 
     def __init__(self, opened: int) -> None:
-        self.lines: List[str] = []
+        self.lines: list[str] = []
         self.followed = ["peers:"]
         self.sent = [0, 0]
         self.packet(opened, True, flags=SYN)
@@ -98,7 +101,7 @@ class Folder:
         path.chmod(mode)
         return str(path)
 
-    def run(self, *given: str, path: Optional[str] = None, **variables: str) -> Tuple[int, str]:
+    def run(self, *given: str, path: str | None = None, **variables: str) -> tuple[int, str]:
         """Runs the command. Returns its status, and what it prints."""
         variables["PATH"] = "%s:%s" % (self.path, os.environ["PATH"]) if path is None else path
         printed = io.StringIO()
@@ -106,7 +109,7 @@ class Folder:
                 contextlib.redirect_stdout(printed), contextlib.redirect_stderr(printed):
             return main(list(given)), printed.getvalue()
 
-    def begin(self, *given: str, **variables: str) -> "subprocess.Popen[bytes]":
+    def begin(self, *given: str, **variables: str) -> subprocess.Popen[bytes]:
         """Starts the command in a process of its own."""
         variables["PATH"] = "%s:%s" % (self.path, os.environ["PATH"])
         text = "import signal, sys; signal.signal(signal.SIGINT, signal.default_int_handler)\n" \
@@ -121,8 +124,8 @@ class Folder:
         self.write("captured.followed", "\n".join(capture.followed) + "\n")
         return self.write("captured", MAGIC)
 
-    def compare(self, capture: Capture, *given: str, program: Optional[str] = None,
-                scenario: Optional[str] = None, replies: Sequence[bytes] = ()) -> Tuple[int, str]:
+    def compare(self, capture: Capture, *given: str, program: str | None = None,
+                scenario: str | None = None, replies: Sequence[bytes] = ()) -> tuple[int, str]:
         """Compares. Returns the status, and the lines that are printed."""
         captured = self.captured(capture)
         stored = self.write("replies", "".join(one.hex() + "\n" for one in replies))

@@ -1,6 +1,9 @@
 """Sessions whose explanation is known, made with a meter: each is a function that acts on it."""
+
+from __future__ import annotations
+
 import functools
-from typing import Callable, Dict, Sequence
+from collections.abc import Callable, Sequence
 
 from scanvolt.explaining.explanation import Explanation
 from scanvolt.program import find_program
@@ -10,7 +13,7 @@ from scanvolt.vxi11.calls import Call
 from scanvolt.vxi11.rpc import record
 
 
-def start(link: Link, call: "Call[object]") -> None:
+def start(link: Link, call: Call[object]) -> None:
     """Sends a call, and doesn't wait for its reply."""
     carrier = link.carrier
     assert isinstance(carrier, Connection)
@@ -199,7 +202,7 @@ def replies(meter: Meter) -> None:
     first.abort(link)
 
 
-SESSIONS: Dict[str, Callable[[Meter], None]] = {
+SESSIONS: dict[str, Callable[[Meter], None]] = {
     "session": session, "hang": hang, "hung": hung, "lock": lock, "requests": requests, "scan": scan,
     "errors": errors, "replies": replies}
 

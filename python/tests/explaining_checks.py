@@ -1,6 +1,10 @@
 """What must hold of each explained session. The rules are those of docs/INSTRUMENT.md, written down apart from the package."""
+
+from __future__ import annotations
+
 import collections
-from typing import Counter, Iterator, List
+from collections import Counter
+from collections.abc import Iterator
 
 from scanvolt.explaining.explanation import Explanation
 from scanvolt.explaining.lines import Step, as_number
@@ -28,7 +32,7 @@ class Checks:
     def __init__(self, found: Explanation) -> None:
         self.found, self.story, self.lines = found, found.story, found.story.lines
         self.counts: Counter[str] = collections.Counter()
-        self.faults: List[str] = [*self.steps(), *self.calls(), *self.flips()]
+        self.faults: list[str] = [*self.steps(), *self.calls(), *self.flips()]
 
     def steps(self) -> Iterator[str]:
         """The status byte at each step, and the writer of each unit."""

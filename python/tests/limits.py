@@ -1,4 +1,7 @@
 """How long something may take in a test."""
+
+from __future__ import annotations
+
 import os
 
 

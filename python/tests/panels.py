@@ -1,18 +1,22 @@
 """Panels for the tests, and a client of HTTP that sends what it is told to."""
+
+from __future__ import annotations
+
 import http.client
 import json
 import socket
 import threading
 import time
 import unittest
-from typing import Any, Dict, Iterator, Tuple, Union
+from collections.abc import Iterator
+from typing import Any, Union
 
 from scanvolt.panel.watch import Watch
 from scanvolt.panel.web import Panel
 from scanvolt.vxi11 import Client, Link
 
 Body = Union[None, str, bytes]
-Answer = Tuple[int, str, Dict[str, str]]
+Answer = tuple[int, str, dict[str, str]]
 
 
 class WithPanel(unittest.TestCase):
@@ -47,11 +51,11 @@ class WithPanel(unittest.TestCase):
         finally:
             connection.close()
 
-    def state(self) -> Dict[str, Any]:
+    def state(self) -> dict[str, Any]:
         """The state, as a machine asks for it."""
         status, text, _ = self.ask("GET", "/state")
         self.assertEqual(status, 200, text)
-        found: Dict[str, Any] = json.loads(text)
+        found: dict[str, Any] = json.loads(text)
         return found
 
     def refused(self, status: int, why: str, method: str, path: str, body: Body = None, token: bool = True,
@@ -77,7 +81,7 @@ class Stream:
         self.file = self.socket.makefile("rb")
         self.head = "" if slow else b"".join(iter(self.file.readline, b"\r\n")).decode()
 
-    def states(self) -> Iterator[Dict[str, Any]]:
+    def states(self) -> Iterator[dict[str, Any]]:
         """The states as they come."""
         for line in self.file:
             if line.startswith(b"data: "):

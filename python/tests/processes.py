@@ -1,4 +1,7 @@
 """Processes, for the tests: programs that are shell scripts, whether a process is there, and signals."""
+
+from __future__ import annotations
+
 import contextlib
 import os
 import pathlib
@@ -6,7 +9,7 @@ import signal
 import tempfile
 import threading
 import time
-from typing import Iterator
+from collections.abc import Iterator
 
 TOP = str(pathlib.Path(__file__).resolve().parent.parent)
 

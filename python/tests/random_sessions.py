@@ -1,6 +1,9 @@
 """Random sessions, for the tests: each seed gives the same lines of a replay script."""
+
+from __future__ import annotations
+
 import random
-from typing import Callable, List, Sequence
+from collections.abc import Callable, Sequence
 
 from scanvolt.virtual import Connection, Meter
 from scanvolt.vxi11 import DeviceError, Link
@@ -39,7 +42,7 @@ class Session:
         link = self.chance.choice(self.links)
         if self.chance.random() < .15:
             link.lock_timeout = self.chance.choice([0, 10])
-        acts: List[Callable[[Link], object]] = [self.write] * 6 + [Link.read] * 3 + [Link.readstb] * 2 + [
+        acts: list[Callable[[Link], object]] = [self.write] * 6 + [Link.read] * 3 + [Link.readstb] * 2 + [
             lambda one: one.lock(self.chance.choice([0, 15])), Link.unlock, self.rare, self.wait, self.stimulate]
         try:
             self.chance.choice(acts)(link)

@@ -1,4 +1,7 @@
 """The version of the package, what `python3 -m scanvolt` prints of the program, and programs that don't fit the package."""
+
+from __future__ import annotations
+
 import os
 import pathlib
 import shutil
@@ -6,7 +9,6 @@ import subprocess
 import sys
 import tempfile
 import unittest
-from typing import Tuple
 from unittest import mock
 
 import scanvolt
@@ -44,7 +46,7 @@ class Printed(unittest.TestCase):
         self.addCleanup(temporary.cleanup)
         self.folder = pathlib.Path(temporary.name).resolve()
 
-    def run_with(self, path: str, *words: str) -> Tuple[int, str]:
+    def run_with(self, path: str, *words: str) -> tuple[int, str]:
         """The status and the lines, if SCANVOLT names this program."""
         done = subprocess.run([sys.executable, "-m", "scanvolt", *words], cwd=TOP, stdout=subprocess.PIPE,
                               stderr=subprocess.STDOUT, text=True, env=dict(os.environ, SCANVOLT=path))
@@ -61,7 +63,7 @@ class Printed(unittest.TestCase):
         path.chmod(0o755)
         return str(path)
 
-    def told(self, path: str, version: str, kind: str) -> Tuple[int, str]:
+    def told(self, path: str, version: str, kind: str) -> tuple[int, str]:
         return 0, "package %s\nprogram %s\nfound by SCANVOLT\nversion %s\nkind %s\n" % (scanvolt.__version__, path, version, kind)
 
     def test_a_checkout(self) -> None:

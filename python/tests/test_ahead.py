@@ -1,7 +1,9 @@
 """Random sessions: trying time ahead leads to the same as passing it in single milliseconds."""
+
+from __future__ import annotations
+
 import random
 import unittest
-from typing import List
 from unittest import mock
 
 from scanvolt import replay
@@ -20,8 +22,8 @@ class Session:
     def __init__(self, meter: Meter, chance: random.Random) -> None:
         self.meter = meter
         self.chance = chance
-        self.told: List[object] = []
-        self.pending: List[Pending[object]] = []
+        self.told: list[object] = []
+        self.pending: list[Pending[object]] = []
         self.links = [self.link(number) for number in range(3)]
 
     def link(self, number: int) -> Link:
@@ -61,7 +63,7 @@ class Session:
         call = self.chance.choice((ahead.read(100), ahead.lock(), ahead.unlock(), ahead.write(b"READ?")))
         self.pending.append(connection.start(call))
 
-    def run(self) -> List[object]:
+    def run(self) -> list[object]:
         for _ in range(20):
             try:
                 self.step()
@@ -74,7 +76,7 @@ class Session:
         return self.told + [(one.clock, one._body) for one in self.pending]
 
 
-def told(seed: int) -> List[object]:
+def told(seed: int) -> list[object]:
     with Meter(patience=2000) as meter:
         return Session(meter, random.Random(seed)).run()
 

@@ -1,10 +1,14 @@
 """Drivers under asyncio: over sockets, and in virtual time, which passes only while no task can run."""
+
+from __future__ import annotations
+
 import asyncio
 import gc
 import time
 import unittest
 import warnings
-from typing import Any, ClassVar, Coroutine, List, Tuple
+from collections.abc import Coroutine
+from typing import Any, ClassVar
 
 from scanvolt import aio, vxi11
 from scanvolt.faults import Relay
@@ -44,8 +48,8 @@ class Sockets(unittest.TestCase):
 
     def test_two_tasks(self) -> None:
         """One waits for the lock while the other one has it; the loop is free meanwhile."""
-        async def session() -> List[str]:
-            told: List[str] = []
+        async def session() -> list[str]:
+            told: list[str] = []
 
             async def waits() -> None:
                 async with aio.Client(port=self.server.core) as client, await client.create_link() as link:
@@ -113,7 +117,7 @@ class Sockets(unittest.TestCase):
                 await client.close()
                 self.assertEqual((client._carriers, asyncio.all_tasks()), (set(), {asyncio.current_task()}))
 
-        faults: List[object] = []
+        faults: list[object] = []
         with warnings.catch_warnings():
             warnings.simplefilter("ignore", ResourceWarning)        # of the sockets that the second one leaves open
             for is_closed in True, False:
@@ -153,7 +157,7 @@ class Virtual(unittest.TestCase):
 
     def test_tasks(self) -> None:
         """A read waits 2,048 ms, a task sleeps 1 s and polls, another one triggers: each at its millisecond."""
-        told: List[Tuple[str, object, int]] = []
+        told: list[tuple[str, object, int]] = []
 
         async def session() -> None:
             async with aio.Meter() as meter:

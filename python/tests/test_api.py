@@ -1,4 +1,7 @@
 """API.md, the page of public names, is what the docstrings say."""
+
+from __future__ import annotations
+
 import pathlib
 import subprocess
 import sys

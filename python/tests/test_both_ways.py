@@ -3,12 +3,16 @@ replies are the same bytes both ways, and the service requests are the same ones
 
 tools/clients does that with the clients themselves, whose sessions it captures.
 """
+
+from __future__ import annotations
+
 import pathlib
 import queue
 import tempfile
 import time
 import unittest
-from typing import Callable, List, Tuple, Union
+from collections.abc import Callable
+from typing import Union
 from unittest import mock
 
 from scanvolt.program import Server
@@ -41,7 +45,7 @@ def begun(link: Link) -> None:
     link.write("*RST;*CLS;*ESE 0;*SRE 0;:STAT:PRES\n")
 
 
-def scan(carrier: Carrier, pause: Pause) -> List[str]:
+def scan(carrier: Carrier, pause: Pause) -> list[str]:
     """What scan.py does and prints."""
     link = carrier.create_link()
     begun(link)
@@ -62,7 +66,7 @@ def scan(carrier: Carrier, pause: Pause) -> List[str]:
     return told + ["error: " + link.query("SYST:ERR?\n") for _ in range(2)]
 
 
-def service_request(carrier: Carrier, pause: Pause) -> List[str]:
+def service_request(carrier: Carrier, pause: Pause) -> list[str]:
     """What service_request.c does and prints."""
     link = carrier.create_link()
     begun(link)
@@ -82,7 +86,7 @@ def service_request(carrier: Carrier, pause: Pause) -> List[str]:
     return told
 
 
-def several_requests(carrier: Carrier, pause: Pause) -> List[str]:
+def several_requests(carrier: Carrier, pause: Pause) -> list[str]:
     """Requests of two links, one after the other: returns handles and numbers."""
     links = [carrier.create_link(), carrier.create_link()]
     begun(links[0])
@@ -98,7 +102,7 @@ def several_requests(carrier: Carrier, pause: Pause) -> List[str]:
     return told
 
 
-def identify(carrier: Carrier, pause: Pause) -> List[str]:
+def identify(carrier: Carrier, pause: Pause) -> list[str]:
     """What identify.sh does and prints."""
     link = carrier.create_link()
     link.write("*RST;*CLS\n")
@@ -115,14 +119,14 @@ class BothWays(unittest.TestCase):
         self.scenario = pathlib.Path(temporary.name) / "scenario"
         self.scenario.write_text(SCENARIO)
 
-    def recorded(self, run: Callable[[], List[str]]) -> Tuple[List[str], List[Tuple[str, bytes]]]:
+    def recorded(self, run: Callable[[], list[str]]) -> tuple[list[str], list[tuple[str, bytes]]]:
         """What a session prints, and its replies, each after its number. Polls that come too early are left out:
         how many there are depends on the clock.
         """
-        replies: List[Tuple[str, bytes]] = []
+        replies: list[tuple[str, bytes]] = []
         answer = calls.Call.answer
 
-        def recording(call: "calls.Call[object]", body: bytes, xid: int) -> object:
+        def recording(call: calls.Call[object], body: bytes, xid: int) -> object:
             found = answer(call, body, xid)
             if isinstance(found, calls.Made):           # it has the port of the abort channel, which the server chose
                 body = body.replace(words(found.abort_port), words(ABORT_PORT))
@@ -133,13 +137,13 @@ class BothWays(unittest.TestCase):
         with mock.patch.object(calls.Call, "answer", recording):
             return run(), replies
 
-    def session(self, session: Callable[[Carrier, Pause], List[str]]) -> List[str]:
+    def session(self, session: Callable[[Carrier, Pause], list[str]]) -> list[str]:
         """What a session prints both ways. Its replies have to be the same."""
-        def over_sockets() -> List[str]:
+        def over_sockets() -> list[str]:
             with Server(self.scenario) as server, Client(port=server.core) as client:
                 return session(client, lambda: time.sleep(0.01))
 
-        def in_virtual_time() -> List[str]:
+        def in_virtual_time() -> list[str]:
             with Meter(scenario=self.scenario) as meter, meter.connect() as connection:
                 return session(connection, lambda: meter.advance(10))
 
@@ -148,7 +152,7 @@ class BothWays(unittest.TestCase):
         self.assertGreater(len(replies), len(told))
         return told
 
-    def is_stored(self, session: Callable[[Carrier, Pause], List[str]]) -> None:
+    def is_stored(self, session: Callable[[Carrier, Pause], list[str]]) -> None:
         stored = (EXAMPLES / (session.__name__ + ".out")).read_text().splitlines()
         self.assertEqual(self.session(session), stored)
 

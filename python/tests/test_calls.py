@@ -1,9 +1,12 @@
 """The arguments and results of VXI-11 1.0, B.6, and of RFC 1833, section 3. The bytes are written down by hand as
 the standards have them, so scanvolt.vxi11 isn't tested with itself.
 """
+
+from __future__ import annotations
+
 import pickle
 import unittest
-from typing import Callable, Dict, List
+from collections.abc import Callable
 
 from scanvolt.vxi11 import DeviceError, RequestStream, calls, words
 
@@ -13,7 +16,7 @@ CORE = "000607af 00000001 "
 class Arguments(unittest.TestCase):
     """Each call's arguments, in the order of the standard."""
 
-    def arguments(self, call: "calls.Call[object]", head: str, text: str) -> None:
+    def arguments(self, call: calls.Call[object], head: str, text: str) -> None:
         """Checks the bytes of a call: its program, version and procedure, and its arguments."""
         self.assertEqual(words(call.program, call.version, call.procedure).hex(" ", 4), head)
         self.assertEqual(call.arguments.hex(" ", 4), text)
@@ -37,7 +40,7 @@ class Arguments(unittest.TestCase):
                        "00000001 00000009 00000002 00000003 00000081 0000002c")
 
     def test_generic_calls(self) -> None:
-        makers: Dict[str, Callable[..., calls.Call[object]]] = {
+        makers: dict[str, Callable[..., calls.Call[object]]] = {
             "0000000d": calls.device_readstb, "0000000e": calls.device_trigger, "0000000f": calls.device_clear,
             "00000010": calls.device_remote, "00000011": calls.device_local}
         for procedure, make in makers.items():
@@ -119,7 +122,7 @@ class Results(unittest.TestCase):
                  15: "I/O timeout", 17: "I/O error", 21: "invalid address", 23: "abort",
                  29: "channel already established"}
         for number, name in named.items():
-            made: List[calls.Call[object]] = [calls.create_link(), calls.device_read(1, 1, 1),
+            made: list[calls.Call[object]] = [calls.create_link(), calls.device_read(1, 1, 1),
                                               calls.device_unlock(1)]
             for call in made:
                 with self.subTest(number=number, call=call.name), self.assertRaises(DeviceError) as caught:

@@ -1,10 +1,12 @@
 """scanvolt-capture: what counts as a difference, and what is printed about it."""
+
+from __future__ import annotations
+
 import base64
 import signal
 import threading
 import time
 import unittest
-from typing import Optional, Tuple
 from unittest import mock
 
 from scanvolt.capturing import compare
@@ -14,7 +16,7 @@ from .captures import START, Capture, Folder, call
 from .processes import goes, kill
 
 
-def told(start: int) -> Tuple[str, str]:
+def told(start: int) -> tuple[str, str]:
     """The arguments that give a start, in milliseconds since START."""
     return "--start", "%.3f" % ((START + start) / 1000)
 
@@ -318,7 +320,7 @@ class Faults(unittest.TestCase):
         self.capture = Capture(10)
         self.capture.asks(100, 1, words(0))
 
-    def is_fault(self, reason: str, *given: str, path: Optional[str] = None) -> None:
+    def is_fault(self, reason: str, *given: str, path: str | None = None) -> None:
         """Runs a command. Checks that its status is 2, and that it gives this reason."""
         status, text = self.folder.run(*given, path=path)
         self.assertEqual((status, text.count("\n")), (2, 1), text)

@@ -1,19 +1,37 @@
 """The client over sockets: sessions of docs/INSTRUMENT.md with the program, and faults of peers that these tests
 make.
 """
+
+from __future__ import annotations
+
 import pathlib
 import socket
 import tempfile
 import threading
 import time
 import unittest
-from typing import Callable, List, Tuple
+from collections.abc import Callable
 from unittest import mock
 
 from scanvolt.program import Server
-from scanvolt.vxi11 import (CORE, BadReply, Channel, Client, DeviceError, GarbageArguments, Link,
-                            ProcedureUnavailable, ProgramMismatch, ProgramUnavailable, calls, encode_reply,
-                            mark, port_of, record, words)
+from scanvolt.vxi11 import (
+    CORE,
+    BadReply,
+    Channel,
+    Client,
+    DeviceError,
+    GarbageArguments,
+    Link,
+    ProcedureUnavailable,
+    ProgramMismatch,
+    ProgramUnavailable,
+    calls,
+    encode_reply,
+    mark,
+    port_of,
+    record,
+    words,
+)
 
 SCENARIO = "0 input 1 1250000\n0 input 2 -300000\n0 input 3 7500000\n"
 
@@ -167,7 +185,7 @@ class Sessions(Served):
 
     def test_a_callback_may_call(self) -> None:
         """The callback makes a call over the same connection."""
-        polls: List[int] = []
+        polls: list[int] = []
         came = threading.Event()
 
         def poll(_request: object) -> None:
@@ -244,7 +262,7 @@ class Peers(unittest.TestCase):
         return client.create_link(io_timeout=0)
 
     @staticmethod
-    def answer(listener: socket.socket, answers: Tuple[bytes, ...]) -> None:
+    def answer(listener: socket.socket, answers: tuple[bytes, ...]) -> None:
         with listener, listener.accept()[0] as peer:
             for answer in (Peers.LINK, *answers):
                 if not peer.recv(1000):

@@ -1,4 +1,7 @@
 """Coverage of the instrument: its lists are those of the documents, and what is counted is what the program tells."""
+
+from __future__ import annotations
+
 import contextlib
 import io
 import pathlib
@@ -6,7 +9,6 @@ import subprocess
 import sys
 import tempfile
 import unittest
-from typing import List, Tuple
 
 from scanvolt.coverage import counting
 from scanvolt.coverage.command import main
@@ -76,7 +78,7 @@ class Lists(unittest.TestCase):
 class Counted(unittest.TestCase):
     """What sessions have met."""
 
-    def met(self, session: "object") -> List[Tuple[str, str]]:
+    def met(self, session: object) -> list[tuple[str, str]]:
         """What a session with a link meets."""
         assert callable(session)
         with Meter() as meter:
@@ -172,7 +174,7 @@ class Reports(unittest.TestCase):
         self.assertEqual((report.below(0), report.below(50)), ("", "coverage of the instrument: %.1f %% is below 50 %%" % (
             100 / len(everything()))))
 
-    def run_with(self, *words: str) -> Tuple[int, str]:
+    def run_with(self, *words: str) -> tuple[int, str]:
         with contextlib.redirect_stdout(io.StringIO()) as told, contextlib.redirect_stderr(told):
             return main(list(words)), told.getvalue()
 

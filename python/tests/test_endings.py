@@ -1,12 +1,16 @@
 """How connections, links and meters end: what was raised in their `with` block comes out of it, and what is closed
 says so.
 """
+
+from __future__ import annotations
+
 import contextlib
 import socket
 import struct
 import threading
 import unittest
-from typing import Callable, ContextManager, Iterator, Tuple, cast
+from collections.abc import Callable, Iterator
+from typing import cast
 
 from scanvolt.program import ProgramError, Server
 from scanvolt.virtual import Connection, Meter, NoAnswer
@@ -41,7 +45,7 @@ def peer(resets: bool = False) -> Iterator[int]:
 class OverSockets(unittest.TestCase):
     """Blocks of Client and of its links."""
 
-    def link(self, port: int, patience: float = 10) -> ContextManager[Link]:
+    def link(self, port: int, patience: float = 10) -> contextlib.AbstractContextManager[Link]:
         """`with Client(..) as client, client.create_link() as link:`"""
         @contextlib.contextmanager
         def both() -> Iterator[Link]:
@@ -82,7 +86,7 @@ class OverSockets(unittest.TestCase):
             client.close()
             channel = Channel("127.0.0.1", server.core)
             channel.close()
-        uses: Tuple[Callable[[], object], ...] = (
+        uses: tuple[Callable[[], object], ...] = (
             link.readstb, link.destroy, link.abort, client.create_link, client.listen,
             client.destroy_intr_chan, lambda: client.do(calls.null()), lambda: channel.do(calls.null()))
         for use in uses:
@@ -144,7 +148,7 @@ class InVirtualTime(unittest.TestCase):
             connection.close()
 
     def test_each_closes_quietly(self) -> None:
-        closings: Tuple[Callable[[Connection], object], ...] = (
+        closings: tuple[Callable[[Connection], object], ...] = (
             Connection.close, lambda one: one.requests.close(), lambda one: one.meter.drop(one),
             lambda one: one.meter.close())
         for close in closings:
@@ -163,7 +167,7 @@ class InVirtualTime(unittest.TestCase):
         other = self.meter.connect()
         self.meter.drop(connection)
         self.assertTrue(other.is_open)
-        uses: Tuple[Callable[[], object], ...] = (
+        uses: tuple[Callable[[], object], ...] = (
             link.readstb, link.destroy, link.abort, connection.create_link, connection.listen,
             lambda: connection.start(calls.null()), lambda: connection.do(calls.null()))
         for use in uses:

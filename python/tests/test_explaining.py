@@ -2,6 +2,9 @@
 
 `python3 -m tests.test_explaining --write` writes the texts anew; they are to be read before they are kept.
 """
+
+from __future__ import annotations
+
 import collections
 import concurrent.futures
 import pathlib
@@ -10,7 +13,7 @@ import sys
 import threading
 import time
 import unittest
-from typing import Counter
+from collections import Counter
 from unittest import mock
 
 from scanvolt.explaining import tries

@@ -1,4 +1,7 @@
 """What `scanvolt-explain` says about what it can't explain: one clear line, status 2, and nothing is left behind."""
+
+from __future__ import annotations
+
 import contextlib
 import io
 import os
@@ -7,7 +10,6 @@ import subprocess
 import sys
 import tempfile
 import unittest
-from typing import Tuple, Union
 
 from scanvolt.capturing.command import main as capture
 from scanvolt.explaining.asked import Unknown
@@ -22,7 +24,7 @@ from .processes import TOP, script
 OLD = '#!/bin/sh\ncase "$1" in replay) exec %s replay ;; *) echo "scanvolt: bad words" >&2; exit 2 ;; esac\n'
 
 
-def run(*words: str) -> Tuple[int, str, str]:
+def run(*words: str) -> tuple[int, str, str]:
     """The status of the command, what it printed, and what it wrote to standard error."""
     out, err = io.StringIO(), io.StringIO()
     with contextlib.redirect_stdout(out), contextlib.redirect_stderr(err):
@@ -37,7 +39,7 @@ class Faults(unittest.TestCase):
         self.addCleanup(temporary.cleanup)
         self.folder = pathlib.Path(temporary.name)
 
-    def file(self, text: Union[str, bytes], name: str = "session.replay") -> str:
+    def file(self, text: str | bytes, name: str = "session.replay") -> str:
         path = self.folder / name
         path.write_bytes(text if isinstance(text, bytes) else text.encode())
         return str(path)

@@ -1,9 +1,11 @@
 """Meter.explain, NoAnswer at once, and the notes of errors."""
+
+from __future__ import annotations
+
 import pickle
 import time
 import traceback
 import unittest
-from typing import List
 from unittest import mock
 
 from scanvolt import replay
@@ -18,8 +20,8 @@ from .random_sessions import Session
 LONG = 4294967295       # milliseconds, the longest timeout
 
 
-def notes_of(fault: BaseException) -> List[str]:
-    found: List[str] = getattr(fault, "__notes__")
+def notes_of(fault: BaseException) -> list[str]:
+    found: list[str] = getattr(fault, "__notes__")
     return found
 
 

@@ -1,4 +1,7 @@
 """The page in a real browser: chromium, headless, where it is installed."""
+
+from __future__ import annotations
+
 import base64
 import hashlib
 import html
@@ -10,7 +13,7 @@ import shutil
 import subprocess
 import tempfile
 import unittest
-from typing import Any, Dict, List
+from typing import Any
 from unittest import mock
 
 from scanvolt.explaining import slots
@@ -74,7 +77,7 @@ addEventListener("load", () => setTimeout(() => {
 }, 50));"""
 
 
-def opened(page: pathlib.Path, *options: str, wide: int = 1400) -> "subprocess.CompletedProcess[str]":
+def opened(page: pathlib.Path, *options: str, wide: int = 1400) -> subprocess.CompletedProcess[str]:
     """Opens a page. Standard error has what comes on its console."""
     assert CHROMIUM is not None
     with tempfile.TemporaryDirectory() as profile:
@@ -90,7 +93,7 @@ def used() -> float:
     return found.ru_utime + found.ru_stime
 
 
-def console(told: "subprocess.CompletedProcess[str]") -> List[str]:
+def console(told: subprocess.CompletedProcess[str]) -> list[str]:
     """What came on the console, except of pages of the browser's own."""
     return [line for line in told.stderr.splitlines() if "CONSOLE" in line and "source: chrome://" not in line]
 
@@ -104,7 +107,7 @@ class Page(unittest.TestCase):
         self.addCleanup(folder.cleanup)
         self.folder = pathlib.Path(folder.name)
 
-    def acted(self, text: str, wide: int = 1400) -> Dict[str, Any]:
+    def acted(self, text: str, wide: int = 1400) -> dict[str, Any]:
         """Writes a page whose policy allows one more script, which acts on it. Returns what that saw."""
         script = 'window.faults = []; addEventListener("error", event => faults.push(event.message));\n' + ACTS
         checksum = base64.b64encode(hashlib.sha256(script.encode()).digest()).decode()
@@ -116,7 +119,7 @@ class Page(unittest.TestCase):
         self.assertEqual(console(told), [])
         found = re.search(r'<pre id="result">(.*?)</pre>', told.stdout, re.DOTALL)
         assert found is not None, told.stderr
-        result: Dict[str, Any] = json.loads(html.unescape(found[1]))
+        result: dict[str, Any] = json.loads(html.unescape(found[1]))
         return result
 
     def test_each_session(self) -> None:

@@ -1,4 +1,7 @@
 """Programs that are missing, end, are killed, or print what they shouldn't. No process remains after any of that."""
+
+from __future__ import annotations
+
 import gc
 import os
 import pathlib
@@ -160,7 +163,7 @@ class NothingLeft(unittest.TestCase):
         self.assertLess(time.monotonic() - began, within(0.8))
         self.assertFalse(is_there(number))
 
-    def leaves(self, how: "signal.Signals | None", stopped: bool = False) -> None:
+    def leaves(self, how: signal.Signals | None, stopped: bool = False) -> None:
         # If these tests were started in the background, Ctrl-C may still be ignored.
         text = ("import signal\nsignal.signal(signal.SIGINT, signal.default_int_handler)\n"
                 "from scanvolt.virtual import Meter\nmeter = Meter()\n"

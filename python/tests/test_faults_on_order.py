@@ -1,6 +1,10 @@
 """Faults on order in virtual time: what the driver sees, what the instrument saw, and what the traces say."""
+
+from __future__ import annotations
+
 import unittest
-from typing import Callable, Dict, cast
+from collections.abc import Callable
+from typing import cast
 
 from scanvolt.virtual import Meter, Pending
 from scanvolt.vxi11 import DeviceError, calls
@@ -45,7 +49,7 @@ class Errors(Case):
         for name, number, words in ERRORS:
             with self.subTest(name):
                 self.meter.faults.next(name, error=number)
-                make: Dict[str, Callable[[], object]] = {
+                make: dict[str, Callable[[], object]] = {
                     "device_read": self.link.read, "device_write": lambda: self.link.write("*CLS"),
                     "device_readstb": self.link.readstb, "device_lock": self.link.lock, "device_trigger": self.link.trigger}
                 with self.assertRaises(DeviceError) as caught:

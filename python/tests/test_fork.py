@@ -1,8 +1,10 @@
 """The same instrument twice: a fork goes on from the same moment, and neither touches the other."""
+
+from __future__ import annotations
+
 import pathlib
 import tempfile
 import unittest
-from typing import List
 
 from scanvolt.virtual import Meter
 from scanvolt.vxi11 import DeviceError, ServiceRequest
@@ -76,7 +78,7 @@ class Fork(unittest.TestCase):
 
     def test_service_requests(self) -> None:
         """Those of the fork go into its own queue, also if the first has a callback."""
-        found: List[ServiceRequest] = []
+        found: list[ServiceRequest] = []
         self.connection.listen(found.append)
         self.link.enable_srq(b"meter 1")
         self.link.write("*SRE 4")

@@ -1,4 +1,7 @@
 """The package is built and installed where only pip is there, and no network: from the folder, and from the sdist."""
+
+from __future__ import annotations
+
 import base64
 import email
 import hashlib
@@ -17,7 +20,7 @@ import tempfile
 import unittest
 import venv
 import zipfile
-from typing import Any, Dict, Optional
+from typing import Any
 from unittest import mock
 
 from scanvolt.program import find_program
@@ -29,7 +32,7 @@ SHOWS = "\nimport scanvolt, importlib.metadata\nprint(importlib.metadata.version
 ALONE = {"PIP_NO_INDEX": "1", "PIP_DISABLE_PIP_VERSION_CHECK": "1", "PYTHONDONTWRITEBYTECODE": "1", "PYTHONPATH": ""}
 
 
-def pip_wheel() -> Optional[str]:
+def pip_wheel() -> str | None:
     """The wheel of pip that Python's ensurepip has. From it pip runs without being installed, which takes seconds."""
     import ensurepip
     folders = [sysconfig.get_config_var("WHEEL_PKG_DIR"), os.path.join(os.path.dirname(ensurepip.__file__), "_bundled")]
@@ -152,7 +155,7 @@ class Building(InAFolder):
 
     def test_what_the_wheel_says_of_itself(self) -> None:
         with zipfile.ZipFile(built("wheel", self.folder)) as packed:
-            found: Dict[str, str] = {name.rpartition("/")[2]: packed.read(name).decode() for name in packed.namelist()}
+            found: dict[str, str] = {name.rpartition("/")[2]: packed.read(name).decode() for name in packed.namelist()}
         told = email.message_from_string(found["METADATA"])
         self.assertEqual(told.get_payload(), pathlib.Path(TOP, "README.md").read_text())
         self.assertEqual({name: told.get_all(name) for name in told}, {

@@ -1,8 +1,10 @@
 """Controllers in every order of their calls: faults that only some orders show are found, told and repeated."""
+
+from __future__ import annotations
+
 import threading
 import time
 import unittest
-from typing import List
 
 from scanvolt.virtual import Meter, NoAnswer, NotInStep, OrderFails
 
@@ -72,7 +74,7 @@ class Orders(unittest.TestCase):
         self.assertEqual(self.meter.interleavings(locks, forgets, order="B" * 5), 1)
 
     def test_by_seed(self) -> None:
-        found: List[str] = []
+        found: list[str] = []
         for _ in range(2):
             with self.assertRaises(OrderFails) as caught:
                 self.meter.interleavings(locks, forgets, count=200, seed=7)

@@ -1,4 +1,7 @@
 """Python's clocks and waits in `keeping_time`: they go by the meter, never hang, and are put back."""
+
+from __future__ import annotations
+
 import asyncio
 import queue
 import selectors
@@ -7,7 +10,8 @@ import sys
 import threading
 import time
 import unittest
-from typing import Callable, Dict, List, Optional, TypeVar, cast
+from collections.abc import Callable
+from typing import TypeVar, cast
 from unittest import mock
 
 from scanvolt import keeping_time
@@ -18,15 +22,15 @@ from scanvolt.vxi11 import Link, ServiceRequest
 from .processes import ctrl_c
 
 Value = TypeVar("Value")
-CLOCKS: "tuple[Callable[[], float], ...]" = (
+CLOCKS: tuple[Callable[[], float], ...] = (
     lambda: time.time(), lambda: time.monotonic(), lambda: time.perf_counter(),
     lambda: time.time_ns() / 1e9, lambda: time.monotonic_ns() / 1e9, lambda: time.perf_counter_ns() / 1e9)
 PATIENCE = 20           # seconds of real time within which each test ends
 
 
-def functions() -> Dict[str, object]:
+def functions() -> dict[str, object]:
     """The functions that may be replaced."""
-    found: Dict[str, object] = dict(vars(time))
+    found: dict[str, object] = dict(vars(time))
     for where in (threading, queue, asyncio, threading.Condition, threading.Thread, selectors.DefaultSelector):
         found.update({"%s.%s" % (where, name): value for name, value in vars(where).items()})
     return found
@@ -43,7 +47,7 @@ class WithMeter(unittest.TestCase):
         """Everything was put back."""
         self.assertEqual(functions(), self.before)
 
-    def made(self, call_time: int = 0) -> "tuple[Meter, Connection, Link]":
+    def made(self, call_time: int = 0) -> tuple[Meter, Connection, Link]:
         meter = Meter()
         self.addCleanup(meter.close)
         meter.set_input(3, 7)
@@ -54,10 +58,10 @@ class WithMeter(unittest.TestCase):
         meter.call_time = call_time
         return meter, connection, link
 
-    def within(self, body: Callable[[], Value], meter: Optional[Meter] = None) -> Value:
+    def within(self, body: Callable[[], Value], meter: Meter | None = None) -> Value:
         """What a body returns or raises, within a block, in a thread of its own, which has to end."""
-        found: List[Value] = []
-        faults: List[BaseException] = []
+        found: list[Value] = []
+        faults: list[BaseException] = []
 
         def run() -> None:
             try:
@@ -121,13 +125,13 @@ class Waits(WithMeter):
         self.assertTrue(self.takes(0, lambda: event.wait(10)))
 
     def test_a_queue(self) -> None:
-        requests: "queue.Queue[ServiceRequest]" = queue.Queue()
+        requests: queue.Queue[ServiceRequest] = queue.Queue()
         self.connection.listen(requests.put)
         self.link.write("INIT")
         self.assertEqual(self.takes(3, lambda: requests.get(timeout=10)), ServiceRequest(b"handle", 1, 3))
         self.link.write("*CLS;:INIT")
         self.assertEqual(self.takes(3, requests.get), ServiceRequest(b"handle", 2, 6))
-        full: "queue.Queue[int]" = queue.Queue(1)
+        full: queue.Queue[int] = queue.Queue(1)
         full.put(1)
         self.assertRaises(queue.Full, self.takes, 20, lambda: full.put(2, timeout=0.02))
 
@@ -138,7 +142,7 @@ class Waits(WithMeter):
 
     def test_a_condition(self) -> None:
         condition = threading.Condition()
-        found: List[object] = []
+        found: list[object] = []
 
         def came(request: ServiceRequest) -> None:
             with condition:
@@ -206,8 +210,8 @@ class Loops(WithMeter):
     """Loops of asyncio."""
 
     def test_sleeps(self) -> None:
-        async def body() -> List[int]:
-            found: List[int] = []
+        async def body() -> list[int]:
+            found: list[int] = []
 
             async def sleep(milliseconds: int) -> None:
                 await asyncio.sleep(milliseconds / 1000)
@@ -226,7 +230,7 @@ class Loops(WithMeter):
         self.takes(1500, lambda: asyncio.run(body()))
 
     def test_a_service_request(self) -> None:
-        async def body(timeout: Optional[float]) -> None:
+        async def body(timeout: float | None) -> None:
             event = asyncio.Event()
             self.connection.on_service_request(lambda _: event.set())
             await asyncio.wait_for(event.wait(), timeout)
@@ -364,7 +368,7 @@ class NoHang(WithMeter):
 
     def test_waits_without_a_timeout(self) -> None:
         """Where no interrupt channel is, they raise at once; else after the meter's patience."""
-        waits: "tuple[Callable[[], object], ...]" = (
+        waits: tuple[Callable[[], object], ...] = (
             lambda: threading.Event().wait(), lambda: queue.Queue[int]().get(),
             lambda: threading.Semaphore(0).acquire(), lambda: threading.Event().wait(threading.TIMEOUT_MAX))
         for wait in waits:

@@ -1,4 +1,7 @@
 """A server whose inputs change while it runs, and which records what happens."""
+
+from __future__ import annotations
+
 import os
 import pathlib
 import re
@@ -8,7 +11,7 @@ import tempfile
 import threading
 import time
 import unittest
-from typing import Any, List, Tuple, Type
+from typing import Any
 from unittest import mock
 
 from scanvolt import live
@@ -22,7 +25,7 @@ from scanvolt.vxi11 import Client, DeviceError, Link
 from .processes import TOP, kill
 
 
-def replayed(server: Server, script: List[str]) -> List[str]:
+def replayed(server: Server, script: list[str]) -> list[str]:
     """What a replay of a record prints, by the server's own ports."""
     done = subprocess.run([server.program, "replay", "--core", str(server.core), "--abort", str(server.abort)],
                           input="\n".join(script) + "\n", capture_output=True, text=True, check=True, timeout=60)
@@ -35,7 +38,7 @@ class Relay:
     def __init__(self, answer: bytes) -> None:
         self.listener = socket.create_server(("127.0.0.1", 0))
         self.port = self.listener.getsockname()[1]
-        self.lines: List[bytes] = []
+        self.lines: list[bytes] = []
         self.thread = threading.Thread(target=self._serve, args=(answer,))
         self.thread.start()
 
@@ -62,7 +65,7 @@ class Inputs(unittest.TestCase):
         self.link: Link = client.create_link()
 
     def test_the_next_reading(self) -> None:
-        known: List[Tuple[Volts, str]] = [
+        known: list[tuple[Volts, str]] = [
             (2.5, "+2.500000"), ("-0.000001", "-0.000001"), (9, "+9.000000"), (0.1 + 0.2, "+0.300000")]
         for volts, read in known:
             self.server.set_input(3, volts)
@@ -88,7 +91,7 @@ class Inputs(unittest.TestCase):
         self.assertEqual(self.link.query("FETC?"), "+1.000000")
 
     def test_bad_arguments_send_nothing(self) -> None:
-        bad: List[Tuple[Any, Any, Type[Exception]]] = [
+        bad: list[tuple[Any, Any, type[Exception]]] = [
             (0, 1, ValueError), (129, 1, ValueError), ("3", 1, TypeError), (3, 1000.1, ValueError), (3, "much", ValueError),
             (3, float("nan"), ValueError), (3, "0.0000001", ValueError), (3, None, ValueError)]
         for channel, volts, fault in bad:
@@ -113,7 +116,7 @@ class Inputs(unittest.TestCase):
         assert self.server.record is not None
         self.server.explain()
         words = ["--core", str(self.server.core), "--abort", str(self.server.abort)]
-        given: List[Tuple[List[str], bool]] = [([], False), (words, True)]
+        given: list[tuple[list[str], bool]] = [([], False), (words, True)]
         for more, ending in given:
             with tempfile.NamedTemporaryFile("r") as page, \
                     mock.patch("scanvolt.explaining.command.Explanation", wraps=Explanation) as made:

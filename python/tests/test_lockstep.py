@@ -1,11 +1,14 @@
 """Threads in lock step: what waits is granted by another thread, each run is the same, and nothing hangs."""
+
+from __future__ import annotations
+
 import concurrent.futures
 import contextlib
 import io
 import threading
 import time
 import unittest
-from typing import Callable, List, Optional, Tuple
+from collections.abc import Callable
 from unittest import mock
 
 from scanvolt.lockstep import NotInStep
@@ -15,10 +18,10 @@ from scanvolt.vxi11 import DeviceError, Link, ServiceRequest
 from .limits import within
 
 LONG = 2 ** 32 - 1
-Told = List[Tuple[str, object, int]]
+Told = list[tuple[str, object, int]]
 
 
-def run(meter: Meter, *controllers: Callable[[], object], seed: Optional[int] = None) -> None:
+def run(meter: Meter, *controllers: Callable[[], object], seed: int | None = None) -> None:
     """Runs each in a thread, in lock step."""
     threads = [threading.Thread(target=one, name=one.__name__) for one in controllers]
     with meter.threads(len(threads), seed):
@@ -167,7 +170,7 @@ class Waits(Case):
 class Alike(Case):
     """The order of replies."""
 
-    def contest(self, seed: Optional[int] = None) -> Told:
+    def contest(self, seed: int | None = None) -> Told:
         """Two threads that both want the lock twice. Returns who had it when, in order."""
         self.told, start = [], self.meter.clock
 

@@ -1,9 +1,13 @@
 """A driver's first mistakes: each is told at once, in clear words, and the instrument goes on after it."""
+
+from __future__ import annotations
+
 import fractions
 import subprocess
 import sys
 import unittest
-from typing import Any, Callable, Dict, Tuple, Type
+from collections.abc import Callable
+from typing import Any
 
 from scanvolt.program import ProgramError, Server
 from scanvolt.stimulus import microvolts
@@ -12,7 +16,7 @@ from scanvolt.vxi11 import Client, ProgramUnavailable
 
 from .processes import TOP
 
-Mistake = Tuple[Callable[[], object], Type[Exception], str]
+Mistake = tuple[Callable[[], object], type[Exception], str]
 IDENTITY = "SCANVOLT,SV32,0,1.0"
 # Each child says what it finds; the parent goes on with its meter after that.
 FORKS = """
@@ -33,7 +37,7 @@ meter.close()
 """
 
 
-def of_link(link: Any) -> Dict[str, Mistake]:
+def of_link(link: Any) -> dict[str, Mistake]:
     """Wrong arguments of a link's methods."""
     return {
         "a number as a message": (lambda: link.write(5), TypeError, "a message is text or bytes, and not 5"),
@@ -48,7 +52,7 @@ def of_link(link: Any) -> Dict[str, Mistake]:
         "a handle in words": (lambda: link.enable_srq("5"), TypeError, "a handle is bytes, .* and not '5'")}
 
 
-def of_core(core: Any) -> Dict[str, Mistake]:
+def of_core(core: Any) -> dict[str, Mistake]:
     """Wrong arguments of a connection's methods."""
     return {
         "a device in bytes": (lambda: core.create_link(b"inst0"), TypeError, "a device is text, .* and not b'inst0'"),
@@ -59,7 +63,7 @@ def of_core(core: Any) -> Dict[str, Mistake]:
 class Mistakes(unittest.TestCase):
     """In virtual time and over sockets."""
 
-    def told(self, mistakes: Dict[str, Mistake]) -> None:
+    def told(self, mistakes: dict[str, Mistake]) -> None:
         for name, (mistake, kind, text) in mistakes.items():
             with self.subTest(name), self.assertRaisesRegex(kind, text):
                 mistake()
@@ -137,7 +141,7 @@ class Off(unittest.TestCase):
         """As README.md says, each call raises ConnectionError. That holds for a second block, too."""
         with Meter() as meter:
             connection = meter.connect()
-        uses: Tuple[Callable[[], object], ...] = (
+        uses: tuple[Callable[[], object], ...] = (
             meter.connect, meter.external, lambda: meter.advance(1), lambda: meter.set_input(1, 1))
         for use in uses:
             with self.subTest(use), self.assertRaisesRegex(ConnectionError, "is closed: its `with` block ended"):

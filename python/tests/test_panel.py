@@ -1,4 +1,7 @@
 """The panel over HTTP: what it shows, what it changes, and for whom."""
+
+from __future__ import annotations
+
 import fcntl
 import json
 import os
@@ -8,7 +11,7 @@ import socket
 import threading
 import time
 import unittest
-from typing import Any, Dict, List
+from typing import Any
 from unittest import mock
 
 from scanvolt.explaining.explanation import Explanation
@@ -17,7 +20,6 @@ from scanvolt.panel.pages import FILES
 from scanvolt.panel.spool import Spool
 from scanvolt.panel.watch import Watch
 from scanvolt.panel.web import POLICY
-
 from scanvolt.vxi11 import calls
 
 from .limits import within
@@ -49,7 +51,7 @@ class Knobs(WithPanel):
         self.assertEqual(link.query("FETC?"), "+0.000000,+0.000000")
 
     def test_bad_voltages_and_channels(self) -> None:
-        bad: List[Body] = ["", "much", "nan", "inf", "1_0", "1,5", "1000.1", "-1e9", "0.0000001", "1e-99", "0x10", "2.5;external",
+        bad: list[Body] = ["", "much", "nan", "inf", "1_0", "1,5", "1000.1", "-1e9", "0.0000001", "1e-99", "0x10", "2.5;external",
                            "\u0662".encode()]
         for said in bad:
             self.refused(400, "^a voltage is a number of volts, -1000 to 1000", "POST", "/inputs/3", said)
@@ -226,7 +228,7 @@ class Streams(WithPanel):
 
     def test_a_lamp_follows_a_bit(self) -> None:
         stream, link = self.stream(), self.link()
-        took: List[float] = []
+        took: list[float] = []
         for _ in range(5):
             link.write("*CLS;*ESE 1;*SRE 32;CONF:VOLT (@1:3);:INIT;*OPC")     # the bit rises 3 ms later, without another event
             took.append(stream.until('"RQS", "ESB"'))
@@ -294,7 +296,7 @@ class Streams(WithPanel):
 class Following(WithPanel):
     """The record and what it is explained to be."""
 
-    def values(self) -> Dict[str, Any]:
+    def values(self) -> dict[str, Any]:
         found = self.state()
         return {name: found[name] for name in ("registers", "errors", "scan", "links", "channels", "happened")}
 

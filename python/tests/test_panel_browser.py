@@ -1,9 +1,13 @@
 """The panel in a real browser: chromium, headless, where it is installed."""
+
+from __future__ import annotations
+
 import os
 import signal
 import threading
 import time
 import unittest
+
 from scanvolt.vxi11 import Link
 
 from .browser import CHROMIUM, Browser, Page

@@ -1,4 +1,7 @@
 """The command `scanvolt-panel`."""
+
+from __future__ import annotations
+
 import pathlib
 import re
 import signal
@@ -8,7 +11,6 @@ import tempfile
 import time
 import unittest
 import urllib.request
-from typing import List, Tuple
 
 from scanvolt.live import Control
 from scanvolt.program import free_ports
@@ -16,11 +18,10 @@ from scanvolt.vxi11 import Client
 
 from .processes import TOP, goes, is_there, kill
 
-
 PANEL = [sys.executable, "-m", "scanvolt.panel"]
 
 
-def children_of(number: int) -> List[int]:
+def children_of(number: int) -> list[int]:
     """The processes that a process started."""
     return [int(one) for one in pathlib.Path("/proc/%d/task/%d/children" % (number, number)).read_text().split()]
 
@@ -33,14 +34,14 @@ class Command(unittest.TestCase):
         self.addCleanup(folder.cleanup)
         self.folder = pathlib.Path(folder.name)
 
-    def start(self, *words: str) -> "subprocess.Popen[str]":
+    def start(self, *words: str) -> subprocess.Popen[str]:
         """Starts a panel."""
         found = subprocess.Popen([*PANEL, *words], cwd=TOP, stdout=subprocess.PIPE, stderr=subprocess.PIPE, text=True)
         self.addCleanup(found.communicate)
         self.addCleanup(kill, found.pid)
         return found
 
-    def told(self, panel: "subprocess.Popen[str]") -> Tuple[str, List[int]]:
+    def told(self, panel: subprocess.Popen[str]) -> tuple[str, list[int]]:
         """What a panel prints: the address of the page, and the ports of the instrument."""
         assert panel.stdout is not None
         address, ready = panel.stdout.readline(), panel.stdout.readline()

@@ -1,8 +1,11 @@
 """What the panel shows is what the explanation of the same lines says, after each part of random sessions."""
+
+from __future__ import annotations
+
 import json
 import subprocess
 import unittest
-from typing import List, Sequence
+from collections.abc import Sequence
 
 from scanvolt.explaining.explanation import Explanation
 from scanvolt.explaining.lines import as_number
@@ -124,7 +127,7 @@ class Shown(unittest.TestCase):
             link.write("CONF:VOLT (@1:4);:CALC:LIM:UPP 5;LOW -5;STAT ON;:READ?")
             meter.advance(4)
             meter.set_input(2, 1)
-            script: List[str] = [*meter._replay.script(), "input 129 5", "input 5 1000000001"]
+            script: list[str] = [*meter._replay.script(), "input 129 5", "input 5 1000000001"]
         found = {one["channel"]: one for one in self.state(script)["channels"]}
         keys = ("input", "reading", "is", "listed", "clock")
         self.assertEqual([(number, *(one[key] for key in keys)) for number, one in found.items()], [

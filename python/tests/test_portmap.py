@@ -1,4 +1,7 @@
 """scanvolt-portmap with a port mapper that is a thread of these tests."""
+
+from __future__ import annotations
+
 import contextlib
 import os
 import pathlib
@@ -8,7 +11,7 @@ import subprocess
 import sys
 import threading
 import unittest
-from typing import Dict, Iterator, List, Tuple
+from collections.abc import Iterator
 
 from scanvolt import portmap
 from scanvolt.vxi11 import Reader, Records, calls, encode_reply, read_call, words
@@ -30,9 +33,9 @@ class Mapper(threading.Thread):
 
     def __init__(self, **known: int) -> None:
         super().__init__(daemon=True)
-        self.programs: Dict[int, int] = {getattr(calls, name): port for name, port in known.items()}
-        self.refuses: List[int] = []
-        self.asked: List[Tuple[str, ...]] = []
+        self.programs: dict[int, int] = {getattr(calls, name): port for name, port in known.items()}
+        self.refuses: list[int] = []
+        self.asked: list[tuple[str, ...]] = []
         self.listener = socket.create_server(("127.0.0.1", 0))
         self.port: int = self.listener.getsockname()[1]
         self.start()
@@ -84,7 +87,7 @@ class Registering(unittest.TestCase):
         return mapper
 
     @contextlib.contextmanager
-    def running(self, port: int, *given: str) -> "Iterator[subprocess.Popen[str]]":
+    def running(self, port: int, *given: str) -> Iterator[subprocess.Popen[str]]:
         """Runs the command during a `with` block, and ends it then."""
         command = [sys.executable, "-c", COMMAND, "--port", str(port), *given]
         with subprocess.Popen(command, env=ENVIRONMENT, stdout=subprocess.PIPE, stderr=subprocess.PIPE,
@@ -94,7 +97,7 @@ class Registering(unittest.TestCase):
             finally:
                 process.kill()
 
-    def status(self, port: int, *given: str) -> Tuple[int, str]:
+    def status(self, port: int, *given: str) -> tuple[int, str]:
         """The status of a command that fails, and the one line that it prints as its reason."""
         with self.running(port, *given) as process:
             told, fault = process.communicate(timeout=PATIENCE)

@@ -1,4 +1,7 @@
 """Servers on sockets: they end with the process that started them, and a program that doesn't serve is told as such."""
+
+from __future__ import annotations
+
 import gc
 import os
 import pathlib
@@ -10,7 +13,7 @@ import threading
 import time
 import unittest
 import warnings
-from typing import Callable, List, Optional
+from collections.abc import Callable
 from unittest import mock
 
 from scanvolt import program
@@ -57,7 +60,7 @@ def fault_of(path: str) -> str:
 class NothingLeft(unittest.TestCase):
     """No program remains."""
 
-    def leaves(self, how: Optional[signal.Signals], stopped: bool = False, text: str = "") -> None:
+    def leaves(self, how: signal.Signals | None, stopped: bool = False, text: str = "") -> None:
         """Ends a process that has started a server in a thread that has ended, by a signal or by its own end."""
         child = subprocess.Popen([sys.executable, "-c", STARTS % (text if how else "sys.exit()")], cwd=TOP,
                                  stdout=subprocess.PIPE, stderr=subprocess.DEVNULL, text=True)
@@ -138,7 +141,7 @@ class NotReady(unittest.TestCase):
         """What is told of a program that does this instead of serving. It must not remain."""
         before = os.listdir("/proc/self/fd")
         with script(OTHERWISE % (find_program(), "echo $$ > $0.pid\n" + text)) as path:
-            faults: List[str] = []
+            faults: list[str] = []
             with mock.patch.object(program, "PATIENCE", 1.0, create=True):
                 self.assertTrue(ends(lambda: faults.append(fault_of(path))), "it waits for ever")
             self.assertTrue(goes(int(pathlib.Path(path + ".pid").read_text()), 0.5))

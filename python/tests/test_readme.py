@@ -2,10 +2,12 @@
 
 tests/pyvisa/test_scripts.py has the piece with PyVISA, tests/pytest_plugin/test_plugin.py the one with pytest.
 """
+
+from __future__ import annotations
+
 import pathlib
 import re
 import unittest
-from typing import List, Tuple
 from unittest import mock
 
 from scanvolt.program import Server
@@ -58,7 +60,7 @@ class Readme(unittest.TestCase):
         return str(next(piece for piece in PIECES if words in piece))
 
     @staticmethod
-    def printed(piece: str) -> List[Tuple[object, ...]]:
+    def printed(piece: str) -> list[tuple[object, ...]]:
         """What a piece prints."""
         with mock.patch("builtins.print") as printed:
             exec(compile(piece, "README.md", "exec"), {})

@@ -1,4 +1,7 @@
 """A relay between a client and a server on sockets: bytes that are cut, late, split or dropped."""
+
+from __future__ import annotations
+
 import socket
 import time
 import unittest

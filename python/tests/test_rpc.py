@@ -1,12 +1,36 @@
 """Records, calls and replies of RFC 5531 and RFC 4506. The bytes are written down by hand as the standards have
 them, so scanvolt.vxi11 isn't tested with itself.
 """
+
+from __future__ import annotations
+
 import unittest
 
-from scanvolt.vxi11 import (AuthenticationRefused, BadReply, GarbageArguments, ProcedureUnavailable,
-                            ProgramMismatch, ProgramUnavailable, Reader, Records, RpcMismatch, SystemFault,
-                            XdrError, calls, encode_call, encode_denial, encode_refusal, encode_reply, mark,
-                            opaque, read_call, read_reply, record, rpc, words)
+from scanvolt.vxi11 import (
+    AuthenticationRefused,
+    BadReply,
+    GarbageArguments,
+    ProcedureUnavailable,
+    ProgramMismatch,
+    ProgramUnavailable,
+    Reader,
+    Records,
+    RpcMismatch,
+    SystemFault,
+    XdrError,
+    calls,
+    encode_call,
+    encode_denial,
+    encode_refusal,
+    encode_reply,
+    mark,
+    opaque,
+    read_call,
+    read_reply,
+    record,
+    rpc,
+    words,
+)
 from scanvolt.vxi11.rpc import RESULT_AT
 
 

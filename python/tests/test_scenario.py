@@ -1,6 +1,9 @@
 """scanvolt-scenario: pictures of short scenarios, lines as `scanvolt serve` takes them, ranges of channels, and
 messages about faults.
 """
+
+from __future__ import annotations
+
 import contextlib
 import io
 import os
@@ -9,7 +12,6 @@ import subprocess
 import sys
 import tempfile
 import unittest
-from typing import List, Tuple
 from unittest import mock
 
 from scanvolt.program import Server
@@ -30,14 +32,14 @@ GOOD = ("0 input 1 -1000000000", "0 input 128 1000000000", "0 input 1 0000000000
 class Commands(unittest.TestCase):
     """The command with arguments."""
 
-    def run_words(self, *words: str) -> Tuple[int, str, str]:
+    def run_words(self, *words: str) -> tuple[int, str, str]:
         """The status, the output and the messages for these arguments."""
         told, faults = io.StringIO(), io.StringIO()
         with mock.patch("signal.signal"), contextlib.redirect_stdout(told), contextlib.redirect_stderr(faults):
             status = main(list(words))
         return status, told.getvalue(), faults.getvalue()
 
-    def run_on(self, text: str, *words: str, option: str = "--of") -> Tuple[int, str, str]:
+    def run_on(self, text: str, *words: str, option: str = "--of") -> tuple[int, str, str]:
         """The same for a file with this text."""
         with tempfile.NamedTemporaryFile("w", newline="", suffix=".text") as file:
             file.write(text)
@@ -148,7 +150,7 @@ class OtherEditors(Commands):
     MARK = "the file begins with a byte order mark; save it as UTF-8 without one"
     WIDE = "the file is UTF-16 text, as some programs on Windows write it; save it as UTF-8 without a byte order mark"
 
-    def told(self, data: bytes) -> List[str]:
+    def told(self, data: bytes) -> list[str]:
         """What --check prints of a file with these bytes. A meter and a server say the first of it."""
         with tempfile.NamedTemporaryFile(suffix=".scenario") as file:
             file.write(data)
@@ -193,7 +195,7 @@ class OtherEditors(Commands):
 class Ranges(Commands):
     """CHANNEL:CHANNEL=SHAPE."""
 
-    def lines(self, *words: str) -> List[str]:
+    def lines(self, *words: str) -> list[str]:
         status, told, faults = self.run_words("--seconds", "1", *words)
         self.assertEqual((status, faults), (0, ""))
         return told.splitlines()

@@ -1,4 +1,7 @@
 """scanvolt-serve: ports, voltages, what it tells, and how it ends."""
+
+from __future__ import annotations
+
 import os
 import pathlib
 import re
@@ -10,7 +13,6 @@ import sys
 import tempfile
 import time
 import unittest
-from typing import List, Tuple
 
 from scanvolt.explaining.explanation import Explanation
 from scanvolt.program import find_program
@@ -24,17 +26,17 @@ COMMAND = [sys.executable, "-m", "scanvolt.serving"]
 class Serving(unittest.TestCase):
     """Each test starts the command."""
 
-    def start(self, *words: str) -> "subprocess.Popen[str]":
+    def start(self, *words: str) -> subprocess.Popen[str]:
         started = subprocess.Popen(COMMAND + list(words), cwd=TOP, stdout=subprocess.PIPE, stderr=subprocess.PIPE, text=True)
         self.addCleanup(self.end, started)
         return started
 
     @staticmethod
-    def end(started: "subprocess.Popen[str]") -> None:
+    def end(started: subprocess.Popen[str]) -> None:
         started.kill()
         started.communicate(timeout=20)
 
-    def ports(self, started: "subprocess.Popen[str]") -> List[int]:
+    def ports(self, started: subprocess.Popen[str]) -> list[int]:
         """The ports in the line that says that it is ready."""
         assert started.stdout is not None
         self.assertTrue(select.select([started.stdout], [], [], 60)[0])
@@ -42,8 +44,8 @@ class Serving(unittest.TestCase):
         self.assertRegex(line, r"^ready( \d+){3,4}$")
         return [int(one) for one in line.split()[1:]]
 
-    def refused(self, *words: str) -> Tuple[int, str]:
-        done = subprocess.run(COMMAND + list(words), cwd=TOP, stdout=subprocess.PIPE, stderr=subprocess.PIPE, text=True,
+    def refused(self, *words: str) -> tuple[int, str]:
+        done = subprocess.run(COMMAND + list(words), cwd=TOP, capture_output=True, text=True,
                               timeout=60)
         return done.returncode, done.stderr
 

@@ -1,4 +1,7 @@
 """Scenarios in virtual time, as docs/INSTRUMENT.md describes them."""
+
+from __future__ import annotations
+
 import pathlib
 import tempfile
 import unittest

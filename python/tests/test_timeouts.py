@@ -1,12 +1,16 @@
 """Counts of milliseconds: whatever isn't a whole number from 0 to 2**32 - 1 is refused before the program is asked."""
+
+from __future__ import annotations
+
 import unittest
-from typing import Any, Callable, Dict, Tuple
+from collections.abc import Callable
+from typing import Any
 
 from scanvolt.program import Server
 from scanvolt.virtual import Meter
 from scanvolt.vxi11 import Client, Link, calls
 
-WRONG: Tuple[Any, ...] = (0.5, 2.0, True, "2", None, -1, 2 ** 32)
+WRONG: tuple[Any, ...] = (0.5, 2.0, True, "2", None, -1, 2 ** 32)
 Use = Callable[[Any], object]
 
 
@@ -20,7 +24,7 @@ class Wanted:
 class Milliseconds(unittest.TestCase):
     """Each use of a count, in virtual time and over sockets. The instrument goes on."""
 
-    def refuses(self, link: Link, uses: Dict[str, Use], wrong: Tuple[Any, ...] = WRONG) -> None:
+    def refuses(self, link: Link, uses: dict[str, Use], wrong: tuple[Any, ...] = WRONG) -> None:
         for name, use in uses.items():
             for count in wrong:
                 kind = ValueError if type(count) is int else TypeError
@@ -29,7 +33,7 @@ class Milliseconds(unittest.TestCase):
                     use(count)
         self.assertEqual(link.query("*IDN?"), "SCANVOLT,SV32,0,1.0")
 
-    def of_link(self, link: Link) -> Dict[str, Use]:
+    def of_link(self, link: Link) -> dict[str, Use]:
         return {"io_timeout": lambda count: setattr(link, "io_timeout", count),
                 "lock_timeout": lambda count: setattr(link, "lock_timeout", count)}
 
@@ -66,7 +70,7 @@ class Milliseconds(unittest.TestCase):
     def test_calls(self) -> None:
         """Calls that are made and not sent."""
         with Meter() as meter, meter.connect().create_link() as link:
-            timed: Tuple[Callable[[int, Any, Any], object], ...] = (
+            timed: tuple[Callable[[int, Any, Any], object], ...] = (
                 lambda number, io, lock: calls.device_write(number, b"", io, lock),
                 lambda number, io, lock: calls.device_read(number, 1, io, lock), calls.device_readstb,
                 calls.device_trigger, calls.device_clear, calls.device_remote, calls.device_local,

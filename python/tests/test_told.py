@@ -1,8 +1,11 @@
 """What errors and objects say: the call, the link, the timeout and the moment, host and port, and what is closed."""
+
+from __future__ import annotations
+
 import pickle
 import socket
 import unittest
-from typing import Callable, Tuple, Type
+from collections.abc import Callable
 from unittest import mock
 
 from scanvolt.program import Server
@@ -147,7 +150,7 @@ class OverSockets(Told):
 
     def test_a_connection_that_fails(self) -> None:
         """Each failure has the call, host and port, and the system's error in its own class."""
-        faults: Tuple[Tuple[OSError, Type[OSError], str], ...] = (
+        faults: tuple[tuple[OSError, type[OSError], str], ...] = (
             (ConnectionResetError(104, "Connection reset by peer"), ConnectionResetError,
              r"^\[Errno 104\] Connection reset by peer within device_readstb: %s$"),
             (socket.timeout("timed out"), ConnectionError, "^no reply to device_readstb within 20 s: %s$"))

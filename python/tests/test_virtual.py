@@ -1,18 +1,31 @@
 """An instrument in virtual time: the sessions and milliseconds that docs/INSTRUMENT.md names."""
+
+from __future__ import annotations
+
 import decimal
 import pathlib
 import threading
 import time
 import unittest
-from typing import Callable, List, Tuple, TypeVar
+from collections.abc import Callable
+from typing import TypeVar
 from unittest import mock
 
 from scanvolt import replay
 from scanvolt.program import find_program
 from scanvolt.stimulus import Volts
 from scanvolt.virtual import Connection, Meter, NoAnswer
-from scanvolt.vxi11 import (CORE, DeviceError, GarbageArguments, Link, ProcedureUnavailable, ProgramMismatch,
-                            ProgramUnavailable, ServiceRequest, calls)
+from scanvolt.vxi11 import (
+    CORE,
+    DeviceError,
+    GarbageArguments,
+    Link,
+    ProcedureUnavailable,
+    ProgramMismatch,
+    ProgramUnavailable,
+    ServiceRequest,
+    calls,
+)
 
 Value = TypeVar("Value")
 REAL_TIME = 0.05        # seconds that a measurement of 2,048 ms may take, by the proved program
@@ -30,7 +43,7 @@ class WithMeter(unittest.TestCase):
         self.connection, self.link = self.controller()
         self.link.write("*CLS")
 
-    def controller(self) -> Tuple[Connection, Link]:
+    def controller(self) -> tuple[Connection, Link]:
         connection = self.meter.connect()
         return connection, connection.create_link()
 
@@ -183,7 +196,7 @@ class Moments(WithMeter):
         """2,048 ms, whose response of 20,480 bytes is read whole, take little real time. The shortest of several
         tries counts, since other programs use the machine too.
         """
-        passed: List[float] = []
+        passed: list[float] = []
         self.link.write("CONF:VOLT (@1:128);:TRIG:COUN 16")
         while len(passed) < TRIES and min(passed, default=REAL_TIME) >= REAL_TIME:
             began = time.perf_counter()
@@ -241,7 +254,7 @@ class Moments(WithMeter):
             self.takes(3000, self.link.read)
 
     def test_two_runs_are_the_same(self) -> None:
-        def run() -> List[object]:
+        def run() -> list[object]:
             with Meter() as meter, meter.connect() as connection, connection.create_link() as link:
                 link.write("CONF:VOLT (@1:128);:STAT:OPER:ENAB 16;NTR 16;PTR 0;*SRE 128")
                 link.enable_srq(b"scan")
@@ -325,7 +338,7 @@ class InFlight(WithMeter):
 
     def test_threads(self) -> None:
         """Threads share a meter, each with a connection of its own. No call waits, so no time passes."""
-        polls: List[int] = []
+        polls: list[int] = []
 
         def poll() -> None:
             link = self.controller()[1]
@@ -369,7 +382,7 @@ class ServiceRequests(WithMeter):
 
     def test_a_callback(self) -> None:
         """The callback runs at the millisecond of its request, and may make calls."""
-        found: List[object] = []
+        found: list[object] = []
 
         def poll(request: ServiceRequest) -> None:
             found.extend([request.clock, self.meter.clock, self.link.readstb()])
@@ -418,7 +431,7 @@ class Inputs(WithMeter):
     """Voltages are exact to a microvolt."""
 
     def test_kinds_of_numbers(self) -> None:
-        kinds: Tuple[Tuple[Volts, str], ...] = (
+        kinds: tuple[tuple[Volts, str], ...] = (
             (1, "+1.000000"), (0.1 + 0.2, "+0.300000"), ("-0.000001", "-0.000001"),
             (decimal.Decimal("9.999999"), "+9.999999"), (10, "+10.000000"), ("10.000001", "+9.9E+37"),
             (-1000, "-9.9E+37"), ("1e-3", "+0.001000"))
@@ -428,7 +441,7 @@ class Inputs(WithMeter):
                 self.assertEqual(self.link.query("MEAS:VOLT? (@128)"), reading)
 
     def test_what_is_no_voltage(self) -> None:
-        wrong: Tuple[Volts, ...] = ("0.0000001", decimal.Decimal("1.0000005"), 1000.1, "1000.000001", -1001,
+        wrong: tuple[Volts, ...] = ("0.0000001", decimal.Decimal("1.0000005"), 1000.1, "1000.000001", -1001,
                                     "volts", "nan", float("inf"), "")
         for volts in wrong:
             with self.subTest(volts):

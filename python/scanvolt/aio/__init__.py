@@ -7,6 +7,7 @@
 Links and connections have the methods of those in scanvolt.vxi11 and scanvolt.virtual, which are awaited where they wait. What a
 Meter lacks here, its `virtual` has, such as `explain` and `faults`.
 """
+
 from .client import Client
 from .link import Core, Link, Requests
 from .meter import Connection, Meter

@@ -1,8 +1,11 @@
 """A client over sockets, under asyncio."""
+
+from __future__ import annotations
+
 import asyncio
 import contextlib
 import socket
-from typing import List, Optional, Set, Tuple, TypeVar
+from typing import TypeVar
 
 from ..vxi11 import Call, Reader, calls
 from ..vxi11.client import ELSEWHERE, PATIENCE
@@ -14,7 +17,7 @@ from .link import Core, Link, Requests
 __tracebackhide__ = True        # pytest shows the line that calls the package, and not these frames
 Value = TypeVar("Value")
 Itself = TypeVar("Itself", bound="Client")
-Streams = Tuple[asyncio.StreamReader, asyncio.StreamWriter]
+Streams = tuple[asyncio.StreamReader, asyncio.StreamWriter]
 
 
 class Client(Core):
@@ -25,16 +28,16 @@ class Client(Core):
     late reply would be taken for the reply to the next call. Tasks may share a client: calls go one after the other.
     """
 
-    def __init__(self, host: str = "127.0.0.1", port: Optional[int] = None, patience: float = PATIENCE,
+    def __init__(self, host: str = "127.0.0.1", port: int | None = None, patience: float = PATIENCE,
                  port_mapper: int = 111) -> None:
         self.host, self.port, self.patience, self.port_mapper = host, port, patience, port_mapper
         self.is_open = False
         self._xid = 0
         self._records = Records()
-        self._streams: Optional[Streams] = None
+        self._streams: Streams | None = None
         self._turn: asyncio.Lock             # of the loop in which it is opened
-        self._listeners: List["asyncio.AbstractServer"] = []
-        self._carriers: "Set[asyncio.Task[None]]" = set()        # tasks that read the interrupt channels
+        self._listeners: list[asyncio.AbstractServer] = []
+        self._carriers: set[asyncio.Task[None]] = set()        # tasks that read the interrupt channels
 
     def __repr__(self) -> str:
         return "<Client of %s%s>" % (self, "" if self.is_open else ", closed")
@@ -130,7 +133,7 @@ class Client(Core):
         async with Client(self.host, link.abort_port, self.patience) as channel:
             await channel.do(calls.device_abort(link.number))
 
-    async def listen(self, callback: Optional[Callback] = None) -> Requests:
+    async def listen(self, callback: Callback | None = None) -> Requests:
         """Makes the interrupt channel. Service requests go to the callback, in the loop, or else into a queue."""
         streams = self._check_open()
         requests = Requests(callback)

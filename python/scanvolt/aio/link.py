@@ -1,6 +1,9 @@
 """A link under asyncio, and what a connection to the core channel does."""
+
+from __future__ import annotations
+
 import asyncio
-from typing import Optional, Type, TypeVar, Union
+from typing import TypeVar
 
 from ..vxi11 import Call, DeviceError, LinkCalls, Made, Piece, ServiceRequest, calls
 from ..vxi11.errors import INVALID_LINK
@@ -19,9 +22,9 @@ Itself = TypeVar("Itself", bound="Link")
 class Requests:
     """The service requests of an interrupt channel. They go to a callback, or else into a queue."""
 
-    def __init__(self, callback: Optional[Callback] = None) -> None:
+    def __init__(self, callback: Callback | None = None) -> None:
         self.callback = checked_callback(callback)
-        self.queue: "asyncio.Queue[ServiceRequest]" = asyncio.Queue()
+        self.queue: asyncio.Queue[ServiceRequest] = asyncio.Queue()
 
     async def wait(self, milliseconds: int) -> ServiceRequest:
         """The next service request of the queue. Raises TimeoutError if none comes within this many milliseconds."""
@@ -48,12 +51,12 @@ class Core:
         """Makes a call, and waits for its result."""
         raise NotImplementedError
 
-    async def abort(self, link: "Link") -> None:
+    async def abort(self, link: Link) -> None:
         """Aborts the call that waits on a link, over an abort channel of its own."""
         raise NotImplementedError
 
     async def create_link(self, device: str = "inst0", lock: bool = False, lock_timeout: int = 0,
-                          io_timeout: int = IO_TIMEOUT) -> "Link":
+                          io_timeout: int = IO_TIMEOUT) -> Link:
         """Makes a link; with `lock` the link has the lock. The link keeps these timeouts, in milliseconds."""
         io_timeout = checked(io_timeout, "io_timeout")
         return Link(self, await self.do(calls.create_link(device, lock, lock_timeout)), io_timeout, lock_timeout)
@@ -88,7 +91,7 @@ class Link:
     async def __aenter__(self: Itself) -> Itself:
         return self
 
-    async def __aexit__(self, kind: Optional[Type[BaseException]], *_: object) -> None:
+    async def __aexit__(self, kind: type[BaseException] | None, *_: object) -> None:
         try:
             if self.carrier.is_open:
                 await self.destroy()
@@ -102,7 +105,7 @@ class Link:
         """This link's calls with its present timeouts."""
         return LinkCalls(self.number, self.io_timeout, self.lock_timeout)
 
-    async def write(self, message: Union[bytes, str], end: bool = True) -> int:
+    async def write(self, message: bytes | str, end: bool = True) -> int:
         """Writes a message, in as many calls as needed. If `end` is true, END comes with the last byte. Returns the
         message's length in bytes.
         """
@@ -117,11 +120,11 @@ class Link:
             if taken == 0:
                 raise BadReply("device_write took no byte of %d" % len(piece))
 
-    async def read_piece(self, size: int = READ_SIZE, termination: Optional[int] = None) -> Piece:
+    async def read_piece(self, size: int = READ_SIZE, termination: int | None = None) -> Piece:
         """Makes one device_read: at most `size` bytes, up to END or a termination character (0 to 255)."""
         return await self.carrier.do(self.calls.read(size, termination))
 
-    async def read(self, size: Optional[int] = None, termination: Optional[int] = None) -> bytes:
+    async def read(self, size: int | None = None, termination: int | None = None) -> bytes:
         """Makes reads up to END, up to the termination character, or up to `size` bytes, whichever comes first."""
         if size is not None:
             size = whole(size, 0, WORD, "a read wants a number of bytes")
@@ -133,7 +136,7 @@ class Link:
             if piece.reason & (calls.ENDED | calls.TERMINATOR) or len(data) == size:
                 return data
 
-    async def query(self, message: Union[bytes, str]) -> str:
+    async def query(self, message: bytes | str) -> str:
         """Writes a message and reads its response, without the new line at its end."""
         await self.write(message)
         text = (await self.read()).decode("latin-1")
@@ -159,7 +162,7 @@ class Link:
         """Selects local operation."""
         await self.carrier.do(self.calls.local())
 
-    async def lock(self, timeout: Optional[int] = None) -> None:
+    async def lock(self, timeout: int | None = None) -> None:
         """Takes the lock. Waits for it up to `timeout` milliseconds, or lock_timeout if that isn't given."""
         await self.carrier.do(self.calls.lock(timeout))
 

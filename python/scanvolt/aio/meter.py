@@ -1,7 +1,10 @@
 """An instrument in virtual time whose time is that of an asyncio loop."""
+
+from __future__ import annotations
+
 import asyncio
 import contextlib
-from typing import Optional, Type, TypeVar
+from typing import TypeVar
 
 from .. import virtual
 from ..connection import Pending
@@ -21,7 +24,7 @@ OneConnection = TypeVar("OneConnection", bound="Connection")
 class Connection(Core):
     """A connection to a meter. `close` ends it, and so does the end of an `async with` block."""
 
-    def __init__(self, meter: "Meter", connection: virtual.Connection) -> None:
+    def __init__(self, meter: Meter, connection: virtual.Connection) -> None:
         self.meter, self._connection = meter, connection
 
     def __str__(self) -> str:
@@ -55,11 +58,11 @@ class Connection(Core):
             await self.meter.advance(self.meter.virtual.call_time)
         return pending.result()
 
-    async def _answered(self, pending: "Pending[Value]") -> None:
+    async def _answered(self, pending: Pending[Value]) -> None:
         """Waits until a call is answered. Raises NoAnswer if that can't be."""
         answered = asyncio.get_running_loop().create_future()
 
-        def awake(fault: Optional[Exception]) -> None:
+        def awake(fault: Exception | None) -> None:
             if not answered.done() and fault is None:
                 answered.set_result(None)
             elif not answered.done() and fault is not None:
@@ -73,7 +76,7 @@ class Connection(Core):
         async with self.meter.connect("abort") as channel:
             await channel.do(calls.device_abort(link.number))
 
-    async def listen(self, callback: Optional[Callback] = None) -> Requests:
+    async def listen(self, callback: Callback | None = None) -> Requests:
         """Makes the interrupt channel. Service requests go to the callback as time passes, or else into a queue."""
         requests = Requests(callback)
         self._connection.on_service_request(requests._came)
@@ -88,7 +91,7 @@ class Meter:
     It takes what virtual.Meter takes; `virtual` is that meter.
     """
 
-    def __init__(self, program: Optional[Name] = None, scenario: Optional[Name] = None,
+    def __init__(self, program: Name | None = None, scenario: Name | None = None,
                  patience: int = virtual.PATIENCE, call_time: int = 0) -> None:
         self.virtual = virtual.Meter(program, scenario, patience, call_time)
         self._keeping = contextlib.ExitStack()
@@ -100,7 +103,7 @@ class Meter:
         self._keeping.enter_context(self.virtual.keeping_time())
         return self
 
-    async def __aexit__(self, kind: Optional[Type[BaseException]], *_: object) -> None:
+    async def __aexit__(self, kind: type[BaseException] | None, *_: object) -> None:
         self._keeping.close()
         self.close()
 

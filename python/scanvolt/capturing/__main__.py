@@ -1,4 +1,5 @@
 """`python3 -m scanvolt.capturing` is `scanvolt-capture`."""
+
 import sys
 
 from .command import main

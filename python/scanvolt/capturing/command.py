@@ -41,9 +41,11 @@ Status: 0 a script was written, or all replies are equal; 1 a reply differs; 2 i
 isn't a capture, is cut off or lacks bytes; tshark is missing; --start is far from the first packet; or the
 program that replays ends early. Standard error has the reason then.
 """
+
+from __future__ import annotations
+
 import argparse
 import sys
-from typing import Dict, List, Optional, Set
 
 from ..program import ProgramError, find_program
 from ..vxi11.calls import PORT
@@ -61,7 +63,7 @@ NAME = "scanvolt-capture"
 FAR = 60 * 10 ** 9      # nanoseconds between the start and the first packet that are probably wrong
 
 
-def words(given: Optional[List[str]]) -> argparse.Namespace:
+def words(given: list[str] | None) -> argparse.Namespace:
     """The arguments of the command line."""
     parser = argparse.ArgumentParser(
         prog=NAME, description=__doc__, formatter_class=argparse.RawDescriptionHelpFormatter)
@@ -90,7 +92,7 @@ def words(given: Optional[List[str]]) -> argparse.Namespace:
 def session_of(given: argparse.Namespace) -> Session:
     """The session of the capture."""
     portmap = {given.portmap} if given.portmap else {PORT, 4111}
-    ports: Dict[str, Set[int]] = {"core": {given.core}, "abort": {given.abort}, "portmap": portmap}
+    ports: dict[str, set[int]] = {"core": {given.core}, "abort": {given.abort}, "portmap": portmap}
     start = nanoseconds(given.start) if given.start else None
     server = {port for found in ports.values() for port in found}
     found = packets(given.capture)
@@ -105,7 +107,7 @@ def session_of(given: argparse.Namespace) -> Session:
     return session
 
 
-def compare(session: Session, entries: List[Scheduled], given: argparse.Namespace) -> int:
+def compare(session: Session, entries: list[Scheduled], given: argparse.Namespace) -> int:
     """Compares, and prints the outcome. Returns the status."""
     comparison = Comparison(session, entries, given.program or find_program(), given.other_starts)
     telling = Telling(session, given.slack)
@@ -122,7 +124,7 @@ def compare(session: Session, entries: List[Scheduled], given: argparse.Namespac
     return 1
 
 
-def again(session: Session, ticks: List[int], given: argparse.Namespace) -> int:
+def again(session: Session, ticks: list[int], given: argparse.Namespace) -> int:
     """Makes the same calls in virtual time, and prints the outcome. Returns the status."""
     found = Again(session, ticks, given.program, given.scenario)
     told_again = found.differences()
@@ -138,7 +140,7 @@ def record(session: Session, given: argparse.Namespace) -> int:
     return 1 if differ else 0
 
 
-def main(given_words: Optional[List[str]] = None) -> int:
+def main(given_words: list[str] | None = None) -> int:
     """Runs the command. Returns its status."""
     own = sys.argv[1:] if given_words is None else given_words
     if own[:1] == ["explain"]:

@@ -1,9 +1,12 @@
 """Compares what a replay sends with what the capture has, and tries other ticks where they differ."""
+
+from __future__ import annotations
+
 import re
 import subprocess
 import time
+from collections.abc import Iterable, Iterator, Sequence
 from dataclasses import dataclass
-from typing import Dict, Iterable, Iterator, List, Optional, Sequence, Tuple
 
 from ..lifeline import Tied
 from . import orders
@@ -28,12 +31,12 @@ class Difference:
 
     kind: str
     point: int
-    flow: Optional[Flow] = None
+    flow: Flow | None = None
     place: int = 0
     found: bytes = b""
 
 
-def replies(program: str, lines: List[str], count: int, options: Sequence[str] = ()) -> List[List[List[str]]]:
+def replies(program: str, lines: list[str], count: int, options: Sequence[str] = ()) -> list[list[list[str]]]:
     """What the replay prints after each point. `count` is how many points there are."""
     text = "".join(line + "\n" for line in lines).encode()
     try:
@@ -44,7 +47,7 @@ def replies(program: str, lines: List[str], count: int, options: Sequence[str] =
         raise Fault("%s doesn't run: %s" % (program, error.strerror)) from None
     if status != 0:
         raise Fault("%s replay: status %d, %s" % (program, status, faults.decode(errors="replace").strip()))
-    blocks: List[List[List[str]]] = [[]]
+    blocks: list[list[list[str]]] = [[]]
     for line in printed.decode(errors="replace").splitlines():
         if line == MARKED:
             blocks.append([])
@@ -73,7 +76,7 @@ class Comparison:
     `others` says so.
     """
 
-    def __init__(self, session: Session, entries: List[Scheduled], program: str, others: bool = False) -> None:
+    def __init__(self, session: Session, entries: list[Scheduled], program: str, others: bool = False) -> None:
         self.points = session.points
         self.told = session.told    # whether --start was given
         self.others = others or not self.told
@@ -81,12 +84,12 @@ class Comparison:
         self._ending = session.end - session.start - ENDING
         self._entries = entries
         self._program = program
-        self._found: Dict[int, bytearray] = {}
+        self._found: dict[int, bytearray] = {}
         self.early = 0          # by how many milliseconds the start is taken earlier than the session says
         self.swapped = 0        # how many calls are taken later than the capture suggests
         self.farthest = 0       # the start tried that is farthest off, in milliseconds
 
-    def _first(self, ticks: List[int], last: Optional[int] = None) -> Optional[Difference]:
+    def _first(self, ticks: list[int], last: int | None = None) -> Difference | None:
         """The first difference up to the point `last`. `ticks` says how many ticks pass before each point."""
         points = self.points if last is None else self.points[:last + 1]
         lines = script(points, ticks, self._entries, mark=True)
@@ -98,7 +101,7 @@ class Comparison:
                 return difference
         return None
 
-    def _at(self, number: int, point: Point, block: List[List[str]]) -> Optional[Difference]:
+    def _at(self, number: int, point: Point, block: list[list[str]]) -> Difference | None:
         """The first difference at a point."""
         for words in block:
             if words[0] == "refused":
@@ -113,7 +116,7 @@ class Comparison:
                 return Difference("missing", number, flow, len(found))
         return None
 
-    def _sent(self, number: int, flow: Flow, data: bytes) -> Optional[Difference]:
+    def _sent(self, number: int, flow: Flow, data: bytes) -> Difference | None:
         """The first difference in what is sent on a flow."""
         found = self._found.setdefault(id(flow), bytearray())
         begun = len(found)
@@ -128,7 +131,7 @@ class Comparison:
             return None
         return Difference("more", number, flow, len(flow.wanted), bytes(found))
 
-    def settle(self, slack: int, watch: Optional[Watch] = None) -> Tuple[Optional[Difference], List[int]]:
+    def settle(self, slack: int, watch: Watch | None = None) -> tuple[Difference | None, list[int]]:
         """The first difference that remains if the ticks of each point may be up to `slack` earlier or
         later; and the ticks of each point.
         """
@@ -144,7 +147,7 @@ class Comparison:
                 return difference, ticks
             ticks = trial
 
-    def _better(self, ticks: List[int], difference: Difference, slack: int, watch: Watch) -> Optional[List[int]]:
+    def _better(self, ticks: list[int], difference: Difference, slack: int, watch: Watch) -> list[int] | None:
         """Ticks with which there is no difference up to the point of `difference`, if some are found: one
         point is moved, or the start.
         """
@@ -175,7 +178,7 @@ class Comparison:
         self.late = time.monotonic() >= until
         return self.late
 
-    def _starts(self, difference: Difference) -> List[int]:
+    def _starts(self, difference: Difference) -> list[int]:
         """By how many milliseconds the server may have started earlier, the least first. Without a scenario, and
         with a start that was told, none is tried. With one, each start that is near, and those at which an entry of the scenario
         comes about the time of the reply that differs. Without --start, the server started no later than the
@@ -191,12 +194,12 @@ class Comparison:
             found.update(self._farther(steps)[:STARTS])
         return self._farther(found)
 
-    def _farther(self, steps: Iterable[int]) -> List[int]:
+    def _farther(self, steps: Iterable[int]) -> list[int]:
         """Those of `steps` that are farther off than the start taken now, the least first."""
         found = [step for step in steps if abs(step) > abs(self.early) and (step > 0 or self.told)]
         return sorted(found, key=lambda step: (abs(step), -step))
 
-    def _reorder(self, ticks: List[int], difference: Difference) -> bool:
+    def _reorder(self, ticks: list[int], difference: Difference) -> bool:
         """Whether the difference is gone if a call is taken after another connection's call."""
         flow = difference.flow
         if flow is None:
@@ -208,7 +211,7 @@ class Comparison:
                 return True
         return False
 
-    def _trials(self, ticks: List[int], difference: Difference, slack: int) -> Iterator[List[int]]:
+    def _trials(self, ticks: list[int], difference: Difference, slack: int) -> Iterator[list[int]]:
         """Ticks with one point moved, earlier or later: the point of the call's turn, or that of its reply."""
         reply = reply_at(difference.flow, difference.place) if difference.flow else None
         places = [difference.point]
@@ -223,11 +226,11 @@ class Comparison:
                     if trial and self._is_near(trial, slack):
                         yield trial
 
-    def _is_near(self, ticks: List[int], slack: int) -> bool:
+    def _is_near(self, ticks: list[int], slack: int) -> bool:
         return all(abs(count - max(0, point.ticks + self.early)) <= slack
                    for count, point in zip(ticks, self.points))
 
-    def _moved(self, ticks: List[int], place: int, step: int) -> Optional[List[int]]:
+    def _moved(self, ticks: list[int], place: int, step: int) -> list[int] | None:
         """The ticks with `step` more or fewer at a point. Points before and after it are moved if order wants it."""
         count = ticks[place] + step
         if count < 0:

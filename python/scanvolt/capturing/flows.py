@@ -1,6 +1,8 @@
 """What a session is made of: points in time, connections, and what the server sends on each."""
+
+from __future__ import annotations
+
 from dataclasses import dataclass, field
-from typing import Dict, List, Optional, Tuple
 
 from ..vxi11 import CallMessage, Record, Records, XdrError, name_of, read_call
 from .streams import Stream
@@ -17,10 +19,10 @@ class Point:
 
     time: int
     ticks: int
-    lines: List[str] = field(default_factory=list)
-    owners: "Dict[str, Flow]" = field(default_factory=dict)
+    lines: list[str] = field(default_factory=list)
+    owners: dict[str, Flow] = field(default_factory=dict)
     # What the replay has to have sent by now: a flow, and how many of its bytes.
-    due: "List[Tuple[Flow, int]]" = field(default_factory=list)
+    due: list[tuple[Flow, int]] = field(default_factory=list)
 
 
 @dataclass
@@ -34,7 +36,7 @@ class Reply:
     name: str
     turn: int
     due: int
-    call: Optional[CallMessage] = None
+    call: CallMessage | None = None
 
 
 class Flow:
@@ -44,11 +46,11 @@ class Flow:
         self.name = name
         self.wanted = bytearray()               # all bytes that were sent
         self._records = Records()
-        self.replies: List[Reply] = []
+        self.replies: list[Reply] = []
         # Bytes after these aren't compared: the capture doesn't have the stream, or the peer closed it.
         self.loose = loose
 
-    def push(self, data: bytes, point: Point) -> List[Record]:
+    def push(self, data: bytes, point: Point) -> list[Record]:
         """Takes bytes that were sent at this point. Returns the records that are complete now."""
         self.wanted += data
         point.due.append((self, len(self.wanted)))
@@ -65,11 +67,11 @@ class Connection:
         self.flow = Flow(stream.name())         # what the server sends on it
         self._asks = Records()
         self._backlog = b""      # bytes that the server has no room for yet
-        self.records: List[Record] = []         # those that came
-        self.calls: List[CallMessage] = []
-        self.turns: List[int] = []              # the point of each turn
-        self.channel: Optional[Flow] = None     # the flow of its interrupt channel
-        self.channels: List[Flow] = []          # of all that it had, in their order
+        self.records: list[Record] = []         # those that came
+        self.calls: list[CallMessage] = []
+        self.turns: list[int] = []              # the point of each turn
+        self.channel: Flow | None = None     # the flow of its interrupt channel
+        self.channels: list[Flow] = []          # of all that it had, in their order
 
     def _room(self) -> int:
         """How many more bytes of the connection the server takes (docs/RULES.md says how: sv_rpc RecordBuf)."""
@@ -80,7 +82,7 @@ class Connection:
         kept = sum(4 + len(record.body) for record in unanswered)
         return max(0, ROOM - kept - self._asks.held())
 
-    def feed(self, data: bytes, lines: List[str]) -> None:
+    def feed(self, data: bytes, lines: list[str]) -> None:
         """Gives the server as many bytes as it has room for; the others follow later."""
         self._backlog += data
         while self._backlog and self._room():
@@ -94,7 +96,7 @@ class Connection:
         """Whether its next call can be taken: the calls before it have their replies."""
         return len(self.turns) == len(self.flow.replies) < len(self.calls)
 
-    def turn(self, place: int, lines: List[str]) -> None:
+    def turn(self, place: int, lines: list[str]) -> None:
         """Takes the connection's next call, at the point of this place."""
         self.turns.append(place)
         lines.append("turn %d" % self.number)
@@ -113,6 +115,6 @@ def name(call: CallMessage) -> str:
     return name_of(call.program, call.procedure) if call.program else "a call that can't be read"
 
 
-def reply_at(flow: Flow, place: int) -> Optional[Reply]:
+def reply_at(flow: Flow, place: int) -> Reply | None:
     """The reply that has this byte of a flow, if there is one."""
     return next((reply for reply in flow.replies if reply.end > place), None)

@@ -3,22 +3,25 @@
 A call that came while the server swept was taken in the next sweep, after calls that came later on
 connections of lower numbers. A capture doesn't show the order in which waiting calls were taken, as for the lock.
 """
-from typing import Dict, Iterator, List, Optional, Tuple
+
+from __future__ import annotations
+
+from collections.abc import Iterator
 
 from .flows import Flow, Point, Reply, reply_at
 
 NEAR = 3_000_000        # such calls came at most this many nanoseconds apart
 
 
-def turn_of(points: List[Point], flow: Flow, place: int) -> Optional[str]:
+def turn_of(points: list[Point], flow: Flow, place: int) -> str | None:
     """The line that takes the call of a reply, if the flow is that of a connection."""
     return next(("turn " + name[1:] for name, one in points[place].owners.items()
                  if one is flow and name[0] == "c"), None)
 
 
-def ahead(points: List[Point], found: Dict[int, bytearray], place: int, own: Flow) -> Iterator[Tuple[Flow, Reply]]:
+def ahead(points: list[Point], found: dict[int, bytearray], place: int, own: Flow) -> Iterator[tuple[Flow, Reply]]:
     """Replies that the replay sent before this point and that come later in the capture."""
-    due: Dict[int, int] = {}
+    due: dict[int, int] = {}
     for point in points[:place + 1]:
         for flow, count in point.due:
             due[id(flow)] = count
@@ -30,8 +33,8 @@ def ahead(points: List[Point], found: Dict[int, bytearray], place: int, own: Flo
                 yield flow, reply
 
 
-def later(points: List[Point], found: Dict[int, bytearray], place: int, own: Flow,
-          reply: Optional[Reply]) -> Iterator[None]:
+def later(points: list[Point], found: dict[int, bytearray], place: int, own: Flow,
+          reply: Reply | None) -> Iterator[None]:
     """Moves a call that the replay answered too early after the call of `own` whose reply differs at this
     point. Yields one trial after the other; each is undone before the next.
     """

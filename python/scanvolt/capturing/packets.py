@@ -1,8 +1,11 @@
 """The TCP packets of a capture, as tshark reads them."""
+
+from __future__ import annotations
+
 import os
 import subprocess
+from collections.abc import Sequence
 from dataclasses import dataclass
-from typing import List, Sequence, Tuple
 
 FIELDS = ("frame.number", "frame.time_epoch", "tcp.stream", "ip.src", "tcp.srcport", "ip.dst", "tcp.dstport",
           "tcp.seq", "tcp.ack", "tcp.flags", "tcp.len", "frame.len", "frame.cap_len")
@@ -14,7 +17,7 @@ FIN, SYN, RST, ACK = 1, 2, 4, 16
 # them compressed, by gzip, zstd or lz4. It would read any lines of text as packets, too.
 BEGINNINGS = tuple(map(bytes.fromhex, ("a1b2c3d4", "d4c3b2a1", "a1b23c4d", "4d3cb2a1", "a1b2cd34", "34cdb2a1", "0a0d0d0a",
                                        "1f8b", "28b52ffd", "04224d18")))
-End = Tuple[str, int]
+End = tuple[str, int]
 
 
 class Fault(Exception):
@@ -64,7 +67,7 @@ def must_be_capture(path: str) -> None:
         raise Fault("%s isn't a capture: it begins neither as a pcap file nor as a pcapng file" % path)
 
 
-def tshark(path: str, words: Sequence[str]) -> List[str]:
+def tshark(path: str, words: Sequence[str]) -> list[str]:
     """The lines that tshark prints for a capture."""
     must_be_capture(path)
     try:
@@ -87,7 +90,7 @@ def packet(line: str) -> Packet:
                   int(seq), int(ack or "0"), int(flags, 16), int(size))
 
 
-def packets(path: str) -> List[Packet]:
+def packets(path: str) -> list[Packet]:
     """The TCP packets of a capture, in its order."""
     words = ["-Y", "tcp && ip", "-T", "fields", "-E", "separator=/t", "-E", "occurrence=f"]
     words += [word for name in FIELDS for word in ("-e", name)]

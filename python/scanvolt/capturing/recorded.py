@@ -1,8 +1,11 @@
 """The record that a server kept of a session (docs/REPLAY.md), and the capture of that session: a replay of the record has to send
 the bytes that the sockets took, on each connection and each interrupt channel.
 """
+
+from __future__ import annotations
+
+from collections.abc import Iterator, Sequence
 from dataclasses import dataclass, field
-from typing import Dict, Iterator, List, Sequence, Tuple
 
 from ..program import in_a_line
 from ..serving.ports import ROLES
@@ -21,10 +24,10 @@ class _Sent:
     role: str
     came: bytearray = field(default_factory=bytearray)
     sent: bytearray = field(default_factory=bytearray)
-    channels: "List[_Sent]" = field(default_factory=list)
+    channels: list[_Sent] = field(default_factory=list)
 
 
-def read(path: str) -> List[str]:
+def read(path: str) -> list[str]:
     """The whole lines of a record."""
     try:
         with open(path, "rb") as file:
@@ -34,12 +37,12 @@ def read(path: str) -> List[str]:
     return text[:text.rfind(b"\n") + 1].decode("latin-1").splitlines()
 
 
-def replayed(program: str, record: List[str], ports: Tuple[int, int]) -> List[_Sent]:
+def replayed(program: str, record: list[str], ports: tuple[int, int]) -> list[_Sent]:
     """The connections of a record in the order in which they opened, with what a replay by these ports sends."""
     marked = [one for line in record for one in (line, MARK)]
     blocks = replies(program, marked, len(record), ["--core", str(ports[0]), "--abort", str(ports[1])])
-    found: List[_Sent] = []
-    now: Dict[str, _Sent] = {}       # by the names that the replay prints
+    found: list[_Sent] = []
+    now: dict[str, _Sent] = {}       # by the names that the replay prints
     for number, (line, block) in enumerate(zip(record, blocks), 1):
         if len(blocks) > len(record) or ["refused"] in [words[:1] for words in block]:
             raise Fault("the replay refuses an event of the record, line %d or one before: %s" % (
@@ -50,7 +53,7 @@ def replayed(program: str, record: List[str], ports: Tuple[int, int]) -> List[_S
     return found
 
 
-def begin(words: Sequence[str], now: Dict[str, _Sent], found: List[_Sent]) -> None:
+def begin(words: Sequence[str], now: dict[str, _Sent], found: list[_Sent]) -> None:
     """Takes an event of a record: a connection opens, bytes come on it, or its channel is connected."""
     if words[0] == "open":
         found.append(_Sent(words[2]))
@@ -62,7 +65,7 @@ def begin(words: Sequence[str], now: Dict[str, _Sent], found: List[_Sent]) -> No
         now["c" + words[1]].channels.append(now["i" + words[1]])
 
 
-def differences(session: Session, found: List[_Sent]) -> Iterator[str]:
+def differences(session: Session, found: list[_Sent]) -> Iterator[str]:
     """The lines that say how the record and the capture differ."""
     for role in ROLES:
         taken, sent = [one for one in session.connections if one.role == role], [one for one in found if one.role == role]

@@ -1,5 +1,6 @@
 """The lines of a replay script: events, ticks, and the entries of a scenario."""
-from typing import List, Tuple
+
+from __future__ import annotations
 
 from ..stimulus import read_scenario
 from .flows import Point
@@ -8,10 +9,10 @@ from .packets import Fault
 MOST = 1_000_000        # ticks of one line
 # A line that is refused and changes nothing: its output shows how far the replay is.
 MARK, MARKED = "input 0 0", "refused 8"
-Scheduled = Tuple[int, str]
+Scheduled = tuple[int, str]
 
 
-def scenario(path: str) -> List[Scheduled]:
+def scenario(path: str) -> list[Scheduled]:
     """The entries of a scenario: the tick, and the line of a replay."""
     try:
         return [(entry.clock, entry.line.decode().rstrip("\n")) for entry in read_scenario(path)]
@@ -24,17 +25,17 @@ def scenario(path: str) -> List[Scheduled]:
 class _Clock:
     """Writes ticks, and before and after each tick the entries of the scenario that are due."""
 
-    def __init__(self, entries: List[Scheduled]) -> None:
+    def __init__(self, entries: list[Scheduled]) -> None:
         self._entries = entries
         self._next = 0
         self._ticks = 0
 
-    def _due(self, lines: List[str]) -> None:
+    def _due(self, lines: list[str]) -> None:
         while self._next < len(self._entries) and self._entries[self._next][0] <= self._ticks:
             lines.append(self._entries[self._next][1])
             self._next += 1
 
-    def reach(self, ticks: int, lines: List[str]) -> None:
+    def reach(self, ticks: int, lines: list[str]) -> None:
         """Lets time pass until this many ticks have passed since the start."""
         self._due(lines)
         while self._ticks < ticks:
@@ -46,10 +47,10 @@ class _Clock:
             self._due(lines)
 
 
-def script(points: List[Point], ticks: List[int], entries: List[Scheduled], mark: bool = False) -> List[str]:
+def script(points: list[Point], ticks: list[int], entries: list[Scheduled], mark: bool = False) -> list[str]:
     """The lines of these points. `ticks` says how many ticks pass before each."""
     clock = _Clock(entries)
-    lines: List[str] = []
+    lines: list[str] = []
     for point, count in zip(points, ticks):
         clock.reach(count, lines)
         lines += point.lines

@@ -5,7 +5,8 @@ milliseconds pass that are over, and writes. So a call is taken when its last by
 to the call before it. Milliseconds that were over when something came have passed before it: if the server
 slept meanwhile, they were passed in a sweep of their own.
 """
-from typing import Dict, List, Optional, Set
+
+from __future__ import annotations
 
 from ..vxi11 import CallMessage, Reader, Record, RpcError, XdrError, calls, read_reply, words
 from ..vxi11.errors import NOT_ESTABLISHED
@@ -26,16 +27,16 @@ LINK_PORT, ASKED_PORT = len(words(0, 0)), 0
 class Session:
     """What happened, point by point."""
 
-    def __init__(self, streams: List[Stream], ports: Dict[str, Set[int]], end: int,
-                 start: Optional[int] = None, as_told: bool = False) -> None:
+    def __init__(self, streams: list[Stream], ports: dict[str, set[int]], end: int,
+                 start: int | None = None, as_told: bool = False) -> None:
         self._ports = ports
         self._as_told = as_told      # whether replies keep the ports that they tell
-        self.points: List[Point] = []
-        self._numbers: Dict[int, Connection] = {}        # the connections that are open, by number
-        self.connections: List[Connection] = []     # all that there were, in their order
+        self.points: list[Point] = []
+        self._numbers: dict[int, Connection] = {}        # the connections that are open, by number
+        self.connections: list[Connection] = []     # all that there were, in their order
         self.dropped = 0        # connections that the server dropped: it has room for sixteen
-        self._by_stream: Dict[int, Connection] = {}
-        self.channels: Dict[int, Flow] = {}             # the flows of interrupt channels, by their streams
+        self._by_stream: dict[int, Connection] = {}
+        self.channels: dict[int, Flow] = {}             # the flows of interrupt channels, by their streams
         self.unseen = 0         # interrupt channels that the capture doesn't have
         roles = {port: role for role, found in ports.items() for port in found}
         self._roles = {id(one): roles.get(one.callee[1]) for one in streams}
@@ -64,9 +65,9 @@ class Session:
     def _here(self) -> int:
         return len(self.points) - 1
 
-    def _play(self, happenings: List[Happening]) -> None:
+    def _play(self, happenings: list[Happening]) -> None:
         """Plays what happened. Calls that came together are taken in the order of their replies."""
-        burst: List[Happening] = []
+        burst: list[Happening] = []
         for place, what in enumerate(happenings):
             server = self._roles[id(what.stream)]
             if server and what.kind in ("opened", "sent"):
@@ -80,7 +81,7 @@ class Session:
                 self._one(what, server)
         self._bring(burst, [])
 
-    def _one(self, what: Happening, server: Optional[str]) -> None:
+    def _one(self, what: Happening, server: str | None) -> None:
         """Plays what the server did, or what happened on an interrupt channel."""
         if not server:
             self._on_channel(what)
@@ -91,7 +92,7 @@ class Session:
             else:
                 self._close(connection, what)
 
-    def _bring(self, burst: List[Happening], order: List[Stream]) -> None:
+    def _bring(self, burst: list[Happening], order: list[Stream]) -> None:
         """Plays a burst: connections open, bytes come, and calls are taken."""
         if not burst:
             return
@@ -106,9 +107,9 @@ class Session:
             connection.turn(self._here(), point.lines)
         self._swept = max(self._swept, burst[-1].time)
 
-    def _in_order(self, burst: List[Happening]) -> List[Connection]:
+    def _in_order(self, burst: list[Happening]) -> list[Connection]:
         """The connections on which bytes came, ordered by when their last bytes came."""
-        found: List[Connection] = []
+        found: list[Connection] = []
         for what in burst:
             connection = self._by_stream.get(id(what.stream))
             if connection is None:
@@ -145,7 +146,7 @@ class Session:
         point = self._point(what.time - WRITING)
         for record in connection.flow.push(what.data, point):
             self._reply(connection, record, point)
-        lines: List[str] = []
+        lines: list[str] = []
         connection.feed(b"", lines)
         # A sweep that reads the end of the stream closes the connection, and takes no call.
         left = connection.stream.left
@@ -183,7 +184,7 @@ class Session:
                     flow.wanted[place:place + len(told)] = words(port)
                     return
 
-    def _on_dial(self, connection: Connection, call: CallMessage, error: Optional[int], point: Point) -> None:
+    def _on_dial(self, connection: Connection, call: CallMessage, error: int | None, point: Point) -> None:
         """What became of an interrupt channel, as the reply to a call about it says."""
         number = connection.number
         turn = self.points[connection.turns[len(connection.flow.replies) - 1]]
@@ -225,12 +226,12 @@ class Session:
         elif what.kind == "closed":
             flow.loose = True
 
-    def flows(self) -> List[Flow]:
+    def flows(self) -> list[Flow]:
         """The flows of all connections and of the interrupt channels that the capture has."""
         return [one.flow for one in self.connections] + list(self.channels.values())
 
 
-def error_of(body: bytes, xid: int) -> Optional[int]:
+def error_of(body: bytes, xid: int) -> int | None:
     """The error at the start of a reply's result, if the reply has a result."""
     try:
         return Reader(read_reply(body, xid)).signed()
@@ -238,7 +239,7 @@ def error_of(body: bytes, xid: int) -> Optional[int]:
         return None
 
 
-def answers(happenings: List[Happening]) -> List[Stream]:
+def answers(happenings: list[Happening]) -> list[Stream]:
     """The streams on which the server answers next, before anything else happens."""
     found = []
     for what in happenings:
@@ -248,7 +249,7 @@ def answers(happenings: List[Happening]) -> List[Stream]:
     return found
 
 
-def as_answered(ready: List[Connection], order: List[Stream]) -> List[Connection]:
+def as_answered(ready: list[Connection], order: list[Stream]) -> list[Connection]:
     """The connections in the order in which they were answered. Those not in `order` keep their places."""
     places = {id(stream): place for place, stream in reversed(list(enumerate(order)))}
     answered = [one for one in ready if id(one.stream) in places]

@@ -1,10 +1,13 @@
 """TCP streams, whose bytes tshark put together: what happened on each, as the server saw it."""
+
+from __future__ import annotations
+
 import base64
 import binascii
 import re
 from collections import defaultdict
+from collections.abc import Iterable
 from dataclasses import dataclass, field
-from typing import Dict, Iterable, List, Optional, Set
 
 from .packets import ACK, FIN, RST, SYN, End, Fault, Packet, tshark
 
@@ -22,7 +25,7 @@ class Happening:
     time: int
     number: int
     kind: str
-    stream: "Stream"
+    stream: Stream
     data: bytes = b""
 
 
@@ -33,8 +36,8 @@ class Stream:
     caller: End
     callee: End
     begun: int
-    left: Optional[int] = None
-    happenings: List[Happening] = field(default_factory=list)
+    left: int | None = None
+    happenings: list[Happening] = field(default_factory=list)
 
     def name(self) -> str:
         """Who called whom, in words."""
@@ -50,9 +53,9 @@ class _Piece:
     data: bytes
 
 
-def followed(path: str, packets: Dict[int, Packet], numbers: List[int]) -> Dict[int, List[_Piece]]:
+def followed(path: str, packets: dict[int, Packet], numbers: list[int]) -> dict[int, list[_Piece]]:
     """The bytes of these streams in both directions, as tshark follows them."""
-    found: Dict[int, List[_Piece]] = defaultdict(list)
+    found: dict[int, list[_Piece]] = defaultdict(list)
     for start in range(0, len(numbers), AT_ONCE):
         words = ["-q"]
         for number in numbers[start:start + AT_ONCE]:
@@ -62,11 +65,11 @@ def followed(path: str, packets: Dict[int, Packet], numbers: List[int]) -> Dict[
     return found
 
 
-def pieces(lines: Iterable[str], packets: Dict[int, Packet]) -> Iterable[_Piece]:
+def pieces(lines: Iterable[str], packets: dict[int, Packet]) -> Iterable[_Piece]:
     """The pieces in the lines that tshark prints: `packet: NUMBER`, `peer: 0` for the caller, and after `data:`
     lines of base64.
     """
-    packet: Optional[Packet] = None
+    packet: Packet | None = None
     called, text = True, ""
     for line in [*lines, "peers:"]:
         if line.startswith("      "):
@@ -98,7 +101,7 @@ class _Direction:
     def __init__(self) -> None:
         self._reached = 0        # the end of the farthest packet, in bytes
         self._known = 0          # the bytes that the other side acknowledged
-        self.end: Optional[Packet] = None       # the packet that ended the direction
+        self.end: Packet | None = None       # the packet that ended the direction
 
     def take(self, packet: Packet) -> None:
         """Takes a packet of this side. Its bytes are counted from 1: 0 is the beginning of the stream."""
@@ -124,9 +127,9 @@ class _Following:
         self.stream = Stream(packet.source, packet.target, packet.time)
         self._sides = {True: _Direction(), False: _Direction()}
         self._answered = False
-        self._opened: Optional[Packet] = None
-        self._reset: Optional[Packet] = None
-        self._pieces: List[_Piece] = []
+        self._opened: Packet | None = None
+        self._reset: Packet | None = None
+        self._pieces: list[_Piece] = []
 
     def take(self, packet: Packet) -> None:
         """Takes a packet of the stream."""
@@ -146,7 +149,7 @@ class _Following:
         if called and packet.flags & FIN and self.stream.left is None:
             self.stream.left = packet.time
 
-    def play(self, found: List[_Piece]) -> None:
+    def play(self, found: list[_Piece]) -> None:
         """What happened, given these bytes. The bytes of a direction are in order, even if its packets weren't."""
         self._pieces = found
         if self._opened is None:
@@ -188,11 +191,11 @@ def later(first: Packet, second: Packet) -> Packet:
     return first if first.number >= second.number else second
 
 
-def streams(path: str, packets: List[Packet], ports: Set[int]) -> List[Stream]:
+def streams(path: str, packets: list[Packet], ports: set[int]) -> list[Stream]:
     """The streams of a capture, in the order in which they began. Raises Fault if a stream of one of the server's
     ports began before the capture.
     """
-    begun: Dict[int, _Following] = {}
+    begun: dict[int, _Following] = {}
     for packet in packets:
         if packet.stream not in begun:
             if packet.flags & (SYN | ACK) != SYN:

@@ -1,6 +1,8 @@
 """What a comparison prints while it runs: the first difference at once, then what is tried, and at the end what remains."""
+
+from __future__ import annotations
+
 import signal
-from typing import List, Optional
 
 from . import compare
 from .compare import Comparison, Difference, Watch
@@ -8,7 +10,7 @@ from .session import Session
 from .told import counted, summary, told
 
 
-def say(lines: List[str]) -> None:
+def say(lines: list[str]) -> None:
     """Prints lines at once. If the reader of the output has ended (SIGPIPE), this process ends too. At other times
     SIGPIPE is ignored, since a program that replays may end before it has read its script.
     """
@@ -23,7 +25,7 @@ class Telling(Watch):
     def __init__(self, session: Session, slack: int) -> None:
         self._session = session
         self._slack = slack
-        self._shown: Optional[Difference] = None
+        self._shown: Difference | None = None
         self._begun = False
 
     def begin(self) -> None:

@@ -1,6 +1,8 @@
 """What is printed about a comparison."""
+
+from __future__ import annotations
+
 import re
-from typing import List, Optional
 
 from ..vxi11 import CallMessage, Reader, XdrError, calls
 from .compare import Comparison, Difference
@@ -13,7 +15,7 @@ TEXT_MOST = 100         # characters of a message that are shown
 READING, NO_VOLTS = re.compile(rb"[+-][0-9]+[.][0-9]{6}"), b"+0.000000"
 
 
-def counted(count: int, one: str, many: Optional[str] = None) -> str:
+def counted(count: int, one: str, many: str | None = None) -> str:
     return "%d %s" % (count, one if count == 1 else many or one + "s")
 
 
@@ -33,7 +35,7 @@ def summary(session: Session) -> str:
     return ", ".join(told)
 
 
-def moves(comparison: Comparison, ticks: List[int]) -> str:
+def moves(comparison: Comparison, ticks: list[int]) -> str:
     """How many points have other ticks than the times of their packets say, and by how much."""
     points, early = comparison.points, comparison.early
     found = [abs(max(0, point.ticks + early) - count) for point, count in zip(points, ticks)]
@@ -49,11 +51,11 @@ def moves(comparison: Comparison, ticks: List[int]) -> str:
         count, len(points), max(found), start)
 
 
-def seconds(points: List[Point], place: int) -> str:
+def seconds(points: list[Point], place: int) -> str:
     return "%.3f s after the start" % (points[place].time / 1e9)
 
 
-def told(session: Session, difference: Difference) -> List[str]:
+def told(session: Session, difference: Difference) -> list[str]:
     """The lines that show a difference."""
     points, flow = session.points, difference.flow
     when = seconds(points, difference.point)
@@ -83,7 +85,7 @@ def told(session: Session, difference: Difference) -> List[str]:
     return lines
 
 
-def shown(where: str, data: bytes, place: int) -> List[str]:
+def shown(where: str, data: bytes, place: int) -> list[str]:
     """Bytes in rows around a place: the number of each row's first byte, the bytes, and their text."""
     row = place // ROW
     starts = range(max(0, row - AROUND) * ROW, min(len(data), (row + AROUND + 1) * ROW), ROW)
@@ -100,7 +102,7 @@ def shown_byte(byte: int) -> str:
     return chr(byte) if 32 <= byte < 127 else "."
 
 
-def messages(session: Session, flow: Flow, reply: Optional[Reply]) -> List[str]:
+def messages(session: Session, flow: Flow, reply: Reply | None) -> list[str]:
     """The line that shows the last message written before a reply, on the reply's link if its call has one."""
     connection = next((one for one in session.connections if one.flow is flow), None)
     if connection is None or reply is None or reply.call is None:

@@ -1,9 +1,11 @@
 """Makes the calls of a captured session again by `scanvolt.virtual`, at the same milliseconds, and compares: the
 replies have to be the same bytes, and the service requests the same ones in the same order.
 """
+
+from __future__ import annotations
+
 from collections import deque
 from dataclasses import dataclass
-from typing import Deque, Dict, List, Optional, Tuple
 
 from ..program import Name
 from ..virtual import Connection, Meter, Pending
@@ -15,7 +17,7 @@ from .packets import Fault
 from .session import Session, error_of
 from .told import counted
 
-Requested = Tuple[int, str]         # its xid and its handle
+Requested = tuple[int, str]         # its xid and its handle
 
 
 @dataclass(frozen=True)
@@ -31,14 +33,14 @@ class _Sent(Call[None]):
 class Again:
     """A captured session, made again in virtual time."""
 
-    def __init__(self, session: Session, ticks: List[int], program: Optional[Name], scenario: Optional[Name]) -> None:
+    def __init__(self, session: Session, ticks: list[int], program: Name | None, scenario: Name | None) -> None:
         self._session = session
         self._ticks = ticks
-        self._open: Dict[int, Connection] = {}
-        self._left: Dict[int, Deque[Tuple[CallMessage, bytes, bool]]] = {}
-        self._done: List[List[Pending[None]]] = []       # the calls of each connection, open or ended
-        self._place: Dict[int, int] = {}                 # for each open connection, its place in `done`
-        self._requests: List[Requested] = []
+        self._open: dict[int, Connection] = {}
+        self._left: dict[int, deque[tuple[CallMessage, bytes, bool]]] = {}
+        self._done: list[list[Pending[None]]] = []       # the calls of each connection, open or ended
+        self._place: dict[int, int] = {}                 # for each open connection, its place in `done`
+        self._requests: list[Requested] = []
         self._captured = iter(session.connections)
         with Meter(program, scenario) as meter:
             self._meter = meter
@@ -76,7 +78,7 @@ class Again:
         again = _Sent(call.program, call.procedure, call.arguments, lambda _: None, 0, data)
         self._done[self._place[number]].append(self._open[number].start(again))
 
-    def differences(self) -> List[str]:
+    def differences(self) -> list[str]:
         """The lines that say what differs from the capture."""
         told = []
         for captured, done in zip(self._session.connections, self._done):
@@ -100,7 +102,7 @@ class Again:
             counted(count, "reply", "replies"), counted(len(self._requests), "service request"))
 
 
-def sent(captured: Captured) -> List[Tuple[CallMessage, bytes, bool]]:
+def sent(captured: Captured) -> list[tuple[CallMessage, bytes, bool]]:
     """The calls of a connection. Each comes with its bytes, and with whether the interrupt channel that it asks
     for was established.
     """
@@ -115,9 +117,9 @@ def sent(captured: Captured) -> List[Tuple[CallMessage, bytes, bool]]:
     return found
 
 
-def requested(session: Session) -> List[Requested]:
+def requested(session: Session) -> list[Requested]:
     """The service requests of a session, in the order in which they came."""
-    found: List[Tuple[int, Requested]] = []
+    found: list[tuple[int, Requested]] = []
     for flow in session.channels.values():
         stream = RequestStream()
         for reply in flow.replies:

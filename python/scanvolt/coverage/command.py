@@ -8,10 +8,13 @@ met, and what wasn't; last comes a summary in one line.
 
 Status: 0; 1 if less than --least percent were met; 2 if a script can't be read or explained.
 """
+
+from __future__ import annotations
+
 import argparse
 import os
 import sys
-from typing import Counter, List, Optional
+from collections import Counter
 
 from ..explaining.given import read
 from ..explaining.running import lines_of
@@ -23,7 +26,7 @@ from .report import Report
 NAME = "scanvolt-coverage"
 
 
-def words(given: Optional[List[str]]) -> argparse.Namespace:
+def words(given: list[str] | None) -> argparse.Namespace:
     """The arguments of the command line."""
     parser = argparse.ArgumentParser(prog=NAME, description=__doc__, formatter_class=argparse.RawDescriptionHelpFormatter)
     parser.add_argument("scripts", metavar="SCRIPT", nargs="+", help="a script of a session, or - for standard input")
@@ -33,10 +36,10 @@ def words(given: Optional[List[str]]) -> argparse.Namespace:
     return parser.parse_args(given)
 
 
-def main(given_words: Optional[List[str]] = None) -> int:
+def main(given_words: list[str] | None = None) -> int:
     """Runs the command. Returns its status."""
     given = words(given_words)
-    found: "Counter[Item]" = Counter()
+    found: Counter[Item] = Counter()
     try:
         program = given.program or find_program()
         for path in given.scripts:

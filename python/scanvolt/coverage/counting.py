@@ -1,5 +1,9 @@
 """Counts what a session has met."""
-from typing import Counter, Dict, Iterator, List, Tuple
+
+from __future__ import annotations
+
+from collections import Counter
+from collections.abc import Iterator
 
 from ..explaining.lines import Step, as_number
 from ..explaining.story import Call, Story
@@ -14,7 +18,7 @@ COMMANDS, QUEUE, BITS_OF, CALLS_OF, FAULTS_OF, SITUATIONS = (
     "commands and queries", "errors", "status bits", "VXI-11 calls", "errors of calls", "situations")
 AWAITED = {"lock": "the lock", "input": "input", "response": "a response", "dial": "the interrupt channel"}
 REGISTER = "poll", "esr"
-Item = Tuple[str, str]          # a list, and an entry of it
+Item = tuple[str, str]          # a list, and an entry of it
 RQS = 64
 
 
@@ -47,16 +51,16 @@ SENT, UNHEARD = (SITUATIONS, "a service request is sent"), (SITUATIONS, "a servi
 LOST = SITUATIONS, "an error is lost: the queue is full"
 
 
-def registers() -> Iterator[Tuple[str, int]]:
+def registers() -> Iterator[tuple[str, int]]:
     """The registers that have bits, and these."""
     for register, found in BITS.items():
         names = (register,) if register in REGISTER else (register + ".cond", register + ".event")
         yield from ((name, bit) for name in names for bit in found)
 
 
-def everything() -> List[Item]:
+def everything() -> list[Item]:
     """All that can be met, in the order of the tables."""
-    found: List[Item] = [(COMMANDS, header) for header in HEADERS] + [_error(number) for number in ERRORS]
+    found: list[Item] = [(COMMANDS, header) for header in HEADERS] + [_error(number) for number in ERRORS]
     for name, bit in registers():
         found += [_bit(name, bit, how) for how in ("set", "cleared") + (("polled",) if name == "poll" else ())]
     found += [(CALLS_OF, call) for call in CALLS]
@@ -68,7 +72,7 @@ def everything() -> List[Item]:
     return found + [INTERRUPT, OVERRUN, SENT, UNHEARD, LOST]
 
 
-def count(story: Story) -> "Counter[Item]":
+def count(story: Story) -> Counter[Item]:
     """How often a session has met each."""
     return _Counting(story).found
 
@@ -78,7 +82,7 @@ class _Counting:
 
     def __init__(self, story: Story) -> None:
         self._story, self._lines = story, story.lines
-        self.found: "Counter[Item]" = Counter()
+        self.found: Counter[Item] = Counter()
         self._headers, self._place = Headers(), -1
         if story.moments:
             for name, bit in registers():
@@ -164,6 +168,6 @@ class _Counting:
                     self.found[_wait(wait.what, "is aborted")] += 1
 
 
-NAMED: Dict[str, List[int]] = {}
+NAMED: dict[str, list[int]] = {}
 for _name, _number in registers():
     NAMED.setdefault(_name, []).append(_number)

@@ -1,16 +1,18 @@
 """Which header a program unit has, by the path of its message (docs/INSTRUMENT.md, Messages and responses)."""
+
+from __future__ import annotations
+
 import re
-from typing import Dict, List, Optional, Tuple
 
 from .tables import HEADERS
 
 HEADER = re.compile(rb"[\x00-\x20]*([*:]?[A-Za-z][A-Za-z0-9_]*(?::[A-Za-z][A-Za-z0-9_]*)*\??)")
-Path = Tuple[str, ...]
+Path = tuple[str, ...]
 
 
-def _forms(header: str) -> "List[Path]":
+def _forms(header: str) -> list[Path]:
     """All that a header of the table may be written as, in capitals, as mnemonics."""
-    found: "List[Path]" = [()]
+    found: list[Path] = [()]
     for optional, plain in re.findall(r"\[:?([*A-Za-z]+):?\]|([*A-Za-z]+)", header.rstrip("?")):
         name = optional or plain
         long, short = name.upper(), "".join(re.findall("[*A-Z]", name))
@@ -19,7 +21,7 @@ def _forms(header: str) -> "List[Path]":
     return found
 
 
-TABLE: Dict[Tuple[Path, bool], str] = {(form, header.endswith("?")): header for header in HEADERS for form in _forms(header)}
+TABLE: dict[tuple[Path, bool], str] = {(form, header.endswith("?")): header for header in HEADERS for form in _forms(header)}
 
 
 class Headers:
@@ -32,7 +34,7 @@ class Headers:
         """A message begins, at the root."""
         self._path = ()
 
-    def of(self, unit: bytes) -> Optional[str]:
+    def of(self, unit: bytes) -> str | None:
         """The header of the next unit, as the table has it; None if the table has none such."""
         found = HEADER.match(unit)
         if found is None:

@@ -1,5 +1,9 @@
 """pytest --scanvolt-coverage: counts what the sessions of all tests in virtual time have met."""
-from typing import Any, Counter, Dict, List, Optional
+
+from __future__ import annotations
+
+from collections import Counter
+from typing import Any
 
 import pytest
 
@@ -19,9 +23,9 @@ class Coverage:
 
     def __init__(self, config: pytest.Config, least: float, everything: bool) -> None:
         self._config, self._least, self._everything = config, least, everything
-        self._open: List[Replay] = []
-        self._found: "Counter[Item]" = Counter()
-        self._faults: List[str] = []
+        self._open: list[Replay] = []
+        self._found: Counter[Item] = Counter()
+        self._faults: list[str] = []
         STARTED.append(self._started)
 
     def _started(self, meter: Meter) -> None:
@@ -50,7 +54,7 @@ class Coverage:
         if self._started in STARTED:
             STARTED.remove(self._started)
         self._count(True)
-        output: Optional[Dict[str, Any]] = getattr(self._config, "workeroutput", None)
+        output: dict[str, Any] | None = getattr(self._config, "workeroutput", None)
         if output is not None:
             output[OUTPUT] = [[name, words, number] for (name, words), number in self._found.items()], self._faults
         elif session.exitstatus == 0 and Report(self._found).below(self._least):

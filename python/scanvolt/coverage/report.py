@@ -1,5 +1,9 @@
 """The table of what was met, and the summary in one line."""
-from typing import Counter, Dict, List, Mapping, Tuple
+
+from __future__ import annotations
+
+from collections import Counter
+from collections.abc import Mapping
 
 from ..explaining.text import wrapped
 from .counting import Item, everything
@@ -11,16 +15,16 @@ class Report:
     """What was met of all that can be: of entries that aren't in the lists, nothing is said."""
 
     def __init__(self, found: Mapping[Item, int]) -> None:
-        self._counts: "Counter[Item]" = Counter({item: found.get(item, 0) for item in everything()})
-        self._lists: Dict[str, List[Item]] = {}
+        self._counts: Counter[Item] = Counter({item: found.get(item, 0) for item in everything()})
+        self._lists: dict[str, list[Item]] = {}
         for item in everything():
             self._lists.setdefault(item[0], []).append(item)
 
-    def _met(self, items: List[Item]) -> int:
+    def _met(self, items: list[Item]) -> int:
         return sum(self._counts[item] > 0 for item in items)
 
     @property
-    def parts(self) -> Tuple[int, int]:
+    def parts(self) -> tuple[int, int]:
         """How many were met, and how many there are."""
         return self._met(list(self._counts)), len(self._counts)
 
@@ -34,9 +38,9 @@ class Report:
         parts = ["%s %d of %d" % (name, self._met(items), len(items)) for name, items in self._lists.items()]
         return "coverage of the instrument: %d of %d, %.0f %%: %s" % (*self.parts, self._percent, ", ".join(parts))
 
-    def lines(self, everything_met: bool = False) -> List[str]:
+    def lines(self, everything_met: bool = False) -> list[str]:
         """The table: of each list what wasn't met; if all is wanted, also how often the rest was met."""
-        found: List[str] = []
+        found: list[str] = []
         for name, items in self._lists.items():
             missing = [words for _, words in items if not self._counts[_, words]]
             found.append("%-24s%4d of %-4d%s" % (name, self._met(items), len(items), "" if missing else "all"))

@@ -1,7 +1,8 @@
 """What tests may meet of the instrument: headers, calls, waits, reads, states. `tools/covering` writes this file."""
-from typing import Dict, Tuple
 
-HEADERS: Tuple[str, ...] = (
+from __future__ import annotations
+
+HEADERS: tuple[str, ...] = (
     '*CLS',
     '*ESE',
     '*ESE?',
@@ -67,7 +68,7 @@ HEADERS: Tuple[str, ...] = (
     'CONFigure:VOLTage[:DC]',
     'MEASure:VOLTage[:DC]?',
 )
-CALLS: Dict[str, Tuple[int, ...]] = {
+CALLS: dict[str, tuple[int, ...]] = {
     'create_link': (3, 9, 11),
     'device_write': (4, 5, 11, 15, 23),
     'device_read': (4, 11, 15, 23),
@@ -87,19 +88,19 @@ CALLS: Dict[str, Tuple[int, ...]] = {
     'GETPORT': (),
 }
 # Of each kind of wait, the errors after a time-out and after device_abort, 0 for none.
-WAITS: Dict[str, Tuple[int, int]] = {
+WAITS: dict[str, tuple[int, int]] = {
     'lock': (11, 23),
     'input': (15, 23),
     'response': (15, 23),
     'dial': (0, 0),
 }
-READS: Dict[str, int] = {
+READS: dict[str, int] = {
     'REQCNT': 1,
     'CHR': 2,
     'END': 4,
     '8,192 bytes': 0,
 }
-STATES: Tuple[Tuple[str, str, str], ...] = (
+STATES: tuple[tuple[str, str, str], ...] = (
     ('idle', 'INITiate', 'waiting'),
     ('waiting', 'trigger', 'scanning'),
     ('scanning', 'tick', 'waiting'),

@@ -1,4 +1,5 @@
 """`python3 -m scanvolt.explaining` is `scanvolt-explain`."""
+
 import sys
 
 from .command import main

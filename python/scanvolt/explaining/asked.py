@@ -1,7 +1,9 @@
 """The names that `--why` takes, and the moment after `@`."""
+
+from __future__ import annotations
+
 import re
 from dataclasses import dataclass
-from typing import Optional, Tuple
 
 from .lines import REGISTERS
 from .words import NAMES, PARTS
@@ -22,9 +24,9 @@ class Asked:
     """A value, its bit if it is one, and the moment: a millisecond or a line of the script, or None for the end."""
 
     name: str
-    bit: Optional[int] = None
-    clock: Optional[int] = None
-    line: Optional[int] = None
+    bit: int | None = None
+    clock: int | None = None
+    line: int | None = None
 
 
 def asked(text: str) -> Asked:
@@ -39,7 +41,7 @@ def asked(text: str) -> Asked:
     return Asked(value, bit, clock, line)
 
 
-def _value(name: str, low: str) -> Tuple[str, Optional[int]]:
+def _value(name: str, low: str) -> tuple[str, int | None]:
     """The value of a name, and its bit."""
     wait = re.fullmatch(r"wait c?(\d+)", low)
     if wait:

@@ -1,6 +1,9 @@
 """The timeline as blocks: one for each thing that happened, with what it changed. Noise is left out, repetitions are folded."""
+
+from __future__ import annotations
+
+from collections.abc import Iterator
 from dataclasses import dataclass, field, replace
-from typing import Iterator, List, Optional
 
 from .lines import Moment, Step
 from .reasons import Reasons
@@ -17,7 +20,7 @@ class Row:
 
     label: str
     words: str
-    step: Optional[Step] = None
+    step: Step | None = None
     kind: str = ""
 
 
@@ -33,8 +36,8 @@ class Block:
     kind: str
     reply: str = ""
     is_fault: bool = False
-    rows: List[Row] = field(default_factory=list)
-    call: Optional[Call] = None
+    rows: list[Row] = field(default_factory=list)
+    call: Call | None = None
     times: int = 1
     last: int = 0
 
@@ -43,7 +46,7 @@ class Block:
         """Its millisecond."""
         return self.moment.clock
 
-    def _repeats(self, other: "Block") -> bool:
+    def _repeats(self, other: Block) -> bool:
         """Whether it is the same call as another one, with the same reply, and nothing changed."""
         mine, others = ((one.who, one.head, one.reply, one.kind) for one in (self, other))
         return self.kind == "call" and mine == others and not self.rows and not other.rows
@@ -55,17 +58,17 @@ class _Ordered:
     def __init__(self, story: Story) -> None:
         self._left, self._last = list(story.faults), story.moments[0] if story.moments else None
 
-    def before(self, moment: Moment) -> List[Block]:
+    def before(self, moment: Moment) -> list[Block]:
         """The faults that came before an event."""
         count = sum((one.line, one.clock) < (moment.line, moment.clock) for one in self._left)
         found, self._last = self._blocks(count), moment
         return found
 
-    def rest(self) -> List[Block]:
+    def rest(self) -> list[Block]:
         """The faults that came after the last event."""
         return self._blocks(len(self._left))
 
-    def _blocks(self, count: int) -> List[Block]:
+    def _blocks(self, count: int) -> list[Block]:
         taken, self._left = self._left[:count], self._left[count:]
         return [Block(replace(self._last, clock=one.clock), one.who, str(one), "fault", is_fault=True)
                 for one in taken if self._last is not None]
@@ -78,9 +81,9 @@ class Blocks:
         self._reasons, self._doers, self._telling, self._story = reasons, reasons.doers, reasons.telling, reasons.story
         self._everything = self._telling.everything
 
-    def all(self) -> List[Block]:
+    def all(self) -> list[Block]:
         """All that happened, folded."""
-        found: List[Block] = []
+        found: list[Block] = []
         faults = _Ordered(self._story)
         for moment in self._story.moments:
             found += faults.before(moment)
@@ -122,9 +125,9 @@ class Blocks:
                 waited = "   after %s" % millis(moment.clock - one.turned.clock) if one.turned else ""
                 yield Block(moment, one.who, one.words, "answer", one.reply.words + waited, one.reply.is_fault, [], one)
 
-    def _rows(self, moment: Moment) -> List[Row]:
+    def _rows(self, moment: Moment) -> list[Row]:
         """What the steps of an event changed, and the service requests that it sends."""
-        rows: List[Row] = []
+        rows: list[Row] = []
         for step in moment.steps:
             told = [words for words in map(self._telling.change, step.changes) if words]
             if step.kind == "interrupt":
@@ -135,12 +138,12 @@ class Blocks:
             rows.append(Row("service request", '"%s" to c%d' % (escaped(handle), conn), None, "request"))
         return rows
 
-    def _refused(self, moment: Moment, rows: List[Row]) -> Block:
+    def _refused(self, moment: Moment, rows: list[Row]) -> Block:
         assert moment.refused is not None
         reply = "refused %d: %s" % (moment.refused, REFUSED.get(moment.refused, "unknown"))
         return Block(moment, "script", " ".join(moment.words)[:40], "refused", reply, True, rows if self._everything else [])
 
-    def _queued(self, moment: Moment, rows: List[Row]) -> Iterator[Block]:
+    def _queued(self, moment: Moment, rows: list[Row]) -> Iterator[Block]:
         """Calls that come and aren't taken with the next event."""
         for one in self._story.came.get(moment.number, ()):
             if one.turned is None or one.turned.number > moment.number + 1:
@@ -153,7 +156,7 @@ class Blocks:
         return bool(not self._everything and call.waits and call.waits[0].what == "dial" and call.ended
                     and call.ended is not moment and call.ended.clock == moment.clock)
 
-    def _turn(self, moment: Moment, call: Call, ended: bool, rows: List[Row]) -> Block:
+    def _turn(self, moment: Moment, call: Call, ended: bool, rows: list[Row]) -> Block:
         """A call that is taken: its reply, or what it waits for."""
         block = Block(moment, call.who, call.words, "call", "", False, rows, call)
         if ended:
@@ -168,7 +171,7 @@ class Blocks:
                 block.rows.insert(0, Row("", "because " + brief))
         return block
 
-    def _tick(self, moment: Moment, rows: List[Row]) -> Block:
+    def _tick(self, moment: Moment, rows: list[Row]) -> Block:
         """A millisecond that passes."""
         changed = {change.name for change in moment.changes()}
         kind = "reading" if len(moment.steps) == 1 and changed <= READING and "reading" in changed else "time"
@@ -190,7 +193,7 @@ class Blocks:
             return "timeout of " + " and ".join(self._doers.label(step).replace(" times out", "") for step in late)
         return self._doers.event(moment)
 
-    def _event(self, moment: Moment, rows: List[Row]) -> Block:
+    def _event(self, moment: Moment, rows: list[Row]) -> Block:
         """An event of the script that takes no call."""
         kind, reply = moment.kind, ""
         if kind == "external" and not rows:

@@ -1,6 +1,9 @@
 """The arguments and the reply of a call, in words."""
+
+from __future__ import annotations
+
+from collections.abc import Callable
 from dataclasses import dataclass
-from typing import Callable, Dict, Optional, Tuple
 
 from ..vxi11 import CallMessage, Reader, RpcError, XdrError, calls, read_reply
 from ..vxi11.errors import NAMES as ERRORS
@@ -14,7 +17,7 @@ REASONS = ((calls.TERMINATOR, "CHR"), (calls.REQUEST_COUNT, "REQCNT"))
 class Arguments:
     """The arguments of a call, as far as they can be read. `more` has them in words."""
 
-    link: Optional[int] = None
+    link: int | None = None
     data: bytes = b""
     flags: int = 0
     more: str = ""
@@ -61,7 +64,7 @@ def _getport(found: Arguments, reader: Reader) -> None:
     found.more = "%#x version %d" % (reader.word(), reader.word())
 
 
-HOW: Dict[Tuple[int, int], Callable[[Arguments, Reader], None]] = {
+HOW: dict[tuple[int, int], Callable[[Arguments, Reader], None]] = {
     (calls.CORE, calls.CREATE_LINK): _create_link, (calls.CORE, calls.DEVICE_WRITE): _write,
     (calls.CORE, calls.DEVICE_READ): _read, (calls.CORE, calls.DEVICE_ENABLE_SRQ): _enable_srq,
     (calls.CORE, calls.CREATE_INTR_CHAN): _create_intr_chan, (calls.ABORT, calls.DEVICE_ABORT): _on_link,
@@ -91,9 +94,9 @@ class Answer:
     """
 
     words: str
-    error: Optional[int] = None
-    value: Optional[int] = None
-    data: Optional[bytes] = None
+    error: int | None = None
+    value: int | None = None
+    data: bytes | None = None
 
     @property
     def is_fault(self) -> bool:

@@ -18,10 +18,12 @@ or `line` and the number of a line.
 Status: 0; or 2 if it can't be done: the file can't be read, a line of it isn't one of a script, the capture is cut off, NAME
 isn't known, or the program is missing or too old. Standard error has the reason then.
 """
+
+from __future__ import annotations
+
 import argparse
 import os
 import sys
-from typing import List, Optional
 
 from ..capturing.packets import Fault
 from ..program import ProgramError, find_program
@@ -33,7 +35,7 @@ from .given import session
 NAME = "scanvolt-explain"
 
 
-def words(given: Optional[List[str]], name: str) -> argparse.Namespace:
+def words(given: list[str] | None, name: str) -> argparse.Namespace:
     """The arguments of the command line."""
     parser = argparse.ArgumentParser(prog=name, description=__doc__, formatter_class=argparse.RawDescriptionHelpFormatter)
     parser.add_argument("file", metavar="FILE", help="a script, a capture, or - for a script on standard input")
@@ -61,7 +63,7 @@ def is_coloured(given: argparse.Namespace) -> bool:
     return given.colour == "always" or given.colour == "auto" and sys.stdout.isatty() and not os.environ.get("NO_COLOR")
 
 
-def told(given: argparse.Namespace, name: str) -> List[str]:
+def told(given: argparse.Namespace, name: str) -> list[str]:
     """The lines to print. Writes the page if that is wanted."""
     lines, ports = session(given, lambda warning: print("%s: %s" % (name, warning), file=sys.stderr))
     found = Explanation(lines, given.program or find_program(), ports=ports)
@@ -75,7 +77,7 @@ def told(given: argparse.Namespace, name: str) -> List[str]:
     return found.lines(given.last, given.all, is_coloured(given)) + found.end_lines()
 
 
-def main(given_words: Optional[List[str]] = None, name: str = NAME) -> int:
+def main(given_words: list[str] | None = None, name: str = NAME) -> int:
     """Runs the command. Returns its status."""
     given = words(given_words, name)
     try:

@@ -1,5 +1,6 @@
 """Who did a step: a unit and its message, a call, the time that passes, or the script."""
-from typing import Optional
+
+from __future__ import annotations
 
 from .lines import Moment, Step
 from .story import Call, call_words
@@ -71,6 +72,6 @@ class Doers:
         return " ".join(words)[:EVENT_MOST]
 
 
-def of(call: Optional[Call]) -> str:
+def of(call: Call | None) -> str:
     """Of which call something is; nothing if that isn't known."""
     return "" if call is None else " of %s" % call_words(call)

@@ -1,6 +1,9 @@
 """The end: each call that waits, why, what would end that and what is due; and what is left behind."""
+
+from __future__ import annotations
+
 import itertools
-from typing import List, Optional, Sequence, Tuple
+from collections.abc import Sequence
 
 from .lines import as_number
 from .reasons import Reasons
@@ -15,14 +18,14 @@ LEFT = 14       # columns of a label
 class Ending:
     """Tells the end of a session. `tried` is what ended the waits when it was tried."""
 
-    def __init__(self, reasons: Reasons, tried: Optional[Tried] = None) -> None:
+    def __init__(self, reasons: Reasons, tried: Tried | None = None) -> None:
         self._reasons, self._tried = reasons, tried
         self._story, self._telling, self._lines = reasons.story, reasons.telling, reasons.lines
 
-    def text(self) -> List[str]:
+    def text(self) -> list[str]:
         """The end, in lines."""
         found = ["at the end, %s:" % millis(self._story.clock)]
-        in_line: List[Call] = []        # that wait for the lock
+        in_line: list[Call] = []        # that wait for the lock
         for call in self._story.waiting():
             if call.waits[-1].what == "lock":
                 in_line.append(call)
@@ -31,17 +34,17 @@ class Ending:
             found.append("  no call waits")
         return found + self._held() + self._state()
 
-    def first_lines(self) -> List[str]:
+    def first_lines(self) -> list[str]:
         """What an exception says of it: what waits and why, or else what is held, in two lines."""
         found = self.text()
         if self._story.waiting():
             return [found[1].strip(), " ".join(found[2].split())]
         return [one.strip() for one in found[1:3]]
 
-    def _labelled(self, label: str, lines: Sequence[str]) -> List[str]:
+    def _labelled(self, label: str, lines: Sequence[str]) -> list[str]:
         return ["    %-*s%s" % (LEFT, label if place == 0 else "", line) for place, line in enumerate(lines)]
 
-    def _in_line(self, call: Call, place: int) -> List[str]:
+    def _in_line(self, call: Call, place: int) -> list[str]:
         """A call that waits for the lock behind others, in a line."""
         wait, behind = call.waits[-1], self._story.behind(call)
         most = "until %s at most" % millis(wait.deadline) if wait.deadline is not None else "without a limit"
@@ -49,7 +52,7 @@ class Ending:
         return ["  %s  %s waits for the lock too, since %s, place %d in line, %s%s" % (
             call.who, call.words, millis(wait.begin.moment.clock), place, most, after)]
 
-    def _call(self, call: Call) -> List[str]:
+    def _call(self, call: Call) -> list[str]:
         """A call that waits."""
         wait, behind = call.waits[-1], self._story.behind(call)
         found = ["  %s  %s" % (call.who, self._reasons.headline(call, wait))]
@@ -66,7 +69,7 @@ class Ending:
             found += self._labelled("behind it", ["%s: not taken before it is answered" % call_list(behind)])
         return found
 
-    def _ends(self, call: Call) -> List[str]:
+    def _ends(self, call: Call) -> list[str]:
         """What ended the wait when it was tried: when, and with which reply."""
         assert self._tried is not None
         rows = [(one.what, "at %s: %s" % (millis(one.clock), one.words)) for one in self._tried.of(call) if one.is_end]
@@ -84,7 +87,7 @@ class Ending:
             found.append("its timeout at %s, in %s" % (millis(wait.deadline), long(wait.deadline - clock)))
         return "; ".join(found) or "nothing: however much time passes, it waits"
 
-    def _held(self) -> List[str]:
+    def _held(self) -> list[str]:
         """A unit that is held while no call waits for it."""
         held = self._story.held_at(self._lines.steps[-1]) if self._lines.steps and self._story.value("held") != "none" else None
         if held is None or any(call.waits[-1].what in ("input", "response") for call in self._story.waiting()):
@@ -98,13 +101,13 @@ class Ending:
         found += ["not tried: " + ", ".join(left)] if left else []
         return ["  %-10s%s" % ("held" if place == 0 else "", line) for place, line in enumerate(found)]
 
-    def _state(self) -> List[str]:
+    def _state(self) -> list[str]:
         """Errors, lock, status byte, and what can be read."""
         value = self._story.value
         errors, taken = numbers(value("errors")), self._lines.last("lock", self._story.end)
         held = "free" if value("lock") == "none" or taken is None else "%s, since %s" % (
             self._telling.link(int(str(value("lock")))), self._reasons.doers.by(taken.step))
-        registers: List[Tuple[str, str]] = [("STB", "poll"), ("SRE", "sre"), ("ESR", "esr"), ("ESE", "ese")]
+        registers: list[tuple[str, str]] = [("STB", "poll"), ("SRE", "sre"), ("ESR", "esr"), ("ESE", "ese")]
         shown = ["%s %s" % (label, shown_bits(name, as_number(value(name)))) for label, name in registers]
         found = ["  errors    " + (folded(errors) or "none"), "  lock      " + held, "  status    " + "; ".join(shown)]
         if value("response"):

@@ -1,7 +1,10 @@
 """A session explained: the timeline, the end, the causes of a value, and a page."""
+
+from __future__ import annotations
+
 import functools
 import html
-from typing import List, Optional, Sequence
+from collections.abc import Sequence
 
 from ..faults.told import Told, end_lines
 from . import text
@@ -26,8 +29,8 @@ class Explanation:
     script doesn't have them, since the instrument doesn't see them. Raises ProgramError if the program can't explain the script.
     """
 
-    def __init__(self, script: Sequence[str], program: str, patience: Optional[float] = None,
-                 ports: Optional[Ports] = None, faults: Sequence[Told] = ()) -> None:
+    def __init__(self, script: Sequence[str], program: str, patience: float | None = None,
+                 ports: Ports | None = None, faults: Sequence[Told] = ()) -> None:
         self.script, self.program = script, program
         self.story = Story(lines_of(script, program, patience, ports))      # the session, for other views
         self.story.faults = faults
@@ -48,17 +51,17 @@ class Explanation:
         """What would end each wait at the end. It is tried once, when it is needed."""
         return tried(self.story, self.program)
 
-    def lines(self, last: Optional[int] = None, everything: bool = False, colour: bool = False) -> List[str]:
+    def lines(self, last: int | None = None, everything: bool = False, colour: bool = False) -> list[str]:
         """The lines of the timeline; only the last ones if `last` is given, with all noise if `everything`."""
         reasons = Reasons(Doers(Telling(self.story, everything))) if everything else self.reasons
         found = text.timeline(Blocks(reasons), colour)
         return found if last is None else text.newest(found, last)
 
-    def text(self, last: Optional[int] = None, everything: bool = False) -> str:
+    def text(self, last: int | None = None, everything: bool = False) -> str:
         """The timeline and the end."""
         return "\n".join(self.lines(last, everything) + self.end_lines())
 
-    def end_lines(self) -> List[str]:
+    def end_lines(self) -> list[str]:
         """The end, in lines."""
         return Ending(self.reasons, self.tried).text() + end_lines(self.story.faults)
 

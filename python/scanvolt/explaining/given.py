@@ -1,7 +1,10 @@
 """What a file has that is to be explained: a script of the replay, or a capture."""
+
+from __future__ import annotations
+
 import argparse
 import sys
-from typing import Callable, List, Optional, Sequence, Tuple
+from collections.abc import Callable, Sequence
 
 from ..program import find_program
 from .running import Ports
@@ -24,7 +27,7 @@ def script(given: argparse.Namespace, warn: Callable[[str], object]) -> Sequence
     return session(given, warn)[0]
 
 
-def session(given: argparse.Namespace, warn: Callable[[str], object]) -> Tuple[Sequence[str], Optional[Ports]]:
+def session(given: argparse.Namespace, warn: Callable[[str], object]) -> tuple[Sequence[str], Ports | None]:
     """The lines of the script, and the ports of the server that recorded it, if they are given. Raises as `script` does."""
     data = read(given.file)
     if data.startswith(CAPTURES):
@@ -33,11 +36,12 @@ def session(given: argparse.Namespace, warn: Callable[[str], object]) -> Tuple[S
     return data.decode("latin-1").split("\n")[:None if data and not data.endswith(b"\n") else -1], ports
 
 
-def of_capture(given: argparse.Namespace, warn: Callable[[str], object]) -> List[str]:
+def of_capture(given: argparse.Namespace, warn: Callable[[str], object]) -> list[str]:
     """The script of a capture, with ticks at which the replies are those of the capture, if there are such."""
     from ..capturing import command
     from ..capturing.compare import Comparison
-    from ..capturing.script import scenario, script as lines_of
+    from ..capturing.script import scenario
+    from ..capturing.script import script as lines_of
     words = ["script", given.file]
     for name in ("scenario", "start", "core", "abort", "portmap"):
         if getattr(given, name) is not None:

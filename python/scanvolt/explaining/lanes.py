@@ -1,6 +1,10 @@
 """The lanes of the page: calls of each link, program units, lock, scan, errors, and the bits of registers."""
+
+from __future__ import annotations
+
 import functools
-from typing import Any, Callable, Dict, List, Optional, Set, Tuple
+from collections.abc import Callable
+from typing import Any
 
 from .lines import Change, Step, Value, as_number, start_of
 from .reasons import Reasons
@@ -16,7 +20,7 @@ REGISTERS = (("poll", "status byte", (6, 5, 4, 2, 3, 7)), ("esr", "standard even
              ("oper.event", "oper event", (4, 5, 8)), ("ques.event", "ques event", (0, 9)), ("lim.event", "lim event", (0, 1, 2)),
              ("oper.cond", "oper condition", (4, 5, 8)), ("ques.cond", "ques condition", (0, 9)),
              ("lim.cond", "lim condition", (0, 1, 2)))
-Row = List[Any]
+Row = list[Any]
 
 
 class Lanes:
@@ -26,23 +30,23 @@ class Lanes:
         self._reasons, self._slots, self._story, self._lines = reasons, slots, reasons.story, reasons.lines
         self._why = Why(reasons)
 
-    def places(self) -> List[Tuple[int, int]]:
+    def places(self) -> list[tuple[int, int]]:
         """The lanes of calls: connection and link."""
-        found: Set[Tuple[int, int]] = {self._place(call) for call in self.calls()}
+        found: set[tuple[int, int]] = {self._place(call) for call in self.calls()}
         return sorted(found)
 
-    def calls(self) -> List[Call]:
+    def calls(self) -> list[Call]:
         """The calls that are on the page."""
         return [one for one in self._story.calls if one.arrived.number >= self._slots.first and (one.turned or one.gone is None)]
 
-    def _place(self, call: Call) -> Tuple[int, int]:
+    def _place(self, call: Call) -> tuple[int, int]:
         """The lane of a call. Calls of no link are on the first of their connection."""
         return call.conn, call.link or self._of_connection(call.conn)
 
-    def call(self, call: Call) -> Dict[str, Any]:
+    def call(self, call: Call) -> dict[str, Any]:
         """A call: its lane, its name and words, where it was taken and ended, its reply and its waits."""
         slots, (conn, link) = self._slots, self._place(call)
-        found: Dict[str, Any] = {"c": conn, "l": link, "n": call.name.replace("device_", ""), "w": call.words, "t": _short(call)}
+        found: dict[str, Any] = {"c": conn, "l": link, "n": call.name.replace("device_", ""), "w": call.words, "t": _short(call)}
         if call.turned:
             found["s"] = slots.at(call.turned.steps[0])
         if call.turned is None or call.turned.number > call.arrived.number + 1:
@@ -66,7 +70,7 @@ class Lanes:
         other = next((place for place in range(own + 1, len(steps)) if steps[place].conn not in (None, call.conn)), len(steps))
         return steps[other - 1]
 
-    def _wait(self, wait: Wait) -> Optional[Row]:
+    def _wait(self, wait: Wait) -> Row | None:
         """A wait: from where to where, for what, why, until when at most, and how it ended."""
         begin, end = self._slots.at(wait.begin), self._slots.at(wait.end) if wait.end else None
         if begin == end:
@@ -78,7 +82,7 @@ class Lanes:
         how = {"timeout": "timed out", "resume": "resumed"}.get(wait.end.kind, "ended") if wait.end else ""
         return [begin, end, short, self._reasons.why(wait, wait.begin.number), wait.deadline, how]
 
-    def units(self) -> List[Row]:
+    def units(self) -> list[Row]:
         """Program units: place, text, connection, whether it put an error into the queue, and where it is done if it was held."""
         held = {one.unit.number: one.until for one in self._story.held}
         found = []
@@ -91,7 +95,7 @@ class Lanes:
                 found.append([self._slots.at(step), unit(step.text, 60), call.conn if call else -1, int(bad), done])
         return found
 
-    def signals(self) -> List[Dict[str, Any]]:
+    def signals(self) -> list[dict[str, Any]]:
         """The lanes below: each has an id, a group, a kind, a name, its history and its chains of causes."""
         found = [self._plain("lock", "owner", self._owner), self._plain("state", "state", lambda one: one.new),
                  self._plain("errors", "count", self._count)]
@@ -107,7 +111,7 @@ class Lanes:
                 found.append({"id": name, "g": "enables", "k": "word", "n": name.upper(), "H": history})
         return found
 
-    def _plain(self, name: str, kind: str, value: Callable[[Change], object]) -> Dict[str, Any]:
+    def _plain(self, name: str, kind: str, value: Callable[[Change], object]) -> dict[str, Any]:
         """The lane of a value that isn't a register."""
         changes = self._slots.kept(name)
         chains = [[self._slots.at(one.step), self._slots.tree(self._why.errors(one.step.number) if name == "errors" else
@@ -130,9 +134,9 @@ class Lanes:
         old, new = numbers(change.old), numbers(change.new)
         return [len(new), new[-1] if len(new) > len(old) else 0]
 
-    def _history(self, name: str, shown: Callable[[Value], object]) -> List[Row]:
+    def _history(self, name: str, shown: Callable[[Value], object]) -> list[Row]:
         """A value at each place where it changes."""
-        found: List[Row] = []
+        found: list[Row] = []
         for change in self._slots.kept(name):
             place, value = self._slots.at(change.step), shown(change.new)
             if found and found[-1][0] == place:
@@ -141,10 +145,10 @@ class Lanes:
                 found.append([place, value])
         return found
 
-    def _flips(self, register: str, bit: int) -> List[Change]:
+    def _flips(self, register: str, bit: int) -> list[Change]:
         return [one for one in self._slots.kept(register) if (as_number(one.old) ^ as_number(one.new)) >> bit & 1]
 
-    def _bit(self, register: str, bit: int, group: str) -> Dict[str, Any]:
+    def _bit(self, register: str, bit: int, group: str) -> dict[str, Any]:
         """The lane of a bit."""
         flips = self._flips(register, bit)
         first = as_number(flips[0].old) >> bit & 1 if flips else as_number(start_of(register)) >> bit & 1
@@ -154,9 +158,9 @@ class Lanes:
                 "d": stands(register, bit),
                 "H": [[self._slots.at(one.step), as_number(one.new) >> bit & 1] for one in flips], "y": chains}
 
-    def requests(self) -> List[Row]:
+    def requests(self) -> list[Row]:
         """Service requests: place, connection, handle, and the link whose lane shows it."""
-        found: List[Row] = []
+        found: list[Row] = []
         for number, sent in self._story.requests.items():
             moment = self._story.moments[number]
             if moment.number >= self._slots.first:

@@ -1,16 +1,20 @@
 """The lines of `scanvolt explain` (docs/STEPS.md): events, steps, and the values that changed."""
+
+from __future__ import annotations
+
 import bisect
+from collections.abc import Callable, Iterator, Sequence
 from dataclasses import dataclass, field
-from typing import Callable, Dict, Iterator, List, Optional, Sequence, Tuple, Union
+from typing import Union
 
 from .tables import START
 
-Value = Union[int, str, Tuple[int, ...]]
+Value = Union[int, str, tuple[int, ...]]
 REGISTERS = ("oper", "ques", "lim")
 # What words are at the start. All other values that START doesn't have are 0.
-WORDS: Dict[str, Value] = {"errors": (), "lock": "none", "held": "none", "state": "idle", "scan": "none", "place": "none",
+WORDS: dict[str, Value] = {"errors": (), "lock": "none", "held": "none", "state": "idle", "scan": "none", "place": "none",
                            "reading": "none", "list": (1,)}
-TAILS: Dict[str, Value] = {"role": "closed", "wait": "none"}
+TAILS: dict[str, Value] = {"role": "closed", "wait": "none"}
 LISTS = ("errors", "list")      # values that are numbers in a row
 
 
@@ -25,7 +29,7 @@ class Change:
     name: str
     old: Value
     new: Value
-    step: "Step"
+    step: Step
 
 
 @dataclass
@@ -35,19 +39,19 @@ class Step:
     """
 
     number: int
-    moment: "Moment"
+    moment: Moment
     kind: str
     place: int = 0
     text: bytes = b""
-    conn: Optional[int] = None
-    changes: List[Change] = field(default_factory=list)
+    conn: int | None = None
+    changes: list[Change] = field(default_factory=list)
 
     @property
     def is_unit(self) -> bool:
         """Whether a program unit starts in it."""
         return self.kind in ("unit", "interrupt")
 
-    def of(self, name: str) -> Optional[Change]:
+    def of(self, name: str) -> Change | None:
         """The change of this value."""
         return next((one for one in self.changes if one.name == name), None)
 
@@ -59,11 +63,11 @@ class Moment:
     number: int
     line: int
     clock: int
-    words: List[str]
-    steps: List[Step] = field(default_factory=list)
-    output: Dict[str, bytes] = field(default_factory=dict)
-    refused: Optional[int] = None
-    taken: Optional[bytes] = None
+    words: list[str]
+    steps: list[Step] = field(default_factory=list)
+    output: dict[str, bytes] = field(default_factory=dict)
+    refused: int | None = None
+    taken: bytes | None = None
 
     @property
     def kind(self) -> str:
@@ -98,14 +102,14 @@ class Lines:
 
     def __init__(self, script: Sequence[str]) -> None:
         self.script = script
-        self.moments: List[Moment] = []
-        self.steps: List[Step] = []
-        self.now: Dict[str, Value] = {}             # the newest value of each name
-        self.history: Dict[str, List[Change]] = {}
-        self._places: Dict[str, List[int]] = {}      # the steps of those changes
-        self.clock: Optional[int] = None            # the time of `@ end`; None before that
+        self.moments: list[Moment] = []
+        self.steps: list[Step] = []
+        self.now: dict[str, Value] = {}             # the newest value of each name
+        self.history: dict[str, list[Change]] = {}
+        self._places: dict[str, list[int]] = {}      # the steps of those changes
+        self.clock: int | None = None            # the time of `@ end`; None before that
 
-    def read(self, told: str) -> "Lines":
+    def read(self, told: str) -> Lines:
         """Takes all that the program printed. Raises Unreadable if it isn't whole."""
         for line in told.splitlines():
             try:
@@ -155,7 +159,7 @@ class Lines:
         else:
             raise ValueError(kind)
 
-    def _begin(self, kind: str, place: int = 0, text: bytes = b"", conn: Optional[int] = None) -> None:
+    def _begin(self, kind: str, place: int = 0, text: bytes = b"", conn: int | None = None) -> None:
         step = Step(len(self.steps), self.moments[-1], kind, place, text, conn)
         self.steps.append(step)
         self.moments[-1].steps.append(step)
@@ -197,7 +201,7 @@ class Lines:
         """A number after the step of this number."""
         return as_number(self.at(name, number))
 
-    def last(self, name: str, number: int, wanted: Callable[[Change], bool] = lambda change: True) -> Optional[Change]:
+    def last(self, name: str, number: int, wanted: Callable[[Change], bool] = lambda change: True) -> Change | None:
         """The newest change of a value in a step of at most this number."""
         place = bisect.bisect_right(self._places.get(name, ()), number)
         return next((self.history[name][one] for one in range(place - 1, -1, -1) if wanted(self.history[name][one])), None)

@@ -3,7 +3,10 @@
 The instrument joins the bytes of all writes. A message ends at NL, and at the end of a write with END. A unit's place counts
 the bytes of its message before it (docs/STEPS.md).
 """
-from typing import TYPE_CHECKING, List, Optional, Tuple
+
+from __future__ import annotations
+
+from typing import TYPE_CHECKING
 
 from ..vxi11 import calls
 
@@ -17,9 +20,9 @@ class Text:
     """The bytes that came and whose messages haven't ended."""
 
     def __init__(self) -> None:
-        self.pieces: List[Tuple[bytes, "Call"]] = []       # each with the call that wrote it
+        self.pieces: list[tuple[bytes, Call]] = []       # each with the call that wrote it
 
-    def add(self, call: "Call") -> None:
+    def add(self, call: Call) -> None:
         """A write was taken."""
         self.pieces.append((call.arguments.data, call))
 
@@ -41,7 +44,7 @@ class Text:
             if call.arguments.flags & calls.END:
                 return
 
-    def writer(self, place: int, unit: bytes) -> Optional["Call"]:
+    def writer(self, place: int, unit: bytes) -> Call | None:
         """The call that brought the first byte of a unit; None if the bytes at its place are others."""
         whole = b"".join(data for data, _ in self.pieces)
         if whole[place:place + len(unit)] != unit:

@@ -1,5 +1,8 @@
 """What a meter in virtual time says of itself: why a call can't be answered, and the notes of its errors."""
-from typing import TYPE_CHECKING, List, Optional
+
+from __future__ import annotations
+
+from typing import TYPE_CHECKING
 
 from ..program import ProgramError
 from .ending import Ending
@@ -15,7 +18,7 @@ MOST = 500000           # bytes of a session's lines that are explained without 
 LEFT = 12               # columns of a label
 
 
-def of_meter(meter: "Meter", moment: "Optional[Moment]" = None) -> Optional[Explanation]:
+def of_meter(meter: Meter, moment: Moment | None = None) -> Explanation | None:
     """The explanation of a meter's session, until now or until a moment of it; None if there can't be one in a few seconds, as
     with an earlier program.
     """
@@ -27,7 +30,7 @@ def of_meter(meter: "Meter", moment: "Optional[Moment]" = None) -> Optional[Expl
         return None
 
 
-def why_no_answer(meter: "Meter", pending: "Pending[object]") -> Optional[str]:
+def why_no_answer(meter: Meter, pending: Pending[object]) -> str | None:
     """Why a call can't be answered, if nothing is due within the meter's patience that could end the wait for it; None if it may
     be answered.
     """
@@ -37,7 +40,7 @@ def why_no_answer(meter: "Meter", pending: "Pending[object]") -> Optional[str]:
     return None if found is None else _hopeless(found, pending.connection.number, pending.xid, meter.patience)
 
 
-def _hopeless(found: Explanation, conn: int, xid: int, patience: int) -> Optional[str]:
+def _hopeless(found: Explanation, conn: int, xid: int, patience: int) -> str | None:
     """Why a call of a connection can't be answered within this many milliseconds."""
     story = found.story
     waiting = story.waiting()
@@ -57,7 +60,7 @@ def _hopeless(found: Explanation, conn: int, xid: int, patience: int) -> Optiona
     return "\n".join([told] + ["  %-*s  %s" % (LEFT, label, line) for label, line in rows])
 
 
-def notes(meter: "Meter", conn: int, xid: int, moment: "Moment") -> List[str]:
+def notes(meter: Meter, conn: int, xid: int, moment: Moment) -> list[str]:
     """Two lines about a call that ended with an error at a moment of the session: what it waited for, and why; or else the
     first lines of the end.
     """
@@ -65,7 +68,7 @@ def notes(meter: "Meter", conn: int, xid: int, moment: "Moment") -> List[str]:
     return [] if found is None else note(found, conn, xid)
 
 
-def note(found: Explanation, conn: int, xid: int) -> List[str]:
+def note(found: Explanation, conn: int, xid: int) -> list[str]:
     """The two lines, of an explanation that ends with the error."""
     call = _call(found, conn, xid)
     if call is None or not call.waits or call.waits[-1].end is None:
@@ -75,5 +78,5 @@ def note(found: Explanation, conn: int, xid: int) -> List[str]:
     return ["%s: %s" % (call.who, found.reasons.headline(call, wait, True)), "because " + found.reasons.brief(wait, number)]
 
 
-def _call(found: Explanation, conn: int, xid: int) -> Optional[Call]:
+def _call(found: Explanation, conn: int, xid: int) -> Call | None:
     return next((one for one in reversed(found.story.calls) if one.conn == conn and one.message.xid == xid), None)

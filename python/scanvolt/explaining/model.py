@@ -3,9 +3,11 @@
 Which bit sums up which registers, and which class of errors sets which event, are the tables of tables.py. What is left are
 the rules of docs/INSTRUMENT.md, Status: RQS, MAV, the error queue, events with their filters, and the conditions of a reading.
 """
+
+from __future__ import annotations
+
 import functools
 from dataclasses import dataclass, field
-from typing import List, Optional, Tuple
 
 from .doers import Doers
 from .lines import Change, Step, Value, as_number
@@ -24,8 +26,8 @@ class Node:
     """A cause: words, the step at which it came about, and its own causes."""
 
     text: str
-    step: Optional[Step] = None
-    children: List["Node"] = field(default_factory=list)
+    step: Step | None = None
+    children: list[Node] = field(default_factory=list)
 
 
 class Model:
@@ -38,7 +40,7 @@ class Model:
         """A bit's name for people: `STB.RQS`."""
         return "%s.%s" % (LABELS[name].replace(" ", "."), bit_name(name, bit))
 
-    def flip(self, name: str, bit: int, number: int, new: Optional[int] = None) -> Optional[Change]:
+    def flip(self, name: str, bit: int, number: int, new: int | None = None) -> Change | None:
         """The newest change of a bit, at most at the step of this number; to this value if one is given."""
         return self._lines.last(name, number, lambda one: (as_number(one.old) ^ as_number(one.new)) >> bit & 1 == 1
                                and (new is None or as_number(one.new) >> bit & 1 == new))
@@ -54,7 +56,7 @@ class Model:
             node.children = self.causes(name, bit, value, change, depth + 1)
         return node
 
-    def causes(self, name: str, bit: int, value: int, change: Change, depth: int) -> List[Node]:
+    def causes(self, name: str, bit: int, value: int, change: Change, depth: int) -> list[Node]:
         """What made a bit flip: there is always a cause, except for registers that only commands set."""
         step = change.step
         if name.endswith(SET_BY_COMMANDS):
@@ -62,7 +64,7 @@ class Model:
         found = self._found(name, bit, value, step, depth)
         return found or [Node("that was so for a moment within this step, %s" % self._doers.what(step), step)]
 
-    def _found(self, name: str, bit: int, value: int, step: Step, depth: int) -> List[Node]:
+    def _found(self, name: str, bit: int, value: int, step: Step, depth: int) -> list[Node]:
         if (name, bit) in SUMS:
             return self._sum(SUMS[name, bit], value, step, depth)
         if name == "poll":
@@ -75,7 +77,7 @@ class Model:
             return self._scan(step)
         return self._measured(name, bit, value, step)
 
-    def _both(self, one: str, other: str, step: Step) -> Tuple[int, int]:
+    def _both(self, one: str, other: str, step: Step) -> tuple[int, int]:
         """Which bits rose in both of two registers together in a step, and which fell."""
         before = self._lines.bits(one, step.number - 1) & self._lines.bits(other, step.number - 1)
         after = self._lines.bits(one, step.number) & self._lines.bits(other, step.number)
@@ -92,11 +94,11 @@ class Model:
         node.text = node.text.replace(" is set since ", " was set at ")
         return node
 
-    def _sum(self, registers: Tuple[str, str], value: int, step: Step, depth: int) -> List[Node]:
+    def _sum(self, registers: tuple[str, str], value: int, step: Step, depth: int) -> list[Node]:
         """A summary bit: which bits of the events and of their enable came together, or parted."""
         event, enable = registers
         rose, fell = self._both(event, enable, step)
-        found: List[Node] = []
+        found: list[Node] = []
         for bit in range(16):
             if value and rose >> bit & 1:
                 found += [self._newer(event, bit, step, depth), self._newer(enable, bit, step, depth)]
@@ -105,11 +107,11 @@ class Model:
                 found.append(self.bit(gone, bit, step.number, depth))
         return found
 
-    def _request(self, value: int, step: Step, depth: int) -> List[Node]:
+    def _request(self, value: int, step: Step, depth: int) -> list[Node]:
         """RQS: bits of the status byte that are newly set or newly enabled; or a poll; or no enabled bit that is left."""
         rose, fell = self._both("stb", "sre", step)
         call = self._story.call_of(step)
-        found: List[Node] = []
+        found: list[Node] = []
         if value:
             for bit in range(8):
                 if (rose & ~MASTER) >> bit & 1:
@@ -123,7 +125,7 @@ class Model:
                                  depth)
                         for bit in range(8) if (fell & ~MASTER) >> bit & 1]
 
-    def _response(self, value: int, step: Step, _depth: int) -> List[Node]:
+    def _response(self, value: int, step: Step, _depth: int) -> list[Node]:
         """MAV: the response, and the queries that it answers."""
         if not value:
             call = self._story.call_of(step)
@@ -134,9 +136,9 @@ class Model:
         found = [Node("response of %s" % counted(self._lines.bits("response", step.number), "byte"), step)]
         return found + [Node("to the query at %s" % self._doers.by(one), one) for one in self._queries(step)]
 
-    def _queries(self, step: Step) -> List[Step]:
+    def _queries(self, step: Step) -> list[Step]:
         """The units whose answers became a response, the first first."""
-        found: List[Step] = []
+        found: list[Step] = []
         for one in reversed(self._lines.steps[:step.number]):
             answers = one.of("answers")
             if one.kind == "finish" and one.of("text") is not None or one.of("response") is not None:
@@ -145,12 +147,12 @@ class Model:
                 found.insert(0, self._story.held_at(one) or one if one.kind == "release" else one)
         return found
 
-    def _queue(self, value: int, step: Step, _depth: int) -> List[Node]:
+    def _queue(self, value: int, step: Step, _depth: int) -> list[Node]:
         """The error queue."""
         queue = numbers(self._lines.at("errors", step.number))
         return [Node("error %s" % error(queue[0]), step)] if value and queue else [Node("the error queue is empty", step)]
 
-    def _standard(self, bit: int, value: int, step: Step) -> List[Node]:
+    def _standard(self, bit: int, value: int, step: Step) -> list[Node]:
         """A standard event."""
         if not value:
             return [Node("`%s` clears the standard events" % unit(step.text), step)]
@@ -165,7 +167,7 @@ class Model:
             return [Node("error %s" % error(added[0]), step)]
         return [Node("an error of class -%dxx, which is lost: the queue is full" % CLASSES[bit], step)]
 
-    def _event(self, register: str, bit: int, value: int, step: Step, depth: int) -> List[Node]:
+    def _event(self, register: str, bit: int, value: int, step: Step, depth: int) -> list[Node]:
         """An event of a register: its condition rose with PTR, or fell with NTR."""
         if not value:
             return [Node("`%s` %sclears the events" % (unit(step.text), "reads and " if b"?" in step.text else ""), step)]
@@ -178,7 +180,7 @@ class Model:
         child.children = self.causes(name, bit, rises, change, depth + 1) if depth < DEPTH else []
         return [child]
 
-    def _scan(self, step: Step) -> List[Node]:
+    def _scan(self, step: Step) -> list[Node]:
         """A condition of the operation register: the state of the scan."""
         state, source = str(self._lines.at("state", step.number)), str(self._lines.at("source", step.number))
         said = "the scan waits for %s trigger" % a(SOURCES[source]) if state == "waiting" else "the scan is %s" % state
@@ -187,7 +189,7 @@ class Model:
     def _at(self, step: Step, name: str) -> Value:
         return self._lines.at(name, step.number)
 
-    def _measured(self, name: str, bit: int, value: int, step: Step) -> List[Node]:
+    def _measured(self, name: str, bit: int, value: int, step: Step) -> list[Node]:
         """A condition that a reading, an input or a limit changed."""
         at = functools.partial(self._at, step)
         newest = at("reading")

@@ -2,13 +2,16 @@
 
 The page has its data, its style and its scripts in itself. Its policy forbids all requests, and all scripts but its own.
 """
+
+from __future__ import annotations
+
 import base64
 import hashlib
 import html
 import json
 import pathlib
 import re
-from typing import TYPE_CHECKING, Dict, List
+from typing import TYPE_CHECKING
 
 from .blocks import Blocks
 from .lanes import Lanes
@@ -26,12 +29,12 @@ SCRIPTS = ("axis.js", "drawing.js", "looking.js")
 POLICY = "default-src 'none'; style-src 'unsafe-inline'; script-src 'sha256-%s'; base-uri 'none'; form-action 'none'"
 
 
-def page(found: "Explanation", title: str) -> str:
+def page(found: Explanation, title: str) -> str:
     """The page of a session."""
     slots = Slots(found.story)
     script = "\n".join(part(name) for name in SCRIPTS)
     checksum = base64.b64encode(hashlib.sha256(script.encode()).digest()).decode()
-    values: Dict[str, str] = {
+    values: dict[str, str] = {
         "TITLE": html.escape(title), "POLICY": POLICY % checksum, "FACTS": html.escape(facts(found, slots)),
         "CLOCK": str(wide(found)), "TABLE": table(Blocks(found.reasons), slots),
         "END": ending(found.end_lines()), "DATA": data(found, slots),
@@ -44,20 +47,20 @@ def part(name: str) -> str:
     return (HERE / name).read_text(encoding="utf-8")
 
 
-def filled(text: str, values: Dict[str, str]) -> str:
+def filled(text: str, values: dict[str, str]) -> str:
     """A text with values in place of `{{NAME}}`: in one pass, since values may have braces."""
     return re.sub(r"\{\{(\w+)\}\}", lambda place: values[place[1]], text)
 
 
-def wide(found: "Explanation") -> int:
+def wide(found: Explanation) -> int:
     """How many characters the table needs for a millisecond."""
     return max(LEAST, len(millis(found.story.clock)))
 
 
-def data(found: "Explanation", slots: Slots) -> str:
+def data(found: Explanation, slots: Slots) -> str:
     """What the scripts draw, as JSON. `<` is escaped, since `<!--<script>` in a unit would end the page."""
     lanes, doers = Lanes(found.reasons, slots), found.reasons.doers
-    rows: List[List[object]] = []
+    rows: list[list[object]] = []
     for step in slots.found:
         call = found.story.call_of(step)
         label = (call.words if call else doers.event(step.moment)) if step.kind == "event" else doers.label(step)
@@ -71,7 +74,7 @@ def data(found: "Explanation", slots: Slots) -> str:
     return json.dumps(drawn, separators=(",", ":")).replace("<", "\\u003c")
 
 
-def facts(found: "Explanation", slots: Slots) -> str:
+def facts(found: Explanation, slots: Slots) -> str:
     """A few numbers about the session."""
     story = found.story
     errors = sum(1 for one in story.calls if one.answer and one.answer.is_fault)

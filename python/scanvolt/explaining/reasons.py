@@ -1,5 +1,6 @@
 """Why a call waits, down to the trigger source or the holder of the lock; what is due by itself."""
-from typing import List, Optional
+
+from __future__ import annotations
 
 from .doers import Doers, of
 from .story import Call, Wait, call_list
@@ -25,12 +26,12 @@ class Reasons:
             return "scanning: %d of %s read (scan %d of %d)" % (place, counted(length, "channel"), scan, scans)
         return "the scan is idle"
 
-    def due(self, number: int) -> Optional[int]:
+    def due(self, number: int) -> int | None:
         """In how many milliseconds the scan under way ends; None if none is."""
         place, length = pair(self.lines.at("place", number))
         return length - place if self.lines.at("state", number) == "scanning" else None
 
-    def why(self, wait: Wait, number: int) -> List[str]:
+    def why(self, wait: Wait, number: int) -> list[str]:
         """Why a call waits, as of a step: lines, each the cause of the one before it."""
         if wait.what == "lock":
             return self._lock(wait, number)
@@ -45,12 +46,12 @@ class Reasons:
             return "unit `%s` waits until the scan is idle: %s" % (unit(held.text), self.scan(number))
         return "".join(self.why(wait, number)[:1])
 
-    def _executed(self, wait: Wait) -> List[str]:
+    def _executed(self, wait: Wait) -> list[str]:
         """The message that was executed in the same event when the wait began."""
         call = self.story.executed.get(wait.begin.number)
         return [] if call is None else ["a message is under way%s, and is executed first" % of(call)]
 
-    def _lock(self, wait: Wait, number: int) -> List[str]:
+    def _lock(self, wait: Wait, number: int) -> list[str]:
         holder, taken = str(self.lines.at("lock", number)), self.lines.last("lock", number)
         if holder == "none" or taken is None:
             return []
@@ -65,7 +66,7 @@ class Reasons:
                          "it is answered" % own.conn)
         return found
 
-    def _message(self, number: int) -> List[str]:
+    def _message(self, number: int) -> list[str]:
         """Why a message is under way."""
         held = self.story.held_at(self.lines.steps[number])
         if self.lines.at("held", number) == "none" or held is None:

@@ -1,6 +1,9 @@
 """Runs `scanvolt explain` over a script."""
+
+from __future__ import annotations
+
 import subprocess
-from typing import List, Optional, Sequence, Tuple
+from collections.abc import Sequence
 
 from ..lifeline import Tied
 from ..program import ProgramError, in_a_line
@@ -10,16 +13,16 @@ from .words import unit
 
 SHOWN = 60              # characters of a bad line that are shown
 BAD_LINE = "scanvolt: bad line "
-Ports = Tuple[int, int]     # of the core and the abort channel, which replies name
+Ports = tuple[int, int]     # of the core and the abort channel, which replies name
 OLD = "%s has no `explain`: it is an earlier release, or no scanvolt"
 
 
-def command(program: str, ports: Optional[Ports]) -> List[str]:
+def command(program: str, ports: Ports | None) -> list[str]:
     """The command that explains a script; with the ports of the server that recorded it, if there are some."""
     return [program, "explain"] + ([] if ports is None else ["--core", str(ports[0]), "--abort", str(ports[1])])
 
 
-def lines_of(script: Sequence[str], program: str, patience: Optional[float] = None, ports: Optional[Ports] = None) -> Lines:
+def lines_of(script: Sequence[str], program: str, patience: float | None = None, ports: Ports | None = None) -> Lines:
     """What the program says about a script. Raises ProgramError if it can't, or doesn't end within this many seconds."""
     given = "".join(line + "\n" for line in script).encode("latin-1")
     try:

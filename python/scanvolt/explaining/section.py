@@ -1,9 +1,11 @@
 """What the instrument saw, for the report of a test that failed."""
+
+from __future__ import annotations
+
 import argparse
 import os
 import re
 import time
-from typing import List, Optional, Tuple
 
 from ..program import Server
 from .explanation import Explanation
@@ -14,14 +16,14 @@ HINT = "(--scanvolt-trace=DIR keeps all of it, as a script, a text and a page)"
 FLUSHED = 1.0           # seconds after which a packet is in the file that tshark writes
 
 
-def section(found: Explanation, name: str, folder: Optional[str]) -> str:
+def section(found: Explanation, name: str, folder: str | None) -> str:
     """The last lines of the timeline, and the end. If there is a folder, keeps script, text and page there."""
     timeline, end = found.lines(), found.end_lines()
     last = HINT if not folder else "kept: %s.replay, .txt, .html" % kept(found, timeline + end, name, folder)
     return "\n".join(found.lines(LINES) + end + [last])
 
 
-def kept(found: Explanation, lines: List[str], name: str, folder: str) -> str:
+def kept(found: Explanation, lines: list[str], name: str, folder: str) -> str:
     """Writes script, text and page of a test into a folder. Returns their path without the ending."""
     texts = ((".replay", "\n".join(found.script)), (".txt", "\n".join(lines)), (".html", found.page(name)))
     os.makedirs(folder, exist_ok=True)
@@ -32,12 +34,12 @@ def kept(found: Explanation, lines: List[str], name: str, folder: str) -> str:
     return path
 
 
-def captured(server: Server, start: float, capture: str) -> Tuple[Explanation, List[str]]:
+def captured(server: Server, start: float, capture: str) -> tuple[Explanation, list[str]]:
     """What a server that was ready at this moment saw, from a capture that may still be written; and warnings about it. Raises
     OSError, Fault and ProgramError.
     """
     time.sleep(FLUSHED)
-    warnings: List[str] = []
+    warnings: list[str] = []
     given = argparse.Namespace(
         file=capture, program=server.program, start="%.6f" % start, core=server.core, abort=server.abort,
         portmap=server.port_mapper, scenario=None if server.scenario == os.devnull else server.scenario)

@@ -1,5 +1,6 @@
 """Places on the page's axis: one for each step that is worth one, so that what happens in one millisecond is spread out."""
-from typing import Dict, List, Set
+
+from __future__ import annotations
 
 from .blocks import READING
 from .lines import Change, Moment, Step
@@ -19,8 +20,8 @@ class Slots:
         self._story = story
         most, kept = most or MOST, kept or KEPT
         self.first = story.calls[-kept].arrived.number if len(story.calls) > most else 0
-        self.found: List[Step] = []         # the step of each place
-        self._of: List[int] = []
+        self.found: list[Step] = []         # the step of each place
+        self._of: list[int] = []
         self.folded = self._runs()          # moments that take one of many readings in a row
         for step in story.lines.steps:
             if step.moment.number >= self.first and step.moment.number not in self.folded and self._shown(step):
@@ -39,20 +40,20 @@ class Slots:
         """The place of a moment's last step."""
         return self._of[moment.steps[-1].number]
 
-    def kept(self, name: str) -> List[Change]:
+    def kept(self, name: str) -> list[Change]:
         """The changes of a value that are on the page."""
         return [one for one in self._story.lines.history.get(name, ()) if self.is_kept(one.step)]
 
-    def tree(self, node: Node) -> List[object]:
+    def tree(self, node: Node) -> list[object]:
         """Causes as the page has them: words, place, causes."""
         place = self.at(node.step) if node.step is not None and self.is_kept(node.step) else None
         return [node.text, place, [self.tree(one) for one in node.children]]
 
-    def _runs(self) -> Set[int]:
+    def _runs(self) -> set[int]:
         """The moments that only take one of several readings in a row."""
         only = [moment.number for moment in self._story.moments if moment.kind == "tick" and len(moment.steps) == 1
                 and {one.name for one in moment.changes()} <= READING and moment.steps[0].of("reading") is not None]
-        runs: Dict[int, List[int]] = {}
+        runs: dict[int, list[int]] = {}
         start = -1
         for place, number in enumerate(only):
             if place == 0 or only[place - 1] + 1 != number:

@@ -1,8 +1,11 @@
 """The story of a session: calls and their replies, waits, held units, and which call brought each unit. It is put together from
 the script and from what `scanvolt explain` prints about it.
 """
+
+from __future__ import annotations
+
+from collections.abc import Sequence
 from dataclasses import dataclass, field
-from typing import Dict, List, Optional, Sequence, Tuple
 
 from ..capturing.flows import call_of, name
 from ..faults.told import Told
@@ -18,10 +21,10 @@ class Wait:
     """A wait: for what (`lock`, `input`, `response`, `dial`), on which link, until when at most, from which step to which."""
 
     what: str
-    link: Optional[int]
-    deadline: Optional[int]
+    link: int | None
+    deadline: int | None
     begin: Step
-    end: Optional[Step] = None
+    end: Step | None = None
 
     def is_on(self, number: int) -> bool:
         """Whether the call waits after the step of this number."""
@@ -38,12 +41,12 @@ class Call:
     arrived: Moment
     name: str
     arguments: Arguments
-    link: Optional[int] = None
-    turned: Optional[Moment] = None
-    ended: Optional[Moment] = None
-    gone: Optional[Moment] = None
-    answer: Optional[Answer] = None
-    waits: List[Wait] = field(default_factory=list)
+    link: int | None = None
+    turned: Moment | None = None
+    ended: Moment | None = None
+    gone: Moment | None = None
+    answer: Answer | None = None
+    waits: list[Wait] = field(default_factory=list)
 
     @property
     def words(self) -> str:
@@ -71,14 +74,14 @@ class Held:
     """A unit that waits until the scan is idle, and the step that ended that."""
 
     unit: Step
-    until: Optional[Step] = None
+    until: Step | None = None
 
 
 class _Port:
     """What is known of a connection while the story is read: its calls that aren't answered, and its bytes."""
 
     def __init__(self) -> None:
-        self.queue: List[Call] = []
+        self.queue: list[Call] = []
         self.asks, self.replies = Records(), Records()
         self.channel = RequestStream()
 
@@ -90,23 +93,23 @@ class Story:
         # what the program printed, and the script
         self.lines, self.moments, self.script = lines, lines.moments, lines.script
         self.clock = lines.clock or 0               # the millisecond of the end
-        self.calls: List[Call] = []                 # all of them, in the order in which they came
-        self.held: List[Held] = []                  # all held units
-        self.owners: Dict[int, int] = {}            # the connection of each link that ever was
-        self.of_moment: Dict[int, Call] = {}        # the call that a moment's event takes or ends
-        self._of_step: Dict[int, Optional[Call]] = {}
-        self.replied: Dict[int, List[Call]] = {}    # the calls that were answered in a moment
-        self.came: Dict[int, List[Call]] = {}       # the calls whose last byte came in a moment
-        self.requests: Dict[int, List[Tuple[int, bytes]]] = {}     # service requests: connection, handle
+        self.calls: list[Call] = []                 # all of them, in the order in which they came
+        self.held: list[Held] = []                  # all held units
+        self.owners: dict[int, int] = {}            # the connection of each link that ever was
+        self.of_moment: dict[int, Call] = {}        # the call that a moment's event takes or ends
+        self._of_step: dict[int, Call | None] = {}
+        self.replied: dict[int, list[Call]] = {}    # the calls that were answered in a moment
+        self.came: dict[int, list[Call]] = {}       # the calls whose last byte came in a moment
+        self.requests: dict[int, list[tuple[int, bytes]]] = {}     # service requests: connection, handle
         self.faults: Sequence[Told] = ()            # on order, in their order
-        self._strays: List[Step] = []                # units whose bytes aren't in what was written
-        self.executed: Dict[int, Call] = {}         # whose text is executed when a wait begins, by the step of that
-        self._ports: Dict[int, _Port] = {}
-        self._of_conn: Dict[int, List[Call]] = {}
+        self._strays: list[Step] = []                # units whose bytes aren't in what was written
+        self.executed: dict[int, Call] = {}         # whose text is executed when a wait begins, by the step of that
+        self._ports: dict[int, _Port] = {}
+        self._of_conn: dict[int, list[Call]] = {}
         for moment in self.moments:
             self._events(moment)
         self._text = Text()
-        self._running: Optional[Call] = None        # the call that wrote the newest unit
+        self._running: Call | None = None        # the call that wrote the newest unit
         for moment in self.moments:
             for step in moment.steps:
                 self._look(moment, step)
@@ -207,7 +210,7 @@ class Story:
             if text is not None and text.new == 0:
                 self._text.drop()
 
-    def _current(self, conn: int, moment: Moment) -> Optional[Call]:
+    def _current(self, conn: int, moment: Moment) -> Call | None:
         """The call of a connection that waits before or in this moment."""
         return next((one for one in reversed(self._of_conn.get(conn, ())) if one.turned and one.turned.number <= moment.number
                      and (one.ended is None or one.ended.number >= moment.number)), None)
@@ -235,26 +238,26 @@ class Story:
         """A value at the end."""
         return self.lines.now.get(name, start_of(name))
 
-    def call_of(self, step: Step) -> Optional[Call]:
+    def call_of(self, step: Step) -> Call | None:
         """The call to which a step belongs: the one that is taken or resumes, or that wrote the unit."""
         return self._of_step.get(step.number)
 
-    def held_at(self, step: Step) -> Optional[Step]:
+    def held_at(self, step: Step) -> Step | None:
         """The unit that is held after a step, or that this step releases."""
         return next((one.unit for one in reversed(self.held)
                      if one.unit.number <= step.number and (one.until is None or one.until.number >= step.number)), None)
 
-    def waiting(self) -> List[Call]:
+    def waiting(self) -> list[Call]:
         """The calls that still wait, in the order in which they were taken."""
         found = [one for one in self.calls if one.is_open and one.waits and one.waits[-1].end is None]
         return sorted(found, key=lambda one: one.waits[0].begin.number)
 
-    def unfinished(self) -> List[Tuple[int, int]]:
+    def unfinished(self) -> list[tuple[int, int]]:
         """The open connections on which a call came that isn't whole, and how many bytes of it."""
         found = [(conn, port.asks.count - port.asks.start) for conn, port in sorted(self._ports.items())]
         return [(conn, count) for conn, count in found if count and self.value("c%d.role" % conn) != "closed"]
 
-    def behind(self, call: Call) -> List[Call]:
+    def behind(self, call: Call) -> list[Call]:
         """The calls that came after it on its connection and aren't answered."""
         return [one for one in self._of_conn.get(call.conn, ()) if one.number > call.number and one.is_open]
 
@@ -267,7 +270,7 @@ def _message(body: bytes) -> CallMessage:
     return CallMessage(Reader(body).word(), 0, 0, 0, b"")
 
 
-def call_words(call: Optional[Call]) -> str:
+def call_words(call: Call | None) -> str:
     """A call with its link, in words."""
     return "a call" if call is None else "%s (%s)" % (call.words, call.who)
 

@@ -1,7 +1,9 @@
 """The table of the page: the blocks of the timeline as HTML, and the end. It is there without JavaScript too."""
+
+from __future__ import annotations
+
 import html
 import re
-from typing import List, Optional, Tuple
 
 from .blocks import Block, Blocks, Row
 from .slots import Slots
@@ -17,8 +19,8 @@ COLOURS = 6         # of connections
 
 def table(blocks: Blocks, slots: Slots) -> str:
     """The rows of all blocks."""
-    found: List[str] = []
-    clock: Optional[int] = None
+    found: list[str] = []
+    clock: int | None = None
     for block in blocks.all():
         if block.moment.number >= slots.first:
             found.append(_block(block, slots, block.clock != clock))
@@ -77,7 +79,7 @@ def _chips(words: str) -> str:
     return " ".join(found)
 
 
-def ending(lines: List[str]) -> str:
+def ending(lines: list[str]) -> str:
     """The lines of the end, each with its label at the left."""
     found = []
     for line in lines[1:]:
@@ -88,7 +90,7 @@ def ending(lines: List[str]) -> str:
     return "".join(found)
 
 
-def _labelled(line: str) -> Tuple[str, str, int]:
+def _labelled(line: str) -> tuple[str, str, int]:
     """The label of a line, its words, and how deep they are."""
     words = line.strip()
     label = next((one for one in LABELS if words.startswith(one + " ") and len(line) - len(line.lstrip()) <= 4), "")

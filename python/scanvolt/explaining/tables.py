@@ -1,7 +1,8 @@
 """Tables of the documents: bits, sums of bits, errors, and why an event is refused. `tools/explaining` writes this file."""
-from typing import Dict, Tuple
 
-BITS: Dict[str, Dict[int, Tuple[str, str]]] = {
+from __future__ import annotations
+
+BITS: dict[str, dict[int, tuple[str, str]]] = {
     'poll': {
         2: ('EAV', 'an error is queued'),
         3: ('QUES', 'an enabled questionable event'),
@@ -33,19 +34,19 @@ BITS: Dict[str, Dict[int, Tuple[str, str]]] = {
         2: ('MONITORED', 'the monitored input is outside the limits'),
     },
 }
-SUMS: Dict[Tuple[str, int], Tuple[str, str]] = {
+SUMS: dict[tuple[str, int], tuple[str, str]] = {
     ('poll', 7): ('oper.event', 'oper.enable'),
     ('poll', 5): ('esr', 'ese'),
     ('poll', 3): ('ques.event', 'ques.enable'),
     ('ques.cond', 9): ('lim.event', 'lim.enable'),
 }
-CLASSES: Dict[int, int] = {
+CLASSES: dict[int, int] = {
     2: 4,
     3: 3,
     4: 2,
     5: 1,
 }
-ERRORS: Dict[int, str] = {
+ERRORS: dict[int, str] = {
     -101: "Invalid character",
     -102: "Syntax error",
     -104: "Data type error",
@@ -74,7 +75,7 @@ ERRORS: Dict[int, str] = {
     -420: "Query UNTERMINATED",
     -430: "Query DEADLOCKED",
 }
-REFUSED: Dict[int, str] = {
+REFUSED: dict[int, str] = {
     1: "memory was refused",
     2: "the connection is open already",
     3: "the connection or interrupt channel doesn't exist or isn't open",
@@ -85,7 +86,7 @@ REFUSED: Dict[int, str] = {
     9: "the voltage is beyond plus or minus 1,000,000,000 microvolts",
     10: "the clock has its last value",
 }
-START: Dict[str, object] = {
+START: dict[str, object] = {
     'esr': 128,
     'count': 1,
     'source': "imm",

@@ -1,9 +1,26 @@
 """What changed, in words. What is noise to people isn't told, unless everything is wanted."""
-from typing import Callable, Dict, Optional, Tuple
+
+from __future__ import annotations
+
+from collections.abc import Callable
 
 from .lines import Change, Step, as_number
 from .story import Story
-from .words import LABELS, NAMES, SOURCES, a, channels, counted, error, known, millis, moved, pair, reading, volts
+from .words import (
+    LABELS,
+    NAMES,
+    SOURCES,
+    a,
+    channels,
+    counted,
+    error,
+    known,
+    millis,
+    moved,
+    pair,
+    reading,
+    volts,
+)
 
 NOISE = ("stb", "rqs", "oper.cond", "answers", "scan", "place", "readings")     # said by another value, or of no use
 FLAGS = ("esr", "oper.event", "ques.event", "lim.event", "ques.cond", "lim.cond")      # whose numbers say less than their bits
@@ -18,7 +35,7 @@ class Telling:
     def __init__(self, story: Story, everything: bool = False) -> None:
         # the session, for what takes its telling from here, and whether noise is told too
         self.story, self.lines, self.everything = story, story.lines, everything
-        self._by_name: Dict[str, Callable[[Change], Optional[str]]] = {
+        self._by_name: dict[str, Callable[[Change], str | None]] = {
             "poll": self._poll, "errors": self._errors, "lost": self._lost, "lock": self._lock, "held": self._held,
             "state": self._state,
             "source": lambda one: "trigger source %s" % SOURCES[str(one.new)], "reading": self._reading, "text": self._text,
@@ -29,13 +46,13 @@ class Telling:
             "lower": lambda one: "lower limit %s" % volts(as_number(one.new)),
             "limits": lambda one: "limits %s" % ("on" if one.new else "off"),
         }
-        self._by_tail: Dict[str, Callable[[Change], Optional[str]]] = {"wait": self._wait, "open": self._open,
+        self._by_tail: dict[str, Callable[[Change], str | None]] = {"wait": self._wait, "open": self._open,
                                                                       "faulted": self._faulted}
-        self._by_head: Dict[str, Callable[[Change], Optional[str]]] = {
+        self._by_head: dict[str, Callable[[Change], str | None]] = {
             "link": lambda one: "link %s ended" % one.name[5:] if one.new == "none" else None,
             "srq": lambda one: "service requests of link %s %s" % (one.name[4:], one.new)}
 
-    def change(self, change: Change) -> Optional[str]:
+    def change(self, change: Change) -> str | None:
         """A change in words; None if it is noise."""
         head, _, tail = change.name.partition(".")
         how = self._by_name.get(change.name) or self._by_tail.get(tail) or self._by_head.get(head)
@@ -64,7 +81,7 @@ class Telling:
         old, new = as_number(change.old), as_number(change.new)
         return "STB %d -> %d (%s)" % (old, new, moved("poll", old, new))
 
-    def _bits(self, change: Change) -> Optional[str]:
+    def _bits(self, change: Change) -> str | None:
         name, old, new = change.name, as_number(change.old), as_number(change.new)
         if name == "oper.event" and not (old ^ new) & self.lines.bits("oper.enable", change.step.number):
             return None
@@ -82,7 +99,7 @@ class Telling:
         added = new[len(old):] if new[:len(old)] == old else new[-1:]
         return "error " + ", ".join(map(error, added)) + ("" if len(new) == len(added) else " (%d in the queue)" % len(new))
 
-    def _lost(self, change: Change) -> Optional[str]:
+    def _lost(self, change: Change) -> str | None:
         count = as_number(change.new) - as_number(change.old)
         return "%s lost: the queue is full" % counted(count, "error") if count > 0 else None
 
@@ -103,16 +120,16 @@ class Telling:
             return "scan: waiting for %s trigger%s" % (a(SOURCES[self.at("source", change.step)]), where)
         return "scan: %s%s" % (change.new, where)
 
-    def _reading(self, change: Change) -> Optional[str]:
+    def _reading(self, change: Change) -> str | None:
         return reading(change.new) if change.new != "none" else "readings dropped"
 
-    def _text(self, change: Change) -> Optional[str]:
+    def _text(self, change: Change) -> str | None:
         if change.new in (0, "ended"):
             dropped = change.new == 0 and isinstance(change.old, int) and change.step.kind in ("event", "resume")
             return "unfinished message of %s dropped" % counted(as_number(change.old), "byte") if dropped else None
         return "%s of a message that hasn't ended" % counted(as_number(change.new), "byte")
 
-    def _response(self, change: Change) -> Optional[str]:
+    def _response(self, change: Change) -> str | None:
         old, new, call = as_number(change.old), as_number(change.new), self.story.call_of(change.step)
         if new > old:
             return "response of %s ready" % counted(new, "byte")
@@ -120,7 +137,7 @@ class Telling:
             return None
         return "response dropped, %s" % counted(old, "byte") if new == 0 else "%d of %d bytes left" % (new, old)
 
-    def _wait(self, change: Change) -> Optional[str]:
+    def _wait(self, change: Change) -> str | None:
         if change.new == "none":
             return None
         what, _, deadline = str(change.new).split()
@@ -130,11 +147,11 @@ class Telling:
     def _open(self, change: Change) -> str:
         return "interrupt channel of c%s %s" % (change.name[1:].split(".")[0], "open" if change.new else "closed")
 
-    def _faulted(self, change: Change) -> Optional[str]:
+    def _faulted(self, change: Change) -> str | None:
         return "c%s takes no further call" % change.name[1:].split(".")[0] if change.new else None
 
 
-def numbers(value: object) -> Tuple[int, ...]:
+def numbers(value: object) -> tuple[int, ...]:
     """The numbers of a value that is a list of them; none of any other."""
     return value if isinstance(value, tuple) else ()
 

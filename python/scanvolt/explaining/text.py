@@ -1,5 +1,8 @@
 """The timeline as text."""
-from typing import Callable, List, Sequence
+
+from __future__ import annotations
+
+from collections.abc import Callable, Sequence
 
 from .blocks import Block, Blocks, Row
 from .words import millis
@@ -21,7 +24,7 @@ def coloured(text: str, colour: str) -> str:
 
 def wrapped(words: str, room: int, indent: int) -> str:
     """Changes in lines of at most this many columns."""
-    found: List[str] = []
+    found: list[str] = []
     line = ""
     for part in words.split("; "):
         if line and len(line) + 2 + len(part) > room:
@@ -50,7 +53,7 @@ def readings(block: Block) -> str:
     return "%d readings, until %s; the last: %s" % (block.times, millis(block.last), block.rows[-1].words)
 
 
-def block_text(block: Block, clock: str, paint: Paint) -> List[str]:
+def block_text(block: Block, clock: str, paint: Paint) -> list[str]:
     """The lines of a block."""
     start = "%s %s" % (paint("%8s" % clock, DIM), "<" if block.kind == "answer" else " ")
     if block.kind == "reading":
@@ -64,18 +67,18 @@ def block_text(block: Block, clock: str, paint: Paint) -> List[str]:
     return [line for one in found for line in one.split("\n")]
 
 
-def timeline(blocks: Blocks, colour: bool = False) -> List[str]:
+def timeline(blocks: Blocks, colour: bool = False) -> list[str]:
     """The timeline, in lines. `"` stands for the millisecond of the line above."""
-    found: List[str] = []
+    found: list[str] = []
     last = -1
     for block in blocks.all():
-        clock = "{:,}".format(block.clock) if block.clock != last else '"'
+        clock = f"{block.clock:,}" if block.clock != last else '"'
         found += block_text(block, clock, coloured if colour else plain)
         last = block.last if block.times > 1 else block.clock
     return found
 
 
-def newest(lines: Sequence[str], count: int) -> List[str]:
+def newest(lines: Sequence[str], count: int) -> list[str]:
     """The last lines of a timeline, and how many there are before them; none if none are wanted."""
     if count == 0:
         return []

@@ -1,5 +1,6 @@
 """A second program that is where the session ended, and to which something more happens: the calls that wait are watched."""
-from typing import Dict, List, Optional, Tuple
+
+from __future__ import annotations
 
 from ..program import ProgramError
 from ..replay import PROBE, SEEN, Program, pieces, ticks
@@ -14,7 +15,7 @@ INPUT_REFUSED = 8       # what the probe prints (replay.py); lines of the script
 BATCH = 64              # single milliseconds that are asked for at once
 PLACES = 16             # connections that the instrument has room for
 MESSAGE = ("input", "response")     # what calls wait for while a message is under way
-Seen = Tuple[int, str, str]         # when a call was answered, its reply, and what was being done
+Seen = tuple[int, str, str]         # when a call was answered, its reply, and what was being done
 
 
 class Trial:
@@ -22,21 +23,21 @@ class Trial:
 
     def __init__(self, story: Story, path: str) -> None:
         self.story, self.clock, self.doing = story, story.clock, ""
-        self.ended: Dict[int, Seen] = {}
-        self._told: List[Tuple[CallMessage, bytes]] = []     # replies to calls of this trial
-        self._queues: Dict[int, List[Tuple[Optional[int], CallMessage]]] = {}
-        self._records: Dict[int, Records] = {}
+        self.ended: dict[int, Seen] = {}
+        self._told: list[tuple[CallMessage, bytes]] = []     # replies to calls of this trial
+        self._queues: dict[int, list[tuple[int | None, CallMessage]]] = {}
+        self._records: dict[int, Records] = {}
         self._xid = WORD - PLACES * PLACES
         for call in story.calls:
             if call.is_open:
                 self._queues.setdefault(call.conn, []).append((call.number, call.message))
-        self.log: List[str] = []        # the lines that were added to the session
-        self._late: List[int] = []       # connections whose next call is to be taken
+        self.log: list[str] = []        # the lines that were added to the session
+        self._late: list[int] = []       # connections whose next call is to be taken
         self.program = Program(path)
 
     def begin(self) -> None:
         """Brings the program to where the session ended."""
-        refused: Dict[int, int] = {}
+        refused: dict[int, int] = {}
         for moment in self.story.moments:
             if moment.refused == INPUT_REFUSED:
                 refused[moment.line] = refused.get(moment.line, 0) + 1
@@ -72,7 +73,7 @@ class Trial:
             self.program.ask(ticks(milliseconds) + PROBE)
             self.clock += milliseconds
 
-    def send(self, conn: int, call: "Sent[object]", watched: Optional[int] = None) -> None:
+    def send(self, conn: int, call: Sent[object], watched: int | None = None) -> None:
         """Sends a call on a connection, and has it taken if none is before it. `watched` is a number for `ended`."""
         self._xid += 1
         data = call.encode(self._xid)

@@ -1,9 +1,12 @@
 """What would end a wait is tried, not reasoned: second programs get the same lines, and then something more happens to each. So
 what is said to end a wait was seen to end it.
 """
+
+from __future__ import annotations
+
 import threading
+from collections.abc import Callable, Iterator, Sequence
 from dataclasses import dataclass
-from typing import Callable, Dict, Iterator, List, Optional, Sequence, Tuple
 
 from ..program import ProgramError
 from ..vxi11 import calls
@@ -27,7 +30,7 @@ class Outcome:
     """What was tried for a call, and if that ended its wait, when and with which reply."""
 
     what: str
-    words: Optional[str] = None
+    words: str | None = None
     clock: int = 0
 
     @property
@@ -44,9 +47,9 @@ class Kind:
     """Something to try: its name, for which waits, how, and for calls of which link if it is only for these."""
 
     what: str
-    fits: Tuple[str, ...]
+    fits: tuple[str, ...]
     act: Act
-    link: Optional[int] = None
+    link: int | None = None
 
     def is_for(self, call: Call) -> bool:
         """Whether it is worth trying for this call."""
@@ -59,12 +62,12 @@ class Tried:
     """
 
     def __init__(self) -> None:
-        self.ended: Dict[str, Dict[int, Seen]] = {}     # by kind and call, how the call ended
-        self._kinds: Dict[str, Kind] = {}
-        self.left: List[Kind] = []
-        self.logs: Dict[str, List[str]] = {}
+        self.ended: dict[str, dict[int, Seen]] = {}     # by kind and call, how the call ended
+        self._kinds: dict[str, Kind] = {}
+        self.left: list[Kind] = []
+        self.logs: dict[str, list[str]] = {}
 
-    def of(self, call: Call) -> List[Outcome]:
+    def of(self, call: Call) -> list[Outcome]:
         """What was tried for a call. If it timed out during a try, that isn't what ended its wait."""
         found, timeout = [], self.ended.get(TIME, {}).get(call.number)
         for what, ended in self.ended.items():
@@ -77,11 +80,11 @@ class Tried:
                 found.append(Outcome(what))
         return found
 
-    def left_of(self, call: Call) -> List[str]:
+    def left_of(self, call: Call) -> list[str]:
         """What couldn't be tried for a call."""
         return [one.what for one in self.left if one.is_for(call)]
 
-    def of_held(self) -> List[Outcome]:
+    def of_held(self) -> list[Outcome]:
         """What was tried for a held unit for which no call waits."""
         return [Outcome(seen[2], "the message ends", seen[0]) for ended in self.ended.values()
                 for number, seen in ended.items() if number == HELD]
@@ -120,8 +123,8 @@ class _Run(threading.Thread):
     def __init__(self, story: Story, program: str, kind: Kind) -> None:
         super().__init__(daemon=True)
         self._story, self._program, self.kind = story, program, kind
-        self.trial: Optional[Trial] = None
-        self.ended: Optional[Dict[int, Seen]] = None
+        self.trial: Trial | None = None
+        self.ended: dict[int, Seen] | None = None
         self._stopped = False
 
     def run(self) -> None:
@@ -208,7 +211,7 @@ def _external(trial: Trial) -> None:
             return
 
 
-def _by_link(trial: Trial, what: str, make: Callable[[int, int], "Sent[None]"], most: int) -> None:
+def _by_link(trial: Trial, what: str, make: Callable[[int, int], Sent[None]], most: int) -> None:
     """A call of the link that has the lock, or else of a new one, again and again if that may help."""
     holder = trial.value("lock")
     conn = trial.fresh() if holder == "none" else trial.story.owners[int(str(holder))]

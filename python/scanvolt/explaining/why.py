@@ -1,5 +1,6 @@
 """Why a value is what it is: the newest change, who did it, and on what it rests; as a tree."""
-from typing import List, Optional, Tuple
+
+from __future__ import annotations
 
 from .asked import Asked, Unknown, asked
 from .lines import Step, Value, as_number
@@ -15,7 +16,7 @@ from .words import LABELS, NAMES, SOURCES, bits, channels, error, millis, readin
 class Why:
     """Answers why. `tried` is what ended the waits at the end when it was tried."""
 
-    def __init__(self, reasons: Reasons, tried: Optional[Tried] = None) -> None:
+    def __init__(self, reasons: Reasons, tried: Tried | None = None) -> None:
         self._reasons, self._tried = reasons, tried
         self._doers, self._telling, self._story, self._lines = reasons.doers, reasons.telling, reasons.story, reasons.lines
         self.model = Model(self._doers)
@@ -54,7 +55,7 @@ class Why:
             node.children += self._lacks(name, bit, number)
         return node
 
-    def _lacks(self, name: str, bit: int, number: int) -> List[Node]:
+    def _lacks(self, name: str, bit: int, number: int) -> list[Node]:
         """What a bit that is clear lacks to be set."""
         if name == "poll" and bit == RQS:
             event, enable, labels = "stb", "sre", ("STB", "SRE")
@@ -93,9 +94,9 @@ class Why:
                                                                      self._doers.by(before.step)), before.step))
         return node
 
-    def _origins(self, number: int) -> List[Step]:
+    def _origins(self, number: int) -> list[Step]:
         """The steps that put the errors of the queue there."""
-        found: List[Step] = []
+        found: list[Step] = []
         for change in self._lines.history.get("errors", ()):
             old, new = numbers(change.old), numbers(change.new)
             if change.step.number > number:
@@ -137,7 +138,7 @@ class Why:
                 "list": "the scan list is %s" % channels(value),
                 "response": "the response has %s bytes" % value}.get(name, "%s is %s" % (name, shown(value)))
 
-    def _lock(self, value: Value, step: Step, number: int) -> List[Node]:
+    def _lock(self, value: Value, step: Step, number: int) -> list[Node]:
         """Who waits for the lock, or who held it before."""
         if value != "none":
             waiting = [one for one in self._story.calls if any(wait.what == "lock" and wait.is_on(number) for wait in one.waits)]
@@ -166,7 +167,7 @@ class Why:
             node.children.append(Node("would end it", None, [Node(str(one)) for one in self._tried.of(call) if one.is_end]))
         return node
 
-    def _newest(self, port: str, number: int) -> Tuple[Call, Wait]:
+    def _newest(self, port: str, number: int) -> tuple[Call, Wait]:
         """The newest call of a connection that waited, and its wait."""
         found = [(one, wait) for one in self._story.calls if "c%d" % one.conn == port for wait in one.waits
                  if wait.begin.number <= number]
@@ -175,7 +176,7 @@ class Why:
         return max(found, key=lambda pair: pair[1].begin.number)
 
 
-def drawn(node: Node, lead: str = "", first: bool = True) -> List[str]:
+def drawn(node: Node, lead: str = "", first: bool = True) -> list[str]:
     """A tree as lines."""
     found = [node.text] if first else []
     for place, child in enumerate(node.children):

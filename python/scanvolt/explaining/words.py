@@ -1,5 +1,6 @@
 """Names, numbers and bytes in words."""
-from typing import Dict, List, Tuple
+
+from __future__ import annotations
 
 from .lines import REGISTERS, Value, as_number
 from .tables import BITS, ERRORS
@@ -11,7 +12,7 @@ TEXT_MOST, UNIT_MOST = 72, 48       # characters of a message and of a unit that
 DAY, HOUR = 86400000, 3600000       # milliseconds
 
 # The bits of each value that has some, by name.
-NAMES: Dict[str, Dict[int, str]] = {
+NAMES: dict[str, dict[int, str]] = {
     value: {bit: name for bit, (name, _) in BITS[register].items()}
     for value, register in (("poll", "poll"), ("stb", "poll"), ("sre", "poll"), ("esr", "esr"), ("ese", "esr"))
 }
@@ -21,7 +22,7 @@ NAMES["stb"] = {**NAMES["stb"], 6: "MSS"}
 NAMES["sre"] = {bit: name for bit, name in NAMES["sre"].items() if bit != 6}
 
 # What people call a value.
-LABELS: Dict[str, str] = {"poll": "STB", "stb": "STB (MSS)", "sre": "SRE", "esr": "ESR", "ese": "ESE"}
+LABELS: dict[str, str] = {"poll": "STB", "stb": "STB (MSS)", "sre": "SRE", "esr": "ESR", "ese": "ESE"}
 LABELS.update(("%s.%s" % (register, part), "%s %s" % (register.upper(), word)) for register in REGISTERS for part, word in PARTS)
 
 
@@ -36,7 +37,7 @@ def bit_name(name: str, bit: int) -> str:
     return NAMES.get(name, {}).get(bit, "bit %d" % bit)
 
 
-def bits(name: str, value: int) -> List[str]:
+def bits(name: str, value: int) -> list[str]:
     """The names of the bits that are set, the highest first."""
     return [bit_name(name, bit) for bit in range(15, -1, -1) if value >> bit & 1]
 
@@ -82,12 +83,12 @@ def unit(data: bytes, most: int = UNIT_MOST) -> str:
 
 def counted(count: int, one: str) -> str:
     """How many there are of something: `1 call`, `2,000 calls`."""
-    return "%s %s" % ("{:,}".format(count), one if count == 1 else one + "s")
+    return "%s %s" % (f"{count:,}", one if count == 1 else one + "s")
 
 
 def millis(count: int) -> str:
     """A time in milliseconds, with its unit."""
-    return "{:,} ms".format(count)
+    return f"{count:,} ms"
 
 
 def long(count: int) -> str:
@@ -112,7 +113,7 @@ def reading(value: Value) -> str:
     return "reading %s: channel %s, %s" % (words[0], words[1], said)
 
 
-def pair(value: Value) -> Tuple[int, int]:
+def pair(value: Value) -> tuple[int, int]:
     """The two numbers of `scan` or `place`; zeros while the scan is idle."""
     words = str(value).split()
     return (int(words[0]), int(words[1])) if len(words) == 2 else (0, 0)
@@ -126,7 +127,7 @@ def a(word: str) -> str:
 def channels(value: Value) -> str:
     """A scan list as the instrument writes it, with ranges."""
     numbers = value if isinstance(value, tuple) else (as_number(value),)
-    runs: List[List[int]] = []
+    runs: list[list[int]] = []
     for one in numbers:
         if runs and one == runs[-1][-1] + 1:
             runs[-1].append(one)

@@ -4,6 +4,7 @@
 request is lost, a connection ends. `Relay` stands between clients and a server on sockets, and cuts, delays, splits and
 drops bytes. The instrument itself never lies: a fault happens on the way to it, and each trace says that it was ordered.
 """
+
 from .ordered import Faults
 from .relay import Relay
 from .told import Told

@@ -1,6 +1,9 @@
 """Faults on order in virtual time: `Meter.faults`."""
+
+from __future__ import annotations
+
 from dataclasses import dataclass
-from typing import TYPE_CHECKING, List, Optional, Tuple
+from typing import TYPE_CHECKING
 
 from ..program import ProgramError
 from ..vxi11 import ServiceRequest, words
@@ -13,7 +16,6 @@ from .told import Told
 
 if TYPE_CHECKING:
     from ..connection import Connection, Pending
-
     from ..virtual import Meter
 
 __tracebackhide__ = True        # pytest shows the line that calls the package, and not these frames
@@ -27,11 +29,11 @@ class Order:
     """A fault that was ordered and hasn't come: its kind, for which call and connection, if only for some, and how much."""
 
     kind: str
-    call: Optional[str] = None
-    connection: "Optional[Connection]" = None
+    call: str | None = None
+    connection: Connection | None = None
     much: int = 0
 
-    def fits(self, connection: "Connection", call: str) -> bool:
+    def fits(self, connection: Connection, call: str) -> bool:
         """Whether it is for this call of this connection."""
         return self.call in (None, call) and self.connection in (None, connection)
 
@@ -47,21 +49,21 @@ class Faults:
     `connection` a Connection of the meter; without them any call fits. Orders of one kind are taken in their order.
     """
 
-    def __init__(self, meter: "Meter") -> None:
+    def __init__(self, meter: Meter) -> None:
         self._meter = meter
-        self.ordered: List[Order] = []      # faults that haven't come
-        self.told: List[Told] = []          # faults that came
-        self._late: "List[Tuple[int, Connection, Pending[object], bytes]]" = []      # replies that come at a time
-        self._cut: "List[Tuple[Connection, ConnectionError]]" = []                   # connections to be closed
+        self.ordered: list[Order] = []      # faults that haven't come
+        self.told: list[Told] = []          # faults that came
+        self._late: list[tuple[int, Connection, Pending[object], bytes]] = []      # replies that come at a time
+        self._cut: list[tuple[Connection, ConnectionError]] = []                   # connections to be closed
 
     def __repr__(self) -> str:
         return "<Faults: %d ordered, %d came>" % (len(self.ordered), len(self.told))
 
-    def next(self, call: str, error: int = 17, connection: "Optional[Connection]" = None) -> None:
+    def next(self, call: str, error: int = 17, connection: Connection | None = None) -> None:
         """The next such call is answered with this VXI-11 error, 1 to 4,294,967,295. The instrument isn't asked."""
         self._order("next", call, connection, whole(error, 1, WORD, "a fault wants the number of an error"))
 
-    def drop_after(self, bytes: int, call: Optional[str] = None, connection: "Optional[Connection]" = None) -> None:
+    def drop_after(self, bytes: int, call: str | None = None, connection: Connection | None = None) -> None:
         """The connection ends after this many bytes of the next reply. The instrument has executed the call.
 
         A reply begins with the 4 bytes that mark its record. If it has no more than `bytes` bytes, it comes whole, and
@@ -69,15 +71,15 @@ class Faults:
         """
         self._order("drop_after", call, connection, whole(bytes, 0, WORD, "drop_after wants a number of bytes"))
 
-    def delay(self, milliseconds: int, call: Optional[str] = None, connection: "Optional[Connection]" = None) -> None:
+    def delay(self, milliseconds: int, call: str | None = None, connection: Connection | None = None) -> None:
         """The next reply comes this many milliseconds late, and replies behind it no earlier."""
         self._order("delay", call, connection, checked(milliseconds, "delay"))
 
-    def lose_request(self, connection: "Optional[Connection]" = None) -> None:
+    def lose_request(self, connection: Connection | None = None) -> None:
         """The next service request is lost on its way to the client."""
         self._order("lose_request", None, connection, 0)
 
-    def close(self, call: Optional[str] = None, connection: "Optional[Connection]" = None) -> None:
+    def close(self, call: str | None = None, connection: Connection | None = None) -> None:
         """The connection of the next call ends before the call comes to the instrument."""
         self._order("close", call, connection, 0)
 
@@ -86,13 +88,13 @@ class Faults:
         with self._meter._guard:
             self.ordered.clear()
 
-    def _order(self, kind: str, call: Optional[str], connection: "Optional[Connection]", much: int) -> None:
+    def _order(self, kind: str, call: str | None, connection: Connection | None, much: int) -> None:
         if call is not None and call not in CALLS:
             raise ValueError("no call of VXI-11: %r; there are %s" % (call, ", ".join(CALLS)))
         with self._meter._guard:
             self.ordered.append(Order(kind, call, connection, much))
 
-    def _taken(self, connection: "Connection", call: str, *kinds: str) -> Optional[Order]:
+    def _taken(self, connection: Connection, call: str, *kinds: str) -> Order | None:
         """Takes the first order of these kinds that fits."""
         found = next((one for one in self.ordered if one.kind in kinds and one.fits(connection, call)), None)
         if found is not None:
@@ -109,7 +111,7 @@ class Faults:
         self.told.append(Told(line, self._meter.clock, who, said))
         return said
 
-    def _before(self, pending: "Pending[object]") -> Optional[ConnectionError]:
+    def _before(self, pending: Pending[object]) -> ConnectionError | None:
         """Does what is ordered before a call comes to the instrument: makes its reply, or says why its connection ends."""
         connection, call = pending.connection, pending.call
         order = self._taken(connection, call.name, "next", "close") if self.ordered else None
@@ -124,7 +126,7 @@ class Faults:
             who(pending), "%s was answered with error %s; the instrument wasn't asked" % (call.name, named)), HOW)
         return None
 
-    def _reply(self, pending: "Pending[object]", body: bytes) -> bool:
+    def _reply(self, pending: Pending[object], body: bytes) -> bool:
         """Does what is ordered for a reply of the instrument. Returns whether the reply comes at another time, or not."""
         clock, connection, name = self._meter.clock, pending.connection, pending.call.name
         order = self._taken(connection, name, "delay", "drop_after") if self.ordered else None
@@ -141,7 +143,7 @@ class Faults:
             return self._comes_later(pending, body, clock + order.much)
         return self._comes_later(pending, body)
 
-    def _comes_later(self, pending: "Pending[object]", body: bytes, clock: int = 0) -> bool:
+    def _comes_later(self, pending: Pending[object], body: bytes, clock: int = 0) -> bool:
         """Whether a reply comes later than now: at this millisecond, or behind a late one of its connection. Then keeps it."""
         clock = max([clock] + [one[0] for one in self._late if one[1] is pending.connection])
         if clock <= self._meter.clock:
@@ -149,7 +151,7 @@ class Faults:
         self._late.append((clock, pending.connection, pending, body))
         return True
 
-    def _loses(self, connection: "Connection", request: ServiceRequest) -> bool:
+    def _loses(self, connection: Connection, request: ServiceRequest) -> bool:
         """Whether a service request of the instrument is lost."""
         order = self._taken(connection, "", "lose_request") if self.ordered else None
         if order is not None:
@@ -168,7 +170,7 @@ class Faults:
         for _, _, pending, body in due:
             pending._end(self._meter.clock, body)
 
-    def _gone(self, connection: "Connection", reason: Exception) -> None:
+    def _gone(self, connection: Connection, reason: Exception) -> None:
         """Ends the calls whose late replies won't come, since their connection ended."""
         for _, other, pending, _ in self._late:
             if other is connection:
@@ -176,7 +178,7 @@ class Faults:
         self._late = [one for one in self._late if one[1] is not connection]
 
 
-def who(pending: "Pending[object]") -> str:
+def who(pending: Pending[object]) -> str:
     """The connection and the link of a call, as the timeline names them."""
     link = getattr(pending.call, "link", 0)
     return "c%d" % pending.connection.number + (" link %d" % link if link else "")

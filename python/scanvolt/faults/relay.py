@@ -1,11 +1,14 @@
 """Faults on order on sockets: a relay between clients and a server."""
+
+from __future__ import annotations
+
 import itertools
 import socket
 import threading
 import time
 import weakref
 from dataclasses import dataclass
-from typing import Dict, List, Optional, Tuple, Type, TypeVar
+from typing import TypeVar
 
 from ..vxi11.timeouts import milliseconds as checked
 from ..vxi11.whole import WORD, whole
@@ -14,7 +17,7 @@ __tracebackhide__ = True        # pytest shows the line that calls the package, 
 Itself = TypeVar("Itself", bound="Relay")
 CLIENT, SERVER = "client", "server"     # towards whom bytes go
 TURN = 0.1              # seconds after which a relay looks whether it is closed
-RELAYS: "weakref.WeakValueDictionary[int, Relay]" = weakref.WeakValueDictionary()       # those that there are, in their order
+RELAYS: weakref.WeakValueDictionary[int, Relay] = weakref.WeakValueDictionary()       # those that there are, in their order
 _numbers = itertools.count()
 
 
@@ -31,7 +34,7 @@ class _Order:
 class _Way:
     """One direction of a connection: the bytes from a socket to another, in a thread."""
 
-    def __init__(self, relay: "Relay", source: socket.socket, target: socket.socket, towards: str, number: int) -> None:
+    def __init__(self, relay: Relay, source: socket.socket, target: socket.socket, towards: str, number: int) -> None:
         self._relay, self._source, self._target = relay, source, target
         self.towards, self.number = towards, number
         self.thread = threading.Thread(target=self._run, daemon=True, name="relay towards the %s" % towards)
@@ -92,14 +95,14 @@ class Relay:
 
     def __init__(self, port: int, host: str = "127.0.0.1") -> None:
         self._peer = (host, whole(port, 1, 65535, "a relay wants the port of a server"))
-        self._orders: List[_Order] = []
-        self._sizes: Dict[str, int] = {}
-        self.told: List[str] = []
+        self._orders: list[_Order] = []
+        self._sizes: dict[str, int] = {}
+        self.told: list[str] = []
         self._guard = threading.Lock()
         self._closed = threading.Event()
         self._began = time.monotonic()
-        self._sockets: List[socket.socket] = []
-        self._ways: List[_Way] = []
+        self._sockets: list[socket.socket] = []
+        self._ways: list[_Way] = []
         self._listener = socket.create_server(("127.0.0.1", 0))
         self._listener.settimeout(TURN)
         self.port: int = self._listener.getsockname()[1]
@@ -113,7 +116,7 @@ class Relay:
     def __enter__(self: Itself) -> Itself:
         return self
 
-    def __exit__(self, kind: Optional[Type[BaseException]], *_: object) -> None:
+    def __exit__(self, kind: type[BaseException] | None, *_: object) -> None:
         self.close()
 
     def cut(self, after: int = 0, towards: str = CLIENT) -> None:
@@ -160,7 +163,7 @@ class Relay:
         with self._guard:
             self._orders.insert(0, order)
 
-    def _due(self, towards: str, size: int) -> Tuple[Optional[_Order], int]:
+    def _due(self, towards: str, size: int) -> tuple[_Order | None, int]:
         """The fault that comes within so many bytes, and after how many; it is taken if that is 0."""
         with self._guard:
             order = next((one for one in self._orders if one.towards == towards), None)

@@ -1,6 +1,9 @@
 """What traces say of faults on order."""
+
+from __future__ import annotations
+
+from collections.abc import Sequence
 from dataclasses import dataclass
-from typing import List, Sequence
 
 SHOWN = 5       # faults that the end of a trace lists; of more, the last
 
@@ -20,9 +23,9 @@ class Told:
         return "fault on order: " + self.words
 
 
-def end_lines(faults: Sequence[Told]) -> List[str]:
+def end_lines(faults: Sequence[Told]) -> list[str]:
     """The lines about faults at the end of a trace; none if none came."""
-    found = ["{:,} ms, {}: {}".format(one.clock, one.who, one.words) for one in faults[-SHOWN:]]
+    found = [f"{one.clock:,} ms, {one.who}: {one.words}" for one in faults[-SHOWN:]]
     if len(faults) > SHOWN:
         found.insert(0, "%d came; the last:" % len(faults))
     return ["  %-10s%s" % ("" if place else "on order", line) for place, line in enumerate(found)]

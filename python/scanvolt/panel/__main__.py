@@ -1,4 +1,5 @@
 """Runs the command: python3 -m scanvolt.panel."""
+
 import sys
 
 from .command import main

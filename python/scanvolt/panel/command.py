@@ -12,11 +12,13 @@ the last two with the token. Ctrl-C ends the panel and the server.
 Status: 0; or 2 if it can't be done, and standard error says why: the program is missing, a port is taken, a line of the scenario
 is bad, the record can't be written.
 """
+
+from __future__ import annotations
+
 import argparse
 import signal
 import sys
 import threading
-from typing import List, Optional
 
 from ..program import ProgramError
 from ..scenario.shapes import Wrong
@@ -28,7 +30,7 @@ from .web import Panel
 NAME = "scanvolt-panel"
 
 
-def words(given: Optional[List[str]], name: str) -> argparse.Namespace:
+def words(given: list[str] | None, name: str) -> argparse.Namespace:
     """The arguments of the command line."""
     parser = argparse.ArgumentParser(prog=name, description=__doc__, formatter_class=argparse.RawDescriptionHelpFormatter)
     parser.add_argument("--port", default="0", help="the port of the page; a free one if not named")
@@ -67,7 +69,7 @@ def _serve(given: argparse.Namespace) -> None:
         watch.close()
 
 
-def main(given_words: Optional[List[str]] = None, name: str = NAME) -> int:
+def main(given_words: list[str] | None = None, name: str = NAME) -> int:
     """Runs the command. Returns its status."""
     given = words(given_words, name)
     try:

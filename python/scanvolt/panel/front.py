@@ -2,9 +2,11 @@
 
 Its size doesn't grow with the session.
 """
+
+from __future__ import annotations
+
 import collections
 from dataclasses import dataclass, field
-from typing import Deque, Dict, List, Optional, Tuple
 
 from ..explaining.lines import REGISTERS, Value, as_number, start_of, value_of
 
@@ -32,7 +34,7 @@ class Channel:
     reading: str = ""
     number: int = 0
     clock: int = 0
-    set_at: Optional[int] = None
+    set_at: int | None = None
 
 
 @dataclass
@@ -41,7 +43,7 @@ class Happened:
 
     clock: int
     what: str
-    conn: Optional[int] = None
+    conn: int | None = None
     reply: str = ""
     since: int = 0
 
@@ -51,21 +53,21 @@ class Front:
     """The newest values. `take` has to get each line that the program prints, in order."""
 
     clock: int = 0
-    values: Dict[str, Value] = field(default_factory=dict)
-    channels: Dict[int, Channel] = field(default_factory=dict)
-    ports: Dict[int, Port] = field(default_factory=dict)
-    log: Deque[Happened] = field(default_factory=lambda: collections.deque(maxlen=LOG))
-    rises: Dict[Tuple[str, int], int] = field(default_factory=dict)     # how often each lamp was lit
+    values: dict[str, Value] = field(default_factory=dict)
+    channels: dict[int, Channel] = field(default_factory=dict)
+    ports: dict[int, Port] = field(default_factory=dict)
+    log: collections.deque[Happened] = field(default_factory=lambda: collections.deque(maxlen=LOG))
+    rises: dict[tuple[str, int], int] = field(default_factory=dict)     # how often each lamp was lit
     happened: int = 0           # calls that were answered, and inputs that were set
     unit: str = ""              # the newest program unit, in hexadecimal digits
     held: str = ""              # the unit that waits until the scan is idle
-    writer: Optional[int] = None    # the connection that wrote the message under way
-    held_by: Optional[int] = None
+    writer: int | None = None    # the connection that wrote the message under way
+    held_by: int | None = None
     held_at: int = 0
     lock_at: int = 0
-    _words: List[str] = field(default_factory=list)
+    _words: list[str] = field(default_factory=list)
     _poll: int = 0
-    _writes: Optional[int] = None   # the connection whose write was taken last
+    _writes: int | None = None   # the connection whose write was taken last
 
     def value(self, name: str) -> Value:
         """A value now."""
@@ -76,7 +78,7 @@ class Front:
         """A value now that is a number."""
         return as_number(self.value(name))
 
-    def take(self, line: str, words: List[str]) -> None:
+    def take(self, line: str, words: list[str]) -> None:
         """Takes a line that the program printed. Of a line `@`, `words` has the event."""
         kind, _, said = line.partition(" ")
         if kind == "=":
@@ -93,7 +95,7 @@ class Front:
         elif kind[0] == "c":
             self._replied(int(kind[1:]), said)
 
-    def _event(self, clock: int, words: List[str]) -> None:
+    def _event(self, clock: int, words: list[str]) -> None:
         self._done()
         self.clock, self._words = clock, words
 

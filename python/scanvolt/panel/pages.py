@@ -1,8 +1,10 @@
 """The files of the panel's page, and the parts of it that are made from the tables of the documents."""
+
+from __future__ import annotations
+
 import html
 import os
 import pathlib
-from typing import List, Tuple
 
 from .. import __version__
 from ..explaining.page import filled, part
@@ -30,7 +32,7 @@ TABLE = ('<table class="lamps" id="lamps-%s"><caption><b>%s</b> %s</caption><the
 BAD = ("QYE", "DDE", "EXE", "CME", "EAV", "VOLT", "BELOW", "ABOVE", "MONITORED", "LIM", "QUES")
 
 
-def static(path: str) -> Tuple[bytes, str]:
+def static(path: str) -> tuple[bytes, str]:
     """A file, and its type."""
     if path == "/icon.svg":
         return ICON.encode(), FILES[path]
@@ -46,7 +48,7 @@ def page(server: Server) -> bytes:
                          "PROGRAM": html.escape(os.path.basename(server.program))}).encode()
 
 
-def _group(group: Tuple[str, str, str, Tuple[Tuple[str, str], ...]]) -> str:
+def _group(group: tuple[str, str, str, tuple[tuple[str, str], ...]]) -> str:
     """The lamps of a register and of what belongs to it."""
     name, title, register, columns = group
     heads = "".join('<th scope="col">%s</th>' % head for head, _ in columns)
@@ -54,7 +56,7 @@ def _group(group: Tuple[str, str, str, Tuple[Tuple[str, str], ...]]) -> str:
     return TABLE % (name, name, title, heads, "".join(_bits(register, columns)), values)
 
 
-def _bits(register: str, columns: Tuple[Tuple[str, str], ...]) -> List[str]:
+def _bits(register: str, columns: tuple[tuple[str, str], ...]) -> list[str]:
     """A row for each bit that has a name, the highest first."""
     found = []
     for bit, (name, what) in sorted(BITS[register].items(), reverse=True):

@@ -1,7 +1,9 @@
 """The session until now, as the page of `scanvolt.explaining` shows it. Each time, the record is explained anew."""
+
+from __future__ import annotations
+
 import json
 import threading
-from typing import List
 
 from ..explaining.blocks import Blocks
 from ..explaining.ending import Ending
@@ -31,7 +33,7 @@ class Sessions:
         self._watch = watch
         self._guard = threading.Lock()
 
-    def _script(self) -> List[str]:
+    def _script(self) -> list[str]:
         """The record, and the time that is known to have passed after it. Raises TooLong."""
         watch = self._watch
         if watch.spool.size > LONGEST:

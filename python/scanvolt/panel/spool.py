@@ -1,7 +1,9 @@
 """The record of a session as it comes: a file that stays, or one without a name."""
+
+from __future__ import annotations
+
 import os
 import tempfile
-from typing import List, Optional
 
 MOST = 2 ** 30          # bytes of a record without a name
 KEPT = "the record has more than %d bytes, and isn't followed any further" % MOST
@@ -12,7 +14,7 @@ class Spool:
     that is dropped. Raises OSError if the file can't be made.
     """
 
-    def __init__(self, path: Optional[str] = None, most: int = MOST) -> None:
+    def __init__(self, path: str | None = None, most: int = MOST) -> None:
         self.path, self.most = path, most
         self.size = 0           # bytes that it has
         self.fault = ""
@@ -40,7 +42,7 @@ class Spool:
         """The bytes from a place on, at most so many."""
         return os.pread(self._file, max(0, min(most, self.size - place)), place)
 
-    def lines(self) -> List[str]:
+    def lines(self) -> list[str]:
         """The whole lines."""
         text = self.read(0, self.size)
         return text[:text.rfind(b"\n") + 1].decode("latin-1").splitlines()

@@ -1,17 +1,20 @@
 """What the panel shows, as JSON has it: voltages in volts, times in milliseconds of the instrument's clock, bits by name."""
-from typing import Any, Dict, List, Optional, Tuple
 
+from __future__ import annotations
+
+from typing import Any
+
+from ..capturing.flows import name as name_of
 from ..explaining.calls import Answer, answer, arguments
 from ..explaining.lines import REGISTERS, Value
 from ..explaining.story import _message
+from ..explaining.tables import ERRORS
 from ..explaining.telling import AWAITED, numbers
 from ..explaining.words import PARTS, SOURCES, a, bits, channels, known, millis, pair, unit, volts
-from ..explaining.tables import ERRORS
-from ..capturing.flows import name as name_of
 from ..vxi11 import Records
 from .front import LAMPS, Channel, Front, Happened, Port
 
-State = Dict[str, Any]
+State = dict[str, Any]
 BYTES = (("STB", "poll"), ("SRE", "sre"), ("ESR", "esr"), ("ESE", "ese"))
 MICRO = 10 ** 6
 OVER = ("+over", "-over")
@@ -35,12 +38,12 @@ def _read(said: str) -> Any:
     return None if not said else said if said in OVER else _volts(int(said))
 
 
-def _scan_list(front: Front) -> Tuple[int, ...]:
+def _scan_list(front: Front) -> tuple[int, ...]:
     found = front.value("list")
     return found if isinstance(found, tuple) else (int(found),)
 
 
-def _channels(front: Front) -> List[State]:
+def _channels(front: Front) -> list[State]:
     """The channels that have an input or a reading, or are in the scan list or monitored."""
     listed = set(_scan_list(front))
     numbered = sorted(listed | set(front.channels) | {front.number("monitor")})
@@ -77,7 +80,7 @@ def _scan(front: Front) -> State:
         "now": _now(front)}
 
 
-def _newest(front: Front) -> Optional[State]:
+def _newest(front: Front) -> State | None:
     """The newest reading."""
     words = str(front.value("reading")).split()
     return None if len(words) != 3 else {"number": int(words[0]), "channel": int(words[1]), "reading": _read(words[2])}
@@ -119,28 +122,28 @@ def _unit(digits: str) -> str:
     return unit(bytes.fromhex(digits))
 
 
-def _lock(front: Front) -> Optional[State]:
+def _lock(front: Front) -> State | None:
     link = front.value("lock")
     return None if link == "none" else {"link": link, "connection": _owner(front, link), "since": front.lock_at}
 
 
-def _owner(front: Front, link: Value) -> Optional[int]:
+def _owner(front: Front, link: Value) -> int | None:
     said = str(front.value("link.%s" % link))
     return int(said[1:]) if said[0] == "c" else None
 
 
-def _links(front: Front) -> List[State]:
+def _links(front: Front) -> list[State]:
     found = sorted(int(name[5:]) for name in front.values if name.startswith("link."))
     return [{"link": one, "connection": _owner(front, one), "requests": front.value("srq.%d" % one) == "on",
              "lock": front.value("lock") == one} for one in found]
 
 
-def _connections(front: Front) -> List[State]:
+def _connections(front: Front) -> list[State]:
     return [{"connection": conn, "role": port.role, "interrupt": bool(front.number("i%d.open" % conn))}
             for conn, port in sorted(front.ports.items())]
 
 
-def _call(digits: str) -> Tuple[str, Optional[int]]:
+def _call(digits: str) -> tuple[str, int | None]:
     """A call in words, and its link."""
     message = _message(bytes.fromhex(digits))
     found = arguments(message)
@@ -153,7 +156,7 @@ def _reply(happened: Happened) -> Answer:
     return answer(_message(bytes.fromhex(happened.what)), records[0].body) if records else Answer("no reply")
 
 
-def _waits(front: Front) -> List[State]:
+def _waits(front: Front) -> list[State]:
     """The calls that wait, the first one first: for what, since when, until when, and why."""
     waiting = sorted((port.waited, conn) for conn, port in front.ports.items() if port.wait != "none")
     return [_wait(front, conn, front.ports[conn]) for _, conn in waiting]
@@ -166,7 +169,7 @@ def _wait(front: Front, conn: int, port: Port) -> State:
             "since": port.waited, "until": None if until == "never" else int(until), "because": _because(front, what)}
 
 
-def _because(front: Front, what: str) -> List[str]:
+def _because(front: Front, what: str) -> list[str]:
     """Why a call waits, each line the cause of the one before."""
     lock = _lock(front)
     if what == "lock" and lock is not None:
@@ -181,9 +184,9 @@ def _because(front: Front, what: str) -> List[str]:
             "the scan %s" % _now(front)]
 
 
-def _log(front: Front) -> List[State]:
+def _log(front: Front) -> list[State]:
     """What happened last, the newest first. Equal calls in a row are one, with how many they are."""
-    found: List[State] = []
+    found: list[State] = []
     for one in reversed(front.log):
         row = _row(one)
         if found and all(found[-1][key] == row[key] for key in ("who", "what", "reply")) and "rows" not in row:

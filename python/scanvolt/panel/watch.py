@@ -4,6 +4,9 @@ What the program says goes to a Front. Time alone comes to a record only before 
 due, the server is asked over its control port whether it still runs: then at least the time that passed until the question has
 passed for it too, and the program gets these milliseconds. When the answer comes, all that happened before is in the pipe.
 """
+
+from __future__ import annotations
+
 import fcntl
 import os
 import selectors
@@ -12,7 +15,6 @@ import subprocess
 import tempfile
 import threading
 import time
-from typing import List, Optional, Tuple
 
 from ..explaining.running import command
 from ..lifeline import Tied
@@ -56,7 +58,7 @@ class _Clock:
             self._base, self._at = self.least(self.seen), asked
         self.seen = asked
 
-    def least(self, until: Optional[float] = None) -> int:
+    def least(self, until: float | None = None) -> int:
         """What the clock is at least: at this time, or when the server gave its last sign."""
         passed = (self.seen if until is None else until) - self._at
         return self._base + max(0, int(1000 * passed) - MARGIN)
@@ -67,8 +69,8 @@ class Watch(threading.Thread):
     file if `record` names one. Raises what Server raises, and OSError if the record can't be made.
     """
 
-    def __init__(self, scenario: Optional[Name] = None, program: Optional[Name] = None, record: Optional[str] = None,
-                 ports: Optional[List[int]] = None) -> None:
+    def __init__(self, scenario: Name | None = None, program: Name | None = None, record: str | None = None,
+                 ports: list[int] | None = None) -> None:
         super().__init__(name="scanvolt-panel", daemon=True)
         self.server, self._record = _served(scenario, program, ports)
         try:
@@ -88,9 +90,9 @@ class Watch(threading.Thread):
         self._shot_of, self._is_wanted, self._is_over, self._is_last = 0, False, False, False
         self._settled = self._due_since = self._came = 0.0
         self._waker, self._wake = os.pipe()
-        self._asked: Optional[float] = None
+        self._asked: float | None = None
         self._next = 0.0
-        self._control: Optional[socket.socket] = None
+        self._control: socket.socket | None = None
         self._selector = selectors.DefaultSelector()
         self._begin()
 
@@ -172,7 +174,7 @@ class Watch(threading.Thread):
             clock = max(self.front.clock, self.clock.least(None if self._silent or self.ended else time.monotonic()))
             return {"version": self._shot_of, "clock": clock, "server": self._about(), **self._shot}
 
-    def explained(self) -> Tuple[int, int]:
+    def explained(self) -> tuple[int, int]:
         """How many bytes of the record are explained, and how many milliseconds after them."""
         with self.changed:
             return self.place, self._ahead
@@ -288,7 +290,7 @@ class Watch(threading.Thread):
         os.set_blocking(self._output, False)
         self._selector.register(self._output, selectors.EVENT_READ, self._read)
         self.place, self._line, self._fed, self._ahead = 0, 0, 0, 0
-        self._flight: List[List[str]] = []      # the words of the lines that are being explained, a probe the last
+        self._flight: list[list[str]] = []      # the words of the lines that are being explained, a probe the last
         self._base, self._left, self._rest = 0, b"", b""
 
     def _again(self) -> None:
@@ -321,7 +323,7 @@ class Watch(threading.Thread):
 
     def _give(self, piece: bytes) -> None:
         """Gives lines of the record, without the time that was let pass already."""
-        lines: List[bytes] = []
+        lines: list[bytes] = []
         for line in piece.splitlines(keepends=True):
             kind, _, said = line.partition(b" ")
             if kind == b"tick":
@@ -338,7 +340,7 @@ class Watch(threading.Thread):
         self.place += len(piece)
         self._send(lines)
 
-    def _send(self, lines: List[bytes]) -> None:
+    def _send(self, lines: list[bytes]) -> None:
         self._base = self._fed
         self._flight = [line.decode("latin-1").rstrip("\n").split(" ") for line in lines] + [PROBE.decode().split()]
         self._fed += len(self._flight)
@@ -375,7 +377,7 @@ class Watch(threading.Thread):
 
     def _take(self, line: str) -> None:
         """Takes a line that the program prints. The last one of a piece is that of the probe."""
-        words: List[str] = []
+        words: list[str] = []
         if line.startswith("@ "):
             number = int(line.split(" ")[1]) - self._base
             words = self._flight[number - 1]
@@ -404,7 +406,7 @@ class _Lasting(Server):
     _sweeps = SWEEPS
 
 
-def _how(status: int, process: "subprocess.Popen[bytes]") -> str:
+def _how(status: int, process: subprocess.Popen[bytes]) -> str:
     """How a server ended, with what it wrote to standard error."""
     said = b""
     if process.stderr is not None:
@@ -415,7 +417,7 @@ def _how(status: int, process: "subprocess.Popen[bytes]") -> str:
     return "the server ended with status %d%s" % (status, ": " + in_a_line(said) if said else "")
 
 
-def _served(scenario: Optional[Name], program: Optional[Name], ports: Optional[List[int]]) -> Tuple[Server, int]:
+def _served(scenario: Name | None, program: Name | None, ports: list[int] | None) -> tuple[Server, int]:
     """A server that writes its record to a pipe, and the end of the pipe that is read."""
     with tempfile.TemporaryDirectory(prefix="scanvolt-") as folder:
         path = os.path.join(folder, "record")

@@ -3,6 +3,9 @@
 Nothing is answered unless the Host is this machine's own name for the panel, so that a name that a page elsewhere lets point
 here is no way in. What changes an input needs the token, and no page of another origin may send it.
 """
+
+from __future__ import annotations
+
 import hmac
 import http.server
 import json
@@ -12,8 +15,8 @@ import socketserver
 import threading
 import time
 import urllib.parse
+from collections.abc import Callable
 from http import HTTPStatus
-from typing import Callable, Dict, Optional, Tuple
 
 from ..live import HOST, Control, ControlError
 from ..program import ProgramError
@@ -80,7 +83,7 @@ class Panel(socketserver.ThreadingTCPServer):
         return "http://%s:%d/?token=%s" % (HOST, self.port, self.token)
 
     @property
-    def _hosts(self) -> Tuple[str, str]:
+    def _hosts(self) -> tuple[str, str]:
         """What a browser of this machine calls it."""
         return "%s:%d" % (HOST, self.port), "localhost:%d" % self.port
 
@@ -124,7 +127,7 @@ class _Handler(http.server.BaseHTTPRequestHandler):
         """Changes something."""
         self._do({"/external": self._external, "/inputs": self._input})
 
-    def _do(self, known: Dict[str, Callable[[], None]]) -> None:
+    def _do(self, known: dict[str, Callable[[], None]]) -> None:
         """Does what the path says, or says why not, in a line."""
         self.path, _, asked = self.path.partition("?")
         self._asked = dict(urllib.parse.parse_qsl(asked))
@@ -159,11 +162,11 @@ class _Handler(http.server.BaseHTTPRequestHandler):
         if not hmac.compare_digest(self._asked.get("token", "").encode(), self.server.token.encode()):
             raise _Refused(HTTPStatus.FORBIDDEN, "the token in the address is missing or wrong")
 
-    def _send(self, data: bytes, kind: str, status: HTTPStatus = HTTPStatus.OK, more: Optional[Dict[str, str]] = None) -> None:
+    def _send(self, data: bytes, kind: str, status: HTTPStatus = HTTPStatus.OK, more: dict[str, str] | None = None) -> None:
         self._head(kind, status, {"Content-Length": str(len(data)), **(more or {})})
         self.wfile.write(data)
 
-    def _head(self, kind: str, status: HTTPStatus, more: Dict[str, str]) -> None:
+    def _head(self, kind: str, status: HTTPStatus, more: dict[str, str]) -> None:
         self.send_response(status)
         self.send_header("Content-Type", kind)
         for name, value in {**HEADERS, **more}.items():

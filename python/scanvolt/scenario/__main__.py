@@ -1,4 +1,5 @@
 """`python3 -m scanvolt.scenario` is `scanvolt-scenario`."""
+
 import sys
 
 from .command import main

@@ -22,11 +22,13 @@ is a voltage in volts and S a time in seconds.
 
 Status: 0 it is done; 1 --check found a bad line; 2 it can't be done, and standard error says why.
 """
+
+from __future__ import annotations
+
 import getopt
 import signal
 import sys
 from decimal import Decimal
-from typing import Dict, List, Optional, Tuple
 
 from ..stimulus import CHANNELS, checked_scenario, shown
 from .picture import picture
@@ -36,13 +38,13 @@ from .table import table
 NAME = "scanvolt-scenario"
 MOST = 10 ** 7          # values of a channel
 OPTIONS = ("seconds=", "every=", "trigger=", "csv=", "of=", "check=", "picture", "help")
-Plan = Dict[int, List[Pair]]
+Plan = dict[int, list[Pair]]
 
 
-def parsed(name: str) -> Tuple[Plan, List[int]]:
+def parsed(name: str) -> tuple[Plan, list[int]]:
     """The voltages and the triggers of an existing scenario."""
     plan: Plan = {}
-    triggers: List[int] = []
+    triggers: list[int] = []
     try:
         entries, bad = checked_scenario(name)
     except OSError as error:
@@ -71,11 +73,11 @@ def check(name: str) -> int:
     return 1 if bad else 0
 
 
-def lines(plan: Plan, triggers: List[int]) -> List[str]:
+def lines(plan: Plan, triggers: list[int]) -> list[str]:
     """The lines of a scenario. There is no line for a voltage that doesn't change."""
-    events: List[Tuple[int, int, str]] = []
+    events: list[tuple[int, int, str]] = []
     for channel, pairs in plan.items():
-        value: Optional[int] = None
+        value: int | None = None
         for tick, new in pairs:
             if new != value:
                 events.append((tick, channel, "%d input %d %d" % (tick, channel, new)))
@@ -84,14 +86,14 @@ def lines(plan: Plan, triggers: List[int]) -> List[str]:
     return [line for _, _, line in sorted(events, key=lambda event: event[:2])]
 
 
-def words_of(arguments: List[str]) -> Tuple[Dict[str, str], Dict[int, Tuple[str, int]]]:
+def words_of(arguments: list[str]) -> tuple[dict[str, str], dict[int, tuple[str, int]]]:
     """The options, and for each channel its shape and its place in its range."""
     try:
         pairs, words = getopt.gnu_getopt(arguments, "h", list(OPTIONS))
     except getopt.GetoptError as error:
         raise Wrong("%s; see --help" % error) from None
-    given: Dict[str, str] = {"--seconds": "60", "--every": "100", **dict(pairs)}
-    shapes: Dict[int, Tuple[str, int]] = {}
+    given: dict[str, str] = {"--seconds": "60", "--every": "100", **dict(pairs)}
+    shapes: dict[int, tuple[str, int]] = {}
     for word in words:
         name, equals, shape = word.partition("=")
         if not equals:
@@ -103,7 +105,7 @@ def words_of(arguments: List[str]) -> Tuple[Dict[str, str], Dict[int, Tuple[str,
     return given, shapes
 
 
-def existing(given: Dict[str, str], shapes: Dict[int, Tuple[str, int]]) -> Tuple[Plan, List[int], int]:
+def existing(given: dict[str, str], shapes: dict[int, tuple[str, int]]) -> tuple[Plan, list[int], int]:
     """The voltages, the triggers and the length of an existing scenario."""
     if shapes or "--csv" in given or "--trigger" in given:
         raise Wrong("--of takes a scenario as it is, without shapes, --csv and --trigger")
@@ -112,7 +114,7 @@ def existing(given: Dict[str, str], shapes: Dict[int, Tuple[str, int]]) -> Tuple
     return plan, triggers, max(ticks, default=0)
 
 
-def made(given: Dict[str, str], shapes: Dict[int, Tuple[str, int]]) -> Tuple[Plan, List[int], int]:
+def made(given: dict[str, str], shapes: dict[int, tuple[str, int]]) -> tuple[Plan, list[int], int]:
     """The voltages, the triggers and the length of the scenario that the arguments ask for."""
     if "--of" in given:
         return existing(given, shapes)
@@ -133,7 +135,7 @@ def made(given: Dict[str, str], shapes: Dict[int, Tuple[str, int]]) -> Tuple[Pla
     return plan, triggers, length
 
 
-def main(arguments: Optional[List[str]] = None) -> int:
+def main(arguments: list[str] | None = None) -> int:
     """Runs the command. Returns its status. If the reader of the output ends, so does this process (SIGPIPE)."""
     signal.signal(signal.SIGPIPE, signal.SIG_DFL)
     try:

@@ -1,17 +1,18 @@
 """Draws a scenario, 72 columns wide."""
-from typing import Dict, List, Optional, Tuple
+
+from __future__ import annotations
 
 from .shapes import Pair
 
 WIDTH, HEIGHT = 72, 5               # the columns of a picture, and the lines of a channel in it
 LABEL, COLUMNS = 14, WIDTH - 14     # the columns of the labels, and of the plotted values
-Span = Tuple[int, int]
+Span = tuple[int, int]
 
 
-def spans(pairs: List[Pair], length: int, columns: int) -> List[Span]:
+def spans(pairs: list[Pair], length: int, columns: int) -> list[Span]:
     """For each column of a plot the least and the greatest value that the channel has there."""
     pairs = [(0, 0)] + pairs if not pairs or pairs[0][0] > 0 else pairs
-    found: List[Optional[Span]] = [None] * columns
+    found: list[Span | None] = [None] * columns
     for (tick, value), (end, _) in zip(pairs, pairs[1:] + [(length + 1, 0)]):
         if tick > length or end <= tick:
             continue
@@ -22,7 +23,7 @@ def spans(pairs: List[Pair], length: int, columns: int) -> List[Span]:
     return [span for span in found if span is not None]
 
 
-def plot(channel: int, pairs: List[Pair], length: int) -> List[str]:
+def plot(channel: int, pairs: list[Pair], length: int) -> list[str]:
     """The lines that draw a channel."""
     found = spans(pairs, length, COLUMNS)
     low, high = min(span[0] for span in found), max(span[1] for span in found)
@@ -37,7 +38,7 @@ def plot(channel: int, pairs: List[Pair], length: int) -> List[str]:
                                               for label, line in zip(labels, rows)]
 
 
-def trigger_row(triggers: List[int], length: int) -> List[str]:
+def trigger_row(triggers: list[int], length: int) -> list[str]:
     """The lines that draw the external triggers."""
     places = {tick * COLUMNS // (length + 1) for tick in triggers}
     row = "".join("^" if column in places else " " for column in range(COLUMNS))
@@ -46,9 +47,9 @@ def trigger_row(triggers: List[int], length: int) -> List[str]:
     return [head, ("%*s |%s" % (LABEL - 2, "", row)).rstrip()]
 
 
-def picture(plan: Dict[int, List[Pair]], triggers: List[int], length: int) -> List[str]:
+def picture(plan: dict[int, list[Pair]], triggers: list[int], length: int) -> list[str]:
     """The lines that draw a scenario."""
-    drawn: List[str] = []
+    drawn: list[str] = []
     for channel in sorted(plan):
         drawn += plot(channel, plan[channel], length)
     if triggers:

@@ -1,21 +1,24 @@
 """Shapes: how the voltage of a channel goes, as pairs of a tick and microvolts."""
+
+from __future__ import annotations
+
 import math
 import random
 import re
+from collections.abc import Callable
 from decimal import ROUND_HALF_UP, Decimal, InvalidOperation
-from typing import Callable, List, Optional, Tuple
 
 from ..stimulus import CHANNELS, MOST_MICROVOLTS
 
 LIMIT = MOST_MICROVOLTS // 10 ** 6      # volts
-Pair = Tuple[int, int]
+Pair = tuple[int, int]
 
 
 class Wrong(Exception):
     """The arguments ask for what can't be done."""
 
 
-def number(text: str, what: str, least: Optional[Decimal] = None) -> Decimal:
+def number(text: str, what: str, least: Decimal | None = None) -> Decimal:
     """A number of seconds or volts."""
     try:
         value = Decimal(text)
@@ -39,7 +42,7 @@ def channel_of(text: str) -> int:
     return whole(text, "a channel", 1, CHANNELS)
 
 
-def channels_of(text: str) -> List[int]:
+def channels_of(text: str) -> list[int]:
     """The channels that an argument names: CHANNEL, or FIRST:LAST."""
     first, colon, last = text.partition(":")
     begin = channel_of(first)
@@ -60,7 +63,7 @@ def milliseconds(seconds: Decimal) -> int:
     return int((seconds * 1000).quantize(Decimal(1), ROUND_HALF_UP))
 
 
-def fields(words: List[str], least: int, most: int, shape: str) -> List[str]:
+def fields(words: list[str], least: int, most: int, shape: str) -> list[str]:
     """The fields of a shape. Raises Wrong unless there are `least` to `most`."""
     if not least <= len(words) <= most:
         raise Wrong("a shape isn't as --help has it: " + shape)
@@ -71,7 +74,7 @@ def volts(text: str) -> float:
     return float(number(text, "a voltage"))
 
 
-def function_of(kind: str, words: List[str], shape: str, length: int, place: int) -> Callable[[int], float]:
+def function_of(kind: str, words: list[str], shape: str, length: int, place: int) -> Callable[[int], float]:
     """The function from a tick to the voltage, for a ramp, sine or noise. `place` is the place of the channel in
     its range.
     """
@@ -88,9 +91,9 @@ def function_of(kind: str, words: List[str], shape: str, length: int, place: int
     return lambda tick: first + (second - first) * (tick % period if again else tick) / period
 
 
-def steps(words: List[str], shape: str) -> List[Pair]:
+def steps(words: list[str], shape: str) -> list[Pair]:
     """The pairs of `steps`."""
-    pairs: List[Pair] = []
+    pairs: list[Pair] = []
     for word in fields(words, 1, 1, shape)[0].split(","):
         height, at, seconds = word.partition("@")
         if not at:
@@ -102,7 +105,7 @@ def steps(words: List[str], shape: str) -> List[Pair]:
     return pairs
 
 
-def changes(shape: str, every: int, length: int, place: int = 0) -> List[Pair]:
+def changes(shape: str, every: int, length: int, place: int = 0) -> list[Pair]:
     """The pairs of a shape."""
     kind, *words = shape.split(":")
     if kind in ("ramp", "sine", "noise"):

@@ -1,7 +1,9 @@
 """Reads voltages from a table in CSV."""
+
+from __future__ import annotations
+
 import csv
 from decimal import Decimal
-from typing import Dict, List, Optional, Tuple
 
 from .shapes import Pair, Wrong, channel_of, microvolts, milliseconds, number
 
@@ -15,7 +17,7 @@ def opened(name: str) -> str:
         raise Wrong("%s can't be read: %s" % (name, error)) from None
 
 
-def table_line(row: List[str], names: List[int], last: int) -> Tuple[int, List[Pair]]:
+def table_line(row: list[str], names: list[int], last: int) -> tuple[int, list[Pair]]:
     """The tick of a line of the table, and its channels and microvolts."""
     if len(row) != 1 + len(names):
         raise Wrong("it has %d fields and not %d" % (len(row), 1 + len(names)))
@@ -26,7 +28,7 @@ def table_line(row: List[str], names: List[int], last: int) -> Tuple[int, List[P
                   for channel, text in zip(names, row[1:]) if text.strip()]
 
 
-def table_head(row: List[str]) -> List[int]:
+def table_head(row: list[str]) -> list[int]:
     """The channels that the first line of a table names."""
     if row[0].strip() != "time" or len(row) < 2:
         raise Wrong("it isn't a line time,CHANNEL,..")
@@ -36,10 +38,10 @@ def table_head(row: List[str]) -> List[int]:
     return names
 
 
-def table(name: str) -> Dict[int, List[Pair]]:
+def table(name: str) -> dict[int, list[Pair]]:
     """The channels of a table, each with its pairs of a tick and microvolts."""
-    plan: Optional[Dict[int, List[Pair]]] = None
-    names: List[int] = []
+    plan: dict[int, list[Pair]] | None = None
+    names: list[int] = []
     last, rows = 0, csv.reader(opened(name).splitlines(keepends=True))
     try:
         for row in filter(None, rows):

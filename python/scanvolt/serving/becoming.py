@@ -3,12 +3,15 @@
 A child process passes on what the program prints. It notes when the program is ready, and ends the program when the process
 is gone that started it, even by SIGKILL.
 """
+
+from __future__ import annotations
+
 import os
 import select
 import signal
 import sys
 import time
-from typing import Callable, Optional, Sequence, Tuple
+from collections.abc import Callable, Sequence
 
 BAD_WORDS = b"scanvolt: bad words\n"
 READY = "ready at %.6f, in seconds since 1970"
@@ -16,7 +19,7 @@ MANUAL = "`man scanvolt`, in a checkout `man docs/scanvolt.1`, has the words tha
 Say = Callable[[str], object]
 
 
-def parent() -> Optional[int]:
+def parent() -> int | None:
     """A file that can be read when the process has ended that started this one; None if the system has no such file for it."""
     number = os.getppid()
     try:
@@ -28,7 +31,7 @@ def parent() -> Optional[int]:
     return file
 
 
-def become(command: Sequence[str], say: Say, ending: Optional[int] = None, ready: Callable[[], object] = lambda: None) -> None:
+def become(command: Sequence[str], say: Say, ending: int | None = None, ready: Callable[[], object] = lambda: None) -> None:
     """Becomes the program; this doesn't return. `say` prints a line about it, and `ready` is called in the child when it
     listens, or has ended. The program ends when the file `ending` can be read, if one is given.
     """
@@ -50,7 +53,7 @@ def become(command: Sequence[str], say: Say, ending: Optional[int] = None, ready
     os.execv(command[0], list(command))
 
 
-def _pass_on(sources: Tuple[int, int], say: Say, ends: Tuple[int, Optional[int]], ready: Callable[[], object]) -> None:
+def _pass_on(sources: tuple[int, int], say: Say, ends: tuple[int, int | None], ready: Callable[[], object]) -> None:
     """Passes on what the program prints, and writes to standard error. Before the first line, says the time; if the program
     refuses its words, says what helps. `ends` has the program, and the file that can be read when it has to end.
     """

@@ -16,11 +16,13 @@ shows the instrument as a page.
 Status: 2 an argument can't be taken, or a port is in use; 3 there is no program, or it can't be run; else that of the program:
 128 plus a signal's number in a shell, 0 after its last sweep (man scanvolt).
 """
+
+from __future__ import annotations
+
 import argparse
 import os
 import shlex
 import sys
-from typing import List, Optional
 
 from ..live import Record
 from ..program import ProgramError, check_fits, find_program, serve_command
@@ -44,7 +46,7 @@ def say(text: str) -> None:
         print("%s: %s" % (NAME, line), file=sys.stderr, flush=True)
 
 
-def words(given: Optional[List[str]]) -> argparse.Namespace:
+def words(given: list[str] | None) -> argparse.Namespace:
     """The arguments of the command line."""
     parser = argparse.ArgumentParser(prog=NAME, description=__doc__, formatter_class=argparse.RawDescriptionHelpFormatter)
     add_instrument(parser)
@@ -76,7 +78,7 @@ def serve(given: argparse.Namespace) -> None:
     become(serve_command(os.path.abspath(program), path, given.sweeps, dict(zip(roles, ports)), record.path), say, ending, inputs.drop)
 
 
-def main(given_words: Optional[List[str]] = None) -> int:
+def main(given_words: list[str] | None = None) -> int:
     """Runs the command. Returns its status if it doesn't become the program."""
     given = words(given_words)
     try:

@@ -1,10 +1,13 @@
 """Ports of 127.0.0.1: which are free, and who has one that isn't."""
+
+from __future__ import annotations
+
 import errno
 import glob
 import os
 import pathlib
 import socket
-from typing import List, Optional, Sequence, Tuple
+from collections.abc import Sequence
 
 ROLES = ("core", "abort", "portmap")     # of the ports that each server has
 CONTROL = "control"     # the role of the one that it may have besides
@@ -50,7 +53,7 @@ def owner(port: int) -> str:
     return "by a process that can't be found"
 
 
-def lacks(port: int, held: Optional[List[socket.socket]] = None) -> Optional[str]:
+def lacks(port: int, held: list[socket.socket] | None = None) -> str | None:
     """Why a port can't be bound; None if it can: `held`, if given, then gets its listener."""
     try:
         made = listener(port)
@@ -66,9 +69,9 @@ def lacks(port: int, held: Optional[List[socket.socket]] = None) -> Optional[str
     return None
 
 
-def free(wanted: Sequence[int]) -> Tuple[int, ...]:
+def free(wanted: Sequence[int]) -> tuple[int, ...]:
     """The wanted ports, with a free one for each 0. They are free at this moment. Raises Taken."""
-    held: List[socket.socket] = []
+    held: list[socket.socket] = []
     reasons = [(port, lacks(port, held)) for port in wanted]
     ports = tuple(one.getsockname()[1] for one in held)
     for one in held:

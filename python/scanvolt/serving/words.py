@@ -1,9 +1,12 @@
 """What scanvolt-serve and scanvolt-panel have in common: the words for the instrument, and the scenario that shapes make."""
+
+from __future__ import annotations
+
 import argparse
 import contextlib
 import os
 import tempfile
-from typing import Callable, Optional
+from collections.abc import Callable
 
 from ..scenario import command as scenario
 from ..scenario.shapes import Wrong
@@ -27,7 +30,7 @@ class Inputs:
     """
 
     def __init__(self, given: argparse.Namespace) -> None:
-        self.path: Optional[str] = given.scenario
+        self.path: str | None = given.scenario
         self.drop: Callable[[], object] = lambda: None
         if given.seconds and not given.shapes:
             raise Wrong("--seconds is for shapes, and there is none")

@@ -3,8 +3,12 @@
 Each function returns a Call: its program, version, procedure and arguments, and how its result is read.
 Timeouts are whole milliseconds (timeouts.py). `wait` is how long a call may take by its own timeouts.
 """
+
+from __future__ import annotations
+
+from collections.abc import Callable
 from dataclasses import dataclass
-from typing import Callable, Generic, Optional, Tuple, TypeVar
+from typing import Generic, TypeVar
 
 from .errors import IO_TIMEOUT, LOCKED, DeviceError
 from .rpc import BadReply, ProgramUnavailable, encode_call, read_reply
@@ -76,7 +80,7 @@ class Call(Generic[Value]):
     def __str__(self) -> str:
         return self.name
 
-    def timeout(self, number: int) -> Optional[int]:
+    def timeout(self, number: int) -> int | None:
         """The timeout after which the call ends with this error. None if it isn't an error of a timeout."""
         return self.wait if number in (LOCKED, IO_TIMEOUT) else None
 
@@ -109,7 +113,7 @@ class LinkCall(Call[Value]):
     def __str__(self) -> str:
         return "%s on link %d" % (self.name, self.link)
 
-    def timeout(self, number: int) -> Optional[int]:
+    def timeout(self, number: int) -> int | None:
         """The timeout after which the call ends with this error. None if it isn't an error of a timeout."""
         return {LOCKED: self.lock_timeout, IO_TIMEOUT: self.io_timeout}.get(number)
 
@@ -199,7 +203,7 @@ def _flags(lock_timeout: int) -> int:
     return WAITLOCK if lock_timeout > 0 else 0
 
 
-def _checked_timeouts(io_timeout: int, lock_timeout: int) -> Tuple[int, int]:
+def _checked_timeouts(io_timeout: int, lock_timeout: int) -> tuple[int, int]:
     """The timeouts of a call, if they may be such."""
     return milliseconds(io_timeout, "io_timeout"), milliseconds(lock_timeout, "lock_timeout")
 
@@ -229,7 +233,7 @@ def device_write(link: int, data: bytes, io_timeout: int, lock_timeout: int = 0,
 
 
 def device_read(link: int, size: int, io_timeout: int, lock_timeout: int = 0,
-                termination: Optional[int] = None) -> Call[Piece]:
+                termination: int | None = None) -> Call[Piece]:
     """Reads at most `size` bytes, up to END, or up to a termination character (0 to 255) if one is given."""
     io_timeout, lock_timeout = _checked_timeouts(io_timeout, lock_timeout)
     size = whole(size, 0, WORD, "a read wants a number of bytes")
@@ -284,7 +288,7 @@ def device_unlock(link: int) -> Call[None]:
     return LinkCall(CORE, DEVICE_UNLOCK, words(link), _error, 0, link)
 
 
-def device_enable_srq(link: int, handle: Optional[bytes]) -> Call[None]:
+def device_enable_srq(link: int, handle: bytes | None) -> Call[None]:
     """Turns on service requests, with this handle of at most 40 bytes; None turns them off."""
     if not isinstance(handle, (bytes, bytearray, type(None))):
         raise TypeError("a handle is bytes, such as b'meter 1', and not %r" % (handle,))

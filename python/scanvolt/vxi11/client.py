@@ -1,10 +1,13 @@
 """Clients over sockets: a channel, and a client of the core channel with its links and service requests."""
+
+from __future__ import annotations
+
 import queue
 import socket
 import sys
 import threading
-from time import monotonic          # of this machine, also within a meter's keeping_time
-from typing import Optional, TypeVar
+from time import monotonic  # of this machine, also within a meter's keeping_time
+from typing import TypeVar
 
 from . import calls
 from .calls import Call
@@ -33,7 +36,7 @@ class Channel:
     """
 
     def __init__(self, host: str, port: int, patience: float = PATIENCE,
-                 connected: Optional[socket.socket] = None) -> None:
+                 connected: socket.socket | None = None) -> None:
         self.host = host
         self.patience = patience
         self.socket = _connected(host, port, patience) if connected is None else connected
@@ -147,12 +150,12 @@ class Client(Channel, Core):
     ends the link and the connection.
     """
 
-    def __init__(self, host: str = "127.0.0.1", port: Optional[int] = None, patience: float = PATIENCE,
+    def __init__(self, host: str = "127.0.0.1", port: int | None = None, patience: float = PATIENCE,
                  port_mapper: int = 111) -> None:
         if port is None:
             port = port_of(host, calls.CORE, 1, port_mapper, patience)
         super().__init__(host, port, patience)
-        self._requests: Optional[ServiceRequests] = None
+        self._requests: ServiceRequests | None = None
 
     def abort(self, link: Link) -> None:
         """Aborts the call that waits on a link. It uses a connection of its own, so it doesn't wait for other
@@ -162,7 +165,7 @@ class Client(Channel, Core):
         with Channel(self.host, link.abort_port, self.patience) as channel:
             channel.do(calls.device_abort(link.number))
 
-    def listen(self, callback: Optional[Callback] = None) -> "ServiceRequests":
+    def listen(self, callback: Callback | None = None) -> ServiceRequests:
         """Makes the interrupt channel. Service requests go to the callback, in a thread, or else into a queue."""
         self.check_open()
         callback = checked_callback(callback)
@@ -187,12 +190,12 @@ class Client(Channel, Core):
 class ServiceRequests:
     """Listens for one interrupt channel, on a port and in a thread of its own."""
 
-    def __init__(self, address: str, callback: Optional[Callback] = None) -> None:
+    def __init__(self, address: str, callback: Callback | None = None) -> None:
         self.callback = callback
-        self.queue: "queue.Queue[ServiceRequest]" = queue.Queue()
+        self.queue: queue.Queue[ServiceRequest] = queue.Queue()
         self._listener = socket.create_server((address, 0))
         self.port: int = self._listener.getsockname()[1]
-        self._channel: Optional[socket.socket] = None
+        self._channel: socket.socket | None = None
         self._closed = False
         self._thread = threading.Thread(target=self._serve, daemon=True, name="service requests")
         self._thread.start()
@@ -233,7 +236,7 @@ class ServiceRequests:
                 for request in stream.push(data):
                     self._hand(request)
 
-    def _accepted(self) -> Optional[socket.socket]:
+    def _accepted(self) -> socket.socket | None:
         """The connection from the instrument; None if this is closed before one comes."""
         self._listener.settimeout(0.2)
         while not self._closed:

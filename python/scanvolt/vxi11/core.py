@@ -1,4 +1,7 @@
 """What a client does on a connection to the core channel, over whatever carries its calls."""
+
+from __future__ import annotations
+
 from typing import TypeVar
 
 from . import calls

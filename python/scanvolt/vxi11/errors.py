@@ -1,5 +1,8 @@
 """The errors of VXI-11 (revision 1.0, table B.2)."""
-from typing import Callable, List, Optional, Tuple
+
+from __future__ import annotations
+
+from collections.abc import Callable
 
 __tracebackhide__ = True        # pytest shows the line that calls the package, and not these frames
 NAMES = {
@@ -27,23 +30,23 @@ class DeviceError(Exception):
     def __init__(self, number: int, name: str = "") -> None:
         self.number = number
         self.name = name or NAMES.get(number, "reserved error")
-        self.call: Optional[str] = None
-        self.timeout: Optional[int] = None
-        self.waited: Optional[float] = None
-        self.clock: Optional[int] = None
-        self.tell: Optional[Callable[[], List[str]]] = None
-        self._notes: Optional[List[str]] = None
+        self.call: str | None = None
+        self.timeout: int | None = None
+        self.waited: float | None = None
+        self.clock: int | None = None
+        self.tell: Callable[[], list[str]] | None = None
+        self._notes: list[str] | None = None
         super().__init__(number, self.name)
 
     @property
-    def __notes__(self) -> List[str]:
+    def __notes__(self) -> list[str]:
         """The lines that a traceback shows below the error."""
         if self._notes is None:
             self._notes = [] if self.tell is None else self.tell()
             self.tell = None
         return self._notes
 
-    def __reduce__(self) -> Tuple[object, ...]:
+    def __reduce__(self) -> tuple[object, ...]:
         """A copy in another process has no meter to ask."""
         return type(self), (self.number, self.name), {**self.__dict__, "tell": None}
 

@@ -1,6 +1,9 @@
 """A link: its calls, over whatever carries them."""
+
+from __future__ import annotations
+
 from dataclasses import dataclass
-from typing import Optional, Protocol, Type, TypeVar, Union
+from typing import Protocol, TypeVar
 
 from . import calls
 from .calls import Call, Made, Piece
@@ -24,7 +27,7 @@ class Carrier(Protocol):
     def do(self, call: Call[Value]) -> Value:
         """Makes a call of the core channel, and waits for its result."""
 
-    def abort(self, link: "Link") -> None:
+    def abort(self, link: Link) -> None:
         """Aborts the call that waits on a link, over the abort channel of the same instrument."""
 
 
@@ -42,7 +45,7 @@ class LinkCalls:
         """A device_write."""
         return calls.device_write(self.link, data, self.io_timeout, self.lock_timeout, end)
 
-    def read(self, size: int = READ_SIZE, termination: Optional[int] = None) -> Call[Piece]:
+    def read(self, size: int = READ_SIZE, termination: int | None = None) -> Call[Piece]:
         """A device_read."""
         return calls.device_read(self.link, size, self.io_timeout, self.lock_timeout, termination)
 
@@ -66,7 +69,7 @@ class LinkCalls:
         """A device_local."""
         return calls.device_local(self.link, self.io_timeout, self.lock_timeout)
 
-    def lock(self, timeout: Optional[int] = None) -> Call[None]:
+    def lock(self, timeout: int | None = None) -> Call[None]:
         """A device_lock."""
         return calls.device_lock(self.link, self.lock_timeout if timeout is None else timeout)
 
@@ -74,7 +77,7 @@ class LinkCalls:
         """A device_unlock."""
         return calls.device_unlock(self.link)
 
-    def enable_srq(self, handle: Optional[bytes]) -> Call[None]:
+    def enable_srq(self, handle: bytes | None) -> Call[None]:
         """A device_enable_srq."""
         return calls.device_enable_srq(self.link, handle)
 
@@ -87,7 +90,7 @@ class LinkCalls:
         return calls.destroy_link(self.link)
 
 
-def message_bytes(message: Union[bytes, str]) -> bytes:
+def message_bytes(message: bytes | str) -> bytes:
     """The bytes of a message. Raises TypeError if it is neither text nor bytes."""
     if not isinstance(message, (str, bytes, bytearray, memoryview)):
         raise TypeError("a message is text or bytes, and not %r" % (message,))
@@ -124,7 +127,7 @@ class Link:
     def __enter__(self: Itself) -> Itself:
         return self
 
-    def __exit__(self, kind: Optional[Type[BaseException]], *_: object) -> None:
+    def __exit__(self, kind: type[BaseException] | None, *_: object) -> None:
         try:
             if self.carrier.is_open:                    # else the link ended with the connection
                 self.destroy()
@@ -138,7 +141,7 @@ class Link:
         """This link's calls with its present timeouts, for a caller that sends them itself."""
         return LinkCalls(self.number, self.io_timeout, self.lock_timeout)
 
-    def write(self, message: Union[bytes, str], end: bool = True) -> int:
+    def write(self, message: bytes | str, end: bool = True) -> int:
         """Writes a message, in as many calls as needed. If `end` is true, END comes with the last byte. Returns
         the message's length in bytes.
         """
@@ -153,11 +156,11 @@ class Link:
             if taken == 0:
                 raise BadReply("device_write took no byte of %d" % len(piece))
 
-    def read_piece(self, size: int = READ_SIZE, termination: Optional[int] = None) -> Piece:
+    def read_piece(self, size: int = READ_SIZE, termination: int | None = None) -> Piece:
         """Makes one device_read: at most `size` bytes, up to END or a termination character (0 to 255)."""
         return self.carrier.do(self.calls.read(size, termination))
 
-    def read(self, size: Optional[int] = None, termination: Optional[int] = None) -> bytes:
+    def read(self, size: int | None = None, termination: int | None = None) -> bytes:
         """Makes reads up to END, up to the termination character, or up to `size` bytes, whichever comes first."""
         if size is not None:
             size = whole(size, 0, WORD, "a read wants a number of bytes")
@@ -169,7 +172,7 @@ class Link:
             if piece.reason & (calls.ENDED | calls.TERMINATOR) or len(data) == size:
                 return data
 
-    def query(self, message: Union[bytes, str]) -> str:
+    def query(self, message: bytes | str) -> str:
         """Writes a message and reads its response, without the new line at its end."""
         self.write(message)
         text = self.read().decode("latin-1")
@@ -195,7 +198,7 @@ class Link:
         """Selects local operation."""
         self.carrier.do(self.calls.local())
 
-    def lock(self, timeout: Optional[int] = None) -> None:
+    def lock(self, timeout: int | None = None) -> None:
         """Takes the lock. Waits for it up to `timeout` milliseconds, or lock_timeout if that isn't given."""
         self.carrier.do(self.calls.lock(timeout))
 

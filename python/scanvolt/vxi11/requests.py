@@ -1,6 +1,9 @@
 """Service requests: what an interrupt channel carries (B.6, device_intr_srq)."""
+
+from __future__ import annotations
+
+from collections.abc import Callable
 from dataclasses import dataclass
-from typing import Callable, List, Optional
 
 from .calls import DEVICE_INTR_SRQ, read_service_request
 from .rpc import CallMessage, Records, read_call
@@ -15,7 +18,7 @@ class ServiceRequest:
 
     handle: bytes
     xid: int
-    clock: Optional[int] = None
+    clock: int | None = None
 
 
 Callback = Callable[[ServiceRequest], object]
@@ -29,20 +32,20 @@ class RequestStream:
     def __init__(self) -> None:
         self._records = Records()
 
-    def push(self, data: bytes, clock: Optional[int] = None) -> List[ServiceRequest]:
+    def push(self, data: bytes, clock: int | None = None) -> list[ServiceRequest]:
         """Takes a piece. Returns the service requests that are complete now."""
         found = [_request(one.body, clock) for one in self._records.push(data)]
         return [one for one in found if one is not None]
 
 
-def checked_callback(callback: Optional[Callback]) -> Optional[Callback]:
+def checked_callback(callback: Callback | None) -> Callback | None:
     """The callback of service requests, if it may be one: a function, or None."""
     if callback is not None and not callable(callback):
         raise TypeError("a callback of service requests is a function, and not %r" % (callback,))
     return callback
 
 
-def _request(body: bytes, clock: Optional[int]) -> Optional[ServiceRequest]:
+def _request(body: bytes, clock: int | None) -> ServiceRequest | None:
     """The service request in a record, if it is one."""
     try:
         call: CallMessage = read_call(body)

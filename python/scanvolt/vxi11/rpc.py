@@ -1,6 +1,8 @@
 """Remote procedure calls (RFC 5531): the records of a stream, and the headers of calls and replies. No sockets."""
+
+from __future__ import annotations
+
 from dataclasses import dataclass
-from typing import List, Optional
 
 from .xdr import Reader, XdrError, words
 
@@ -89,11 +91,11 @@ class Records:
         self.count = 0                          # bytes that came
         self.start = 0                          # where the unfinished record begins
         self._mark = b""                         # the bytes of a fragment's mark that have come
-        self.left: Optional[int] = None         # bytes of the fragment that are still to come; None in a mark
+        self.left: int | None = None         # bytes of the fragment that are still to come; None in a mark
         self._last = False
         self.body = bytearray()                 # of the unfinished record, so far
 
-    def push(self, data: bytes) -> List[Record]:
+    def push(self, data: bytes) -> list[Record]:
         """Takes a piece. Returns the records that are complete now."""
         found = []
         while data:
@@ -190,7 +192,7 @@ def read_reply(body: bytes, xid: int) -> bytes:
     return reader.rest()
 
 
-def _refusal(reader: Reader) -> Optional[RpcError]:
+def _refusal(reader: Reader) -> RpcError | None:
     """Reads what comes after a reply's type. Returns None if the call was executed and the result follows."""
     status = reader.word()
     if status == DENIED:
@@ -204,7 +206,7 @@ def _refusal(reader: Reader) -> Optional[RpcError]:
     return _accepted(reader.word(), reader)
 
 
-def _accepted(status: int, reader: Reader) -> Optional[RpcError]:
+def _accepted(status: int, reader: Reader) -> RpcError | None:
     """Why an accepted call wasn't executed; None if it was."""
     if status == SUCCESS:
         return None

@@ -1,4 +1,7 @@
 """Timeouts and other counts of milliseconds: which may be one."""
+
+from __future__ import annotations
+
 from .whole import WORD, whole
 
 __tracebackhide__ = True        # pytest shows the line that calls the package, and not these frames

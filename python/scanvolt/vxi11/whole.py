@@ -1,4 +1,7 @@
 """Whole numbers that a caller gives: which may be one."""
+
+from __future__ import annotations
+
 import operator
 
 __tracebackhide__ = True        # pytest shows the line that calls the package, and not these frames

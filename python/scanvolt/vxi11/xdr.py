@@ -1,4 +1,7 @@
 """External data representation (RFC 4506), as far as VXI-11 needs it: words, booleans, opaque data."""
+
+from __future__ import annotations
+
 import struct
 
 __tracebackhide__ = True        # pytest shows the line that calls the package, and not these frames

@@ -1,4 +1,7 @@
 """pytest --scanvolt-coverage: counts the sessions of all tests, of several workers too, and fails below a threshold."""
+
+from __future__ import annotations
+
 import pathlib
 import re
 from importlib.util import find_spec

@@ -1,4 +1,7 @@
 """The fixtures of the plugin, each used by tests that pytest runs on its own."""
+
+from __future__ import annotations
+
 import pathlib
 import re
 import shutil

@@ -1,4 +1,7 @@
 """The fixture `visa_meter`, used by tests that pytest runs on its own."""
+
+from __future__ import annotations
+
 import pathlib
 
 import pytest

@@ -1,16 +1,28 @@
 """The backend of PyVISA: what a driver does with it, and VISA's statuses for what it doesn't have."""
+
+from __future__ import annotations
+
 import inspect
 import os
 import pathlib
 import tempfile
 import unittest
 import warnings
-from typing import Any, Callable, List
+from collections.abc import Callable
+from typing import Any
 from unittest import mock
 
 import pyvisa
-from pyvisa.constants import (AccessModes, BufferOperation, EventMechanism, EventType, Lock, RENLineOperation,
-                              ResourceAttribute, StatusCode)
+from pyvisa.constants import (
+    AccessModes,
+    BufferOperation,
+    EventMechanism,
+    EventType,
+    Lock,
+    RENLineOperation,
+    ResourceAttribute,
+    StatusCode,
+)
 
 from pyvisa_scanvolt import meter_of
 from pyvisa_scanvolt.library import UNSUPPORTED
@@ -303,7 +315,7 @@ class Events(WithResource):
 
     def test_a_handler(self) -> None:
         """A handler runs at the millisecond of its request, and may poll."""
-        found: List[object] = []
+        found: list[object] = []
 
         def handle(resource: Any, event: Any, user_handle: object) -> None:
             found.append((self.meter.clock, resource.read_stb(), event.event_type, user_handle))
@@ -319,7 +331,7 @@ class Events(WithResource):
         self.assertRaises(pyvisa.errors.UnknownHandler, self.resource.uninstall_handler, SRQ, wrapped)
 
     def test_a_handler_that_is_suspended(self) -> None:
-        found: List[int] = []
+        found: list[int] = []
         self.resource.install_handler(SRQ, lambda *_: found.append(self.meter.clock))
         self.resource.enable_event(SRQ, SUSPENDED)
         self.resource.write("INIT")

@@ -1,14 +1,17 @@
 """Locks as VISA has them (VPP-4.3, 3.6): shared ones by access key beside exclusive ones, and the statuses of viLock's table."""
+
+from __future__ import annotations
+
 import threading
 import unittest
-from typing import Any, Callable, List
+from collections.abc import Callable
+from typing import Any
 
 from pyvisa.constants import AccessModes, Lock, StatusCode
+from test_backend import WithResource
 
 from scanvolt.virtual import NoAnswer
 from scanvolt.vxi11 import DeviceError
-
-from test_backend import WithResource
 
 
 class Shared(WithResource):
@@ -86,7 +89,7 @@ class Shared(WithResource):
         """It waits until all that share have ended that, and never gets the lock between two of their calls."""
         key = self.resource.lock()
         self.other.lock(requested_key=key)
-        told: List[str] = []
+        told: list[str] = []
 
         def share() -> None:
             for _ in range(5):

@@ -1,4 +1,7 @@
 """Names of resources that a file of settings gives to instruments."""
+
+from __future__ import annotations
+
 import pathlib
 import tempfile
 import unittest

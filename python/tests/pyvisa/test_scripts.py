@@ -1,4 +1,7 @@
 """Scripts with PyVISA, each run to its end: they print what they should, and nothing besides."""
+
+from __future__ import annotations
+
 import pathlib
 import re
 import subprocess

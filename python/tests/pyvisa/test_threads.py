@@ -1,8 +1,12 @@
 """PyVISA in threads that go in lock step: what waits in one thread is ended by another."""
+
+from __future__ import annotations
+
 import contextlib
 import threading
 import unittest
-from typing import Any, Callable, List
+from collections.abc import Callable
+from typing import Any
 
 import pyvisa
 from pyvisa.constants import EventMechanism, EventType
@@ -20,7 +24,7 @@ class Threads(unittest.TestCase):
         self.one, self.other = (manager.open_resource(
             "TCPIP::scanvolt::INSTR", read_termination="\n", timeout=5000) for _ in range(2))
         self.meter = meter_of(self.one)
-        self.told: List[Any] = []
+        self.told: list[Any] = []
 
     def run_both(self, *controllers: Callable[[], None]) -> None:
         threads = [threading.Thread(target=one) for one in controllers]

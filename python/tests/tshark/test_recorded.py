@@ -1,4 +1,7 @@
 """scanvolt-capture recorded: a server's record, and a capture of the session that tshark wrote meanwhile."""
+
+from __future__ import annotations
+
 import contextlib
 import io
 import pathlib
@@ -7,7 +10,6 @@ import subprocess
 import tempfile
 import time
 import unittest
-from typing import List, Tuple
 
 from scanvolt.capturing.command import main
 from scanvolt.program import Server
@@ -32,10 +34,10 @@ def session(server: Server) -> None:
 class Recorded(unittest.TestCase):
     """One session, which is compared as it is and after a change."""
 
-    folder: "tempfile.TemporaryDirectory[str]"
+    folder: tempfile.TemporaryDirectory[str]
     path: pathlib.Path
-    record: List[str]
-    words: List[str]
+    record: list[str]
+    words: list[str]
 
     @classmethod
     def setUpClass(cls) -> None:
@@ -59,7 +61,7 @@ class Recorded(unittest.TestCase):
         cls.words = ["recorded", capture, "--program", server.program, "--core", str(server.core), "--abort", str(server.abort),
                      "--portmap", str(server.port_mapper)]
 
-    def compared(self, record: List[str], *more: str) -> Tuple[int, str]:
+    def compared(self, record: list[str], *more: str) -> tuple[int, str]:
         """Compares the capture with this record. Returns the status, and what is printed."""
         path = self.path / "changed.replay"
         path.write_text("".join(line + "\n" for line in record))
@@ -67,7 +69,7 @@ class Recorded(unittest.TestCase):
         with contextlib.redirect_stdout(printed), contextlib.redirect_stderr(printed):
             return main([*self.words, "--record", str(path), *more]), printed.getvalue()
 
-    def changed(self, wanted: str, *given: Tuple[str, str], more: Tuple[str, ...] = (), status: int = 1) -> None:
+    def changed(self, wanted: str, *given: tuple[str, str], more: tuple[str, ...] = (), status: int = 1) -> None:
         """A record of other lines differs, and this is said. A line that begins as told becomes another one, or goes."""
         lines = list(self.record)
         for old, new in given:

@@ -2,13 +2,15 @@
 
 These tests write the packets as pcap files have them, by their bytes.
 """
+
+from __future__ import annotations
+
 import contextlib
 import io
 import pathlib
 import struct
 import tempfile
 import unittest
-from typing import List, Optional, Tuple
 from unittest import mock
 
 from scanvolt.capturing import virtually
@@ -25,7 +27,7 @@ BEGIN = 2 ** 32 - 20        # the first sequence number; it soon passes 2^32
 
 
 def segment(time: int, called: bool, seq: int, ack: int, flags: int, data: bytes = b"",
-            keep: Optional[int] = None) -> bytes:
+            keep: int | None = None) -> bytes:
     """A packet of a capture, at a millisecond: from the client, or from the server."""
     ports = (CLIENT, SERVER) if called else (SERVER, CLIENT)
     tcp = struct.pack(">HHIIBBHHH", *ports, seq % 2 ** 32, ack % 2 ** 32, 0x50, flags, 65535, 0, 0) + data
@@ -38,13 +40,13 @@ class Captured:
     """A capture: segments of one connection, whose bytes are counted from 0 in both directions."""
 
     def __init__(self) -> None:
-        self.segments: List[bytes] = []
+        self.segments: list[bytes] = []
         self.add(0, True, -1, flags=SYN, ack=None)
         self.add(0, False, -1, flags=SYN | ACK, ack=0)
         self.add(0, True, 0)
 
-    def add(self, time: int, called: bool, place: int, data: bytes = b"", flags: int = ACK, ack: Optional[int] = 0,
-            keep: Optional[int] = None) -> None:
+    def add(self, time: int, called: bool, place: int, data: bytes = b"", flags: int = ACK, ack: int | None = 0,
+            keep: int | None = None) -> None:
         """Adds a segment: where its bytes lie, and how many bytes of the other direction its sender acknowledges."""
         known = 0 if ack is None else BEGIN + 1 + ack
         self.segments.append(segment(time, called, BEGIN + 1 + place, known, flags, data, keep))
@@ -65,7 +67,7 @@ class Reading(unittest.TestCase):
         self.assertEqual(len(found), 1)
         return found[0]
 
-    def told(self) -> List[Tuple[int, str, bytes]]:
+    def told(self) -> list[tuple[int, str, bytes]]:
         """What happened: the packet's number, the kind, and the bytes."""
         return [(one.number, one.kind, one.data) for one in self.read().happenings]
 
@@ -153,7 +155,7 @@ class Comparing(unittest.TestCase):
     SESSION = (calls.create_link(), calls.device_write(1, b"*IDN?\n", 0), calls.device_read(1, 99, 0),
                calls.device_write(1, b"MEAS:VOLT? (@1)\n", 0), calls.device_read(1, 99, 9))
 
-    def replies(self) -> List[bytes]:
+    def replies(self) -> list[bytes]:
         """The replies of the meter."""
         with Meter() as meter, meter.connect() as connection:
             found = []
@@ -163,7 +165,7 @@ class Comparing(unittest.TestCase):
                 found.append(encode_reply(pending.xid, pending._body[len(encode_reply(0)) - 4:]))
             return found
 
-    def compared(self, replies: List[bytes], *given: str, mode: str = "compare") -> Tuple[int, str]:
+    def compared(self, replies: list[bytes], *given: str, mode: str = "compare") -> tuple[int, str]:
         """The status and the lines of a comparison. Each segment comes in two parts, the second one first."""
         captured = Captured()
         counts = [0, 0]
