@@ -22,7 +22,7 @@ def wait_for_request(meter, seconds=30):
         if status & REQUEST:
             return status
         time.sleep(0.01)
-    raise TimeoutError("no service request in %d seconds" % seconds)
+    raise TimeoutError(f"no service request in {seconds} seconds")
 
 
 def voltages(answer):
@@ -33,7 +33,7 @@ def voltages(answer):
 rpc.PMAP_PORT = int(sys.argv[1]) if len(sys.argv) > 1 else 4111     # PyVISA-py would ask port 111
 address = sys.argv[2] if len(sys.argv) > 2 else "127.0.0.1"
 manager = pyvisa.ResourceManager("@py")
-meter = manager.open_resource("TCPIP::%s::inst0::INSTR" % address)
+meter = manager.open_resource(f"TCPIP::{address}::inst0::INSTR")
 meter.read_termination = meter.write_termination = "\n"
 meter.timeout = 5000    # milliseconds; longer than any scan
 
@@ -50,8 +50,9 @@ meter.write("INIT;*OPC")
 print("scan done, status byte:", wait_for_request(meter))
 print("standard events:", meter.query("*ESR?"))
 for place, volts in enumerate(voltages(meter.query("FETC?"))):
-    shown = "overload" if abs(volts) > 1e37 else "%+.6f V" % volts
-    print("scan %d, channel %d: %s" % (place // 3 + 1, (1, 4, 2)[place % 3], shown))
+    shown = "overload" if abs(volts) > 1e37 else f"{volts:+.6f} V"
+    channel = (1, 4, 2)[place % 3]
+    print(f"scan {place // 3 + 1}, channel {channel}: {shown}")
 
 # A limit on channel 3, without a scan. Bit 9 (512) of the questionable register says that a limit
 # was passed, and sets bit 3 (8) of the status byte. Bit 2 (4) of the limits says that the monitored
@@ -60,7 +61,8 @@ meter.write("*CLS;ROUT:MON (@3);:CALC:LIM:UPP 5;STAT ON;:STAT:QUES:ENAB 512;*SRE
 print("outside the limits, status byte:", wait_for_request(meter))
 print("questionable events:", meter.query("STAT:QUES?"))
 print("events of the limits:", meter.query("STAT:QUES:LIM?"))
-print("channel 3: %+.6f V" % voltages(meter.query("MEAS:VOLT? (@3)"))[0])
+(measured,) = voltages(meter.query("MEAS:VOLT? (@3)"))
+print(f"channel 3: {measured:+.6f} V")
 
 # A mistake, and what the instrument says about it.
 meter.write("VOLT:RANGE:AUTO ON")

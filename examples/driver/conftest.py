@@ -32,7 +32,7 @@ class Stand(NamedTuple):
 @contextlib.contextmanager
 def in_virtual_time(_request: pytest.FixtureRequest) -> Iterator[Stand]:
     """An instrument without ports. time.sleep and time.monotonic use its virtual time."""
-    manager = pyvisa.ResourceManager("%s@scanvolt" % SCENARIO)
+    manager = pyvisa.ResourceManager(f"{SCENARIO}@scanvolt")
     with contextlib.closing(manager), manager.visalib.meter("TCPIP::scanvolt::INSTR").keeping_time():
         yield Stand(manager, "TCPIP::scanvolt::INSTR", True)
 

@@ -69,7 +69,7 @@ class Voltmeter:
     def configure(self, channels: list[int], volts: float = 10, scans: int = 1) -> None:
         """Sets which channels are scanned, in which order, at which range (1, 10 or 100 V), and how often."""
         listed = ",".join(str(channel) for channel in channels)
-        self.command("CONF:VOLT (@%s);:VOLT:RANG %g;:TRIG:COUN %d" % (listed, volts, scans))
+        self.command(f"CONF:VOLT (@{listed});:VOLT:RANG {volts:g};:TRIG:COUN {scans}")
         self.channels = len(channels)
 
     def scan(self) -> list[list[float | None]]:
@@ -84,8 +84,8 @@ class Voltmeter:
         the limits.
         """
         self.command("CALC:LIM:STAT OFF;:STAT:QUES:ENAB 0;*CLS")
-        self.command("ROUT:MON (@%d);:CALC:LIM:LOW %f;UPP %f" % (channel, lower, upper))
-        self.command("STAT:QUES:LIM:ENAB %d;:STAT:QUES:ENAB %d;*SRE 8" % (sum(Limits), LIMIT))
+        self.command(f"ROUT:MON (@{channel});:CALC:LIM:LOW {lower:f};UPP {upper:f}")
+        self.command(f"STAT:QUES:LIM:ENAB {sum(Limits):d};:STAT:QUES:ENAB {LIMIT};*SRE 8")
         self.command("CALC:LIM:STAT ON")
 
     def limits(self) -> Limits:
@@ -106,7 +106,7 @@ class Voltmeter:
                 if status & REQUEST:
                     return status
                 time.sleep(POLLS)
-        raise TimeoutError("no alarm in %g seconds" % seconds)
+        raise TimeoutError(f"no alarm in {seconds:g} seconds")
 
     @contextlib.contextmanager
     def alone(self) -> Iterator[Voltmeter]:

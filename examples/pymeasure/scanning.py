@@ -41,7 +41,8 @@ class ScanningVoltmeter(Instrument):
     def scan(self, channels):
         """The voltages of these channels, 1 to 128, in their order."""
         try:
-            self.write("ROUT:SCAN (@%s)" % ",".join(map(str, channels)))
+            listed = ",".join(map(str, channels))
+            self.write(f"ROUT:SCAN (@{listed})")
             self.check_errors()
             return self.values("READ?")
         except pyvisa.VisaIOError:
@@ -50,11 +51,11 @@ class ScanningVoltmeter(Instrument):
 
     def wait_for_alarm(self, channel, seconds):
         """Waits until the input of a channel is outside the limits. Raises TimeoutError."""
-        self.write("ROUT:MON (@%d);:STAT:QUES:LIM:ENAB 4;:STAT:QUES:ENAB 512;*CLS;*SRE 8;:CALC:LIM:STAT ON" % channel)
+        self.write(f"ROUT:MON (@{channel});:STAT:QUES:LIM:ENAB 4;:STAT:QUES:ENAB 512;*CLS;*SRE 8;:CALC:LIM:STAT ON")
         self.check_errors()
         end = time.monotonic() + seconds
         while time.monotonic() < end:
             if self.adapter.connection.read_stb() & REQUEST:
                 return
             time.sleep(POLLS)
-        raise TimeoutError("no alarm in %g seconds" % seconds)
+        raise TimeoutError(f"no alarm in {seconds:g} seconds")

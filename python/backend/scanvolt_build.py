@@ -48,7 +48,7 @@ def project(text: str) -> dict[str, dict[str, Value]]:
                 table[key] = ast.literal_eval(re.sub(r"(?<=[{ ])(\w+) = ", r'"\1": ', value)
                                               if value.startswith("{") else value.replace("true", "True"))
             except (SyntaxError, ValueError):
-                raise ValueError("pyproject.toml has a line that isn't read here: %s" % line) from None
+                raise ValueError(f"pyproject.toml has a line that isn't read here: {line}") from None
     return tables
 
 
@@ -64,7 +64,7 @@ def _text(value: Value) -> str:
 def _name() -> str:
     """The name and version, as files have them."""
     found = _settings()["project"]
-    return "%s-%s" % (_text(found["name"]), _text(found["version"]))
+    return f"{_text(found['name'])}-{_text(found['version'])}"
 
 
 def _licence() -> Files:
@@ -89,7 +89,7 @@ def _metadata() -> bytes:
     lines = ["Metadata-Version: 2.1"]
     for head, key in (("Name", "name"), ("Version", "version"), ("Summary", "description"),
                       ("Requires-Python", "requires-python")):
-        lines.append("%s: %s" % (head, _text(found[key])))
+        lines.append(f"{head}: {_text(found[key])}")
     licence = found["license"]
     assert isinstance(licence, dict)
     lines.append("License: " + licence["text"])
@@ -97,7 +97,7 @@ def _metadata() -> bytes:
     lines += ["Requires-Dist: " + one for one in found["dependencies"]]
     for extra, needed in sorted(tables["project.optional-dependencies"].items()):
         lines.append("Provides-Extra: " + extra)
-        lines += ["Requires-Dist: %s; extra == '%s'" % (one, extra) for one in needed]
+        lines += [f"Requires-Dist: {one}; extra == '{extra}'" for one in needed]
     lines += ["Description-Content-Type: text/markdown", ""]
     return "\n".join(lines).encode() + b"\n" + pathlib.Path(_text(found["readme"])).read_bytes()
 
@@ -108,7 +108,7 @@ def _entry_points() -> bytes:
     groups = {"console_scripts": tables["project.scripts"]}
     start = "project.entry-points."
     groups.update((name[len(start):], table) for name, table in tables.items() if name.startswith(start))
-    parts = ["[%s]\n" % group + "".join("%s = %s\n" % (name, _text(what)) for name, what in sorted(table.items()))
+    parts = [f"[{group}]\n" + "".join(f"{name} = {_text(what)}\n" for name, what in sorted(table.items()))
              for group, table in sorted(groups.items())]
     return "\n".join(parts).encode()
 
@@ -134,7 +134,7 @@ def _epoch() -> int:
 def _row(name: str, data: bytes) -> str:
     """A line of RECORD."""
     checksum = base64.urlsafe_b64encode(hashlib.sha256(data).digest()).rstrip(b"=").decode()
-    return "%s,sha256=%s,%d\n" % (name, checksum, len(data))
+    return f"{name},sha256={checksum},{len(data)}\n"
 
 
 def _wheel(folder: str, files: Files, tag: str = PURE) -> str:
@@ -142,7 +142,7 @@ def _wheel(folder: str, files: Files, tag: str = PURE) -> str:
     information = _name() + ".dist-info/"
     files = sorted(files) + [(information + name, data) for name, data in _information(tag)]
     record = "".join(_row(name, data) for name, data in files) + information + "RECORD,,\n"
-    name = "%s-%s.whl" % (_name(), tag)
+    name = f"{_name()}-{tag}.whl"
     with zipfile.ZipFile(os.path.join(folder, name), "w", zipfile.ZIP_DEFLATED) as packed:
         for member, data in files + [(information + "RECORD", record.encode())]:
             one = zipfile.ZipInfo(member, time.gmtime(_epoch())[:6])
@@ -177,7 +177,7 @@ def build_sdist(sdist_directory: str, config_settings: Settings = None) -> str:
     packed = io.BytesIO()
     with tarfile.open(fileobj=packed, mode="w", format=tarfile.USTAR_FORMAT) as archive:
         for name, data in sorted(files):
-            one = tarfile.TarInfo("%s/%s" % (_name(), name))
+            one = tarfile.TarInfo(f"{_name()}/{name}")
             one.size, one.mtime, one.mode = len(data), _epoch(), 0o644
             archive.addfile(one, io.BytesIO(data))
     name = _name() + ".tar.gz"

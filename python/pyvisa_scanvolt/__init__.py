@@ -23,7 +23,6 @@ from typing import TYPE_CHECKING, Any
 
 if TYPE_CHECKING:
     from pyvisa.resources import Resource
-
     from scanvolt.virtual import Meter
 
     from .library import ScanvoltLibrary
@@ -36,7 +35,7 @@ def meter_of(resource: Resource) -> Meter:
     from .library import ScanvoltLibrary
     library = getattr(resource, "visalib", None)
     if not isinstance(library, ScanvoltLibrary):
-        raise TypeError("no resource of this backend, pyvisa.ResourceManager('@scanvolt'): %r" % (resource,))
+        raise TypeError(f"no resource of this backend, pyvisa.ResourceManager('@scanvolt'): {resource!r}")
     return library.meter(resource)
 
 
@@ -48,12 +47,12 @@ def resource_of(meter: Meter, **options: Any) -> Any:
     import pyvisa
     manager = pyvisa.ResourceManager("@scanvolt")
     library: Any = manager.visalib
-    return manager.open_resource("TCPIP::%s::INSTR" % library.host_of(meter), **options)
+    return manager.open_resource(f"TCPIP::{library.host_of(meter)}::INSTR", **options)
 
 
 def __getattr__(name: str) -> type[ScanvoltLibrary]:
     """WRAPPER_CLASS, for which PyVISA asks. PyVISA is imported only then."""
     if name not in ("WRAPPER_CLASS", "ScanvoltLibrary"):
-        raise AttributeError("module %s has no attribute %s" % (__name__, name))
+        raise AttributeError(f"module {__name__} has no attribute {name}")
     from .library import ScanvoltLibrary
     return ScanvoltLibrary

@@ -84,7 +84,7 @@ def _of_interface(parsed: Any, host: str, device: str) -> dict[Name, Kept]:
     states = {
         Name.interface_type: Kept(getattr(constants.InterfaceType, interface.lower())),
         Name.interface_number: Kept(int(getattr(parsed, "board", 0))),
-        Name.interface_instrument_name: Kept("%s%s (%s)" % (interface, getattr(parsed, "board", "0"), host)),
+        Name.interface_instrument_name: Kept(f"{interface}{getattr(parsed, 'board', '0')} ({host})"),
     }
     if interface == "TCPIP":
         states.update({

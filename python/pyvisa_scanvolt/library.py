@@ -10,7 +10,6 @@ from typing import Any, NoReturn, TypeVar
 from pyvisa import constants, errors, highlevel, rname
 from pyvisa.constants import StatusCode
 from pyvisa.util import LibraryPath
-
 from scanvolt.virtual import Meter
 
 from . import attributes, settings
@@ -79,7 +78,7 @@ class ScanvoltLibrary(highlevel.VisaLibraryBase):
             for host in [host for host in self._given if not self._meters[host].is_open]:
                 del self._meters[host], self._sharings[host]
                 self._given.remove(host)
-            found = "scanvolt-meter-%d" % next(self._numbers)
+            found = f"scanvolt-meter-{next(self._numbers)}"
             self._given.append(found)
             self._meters[found], self._sharings[found] = meter, Sharing()
         return found
@@ -102,7 +101,7 @@ class ScanvoltLibrary(highlevel.VisaLibraryBase):
     def _refused(self, status: StatusCode) -> NoReturn:
         """Raises VisaIOError with this status."""
         self.handle_return_value(None, status)
-        raise AssertionError("a status that is no error: %s" % status)
+        raise AssertionError(f"a status that is no error: {status!s}")
 
     def _done(self, number: Any, action: Callable[[Session], Value]) -> Value:
         """Does an action of a session, and returns its result. A fault is raised as VisaIOError."""
@@ -118,7 +117,7 @@ class ScanvoltLibrary(highlevel.VisaLibraryBase):
             self.handle_return_value(number, status)
         except errors.VisaIOError as error:
             raise error if cause is None else VisaIOError(error.error_code, cause) from None
-        raise AssertionError("a status that is no error: %s" % status)
+        raise AssertionError(f"a status that is no error: {status!s}")
 
     def _told(self, number: Any, action: Callable[[Session], StatusCode]) -> StatusCode:
         """Does an action of a session that returns a status."""
@@ -137,7 +136,7 @@ class ScanvoltLibrary(highlevel.VisaLibraryBase):
 
     def list_resources(self, session: Any, query: str = "?*::INSTR") -> tuple[str, ...]:
         """The instruments that are on, and one that is always listed (viFindRsrc)."""
-        names = {"TCPIP0::%s::inst0::INSTR" % host for host in self._meters} | {FIRST} | set(self._settings.hosts)
+        names = {f"TCPIP0::{host}::inst0::INSTR" for host in self._meters} | {FIRST} | set(self._settings.hosts)
         return rname.filter(sorted(names), query)
 
     def open(self, session: Any, resource_name: str,

@@ -11,7 +11,6 @@ from pyvisa import constants
 from pyvisa.constants import EventMechanism, EventType
 from pyvisa.constants import ResourceAttribute as Name
 from pyvisa.constants import StatusCode
-
 from scanvolt.program import ProgramError
 from scanvolt.virtual import Meter, NoAnswer
 from scanvolt.vxi11 import ENDED, TERMINATOR, DeviceError, ServiceRequest
@@ -201,7 +200,7 @@ class Session:
         most = self.meter.patience if timeout is None or timeout == LONGEST else timeout
         if not self.meter.until(lambda: bool(self._queued), int(most)):
             if timeout is None or timeout == LONGEST:
-                raise NoAnswer("no service request within %d ms of virtual time" % most)
+                raise NoAnswer(f"no service request within {most} ms of virtual time")
             raise Refusal(StatusCode.error_timeout)
         self._queued.popleft()
         return StatusCode.success_queue_not_empty if self._queued else StatusCode.success

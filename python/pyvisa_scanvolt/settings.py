@@ -11,7 +11,6 @@ from collections.abc import Mapping
 from dataclasses import dataclass, field
 
 from pyvisa import rname
-
 from scanvolt.virtual import PATIENCE, Meter
 
 __tracebackhide__ = True        # pytest shows the line that calls the package, and not these frames
@@ -32,7 +31,7 @@ class Settings:
         """Gives an instrument a resource name. Raises ValueError if that is none of an instrument."""
         parsed = whole_name(name)
         if parsed is None or not parsed.endswith("::INSTR"):
-            raise ValueError("no resource name of an instrument: %r" % name)
+            raise ValueError(f"no resource name of an instrument: {name!r}")
         self.hosts[parsed] = host
 
     def meter(self) -> Meter:
@@ -67,9 +66,9 @@ def read(path: str) -> Settings:
             if key and equals and value:
                 _take(found, key, value, pathlib.Path(path).parent)
             elif key or equals:
-                raise ValueError("not KEY = VALUE: %s" % line.strip())
+                raise ValueError(f"not KEY = VALUE: {line.strip()}")
         except ValueError as fault:
-            raise ValueError("%s, line %d: %s" % (path, number, fault)) from None
+            raise ValueError(f"{path}, line {number}: {fault}") from None
     return found
 
 
@@ -79,7 +78,7 @@ def _take(found: Settings, key: str, value: str, folder: pathlib.Path) -> None:
         found.scenario = str(folder / value)
     elif key in NUMBERS:
         if not (value.isascii() and value.isdigit()):
-            raise ValueError("%s wants milliseconds, and not %s" % (key, value))
+            raise ValueError(f"{key} wants milliseconds, and not {value}")
         setattr(found, key, int(value))
     else:
         found.add(key, value)
@@ -88,4 +87,4 @@ def _take(found: Settings, key: str, value: str, folder: pathlib.Path) -> None:
 def written(names: Names, **options: object) -> str:
     """The text of a file of settings."""
     pairs = [(key, str(value)) for key, value in options.items() if value is not None] + list(names.items())
-    return "".join("%s = %s\n" % pair for pair in pairs)
+    return "".join(f"{key} = {value}\n" for key, value in pairs)

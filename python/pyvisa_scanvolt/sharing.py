@@ -12,7 +12,6 @@ from collections.abc import Callable
 from typing import TYPE_CHECKING
 
 from pyvisa.constants import StatusCode
-
 from scanvolt.virtual import NoAnswer
 from scanvolt.vxi11 import DeviceError
 from scanvolt.vxi11.errors import LOCKED
@@ -67,7 +66,7 @@ class Sharing:
         if not self.shares:
             if session.locks == 0:
                 self._take(session, timeout, began)
-            self._key, self._holder = requested or "scanvolt-%d" % next(_numbers), session
+            self._key, self._holder = requested or f"scanvolt-{next(_numbers)}", session
             self._exclusive = session if session.locks else None
         self.shares[session] = 1
         return self._key, StatusCode.success
@@ -130,7 +129,7 @@ class Sharing:
         if session.meter.until(holds, min(timeout, patience)):
             return
         if timeout > patience:
-            raise NoAnswer("no lock within %d ms of virtual time: other sessions share the lock of the instrument" % patience)
+            raise NoAnswer(f"no lock within {patience} ms of virtual time: other sessions share the lock of the instrument")
         raise Refusal(StatusCode.error_timeout if timeout else StatusCode.error_resource_locked)
 
     @staticmethod

@@ -4,7 +4,6 @@ from __future__ import annotations
 
 from pyvisa import errors
 from pyvisa.constants import StatusCode
-
 from scanvolt.vxi11 import DeviceError, RpcError
 
 __tracebackhide__ = True        # pytest shows the line that calls the package, and not these frames

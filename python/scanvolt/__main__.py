@@ -18,13 +18,14 @@ def main(given: list[str] | None = None) -> int:
     """Runs the command. Returns its status."""
     argparse.ArgumentParser(prog="python3 -m scanvolt", description=__doc__,
                             formatter_class=argparse.RawDescriptionHelpFormatter).parse_args(given)
-    print("package %s" % __version__)
+    print(f"package {__version__}")
     try:
         path, where = found()
     except ProgramError as fault:
-        print("no program: %s" % fault)
+        print(f"no program: {fault}")
         return 1
-    print("program %s\nfound by %s\nversion %s\nkind %s" % (path, where, *version_and_kind(path)), flush=True)
+    version, kind = version_and_kind(path)
+    print(f"program {path}\nfound by {where}\nversion {version}\nkind {kind}", flush=True)
     try:
         check_fits(path)
     except ProgramError as fault:

@@ -46,10 +46,10 @@ class Pending(Generic[Value]):
         self._note: str | None = None         # what that fault was
 
     def __repr__(self) -> str:
-        told = "not answered" if self.clock is None else "answered at %d ms" % self.clock
+        told = "not answered" if self.clock is None else f"answered at {self.clock} ms"
         if self._fault is not None:
-            told = "ended at %d ms: %s" % (self.clock or 0, self._fault)
-        return "<Pending %s, %s>" % (self.call, told)
+            told = f"ended at {self.clock or 0} ms: {self._fault}"
+        return f"<Pending {self.call}, {told}>"
 
     @property
     def done(self) -> bool:
@@ -69,8 +69,7 @@ class Pending(Generic[Value]):
             if why is not None:
                 raise NoAnswer(why)
         if not meter.until(lambda: self.done, meter.patience):
-            raise NoAnswer("%s waits for more than %d ms of virtual time; see patience of Meter" % (
-                self.call.name, meter.patience))
+            raise NoAnswer(f"{self.call.name} waits for more than {meter.patience} ms of virtual time; see patience of Meter")
 
     def result(self) -> Value:
         """Advances time until the call is answered. Returns its result, or raises the exception of its error."""
@@ -112,7 +111,7 @@ class Requests:
         """The next service request of the queue. Advances time until there is one; after this long raises TimeoutError."""
         most = checked(milliseconds, "wait")
         if not self._connection.meter.until(lambda: not self.queue.empty(), most):
-            raise TimeoutError("no service request within %d ms of virtual time" % most)
+            raise TimeoutError(f"no service request within {most} ms of virtual time")
         return self.queue.get_nowait()
 
     def close(self) -> None:
@@ -137,10 +136,11 @@ class Connection(Core):
         self.requests = Requests(self)                      # what `listen` returns
 
     def __repr__(self) -> str:
-        return "<Connection %d, %s%s>" % (self.number, self.role, "" if self.is_open else ", closed")
+        closed = "" if self.is_open else ", closed"
+        return f"<Connection {self.number}, {self.role}{closed}>"
 
     def __str__(self) -> str:
-        return "connection %d" % self.number
+        return f"connection {self.number}"
 
     def __enter__(self: Itself) -> Itself:
         return self
@@ -161,7 +161,7 @@ class Connection(Core):
     def start(self, call: Call[Value]) -> Pending[Value]:
         """Sends a call. The instrument takes it after those sent before it are answered."""
         if not isinstance(call, Call):
-            raise TypeError("start wants a call, such as link.calls.readstb(), and not %r" % (call,))
+            raise TypeError(f"start wants a call, such as link.calls.readstb(), and not {call!r}")
         with self.meter._guard:
             self._xid = (self._xid + 1) % 2 ** 32
             pending = Pending(self, call, self._xid)

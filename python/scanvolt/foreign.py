@@ -23,7 +23,7 @@ def without_additions(data: bytes, name: str) -> tuple[list[bytes], list[Fault]]
     ended = [number for number, line in enumerate(lines, 1) if line.endswith(b"\r")]
     if ended:
         first, others = ended[0], len(ended) - 1
-        also = ", and so does a line after it" if others == 1 else ", and so do %d lines after it" % others if others else ""
+        also = ", and so does a line after it" if others == 1 else f", and so do {others} lines after it" if others else ""
         faults.append((first, data.split(b"\n")[first - 1], RETURN % (also, name)))
         lines = [line[:-1] if line.endswith(b"\r") else line for line in lines]
     return lines, faults

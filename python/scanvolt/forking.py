@@ -40,7 +40,7 @@ class Twins:
         else:
             found = self._connections.get(id(one)) or self._pending.get(id(one))
         if found is None:
-            raise ValueError("it wasn't open, or didn't wait, at the fork of this meter: %r" % (one,))
+            raise ValueError(f"it wasn't open, or didn't wait, at the fork of this meter: {one!r}")
         return cast(One, found)
 
 

@@ -26,12 +26,12 @@ class OrderFails(AssertionError):
 
     def __init__(self, order: str, fault: BaseException, tried: int, told: Sequence[str]) -> None:
         self.order, self.fault, self.tried = order, fault, tried
+        how = "" if order else ", each as far as it can go, A first"
         said = str(fault).split("\n")[0]
+        what = type(fault).__name__ + (": " + said if said else "")
         super().__init__("\n".join([
-            "in the order %r of their calls%s, the %s that was tried: %s%s" % (
-                order, "" if order else ", each as far as it can go, A first", ordinal(tried), type(fault).__name__,
-                ": " + said if said else ""),
-            "interleavings(.., order=%r) repeats it. What the instrument saw:" % order, *told]))
+            f"in the order {order!r} of their calls{how}, the {ordinal(tried)} that was tried: {what}",
+            f"interleavings(.., order={order!r}) repeats it. What the instrument saw:", *told]))
 
 
 class _Run:
@@ -80,8 +80,8 @@ class _Run:
         if place < len(self._start):
             wanted = self._start[place]
             if wanted not in numbers:
-                raise ValueError("%s can't go on at turn %d of this order, only %s" % (
-                    LETTERS[wanted], place + 1, " and ".join(LETTERS[one] for one in numbers)))
+                others = " and ".join(LETTERS[one] for one in numbers)
+                raise ValueError(f"{LETTERS[wanted]} can't go on at turn {place + 1} of this order, only {others}")
             found = wanted
         else:
             found = self._then(sorted(ready, key=lambda one: one.number)).number if self._then else numbers[0]
@@ -109,7 +109,7 @@ def interleavings(meter: Meter, controllers: Sequence[Controller], count: int | 
                   order: str | None = None) -> int:
     """Runs controllers in the orders of their calls: see Meter.interleavings."""
     if not 2 <= len(controllers) <= len(LETTERS):
-        raise ValueError("interleavings wants 2 to %d controllers, and not %d" % (len(LETTERS), len(controllers)))
+        raise ValueError(f"interleavings wants 2 to {len(LETTERS)} controllers, and not {len(controllers)}")
     if order is not None:
         _check(_Run(meter, controllers, _numbers(order, len(controllers))), 1)
         return 1
@@ -121,7 +121,7 @@ def interleavings(meter: Meter, controllers: Sequence[Controller], count: int | 
     tried = 0
     while start is not None:
         if tried == MOST:
-            raise RuntimeError("there are more than %d orders: let interleavings(.., count=1000) try some at random" % MOST)
+            raise RuntimeError(f"there are more than {MOST} orders: let interleavings(.., count=1000) try some at random")
         run = _Run(meter, controllers, start)
         tried += 1
         _check(run, tried)
@@ -138,10 +138,10 @@ def _numbers(order: str, count: int) -> list[int]:
     """The controllers of an order such as ABBA."""
     for letter in order:
         if letter not in LETTERS[:count]:
-            raise ValueError("an order has letters from A to %s, and not %r" % (LETTERS[count - 1], letter))
+            raise ValueError(f"an order has letters from A to {LETTERS[count - 1]}, and not {letter!r}")
     return [LETTERS.index(letter) for letter in order]
 
 
 def ordinal(number: int) -> str:
     ending = "th" if number % 100 in (11, 12, 13) else {1: "st", 2: "nd", 3: "rd"}.get(number % 10, "th")
-    return "%d%s" % (number, ending)
+    return f"{number}{ending}"

@@ -78,8 +78,8 @@ class _Keeper:
         self._polls += 1
         if self._reads > READS_MOST or self._polls > POLLS_MOST:
             count, self._reads, self._polls = max(self._reads, self._polls) - 1, 0, 0
-            raise NeverEnds("the clock was read %d times at %d ms of the meter's clock, and no time passed: time "
-                            "passes only in calls that wait. %s" % (count, clock, HELP))
+            raise NeverEnds(f"the clock was read {count} times at {clock} ms of the meter's clock, and no time passed: time "
+                            f"passes only in calls that wait. {HELP}")
 
     def sleep(self, seconds: float) -> None:
         """Lets this much time pass."""
@@ -150,8 +150,8 @@ class _Keeper:
                 break
             if really():
                 return True
-        raise NeverEnds("a wait without a timeout at %d ms of the meter's clock: nothing ends it, neither in the "
-                        "meter's time nor in another thread. Give it a timeout" % self._meter.clock)
+        raise NeverEnds(f"a wait without a timeout at {self._meter.clock} ms of the meter's clock: nothing ends it, neither in the "
+                        "meter's time nor in another thread. Give it a timeout")
 
 
 @contextlib.contextmanager
@@ -212,8 +212,9 @@ def check_python() -> None:
                                (threading.Condition(threading.Lock()), "threading.Condition", of_condition)):
         for part in parts:
             if not hasattr(where, part):
-                raise RuntimeError("keeping_time doesn't know Python %d.%d: its %s has no %s. Use Python 3.9 to 3.13, "
-                                   "or a later release of scanvolt" % (*sys.version_info[:2], name, part))
+                version = f"{sys.version_info.major}.{sys.version_info.minor}"
+                raise RuntimeError(f"keeping_time doesn't know Python {version}: its {name} has no {part}. "
+                                   "Use Python 3.9 to 3.13, or a later release of scanvolt")
 
 
 def reads(name: str, in_seconds: bool = True) -> Callable[..., float]:

@@ -73,10 +73,10 @@ class Control:
                 answer = self._answer(line)
             except OSError as fault:
                 self._close()
-                raise ControlError("the control port %d doesn't answer: %s" % (self.port, fault.strerror or fault)) from None
+                raise ControlError(f"the control port {self.port} doesn't answer: {fault.strerror or fault}") from None
             if answer != wanted:
                 self._close()
-                raise ControlError("the control port answered %r to %r, and not %r" % (answer, line, wanted))
+                raise ControlError(f"the control port answered {answer!r} to {line!r}, and not {wanted!r}")
 
     def _answer(self, line: bytes) -> bytes:
         """The answer to a line. A connection that the server closed meanwhile is made anew, once."""

@@ -99,7 +99,7 @@ class LockStep:
                  trace: TracebackType | None) -> None:
         own = self._places.get(self._owner)
         left = [one for one in self._places.values() if one is not own and not self._is_done(one)]
-        told = "; ".join("thread %s %s" % (one.name, self._where(one)) for one in left)
+        told = "; ".join(f"thread {one.name} {self._where(one)}" for one in left)
         with self._mutex:
             self._over = True
             setattr(threading.Thread, "start", self._real[0])
@@ -157,7 +157,8 @@ class LockStep:
             return
         is_stuck = len(alive) > 1 or is_endless(sys._current_frames().get(alive[0].thread.ident or 0))
         if all([self._sleeps(one, STUCK) for one in alive]) and is_stuck:
-            self._break("no thread goes on: %s" % "; ".join("thread %s %s" % (one.name, self._where(one)) for one in alive))
+            told = "; ".join(f"thread {one.name} {self._where(one)}" for one in alive)
+            self._break(f"no thread goes on: {told}")
 
     def _except(self, given: threading.ExceptHookArgs) -> None:
         """Keeps what a thread raised, for the end of the block."""
@@ -239,10 +240,14 @@ class LockStep:
         with self._mutex:
             if thread not in self._places:
                 if len(self._places) >= self._count or thread is not self._owner:
-                    raise NotInStep("threads(%d): thread %s uses the meter, but %s take part" % (
-                        self._count, thread.name, " and ".join(one.name for one in self._places.values()) or "none"))
+                    raise NotInStep(
+                        f"threads({self._count}): thread {thread.name} uses the meter, but {self._names()} take part")
                 self._places[thread] = Place(thread, len(self._places), RUNS)
             return self._places[thread]
+
+    def _names(self) -> str:
+        """The names of the threads that take part."""
+        return " and ".join(one.name for one in self._places.values()) or "none"
 
     # turns
     def _wait(self, place: Place, state: str) -> None:
@@ -257,8 +262,7 @@ class LockStep:
                     return
                 self._choose()
                 if len(self._places) < self._count and monotonic() - began > 10 * ASLEEP and not self._broken:
-                    self._break("threads(%d): only %s came to the meter" % (
-                        self._count, " and ".join(one.name for one in self._places.values())))
+                    self._break(f"threads({self._count}): only {self._names()} came to the meter")
         fault, place.fault = place.fault, None
         if fault is not None:
             raise fault
@@ -308,8 +312,8 @@ class LockStep:
             why = None if one.pending is None else self._meter._hopeless(one.pending)
             if why is None:
                 return False
-            reasons.append("thread %s: %s" % (one.name, why))
-        reasons += ["thread %s %s" % (one.name, self._where(one)) for one in self._places.values() if one.state == AWAY]
+            reasons.append(f"thread {one.name}: {why}")
+        reasons += [f"thread {one.name} {self._where(one)}" for one in self._places.values() if one.state == AWAY]
         for one in waiting:
             one.fault = NoAnswer("\n".join(["no thread can go on:"] + reasons))
         self._give(waiting[0])
@@ -334,7 +338,7 @@ class LockStep:
             place.state, place.released = AWAY, released
             return False
         if self._sleeps(place):
-            self._break("thread %s %s for %g s, and the others can't go on" % (place.name, self._where(place), ASLEEP))
+            self._break(f"thread {place.name} {self._where(place)} for {ASLEEP:g} s, and the others can't go on")
         return True
 
     def _in_another(self, place: Place) -> Callable[[], bool] | None:
@@ -367,8 +371,8 @@ class LockStep:
         if frame is None:
             return "has ended"
         where = "outside of the meter" if not inside else "in the meter" if place.depth else "in another meter"
-        return "waits %s, at %s:%d in %s," % (
-            where, os.path.basename(frame.f_code.co_filename), frame.f_lineno, frame.f_code.co_name)
+        file = os.path.basename(frame.f_code.co_filename)
+        return f"waits {where}, at {file}:{frame.f_lineno} in {frame.f_code.co_name},"
 
 
 class _Guard:
@@ -433,7 +437,7 @@ def wait_of(thread: threading.Thread) -> Callable[[], bool] | None:
 
 def processor_time(thread: threading.Thread) -> str:
     """The processor time of a thread that sleeps, as the kernel tells it; empty if it runs, or isn't told."""
-    folder = "/proc/self/task/%s/" % thread.native_id
+    folder = f"/proc/self/task/{thread.native_id}/"
     try:
         with open(folder + "stat", encoding="ascii", errors="replace") as file:
             state = file.read().rpartition(")")[2].split()[0]

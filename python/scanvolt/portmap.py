@@ -42,7 +42,7 @@ class _Fault(Exception):
 def port_of(text: str) -> int:
     """A port of the command line."""
     if not (text.isascii() and text.isdigit() and 1 <= int(text) <= 65535):
-        raise argparse.ArgumentTypeError("not a port, 1 to 65535: %s" % text)
+        raise argparse.ArgumentTypeError(f"not a port, 1 to 65535: {text}")
     return int(text)
 
 
@@ -52,8 +52,8 @@ def words(given: list[str] | None) -> argparse.Namespace:
         prog=NAME, description=__doc__, formatter_class=argparse.RawDescriptionHelpFormatter)
     for name, _, usual in PROGRAMS:
         parser.add_argument("--" + name, type=port_of, default=usual, metavar="PORT",
-                            help="the port of the %s program; %s without it" % (name, usual or "none is registered"))
-    parser.add_argument("--port", type=port_of, default=PORT, help="the port of the port mapper; %d without it" % PORT)
+                            help=f"the port of the {name} program; {usual or 'none is registered'} without it")
+    parser.add_argument("--port", type=port_of, default=PORT, help=f"the port of the port mapper; {PORT} without it")
     return parser.parse_args(given)
 
 
@@ -70,8 +70,8 @@ def mapper(port: int) -> Channel:
     try:
         return Channel("", 0, PATIENCE, loopback(port))
     except OSError as fault:
-        raise _Fault("no port mapper answers, neither at %s nor at port %d of 127.0.0.1 (%s): is rpcbind there, "
-                    "and does it run?" % (LOCAL, port, fault.strerror or fault)) from None
+        raise _Fault(f"no port mapper answers, neither at {LOCAL} nor at port {port} of 127.0.0.1 "
+                     f"({fault.strerror or fault}): is rpcbind there, and does it run?") from None
 
 
 def loopback(port: int) -> socket.socket:
@@ -93,10 +93,10 @@ def register(port: int, wanted: dict[int, tuple[str, int]]) -> list[int]:
             for program, (name, wish) in wanted.items():
                 known = channel.do(calls.getport(program, 1))
                 if known:
-                    raise _Fault("somebody else has registered the %s program, %d, at port %d; whoever did can unregister it by "
-                                "`rpcinfo -d %d 1`" % (name, program, known, program), 1)
+                    raise _Fault(f"somebody else has registered the {name} program, {program}, at port {known}; whoever did can unregister it by "
+                                f"`rpcinfo -d {program} 1`", 1)
                 if not channel.do(calls.set_port(program, 1, wish)):
-                    raise _Fault("the port mapper refuses port %d of the %s program: run this as root" % (wish, name))
+                    raise _Fault(f"the port mapper refuses port {wish} of the {name} program: run this as root")
                 made.append(program)
     except (_Fault, RpcError, OSError) as fault:
         take_back(port, made)
@@ -106,7 +106,7 @@ def register(port: int, wanted: dict[int, tuple[str, int]]) -> list[int]:
 
 def told(fault: Exception) -> _Fault:
     """The fault to raise if a call to the port mapper failed."""
-    return _Fault("the port mapper doesn't answer as one: %s" % fault)
+    return _Fault(f"the port mapper doesn't answer as one: {fault}")
 
 
 def take_back(port: int, made: list[int]) -> None:
@@ -117,7 +117,7 @@ def take_back(port: int, made: list[int]) -> None:
         with mapper(port) as channel:
             for program in made:
                 if not channel.do(calls.unset_port(program, 1)):
-                    raise _Fault("the port mapper knows no port of program %d any more" % program)
+                    raise _Fault(f"the port mapper knows no port of program {program} any more")
     except (RpcError, OSError) as fault:
         raise told(fault) from None
 
@@ -129,11 +129,11 @@ def main(given_words: list[str] | None = None) -> int:
     signal.pthread_sigmask(signal.SIG_BLOCK, ENDING)        # these signals wait until sigwait takes one
     try:
         made = register(given.port, wanted)
-        print("ready: " + ", ".join("%s %d" % pair for pair in wanted.values()), flush=True)
+        print("ready: " + ", ".join(f"{name} {port}" for name, port in wanted.values()), flush=True)
         signal.sigwait(ENDING)
         take_back(given.port, made)
     except _Fault as fault:
-        print("%s: %s" % (NAME, fault), file=sys.stderr)
+        print(f"{NAME}: {fault}", file=sys.stderr)
         return fault.status
     return 0
 

@@ -58,7 +58,7 @@ def found(start: Name | None = None) -> tuple[str, str]:
     if os.environ.get("SCANVOLT"):
         named = os.path.abspath(os.environ["SCANVOLT"])
         if not _runs(named):
-            raise ProgramError("SCANVOLT names no program: %s" % named)
+            raise ProgramError(f"SCANVOLT names no program: {named}")
         return named, "SCANVOLT"
     if _runs(IN_WHEEL):
         return IN_WHEEL, "the wheel"
@@ -93,7 +93,7 @@ def free_ports(count: int) -> list[int]:
 def serve_command(program: str, scenario: str, sweeps: str, ports: Mapping[str, int], record: str | None) -> list[str]:
     """The command line by which a program serves. `ports` has the port of each role."""
     command = [program, "serve", "--scenario=" + scenario, "--sweeps=" + sweeps]
-    command += ["--%s=%d" % one for one in ports.items()]
+    command += [f"--{role}={port}" for role, port in ports.items()]
     return command + ([] if record is None else ["--record=" + record])
 
 
@@ -102,7 +102,7 @@ def started(command: list[str], stdin: int = subprocess.DEVNULL, grace: float = 
     try:
         return Tied(command, stdin, grace)
     except OSError as fault:
-        raise ProgramError("the program can't be run: %s: %s" % (command[0], fault.strerror)) from None
+        raise ProgramError(f"the program can't be run: {command[0]}: {fault.strerror}") from None
 
 
 def in_a_line(data: bytes) -> str:
@@ -152,7 +152,7 @@ class _Heard:
         if self._open:
             self.process.kill()
         status = self.process.wait()
-        return "it ended by signal %d" % -status if status < 0 else "it ended with status %d" % status
+        return f"it ended by signal {-status}" if status < 0 else f"it ended with status {status}"
 
 
 _fitting: set[tuple[str, int, int]] = set()     # the programs that were found to fit: path, time and size
@@ -166,13 +166,13 @@ def check_fits(path: str) -> None:
     try:
         status = os.stat(found)
     except OSError as fault:
-        raise ProgramError("the program can't be run: %s: %s" % (path, fault.strerror)) from None
+        raise ProgramError(f"the program can't be run: {path}: {fault.strerror}") from None
     known = (os.path.abspath(found), status.st_mtime_ns, status.st_size)
     if known not in _fitting:
         how = _unlike(path)
         if how:
             release = ".".join(__version__.split(".")[:2])
-            raise ProgramError("%s isn't scanvolt %s, or doesn't fit this package: %s" % (path, release, how))
+            raise ProgramError(f"{path} isn't scanvolt {release}, or doesn't fit this package: {how}")
         _fitting.add(known)
 
 
@@ -187,9 +187,10 @@ def _unlike(path: str) -> str:
             pass
         heard = _Heard(tied.process, PATIENCE, lambda printed: not ANSWER.startswith(printed))
         if heard.late:
-            return "it says nothing for %g s" % PATIENCE
+            return f"it says nothing for {PATIENCE:g} s"
         if not ANSWER.startswith(heard.printed):
-            return "to `%s` it answered `%s` and not `%s`" % tuple(map(in_a_line, (PROBES, heard.printed, ANSWER)))
+            asked, answered, right = map(in_a_line, (PROBES, heard.printed, ANSWER))
+            return f"to `{asked}` it answered `{answered}` and not `{right}`"
         how = heard.ended()
         if heard.process.returncode or heard.printed != ANSWER:
             return how + (": " + heard.text() if heard.text() else "")
@@ -218,7 +219,7 @@ class Server:
         self._roles = (*ROLES, CONTROL) if control else ROLES
         self._wanted = [0] * len(self._roles) if ports is None else list(ports)
         if len(self._wanted) != len(self._roles):
-            raise ValueError("%d ports are wanted, and not %d" % (len(self._roles), len(self._wanted)))
+            raise ValueError(f"{len(self._roles)} ports are wanted, and not {len(self._wanted)}")
         self._record = Record(record)
         self._tied, listening = self._started()
         self.core, self.abort, self.port_mapper = listening[:3]
@@ -282,7 +283,7 @@ class Server:
             roles = dict(zip(self._roles, ports))
             tied = started(serve_command(self.program, self.scenario, str(self._sweeps), roles, self.record))
             try:
-                told = self._told(tied.process, "ready %s\n" % " ".join(map(str, ports)))
+                told = self._told(tied.process, f"ready {' '.join(map(str, ports))}\n")
             except BaseException:
                 tied.end()
                 raise
@@ -295,7 +296,7 @@ class Server:
             read_scenario(self.scenario)        # raises the exception that explains it
         if told == "scanvolt: output":
             self._record.check()                # as well
-        raise ProgramError("%s doesn't serve: %s" % (self.program, told))
+        raise ProgramError(f"{self.program} doesn't serve: {told}")
 
     def _told(self, process: subprocess.Popen[bytes], ready: str) -> str:
         """Waits until a program prints that it is ready. Returns what it tells instead, or else nothing."""
@@ -304,10 +305,10 @@ class Server:
         if heard.printed == ready.encode():
             return ""
         if heard.late:
-            return "it didn't print `ready` within %g s%s" % (
-                patience, ", but: " + heard.text() if heard.text() else "")
+            but = ", but: " + heard.text() if heard.text() else ""
+            return f"it didn't print `ready` within {patience:g} s{but}"
         if b"\n" in heard.printed:
-            return "it printed: %s" % heard.text()
+            return f"it printed: {heard.text()}"
         how = heard.ended()
         return BAD_WORDS.get(heard.text(), heard.text()) or how
 

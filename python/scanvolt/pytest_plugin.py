@@ -80,7 +80,7 @@ def _reported(item: pytest.Item) -> Generator[None, Any, None]:
         return
     used = [one for number, one in sorted(METERS.items()) if before.get(number) != one._replay.moment()]
     for place, meter in enumerate(used[:SECTIONS], 1):
-        name = item.nodeid + ("" if place == 1 else "_%d" % place)
+        name = item.nodeid + ("" if place == 1 else f"_{place}")
         report.sections.append((SECTION, told(functools.partial(_of_meter, item, meter, name))))
     if SERVED in item.stash:
         report.sections.append((SECTION, told(functools.partial(_of_server, item, *item.stash[SERVED]))))
@@ -101,7 +101,7 @@ def told(tell: Callable[[], str]) -> str:
     try:
         return tell()
     except Exception as fault:
-        return "it can't be told: %s" % (str(fault) or type(fault).__name__)
+        return f"it can't be told: {str(fault) or type(fault).__name__}"
 
 
 def _of_meter(item: pytest.Item, meter: Meter, name: str) -> str:
@@ -125,8 +125,9 @@ def pytest_report_header() -> str:
     try:
         path, where = found()
     except ProgramError as fault:
-        return "scanvolt: %s, no program: %s" % (__version__, fault)
-    return "scanvolt: %s, program %s (found by %s, version %s, kind %s)" % (__version__, path, where, *version_and_kind(path))
+        return f"scanvolt: {__version__}, no program: {fault}"
+    version, kind = version_and_kind(path)
+    return f"scanvolt: {__version__}, program {path} (found by {where}, version {version}, kind {kind})"
 
 
 def options_of(request: pytest.FixtureRequest) -> dict[str, Any]:
@@ -135,7 +136,7 @@ def options_of(request: pytest.FixtureRequest) -> dict[str, Any]:
     options = {} if marker is None else dict(marker.kwargs)
     unknown = sorted(set(options) - set(OPTIONS)) if marker is None or not marker.args else ["without a name"]
     if unknown:
-        pytest.fail("the marker scanvolt has no option %s, but %s" % (unknown[0], ", ".join(OPTIONS)), False)
+        pytest.fail(f"the marker scanvolt has no option {unknown[0]}, but {', '.join(OPTIONS)}", False)
     if options.get("scenario") is not None:
         options["scenario"] = request.path.parent / options["scenario"]
     return options
@@ -174,7 +175,7 @@ def visa_meter(request: pytest.FixtureRequest, monkeypatch: pytest.MonkeyPatch,
     backend = options.pop("backend", None) or BACKENDS[0]
     backend = getattr(request, "param", backend)
     if backend not in BACKENDS:
-        pytest.fail("the marker scanvolt wants as backend %s, and not %r" % (" or ".join(BACKENDS), backend), False)
+        pytest.fail(f"the marker scanvolt wants as backend {' or '.join(BACKENDS)}, and not {backend!r}", False)
     pytest.importorskip("pyvisa")
     if backend == "sockets":
         pytest.importorskip("pyvisa_py", reason="PyVISA-py isn't there")

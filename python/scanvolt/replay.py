@@ -93,7 +93,7 @@ class Program:
         """Waits until the pipes can be read or written. Returns whether there is something to read."""
         ready = poll.poll(1000 * PATIENCE)
         if not ready:
-            raise ProgramError("the program says nothing for %g s: %s" % (PATIENCE, self._path))
+            raise ProgramError(f"the program says nothing for {PATIENCE:g} s: {self._path}")
         return any(one == self._source for one, _ in ready)
 
     def _read(self, poll: select.poll) -> bytes:
@@ -119,8 +119,9 @@ class Program:
         self.process.wait()
         status = self.process.returncode
         text = told.decode("utf-8", "replace").strip()
-        how = "by signal %d" % -status if status < 0 else "with status %d" % status
-        return ProgramError("the program ended %s%s" % (how, ": " + text if text else ""))
+        how = f"by signal {-status}" if status < 0 else f"with status {status}"
+        why = ": " + text if text else ""
+        return ProgramError(f"the program ended {how}{why}")
 
 
 class Replay:
@@ -158,7 +159,7 @@ class Replay:
         too long to be kept.
         """
         if self.log is None:
-            raise ProgramError("the session is too long to be told: its lines have more than %d bytes" % LOG_MOST)
+            raise ProgramError(f"the session is too long to be told: its lines have more than {LOG_MOST} bytes")
         count, since = self.moment() if moment is None else moment
         return (b"".join(self.log[:count]) + ticks(since)).decode().splitlines()
 
@@ -250,4 +251,4 @@ class Replay:
         for piece in pieces(b"".join(self.log) + ticks(self._since)):
             checksum = zlib.crc32(self.program.ask(piece + PROBE)[:-len(SEEN)], checksum)
         if checksum != self.checksum:
-            raise ProgramError("a second program prints otherwise: %s" % self.path)
+            raise ProgramError(f"a second program prints otherwise: {self.path}")

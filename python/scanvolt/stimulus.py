@@ -52,11 +52,11 @@ def microvolts(volts: Volts) -> int:
         exact = decimal.Decimal(repr(plain) if isinstance(plain, float) else plain) * 10 ** 6
         whole = exact.to_integral_value(decimal.ROUND_HALF_UP)
     except (decimal.InvalidOperation, TypeError, ValueError):
-        raise ValueError("no voltage: %r" % (volts,)) from None
+        raise ValueError(f"no voltage: {volts!r}") from None
     if not exact.is_finite() or abs(exact) > MOST_MICROVOLTS:
-        raise ValueError("a voltage of -1000 to 1000 V is wanted: %r" % (volts,))
+        raise ValueError(f"a voltage of -1000 to 1000 V is wanted: {volts!r}")
     if whole != exact and not isinstance(plain, float):
-        raise ValueError("a voltage has whole microvolts: %r" % (volts,))
+        raise ValueError(f"a voltage has whole microvolts: {volts!r}")
     return int(whole)
 
 
@@ -83,7 +83,7 @@ def read_scenario(name: Name) -> list[Entry]:
     """
     entries, bad = checked_scenario(name)
     if bad:
-        raise ValueError("bad line %d of the scenario %s: %s" % (bad[0].number, os.fspath(name), bad[0].reason))
+        raise ValueError(f"bad line {bad[0].number} of the scenario {os.fspath(name)}: {bad[0].reason}")
     return entries
 
 
@@ -105,27 +105,26 @@ def checked_scenario(name: Name) -> tuple[list[Entry], list[Bad]]:
 def entry_of(line: bytes, last: int = 0) -> Entry:
     """The entry in a line. Raises ValueError, with the reason, if the line is bad or its time is before `last`."""
     if len(line) > LONGEST_LINE:
-        raise ValueError("it has more than %d bytes" % LONGEST_LINE)
+        raise ValueError(f"it has more than {LONGEST_LINE} bytes")
     clock, *words = line.split(b" ")
     if not DIGITS.fullmatch(clock):
-        raise ValueError("a time is a whole number of milliseconds, of 1 to 18 digits, and not %s" % shown(clock))
+        raise ValueError(f"a time is a whole number of milliseconds, of 1 to 18 digits, and not {shown(clock)}")
     if int(clock) < last:
-        raise ValueError("a time may not be before that of the entry before, %d: %d" % (last, int(clock)))
+        raise ValueError(f"a time may not be before that of the entry before, {last}: {int(clock)}")
     if words == [b"external"]:
         return Entry(int(clock), b"external\n")
     if len(words) != 3 or words[0] != b"input":
         raise ValueError("after the time comes `external` or `input CHANNEL MICROVOLTS`, with one space "
-                         "between two words, and not %s" % shown(b" ".join(words)))
+                         f"between two words, and not {shown(b' '.join(words))}")
     channel, level = words[1:]
     if not CHANNEL.fullmatch(channel) or int(channel) > CHANNELS:
-        raise ValueError("a channel is a whole number, 1 to %d, and not %s" % (CHANNELS, shown(channel)))
+        raise ValueError(f"a channel is a whole number, 1 to {CHANNELS}, and not {shown(channel)}")
     if not LEVEL.fullmatch(level) or abs(int(level)) > MOST_MICROVOLTS:
-        raise ValueError("a voltage is a whole number of microvolts, of at most 18 digits, %d to %d, and not %s" % (
-            -MOST_MICROVOLTS, MOST_MICROVOLTS, shown(level)))
+        raise ValueError(f"a voltage is a whole number of microvolts, of at most 18 digits, {-MOST_MICROVOLTS} to {MOST_MICROVOLTS}, and not {shown(level)}")
     return Entry(int(clock), b"input %d %d\n" % (int(channel), int(level)), int(channel), int(level))
 
 
 def shown(word: bytes) -> str:
     """A part of a line, in backquotes; of a long one, its start."""
     text = word.decode("latin-1").encode("unicode_escape").decode()
-    return "`%s`" % text if len(text) <= SHOWN_MOST else "`%s`.." % text[:SHOWN_MOST]
+    return f"`{text}`" if len(text) <= SHOWN_MOST else f"`{text[:SHOWN_MOST]}`.."

@@ -104,9 +104,10 @@ class Meter:
 
     def __repr__(self) -> str:
         if not self.is_open:
-            return "<Meter, closed at %d ms>" % self.clock
+            return f"<Meter, closed at {self.clock} ms>"
         count = len(self.connections)
-        return "<Meter at %d ms, %d connection%s>" % (self.clock, count, "" if count == 1 else "s")
+        connections = f"{count} connection" + ("" if count == 1 else "s")
+        return f"<Meter at {self.clock} ms, {connections}>"
 
     @property
     def is_open(self) -> bool:
@@ -130,11 +131,11 @@ class Meter:
         At most sixteen connections may be open, of all kinds together. Raises ConnectionError if all are taken.
         """
         if role not in ROLES:
-            raise ValueError("no role of a connection: %r" % role)
+            raise ValueError(f"no role of a connection: {role!r}")
         with self._guard:
             number = next((place for place in range(PLACES) if place not in self.connections), None)
             if number is None:
-                raise ConnectionError("all %d connections of the meter are taken" % PLACES)
+                raise ConnectionError(f"all {PLACES} connections of the meter are taken")
             self._perform(b"open %d %s\n" % (number, role.encode()))
             self.connections[number] = Connection(self, number, role)
             return self.connections[number]
@@ -213,8 +214,7 @@ class Meter:
         with self._guard:
             awaited, self._awaited = self._awaited, {}
             for pending, awake in awaited.values():
-                awake(NoAnswer(self._hopeless(pending) or "%s waits for more than %d ms of virtual time" % (
-                    pending.call.name, self.patience)))
+                awake(NoAnswer(self._hopeless(pending) or f"{pending.call.name} waits for more than {self.patience} ms of virtual time"))
         return bool(awaited)
 
     def keeping_time(self) -> contextlib.AbstractContextManager[Meter]:
@@ -336,7 +336,7 @@ class Meter:
     def _asked(self, question: Callable[[], Value]) -> Value:
         """Asks the program. If that fails or is interrupted, the meter is closed."""
         if isinstance(self._ended, ProgramError):
-            raise ProgramError("the program was ended before: %s" % self._ended)
+            raise ProgramError(f"the program was ended before: {self._ended}")
         if self._ended is not None:
             raise ConnectionError(str(self._ended))
         try:
@@ -419,7 +419,7 @@ class Meter:
             return
         for record in connection._records.push(data):
             if not connection._pending:
-                raise ProgramError("a reply that nobody waits for: %s" % record.body.hex())
+                raise ProgramError(f"a reply that nobody waits for: {record.body.hex()}")
             self._answer(connection, connection._pending.popleft(), record.body)
             answered.append(connection)
 

@@ -74,7 +74,7 @@ class VisaMeter:
         from pyvisa_scanvolt.settings import written
         path = folder / "settings"
         path.write_text(written(self._names, **options), encoding="utf-8")
-        monkeypatch.setenv("PYVISA_LIBRARY", "%s@scanvolt" % path)
+        monkeypatch.setenv("PYVISA_LIBRARY", f"{path}@scanvolt")
         self._manage()
         library: Any = self.manager.visalib
         meter: Meter = library.meter(next(iter(self._names), VIRTUAL))
@@ -91,8 +91,8 @@ class VisaMeter:
         from pyvisa_scanvolt.settings import Settings
         settings = Settings()
         if len({host.lower() for host in self._names.values()}) > 1:
-            raise ValueError("on sockets there is one instrument, and the names are of several: %s" % ", ".join(
-                sorted(set(self._names.values()))))
+            hosts = ", ".join(sorted(set(self._names.values())))
+            raise ValueError(f"on sockets there is one instrument, and the names are of several: {hosts}")
         for name, host in {VIRTUAL: "scanvolt", **self._names}.items():
             settings.add(name, host)
         self.server = self._ends.enter_context(Server(options.get("scenario"), record=True, control=True))

@@ -70,10 +70,10 @@ class Browser:
         while True:
             told = self._told(until)
             if told is None:
-                raise TimeoutError("the browser doesn't answer to %s" % method)
+                raise TimeoutError(f"the browser doesn't answer to {method}")
             if told.get("id") == self._number:
                 if "error" in told:
-                    raise RuntimeError("%s: %s" % (method, told["error"]))
+                    raise RuntimeError(f"{method}: {told['error']}")
                 result: dict[str, Any] = told["result"]
                 return result
             self.events.append(told)
@@ -111,7 +111,8 @@ class Page:
         """The value of an expression in the page. Promises are awaited."""
         told = self._call("Runtime.evaluate", expression=script, returnByValue=True, awaitPromise=True)
         if "exceptionDetails" in told:
-            raise RuntimeError("%s: %s" % (script, told["exceptionDetails"].get("exception", {}).get("description")))
+            why = told["exceptionDetails"].get("exception", {}).get("description")
+            raise RuntimeError(f"{script}: {why}")
         return told["result"].get("value")
 
     def wait(self, condition: str, seconds: float = 10.0) -> float:
@@ -119,12 +120,12 @@ class Page:
         start = time.monotonic()
         while True:
             try:
-                if self.run("!!(%s)" % condition):
+                if self.run(f"!!({condition})"):
                     return time.monotonic() - start
             except RuntimeError:        # the page isn't there yet
                 pass
             if time.monotonic() - start > seconds:
-                raise AssertionError("after %g s it isn't so: %s" % (seconds, condition))
+                raise AssertionError(f"after {seconds:g} s it isn't so: {condition}")
             time.sleep(0.01)
 
     def close(self) -> None:
@@ -178,7 +179,8 @@ class Page:
             if one["method"] == "Runtime.exceptionThrown":
                 found.append(str(one["params"]["exceptionDetails"].get("exception", {}).get("description")))
             elif one["method"] == "Log.entryAdded" and one["params"]["entry"]["level"] == "error":
-                found.append("%(text)s %(url)s" % {"url": "", **one["params"]["entry"]})
+                entry = {"url": "", **one["params"]["entry"]}
+                found.append(f"{entry['text']} {entry['url']}")
         return found
 
     def requests(self) -> list[str]:

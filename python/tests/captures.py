@@ -68,12 +68,12 @@ class Capture:
         side = 0 if called else 1
         source, target = ENDS[side], ENDS[1 - side]
         number, size = len(self.lines) + 1, 66 + len(data)
-        fields = [number, "%.6f" % ((START + time) / 1000), 0, *source, *target, self.sent[side],
+        fields = [number, f"{(START + time) / 1000:.6f}", 0, *source, *target, self.sent[side],
                   self.sent[1 - side], hex(flags), len(data), size, size]
         self.lines.append("\t".join(map(str, fields)))
         self.sent[side] += len(data) + (1 if flags & SYN else 0)
         if data:
-            self.followed += ["  - packet: %d" % number, "    peer: %d" % side, "    data: !!binary |",
+            self.followed += [f"  - packet: {number}", f"    peer: {side}", "    data: !!binary |",
                               "      " + base64.b64encode(data).decode()]
 
     def asks(self, time: int, xid: int, result: bytes, taking: int = 1) -> None:
@@ -103,7 +103,7 @@ class Folder:
 
     def run(self, *given: str, path: str | None = None, **variables: str) -> tuple[int, str]:
         """Runs the command. Returns its status, and what it prints."""
-        variables["PATH"] = "%s:%s" % (self.path, os.environ["PATH"]) if path is None else path
+        variables["PATH"] = f"{self.path}:{os.environ['PATH']}" if path is None else path
         printed = io.StringIO()
         with mock.patch.dict(os.environ, variables), mock.patch("signal.signal"), \
                 contextlib.redirect_stdout(printed), contextlib.redirect_stderr(printed):
@@ -111,7 +111,7 @@ class Folder:
 
     def begin(self, *given: str, **variables: str) -> subprocess.Popen[bytes]:
         """Starts the command in a process of its own."""
-        variables["PATH"] = "%s:%s" % (self.path, os.environ["PATH"])
+        variables["PATH"] = f"{self.path}:{os.environ['PATH']}"
         text = "import signal, sys; signal.signal(signal.SIGINT, signal.default_int_handler)\n" \
             "from scanvolt.capturing.command import main; sys.exit(main())"
         return subprocess.Popen([sys.executable, "-c", text, *given], env=dict(os.environ, **variables),

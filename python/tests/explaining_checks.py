@@ -40,31 +40,31 @@ class Checks:
             self.counts["steps"] += 1
             byte, told = status_byte(self.story, step.number), self.lines.bits("stb", step.number)
             if byte != told:
-                yield "status byte %d and not %d at %s" % (told, byte, where(step))
+                yield f"status byte {told} and not {byte} at {where(step)}"
             if self.lines.bits("ques.cond", step.number) >> 9 & 1 != bool(
                     self.lines.bits("lim.event", step.number) & self.lines.bits("lim.enable", step.number)):
-                yield "summary of the limits at %s" % where(step)
+                yield f"summary of the limits at {where(step)}"
             if step.is_unit:
                 self.counts["units"] += 1
                 call = self.story.call_of(step)
                 if call is None or step.text[:1] not in call.arguments.data:
-                    yield "no writer of %r at %s" % (step.text, where(step))
+                    yield f"no writer of {step.text!r} at {where(step)}"
 
     def calls(self) -> Iterator[str]:
         """The reply of each call that was taken, what polls return, and why calls wait."""
         for call in self.story.calls:
             self.counts["calls"] += 1
             if call.turned and call.is_open and not call.waits:
-                yield "no reply to %s" % call.words
+                yield f"no reply to {call.words}"
             if call.name == "device_readstb" and call.answer and call.answer.error == 0:
                 self.counts["polls"] += 1
                 before = (call.waits[-1].end if call.waits else call.turned and call.turned.steps[0])
                 if before is None or self.lines.bits("poll", before.number - 1) != call.answer.value:
-                    yield "a poll returned %s at %s" % (call.answer.words, before and where(before))
+                    yield f"a poll returned {call.answer.words} at {before and where(before)}"
             for wait in call.waits:
                 self.counts["waits"] += 1
                 if not self.found.reasons.why(wait, wait.begin.number):
-                    yield "no reason of %s for the wait for %s" % (call.words, wait.what)
+                    yield f"no reason of {call.words} for the wait for {wait.what}"
 
     def flips(self) -> Iterator[str]:
         """The causes of each bit that flipped."""
@@ -79,7 +79,7 @@ class Checks:
                     causes = model.causes(name, bit, new, change, 1)
                     self.counts["weak flips"] += any(one.text.startswith(WEAK) for one in causes)
                     if not causes or not all(one.text for one in causes):
-                        yield "no cause of bit %d of %s at %s" % (bit, name, where(change.step))
+                        yield f"no cause of bit {bit} of {name} at {where(change.step)}"
 
     def ends(self) -> Iterator[str]:
         """Whatever is said to end a wait does so: the lines of the try, given to another program, end it at that millisecond."""
@@ -90,9 +90,9 @@ class Checks:
                 self.counts["tries"] += 1
                 seen = next((one for one in [tried.ended[what].get(call.number)] if one), None)
                 if seen is not None and (seen[0], seen[1]) != ended(again.calls[call.number]):
-                    yield "%s: %s ends otherwise: %s" % (what, call.words, ended(again.calls[call.number]))
+                    yield f"{what}: {call.words} ends otherwise: {ended(again.calls[call.number])}"
                 if seen is None and ended(again.calls[call.number]) is not None:
-                    yield "%s: %s ends, and that isn't said" % (what, call.words)
+                    yield f"{what}: {call.words} ends, and that isn't said"
 
 
 def ended(call: Call) -> object:
@@ -103,4 +103,4 @@ def ended(call: Call) -> object:
 
 
 def where(step: Step) -> str:
-    return "line %d, %s %r" % (step.moment.line, step.kind, step.text)
+    return f"line {step.moment.line}, {step.kind} {step.text!r}"

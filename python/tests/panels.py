@@ -95,7 +95,7 @@ class Stream:
                 return time.monotonic() - start
             if time.monotonic() - start > seconds:
                 break
-        raise AssertionError("no state has %s" % wanted)
+        raise AssertionError(f"no state has {wanted}")
 
     def close(self) -> None:
         """The browser is gone."""

@@ -27,7 +27,7 @@ def script(text: str) -> Iterator[str]:
 def is_there(number: int) -> bool:
     """Whether a process exists and isn't a zombie."""
     try:
-        return pathlib.Path("/proc/%d/stat" % number).read_text().rpartition(")")[2].split()[0] != "Z"
+        return pathlib.Path(f"/proc/{number}/stat").read_text().rpartition(")")[2].split()[0] != "Z"
     except FileNotFoundError:
         return False
 
@@ -43,7 +43,7 @@ def goes(number: int, seconds: float = 10.0) -> bool:
 def stop(number: int) -> None:
     """Stops a process, and waits until it stands."""
     os.kill(number, signal.SIGSTOP)
-    while pathlib.Path("/proc/%d/stat" % number).read_text().rpartition(")")[2].split()[0] != "T":
+    while pathlib.Path(f"/proc/{number}/stat").read_text().rpartition(")")[2].split()[0] != "T":
         time.sleep(0.01)
 
 

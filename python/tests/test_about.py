@@ -23,7 +23,7 @@ from .test_install import backend
 OTHERS = (
     ("sed 's/.*/refused 8/'", "to `input 128 0 input 255 0` it answered `refused 8 refused 8` and not `refused 8`"),
     ("exec cat", "to `input 128 0 input 255 0` it answered `input 128 0 input 255 0` and not `refused 8`"),
-    ("exec yes", "to `input 128 0 input 255 0` it answered `%s ..` and not `refused 8`" % " ".join(100 * "y")),
+    ("exec yes", f"to `input 128 0 input 255 0` it answered `{' '.join(100 * 'y')} ..` and not `refused 8`"),
     ("exit 0", "it ended with status 0"),
     ("echo scanvolt: bad words >&2; exit 2", "it ended with status 2: scanvolt: bad words"),
     ("kill -9 $$", "it ended by signal 9"))
@@ -64,7 +64,7 @@ class Printed(unittest.TestCase):
         return str(path)
 
     def told(self, path: str, version: str, kind: str) -> tuple[int, str]:
-        return 0, "package %s\nprogram %s\nfound by SCANVOLT\nversion %s\nkind %s\n" % (scanvolt.__version__, path, version, kind)
+        return 0, f"package {scanvolt.__version__}\nprogram {path}\nfound by SCANVOLT\nversion {version}\nkind {kind}\n"
 
     def test_a_checkout(self) -> None:
         self.put("VERSION", "7.8.9\n")
@@ -93,7 +93,7 @@ class Printed(unittest.TestCase):
     def test_no_program(self) -> None:
         status, text = self.run_with("/nonexistent")
         self.assertEqual((status, text), (
-            1, "package %s\nno program: SCANVOLT names no program: /nonexistent\n" % scanvolt.__version__))
+            1, f"package {scanvolt.__version__}\nno program: SCANVOLT names no program: /nonexistent\n"))
 
     def test_another_program(self) -> None:
         status, text = self.run_with(self.put("true", "#!/bin/sh\n"))
@@ -117,11 +117,11 @@ class Fitting(unittest.TestCase):
                     with self.assertRaises(ProgramError) as caught:
                         kind(program=path)
                     self.assertEqual(str(caught.exception), (
-                        "%s isn't scanvolt 7.8, or doesn't fit this package: %s" % (path, reason)))
+                        f"{path} isn't scanvolt 7.8, or doesn't fit this package: {reason}"))
 
     def test_each_is_asked_once(self) -> None:
         """A second meter starts one process. If the file changes, the program is asked again."""
-        with script('echo >> "$0.runs"\nexec "%s" "$@"' % find_program()) as path:
+        with script(f'echo >> "$0.runs"\nexec "{find_program()}" "$@"') as path:
             for count in 2, 3, 4:
                 Meter(path).close()
                 self.assertEqual(pathlib.Path(path + ".runs").read_text().count("\n"), count)
@@ -132,9 +132,9 @@ class Fitting(unittest.TestCase):
 
     def test_a_name_on_the_path(self) -> None:
         """A program may be given by its name, too."""
-        with script('exec "%s" "$@"' % find_program()) as path:
+        with script(f'exec "{find_program()}" "$@"') as path:
             os.rename(path, os.path.join(os.path.dirname(path), "voltmeter"))
-            with mock.patch.dict(os.environ, PATH="%s:%s" % (os.path.dirname(path), os.environ["PATH"])):
+            with mock.patch.dict(os.environ, PATH=f"{os.path.dirname(path)}:{os.environ['PATH']}"):
                 Meter("voltmeter").close()
                 Server(program="voltmeter").close()
 

@@ -40,7 +40,7 @@ class Session:
         kind = self.chance.randrange(9)
         if kind < 3:
             channels, scans = self.chance.randrange(1, 129), self.chance.randrange(1, 6)
-            settings = "CONF:VOLT (@1:%d);:TRIG:COUN %d" % (channels, scans)
+            settings = f"CONF:VOLT (@1:{channels});:TRIG:COUN {scans}"
             self.told.append(link.write(self.chance.choice((settings, settings, *MESSAGES))))
         elif kind == 3:
             self.told.append(link.read_piece(self.chance.choice((5, 8192))))

@@ -21,8 +21,8 @@ from scanvolt.vxi11 import Client, Link, ServiceRequest, calls, words
 
 EXAMPLES = pathlib.Path(__file__).resolve().parents[2] / "examples"
 # The voltages of examples/bench.scenario, and external triggers 20 times a second.
-SCENARIO = "".join("0 input %d %d\n" % pair for pair in ((1, 1250000), (2, -300000), (3, 7500000), (4, 12000000)))
-SCENARIO += "".join("%d external\n" % clock for clock in range(50, 60000, 50))
+SCENARIO = "".join(f"0 input {channel} {micro}\n" for channel, micro in ((1, 1250000), (2, -300000), (3, 7500000), (4, 12000000)))
+SCENARIO += "".join(f"{clock} external\n" for clock in range(50, 60000, 50))
 REQUEST = 64            # bit 6 of the status byte
 PATIENCE = 20000        # milliseconds
 ABORT_PORT = 4097       # in virtual time
@@ -52,16 +52,18 @@ def scan(carrier: Carrier, pause: Pause) -> list[str]:
     told = ["instrument: " + link.query("*IDN?\n")]
     link.write("CONF:VOLT (@1,4,2);:TRIG:COUN 2;*ESE 1;*SRE 32\n")
     link.write("INIT;*OPC\n")
-    told.append("scan done, status byte: %d" % polled(link, pause))
+    told.append(f"scan done, status byte: {polled(link, pause)}")
     told.append("standard events: " + link.query("*ESR?\n"))
     for place, text in enumerate(link.query("FETC?\n").split(",")):
         shown = "overload" if "E+37" in text else text + " V"
-        told.append("scan %d, channel %d: %s" % (place // 3 + 1, (1, 4, 2)[place % 3], shown))
+        channel = (1, 4, 2)[place % 3]
+        told.append(f"scan {place // 3 + 1}, channel {channel}: {shown}")
     link.write("*CLS;ROUT:MON (@3);:CALC:LIM:UPP 5;STAT ON;:STAT:QUES:ENAB 512;*SRE 8\n")
-    told.append("outside the limits, status byte: %d" % polled(link, pause))
+    told.append(f"outside the limits, status byte: {polled(link, pause)}")
     told.append("questionable events: " + link.query("STAT:QUES?\n"))
     told.append("events of the limits: " + link.query("STAT:QUES:LIM?\n"))
-    told.append("channel 3: %s V" % link.query("MEAS:VOLT? (@3)\n"))
+    measured = link.query("MEAS:VOLT? (@3)\n")
+    told.append(f"channel 3: {measured} V")
     link.write("VOLT:RANGE:AUTO ON\n")
     return told + ["error: " + link.query("SYST:ERR?\n") for _ in range(2)]
 
@@ -74,12 +76,12 @@ def service_request(carrier: Carrier, pause: Pause) -> list[str]:
     link.enable_srq(b"the scan")
     told = ["the interrupt channel is open", "*IDN? " + link.query("*IDN?\n")]
     link.write("CONF:VOLT (@1,4,2);:TRIG:SOUR EXT;*ESE 1;*SRE 32\n")
-    told.append("status byte before: %d" % link.readstb())
+    told.append(f"status byte before: {link.readstb()}")
     link.write("INIT;*OPC\n")
     request: ServiceRequest = requests.wait(PATIENCE)
     told.append("service request of: " + request.handle.decode())
-    told.append("status byte afterwards: %d, and once more: %d" % (link.readstb(), link.readstb()))
-    told += ["%s %s" % (query, link.query(query + "\n")) for query in ("*ESR?", "FETC?", "SYST:ERR?")]
+    told.append(f"status byte afterwards: {link.readstb()}, and once more: {link.readstb()}")
+    told += [query + " " + link.query(query + "\n") for query in ("*ESR?", "FETC?", "SYST:ERR?")]
     carrier.destroy_intr_chan()
     link.destroy()
     assert isinstance(requests.queue, queue.Queue) and requests.queue.empty(), "a second service request"
@@ -96,8 +98,8 @@ def several_requests(carrier: Carrier, pause: Pause) -> list[str]:
     told = []
     for _ in range(3):
         links[1].write("*CLS;*SRE 4;UNKNOWN\n")
-        told += ["%r %d" % (one.handle, one.xid) for one in (requests.wait(PATIENCE), requests.wait(PATIENCE))]
-        told.append("%d" % links[0].readstb())
+        told += [f"{one.handle!r} {one.xid}" for one in (requests.wait(PATIENCE), requests.wait(PATIENCE))]
+        told.append(f"{links[0].readstb()}")
     assert requests.queue.empty(), "one more service request"
     return told
 

@@ -18,7 +18,7 @@ from .processes import goes, kill
 
 def told(start: int) -> tuple[str, str]:
     """The arguments that give a start, in milliseconds since START."""
-    return "--start", "%.3f" % ((START + start) / 1000)
+    return "--start", f"{(START + start) / 1000:.3f}"
 
 
 class Comparing(unittest.TestCase):
@@ -46,8 +46,7 @@ class Comparing(unittest.TestCase):
             self.assertIn("ended early", text)
 
     def test_a_program_that_prints_less_ended_early(self) -> None:
-        shorter = self.folder.write("shorter", "#!/bin/sh\n%s replay | head -3\n" %
-                                    self.folder.replay, 0o755)
+        shorter = self.folder.write("shorter", f"#!/bin/sh\n{self.folder.replay} replay | head -3\n", 0o755)
         status, text = self.folder.compare(self.several(), *told(0), program=shorter)
         self.assertEqual(status, 2, text)
         self.assertIn("ended early, after", text)
@@ -61,8 +60,7 @@ class Comparing(unittest.TestCase):
         self.assertIn("ended early", text)
 
     def test_a_reply_that_the_replay_lacks_is_a_difference(self) -> None:
-        marks = self.folder.write("marks", "#!/bin/sh\n%s replay | grep refused\n" %
-                                  self.folder.replay, 0o755)
+        marks = self.folder.write("marks", f"#!/bin/sh\n{self.folder.replay} replay | grep refused\n", 0o755)
         status, text = self.folder.compare(self.several(), *told(0), "--slack", "0", program=marks)
         self.assertEqual(status, 1, text)
         self.assertIn("isn't sent by the replay", text)
@@ -84,10 +82,10 @@ class Comparing(unittest.TestCase):
         row = at // 16 * 16
         for where, data in ("the capture", data), ("the replay", other):
             whole = encode_reply(1, data)
-            self.assertIn("  %d bytes in %s:" % (len(whole), where), text)
-            self.assertIn("  > %6d  %s  " % (row, whole[row:row + 16].hex(" ", -4)), text)
-        self.assertIn("  byte %d of the reply: 64 in the capture, ee in the replay" % at, text)
-        self.assertNotIn("     %d  " % (row - 48), text)
+            self.assertIn(f"  {len(whole)} bytes in {where}:", text)
+            self.assertIn(f"  > {row:6d}  {whole[row:row + 16].hex(' ', -4)}  ", text)
+        self.assertIn(f"  byte {at} of the reply: 64 in the capture, ee in the replay", text)
+        self.assertNotIn(f"     {row - 48}  ", text)
 
     def test_the_text_stands_beside_the_bytes(self) -> None:
         found, other = (words(0, calls.ENDED) + opaque(text) for text in (b"+1.250000\n", b"+1.260000\n"))
@@ -296,8 +294,8 @@ class Starts(unittest.TestCase):
             capture = self.asked(10, 0)
             status, text = self.folder.compare(capture, *told(start))
             self.assertEqual((status, text), (2, (
-                "scanvolt-capture: --start %.3f is %s the first packet of the session, which came at 1700000000.010; "
-                "--far-start takes it\n") % ((START + start) / 1000, how)))
+                f"scanvolt-capture: --start {(START + start) / 1000:.3f} is {how} the first packet of the session, which came at 1700000000.010; "
+                "--far-start takes it\n")))
             self.assertEqual(self.folder.compare(capture, *told(start), "--far-start")[0], 0)
         self.assertEqual(self.folder.compare(self.asked(10, 0), *told(-59000))[0], 0)
 
@@ -347,7 +345,7 @@ class Faults(unittest.TestCase):
         """tshark reads a file of lines of text as packets, too."""
         for text in ("", "hello\n", "time,1\n0,1\n", "{}\n", "\n\r\r"):
             path = self.folder.write("other", text)
-            self.is_fault("%s isn't a capture: it begins neither as a pcap file nor as a pcapng file$" % path, "compare", path)
+            self.is_fault(f"{path} isn't a capture: it begins neither as a pcap file nor as a pcapng file$", "compare", path)
 
     def test_a_packet_that_is_not_whole(self) -> None:
         self.capture.lines[-1] = self.capture.lines[-1].rpartition("\t")[0] + "\t60"
@@ -365,7 +363,7 @@ class Faults(unittest.TestCase):
     def test_bytes_that_the_other_side_has(self) -> None:
         self.capture.sent[0] += 7
         self.capture.packet(300, False)
-        self.is_wrong(".*: the capture lacks bytes from %d on that the caller sent$" % len(call(1)))
+        self.is_wrong(f".*: the capture lacks bytes from {len(call(1))} on that the caller sent$")
 
     def test_a_connection_that_began_before(self) -> None:
         del self.capture.lines[:1]

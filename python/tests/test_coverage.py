@@ -69,7 +69,7 @@ class Lists(unittest.TestCase):
             for header in HEADERS:
                 long = header.replace("[", "").replace("]", "").upper()
                 for form in (long, "".join(one for one in header if not one.islower()).replace("[", "").replace("]", "")):
-                    link.write("*RST;*CLS;:%s" % form if form[0] != "*" else form)
+                    link.write(f"*RST;*CLS;:{form}" if form[0] != "*" else form)
                     link.clear()
                     error = link.query("ABOR;:SYST:ERR?")
                     self.assertNotIn(error.split(",")[0], ("-113", "-102"), form)
@@ -171,8 +171,7 @@ class Reports(unittest.TestCase):
         self.assertEqual(report.parts, (1, len(everything())))
         self.assertRegex(report.summary(), r"^coverage of the instrument: 1 of \d+, 0 %: commands and queries 1 of 64, errors 0")
         self.assertIn("       3  *RST", report.lines(True))
-        self.assertEqual((report.below(0), report.below(50)), ("", "coverage of the instrument: %.1f %% is below 50 %%" % (
-            100 / len(everything()))))
+        self.assertEqual((report.below(0), report.below(50)), ("", f"coverage of the instrument: {100 / len(everything()):.1f} % is below 50 %"))
 
     def run_with(self, *words: str) -> tuple[int, str]:
         with contextlib.redirect_stdout(io.StringIO()) as told, contextlib.redirect_stderr(told):

@@ -54,7 +54,7 @@ def text_of(name: str) -> str:
     """What is printed about a session."""
     found = explained(name)
     with mock.patch.object(tries, "LIMIT", 60):         # what is tried may take long on a busy machine
-        parts = [found.text()] + ["$ --why %s\n%s" % (one, found.why(one)) for one in ASKED.get(name, ())]
+        parts = [found.text()] + [f"$ --why {one}\n{found.why(one)}" for one in ASKED.get(name, ())]
     return "\n".join(parts) + "\n"
 
 
@@ -81,15 +81,15 @@ class Texts(unittest.TestCase):
         """The texts have each error of the queue, each error that a call may return, and each way to refuse a call."""
         text = FOLDER.joinpath("errors.txt").read_text(encoding="utf-8")
         for number, words in ERRORS.items():
-            self.assertTrue('error %d "%s"' % (number, words) in text, number)
+            self.assertTrue(f'error {number} "{words}"' in text, number)
         text = FOLDER.joinpath("replies.txt").read_text(encoding="utf-8")
         for number in 3, 4, 5, 6, 8, 9, 11, 12, 15, 21, 23, 29:         # docs/INSTRUMENT.md
-            self.assertTrue("-> error %d, " % number in text, number)
+            self.assertTrue(f"-> error {number}, " in text, number)
         for words in "versions 1 to 1 of the program", "no such program", "no such procedure", "arguments can't be read",\
                 "versions 2 to 2 of RPC":
             self.assertTrue(words in text, words)
         for names in calls.NAMES[calls.CORE].values():
-            self.assertTrue(" %s" % names in text, names)
+            self.assertTrue(f" {names}" in text, names)
 
     def test_the_stored_session(self) -> None:
         """The one that docs/EXPLAIN.md shows."""
@@ -135,7 +135,7 @@ class Texts(unittest.TestCase):
     def test_the_last_lines(self) -> None:
         found = explained("session")
         self.assertEqual(found.lines(5)[1:], found.lines()[-5:])
-        self.assertIn("%d lines before" % (len(found.lines()) - 5), found.lines(5)[0])
+        self.assertIn(f"{len(found.lines()) - 5} lines before", found.lines(5)[0])
 
 
 class Limits(unittest.TestCase):
@@ -145,7 +145,7 @@ class Limits(unittest.TestCase):
         """With a timeout that is far off."""
         with Meter() as meter, meter.connect() as connection, connection.create_link(io_timeout=500000) as link:
             for number in range(150):
-                link.write("*SRE %d" % (number % 32))
+                link.write(f"*SRE {number % 32}")
                 link.readstb()
             link.write("TRIG:SOUR EXT;:INIT;*OPC?")
             connection.start(link.calls.read())

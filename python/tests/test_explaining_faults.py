@@ -55,8 +55,8 @@ class Faults(unittest.TestCase):
     def test_a_program_without_explain(self) -> None:
         path = self.file("open 0 core\n")
         with script((OLD % find_program()).partition("\n")[2]) as program:
-            self.refused("%s has no `explain`: it is an earlier release" % program, path, "--program", program)
-            self.refused("%s has no `explain`" % program, path, "--program", program, "--html", str(self.folder / "page.html"))
+            self.refused(f"{program} has no `explain`: it is an earlier release", path, "--program", program)
+            self.refused(f"{program} has no `explain`", path, "--program", program, "--html", str(self.folder / "page.html"))
             with Meter(program) as meter:
                 self.assertRaisesRegex(ProgramError, "has no `explain`", meter.explain)
 

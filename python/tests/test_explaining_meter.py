@@ -38,7 +38,7 @@ class WithMeter(unittest.TestCase):
     def hang(self, source: str = "EXT") -> None:
         """A unit waits for three triggers."""
         self.link.write("CONF:VOLT (@1:8);:TRIG:COUN 3")
-        self.link.write("TRIG:SOUR %s;:INIT;*OPC?" % source)
+        self.link.write(f"TRIG:SOUR {source};:INIT;*OPC?")
 
 
 class Explaining(WithMeter):
@@ -63,7 +63,7 @@ class Explaining(WithMeter):
         self.link.read()
         self.meter.advance(5)
         script = self.meter._replay.script()
-        self.assertEqual(script[-1], "tick %d" % (128 + 5))
+        self.assertEqual(script[-1], f"tick {128 + 5}")
         with Meter() as other:
             other._replay.do(("\n".join(script) + "\n").encode())
             self.assertEqual(other._replay.checksum, self.meter._replay.checksum)

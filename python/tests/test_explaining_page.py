@@ -83,7 +83,7 @@ def opened(page: pathlib.Path, *options: str, wide: int = 1400) -> subprocess.Co
     with tempfile.TemporaryDirectory() as profile:
         return subprocess.run(
             [CHROMIUM, "--headless", "--no-sandbox", "--disable-gpu", "--disable-dev-shm-usage", "--user-data-dir=" + profile,
-             "--window-size=%d,900" % wide, "--enable-logging=stderr", "--virtual-time-budget=4000", *options, page.as_uri()],
+             f"--window-size={wide},900", "--enable-logging=stderr", "--virtual-time-budget=4000", *options, page.as_uri()],
             capture_output=True, text=True, timeout=120, check=False)
 
 
@@ -111,8 +111,8 @@ class Page(unittest.TestCase):
         """Writes a page whose policy allows one more script, which acts on it. Returns what that saw."""
         script = 'window.faults = []; addEventListener("error", event => faults.push(event.message));\n' + ACTS
         checksum = base64.b64encode(hashlib.sha256(script.encode()).digest()).decode()
-        text = text.replace("script-src ", "script-src 'sha256-%s' " % checksum, 1)
-        text = text.replace("<script type=", "<script>%s</script><script type=" % script, 1)
+        text = text.replace("script-src ", f"script-src 'sha256-{checksum}' ", 1)
+        text = text.replace("<script type=", f"<script>{script}</script><script type=", 1)
         path = self.folder / "acts.html"
         path.write_text(text, encoding="utf-8")
         told = opened(path, "--dump-dom", wide=wide)
@@ -142,7 +142,7 @@ class Page(unittest.TestCase):
                         "uncut", "of_link":
                     self.assertTrue(seen[name], name)
                 self.assertIn("RQS = 1", seen["tip"])
-                why = found.why("RQS@line %d" % seen["line"]).splitlines()
+                why = found.why(f"RQS@line {seen['line']}").splitlines()
                 self.assertEqual(seen["why"], [re.sub(r"^[ |`-]*", "", line) for line in why])
                 self.assertEqual(seen["numbers"], [str(one + 1) for one in range(len(seen["numbers"]))])
                 self.assertEqual(seen["circles"], len(seen["numbers"]))
@@ -170,7 +170,7 @@ class Page(unittest.TestCase):
         """As a PDF, whose pages have all of the table."""
         path = self.folder / "page.html"
         path.write_text(explained("session").page("session"), encoding="utf-8")
-        opened(path, "--print-to-pdf=%s" % (self.folder / "page.pdf"))
+        opened(path, f"--print-to-pdf={self.folder / 'page.pdf'}")
         self.assertGreater(len(re.findall(rb"/Type\s*/Page\b", (self.folder / "page.pdf").read_bytes())), 2)
 
     def test_many_calls(self) -> None:
@@ -193,7 +193,7 @@ class Page(unittest.TestCase):
         """The page of a session of twice as many calls."""
         with Meter() as meter, meter.connect() as connection, connection.create_link() as link:
             for number in range(count):
-                link.write("*SRE %d;FOO" % (4 * (number % 2)))
+                link.write(f"*SRE {4 * (number % 2)};FOO")
                 link.readstb()
                 if number == count // 2:
                     link.write("*CLS;*SRE 0")

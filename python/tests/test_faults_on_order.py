@@ -55,7 +55,7 @@ class Errors(Case):
                 with self.assertRaises(DeviceError) as caught:
                     make[name]()
                 self.assertEqual(caught.exception.number, number)
-                self.assertIn("%s was answered with error %d, %s" % (name, number, words), self.meter.explain().end())
+                self.assertIn(f"{name} was answered with error {number}, {words}", self.meter.explain().end())
 
     def test_one_connection(self) -> None:
         other = self.meter.connect().create_link()

@@ -110,12 +110,12 @@ class Installing(InAFolder):
         self.install(str(built("wheel", self.folder, prefix=installed(self.folder))))
         with script('echo "$@" >&2; exit 1') as other:
             os.rename(other, os.path.join(os.path.dirname(other), "scanvolt"))
-            path = "%s:%s" % (os.path.dirname(other), os.environ["PATH"])
+            path = f"{os.path.dirname(other)}:{os.environ['PATH']}"
             told = self.run_there("python", "-c", PIECE + SHOWS, SCANVOLT="", PATH=path)
             self.assertIn(self.folder, told)
             told = self.run_there("python", "-m", "scanvolt", SCANVOLT="", PATH=path)
-        self.assertRegex(told, "\nprogram %s/there/lib/.*/scanvolt/program/bin/scanvolt\nfound by the wheel\nversion 7.8.9\n"
-                         "kind unknown\n$" % self.folder)
+        self.assertRegex(told, f"\nprogram {self.folder}/there/lib/.*/scanvolt/program/bin/scanvolt\nfound by the wheel\nversion 7.8.9\n"
+                         "kind unknown\n$")
         self.assertIn("\nfound by SCANVOLT\n", self.run_there("python", "-m", "scanvolt", SCANVOLT=find_program()))
 
 
@@ -151,7 +151,7 @@ class Building(InAFolder):
 
     def row(self, data: bytes) -> str:
         checksum = base64.urlsafe_b64encode(hashlib.sha256(data).digest()).decode().rstrip("=")
-        return "sha256=%s,%d" % (checksum, len(data))
+        return f"sha256={checksum},{len(data)}"
 
     def test_what_the_wheel_says_of_itself(self) -> None:
         with zipfile.ZipFile(built("wheel", self.folder)) as packed:

@@ -65,7 +65,7 @@ class Orders(unittest.TestCase):
             self.meter.interleavings(locks, forgets)
         self.assertLess(time.monotonic() - began, 60)
         failed = caught.exception
-        self.assertRegex(str(failed), "^in the order '%s' of their calls, the .* that was tried: " % failed.order)
+        self.assertRegex(str(failed), f"^in the order '{failed.order}' of their calls, the .* that was tried: ")
         self.assertIn("What the instrument saw:\n", str(failed))
         self.assertLess(len(failed.order), 12)
         with self.assertRaises(OrderFails) as again:
@@ -78,7 +78,7 @@ class Orders(unittest.TestCase):
         for _ in range(2):
             with self.assertRaises(OrderFails) as caught:
                 self.meter.interleavings(locks, forgets, count=200, seed=7)
-            found.append("%d %s" % (caught.exception.tried, caught.exception.order))
+            found.append(f"{caught.exception.tried} {caught.exception.order}")
         self.assertEqual(found[0], found[1])
 
     def test_a_deadlock_in_some_orders(self) -> None:

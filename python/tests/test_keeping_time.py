@@ -32,7 +32,7 @@ def functions() -> dict[str, object]:
     """The functions that may be replaced."""
     found: dict[str, object] = dict(vars(time))
     for where in (threading, queue, asyncio, threading.Condition, threading.Thread, selectors.DefaultSelector):
-        found.update({"%s.%s" % (where, name): value for name, value in vars(where).items()})
+        found.update({f"{where}.{name}": value for name, value in vars(where).items()})
     return found
 
 
@@ -387,9 +387,9 @@ class Unknown(WithMeter):
         for where, name in ((threading, "_time"), (queue, "time"), (threading.Condition, "_is_owned")):
             with self.subTest(name), mock.patch.object(where, name):
                 delattr(where, name)
-                with self.assertRaisesRegex(RuntimeError, "no %s" % name), self.meter.keeping_time():
+                with self.assertRaisesRegex(RuntimeError, f"no {name}"), self.meter.keeping_time():
                     pass
-                told = "Python %d.%d: " % sys.version_info[:2]
+                told = f"Python {sys.version_info.major}.{sys.version_info.minor}: "
                 with self.assertRaisesRegex(RuntimeError, told), self.meter.keeping_time():
                     pass
 

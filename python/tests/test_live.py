@@ -110,7 +110,7 @@ class Inputs(unittest.TestCase):
         self.assertTrue(any("2b322e3530303030300a" in line for line in printed), printed)       # +2.500000 and NL
         self.assertFalse([line for line in printed if line.startswith("refused")])
         # create_link returned the server's own abort port.
-        self.assertTrue(any("%08x" % self.server.abort in line for line in printed), printed)
+        self.assertTrue(any(f"{self.server.abort:08x}" in line for line in printed), printed)
 
     def test_the_command_explains_a_record(self) -> None:
         assert self.server.record is not None
@@ -132,7 +132,7 @@ class Inputs(unittest.TestCase):
         self.assertIn('error -113 "Undefined header"', found.why("CME"))
         self.assertEqual(len(found.story.calls), 2)
         with Client("127.0.0.1", port_mapper=self.server.port_mapper):
-            self.assertIn("-> port %d\n" % self.server.core, self.server.explain().text())
+            self.assertIn(f"-> port {self.server.core}\n", self.server.explain().text())
         self.link.query("*IDN?")
         self.assertEqual(len(self.server.explain().story.calls), 5)
 
@@ -172,7 +172,7 @@ class Inputs(unittest.TestCase):
         self.assertIn("input 1 = 1 V", self.server.explain().text())        # so it is in the file
         kill(self.server.process.pid)
         self.server.process.wait()
-        with self.assertRaisesRegex(ControlError, "the control port %d doesn't answer" % self.server.control):     # type: ignore
+        with self.assertRaisesRegex(ControlError, f"the control port {self.server.control} doesn't answer"):
             self.server.set_input(1, 1)
         self.assertIn("input 1 = 1 V", self.server.explain().text())       # the record is still told
 
@@ -230,7 +230,7 @@ class Options(unittest.TestCase):
             self.assertGreater(server.control, 0)
         with Server(control=True, ports=ports) as server:
             self.assertEqual((server.core, server.abort, server.port_mapper, server.control), ports)
-            with self.assertRaisesRegex(ProgramError, "^port %d is in use by process %d, " % (server.core, server.process.pid)):
+            with self.assertRaisesRegex(ProgramError, f"^port {server.core} is in use by process {server.process.pid}, "):
                 Server(control=True, ports=(server.core, 0, 0, 0))
 
 

@@ -86,7 +86,7 @@ class Mistakes(unittest.TestCase):
         """A port that can't be one, and that of another channel."""
         word: Any = "4096"
         for port, kind in ((word, TypeError), (99999, ValueError), (0, ValueError)):
-            with self.subTest(port=port), self.assertRaisesRegex(kind, "a connection wants a port, .* not %r" % port):
+            with self.subTest(port=port), self.assertRaisesRegex(kind, f"a connection wants a port, .* not {port!r}"):
                 Client(port=port)
         with Server() as server, Client(port=server.abort) as client:
             with self.assertRaisesRegex(ProgramUnavailable, "create_link: .*Is it that of the core channel"):
@@ -103,7 +103,7 @@ class Inputs(unittest.TestCase):
             wrong: Any
             for wrong in "1", 1.0, 1.5, None, True, 0, 129, -1:
                 kind = ValueError if type(wrong) is int else TypeError
-                text = "an input wants a channel, a whole number from 1 to 128, and not %r$" % (wrong,)
+                text = f"an input wants a channel, a whole number from 1 to 128, and not {wrong!r}$"
                 with self.subTest(wrong), self.assertRaisesRegex(kind, text):
                     meter.set_input(wrong, 5)
             self.assertEqual(link.query("MEAS:VOLT? (@1)"), "+0.000000")
@@ -112,7 +112,7 @@ class Inputs(unittest.TestCase):
         """They aren't written as Python's numbers, or aren't floats."""
         class Double(float):
             def __repr__(self) -> str:
-                return "np.float64(%r)" % float(self)
+                return f"np.float64({float(self)!r})"
 
         class Single:
             def __float__(self) -> float:
@@ -162,7 +162,7 @@ class Off(unittest.TestCase):
         done = subprocess.run([sys.executable, "-W", "always", "-c", FORKS], cwd=TOP, stdout=subprocess.PIPE,
                               stderr=subprocess.STDOUT, text=True, timeout=60)
         self.assertRegex(done.stdout, "^ProgramError: this process was forked from .*; make a meter in each process "
-                                      "that uses one\n5 %s\n$" % IDENTITY)
+                                      f"that uses one\n5 {IDENTITY}\n$")
 
 
 if __name__ == "__main__":

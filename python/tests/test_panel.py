@@ -69,7 +69,7 @@ class Knobs(WithPanel):
         self.assertNotIn(self.panel.token, "".join(self.ask("GET", path)[1] for path in ("/", "/state", "/session", "/record")))
 
     def test_pages_of_other_origins(self) -> None:
-        mine = "http://127.0.0.1:%d" % self.panel.port
+        mine = f"http://127.0.0.1:{self.panel.port}"
         others = "http://evil.example", "null", "http://127.0.0.1:1", mine.replace("http", "https"), mine + ".evil.example"
         for origin in others:
             self.refused(403, "another origin", "POST", "/inputs/3", "1", Origin=origin)
@@ -82,11 +82,11 @@ class Knobs(WithPanel):
 
     def test_names_that_lead_here(self) -> None:
         port = self.panel.port
-        for host in ("evil.example", "evil.example:%d" % port, "127.0.0.1", "127.0.0.1:1", "", "[::1]:%d" % port):
+        for host in ("evil.example", f"evil.example:{port}", "127.0.0.1", "127.0.0.1:1", "", f"[::1]:{port}"):
             self.refused(403, "Host", "POST", "/inputs/3", "1", Host=host)
             for path in ("/", "/state", "/events", "/record", "/session", "/panel.js"):
                 self.assertEqual(self.ask("GET", path, Host=host)[0], 403)
-        self.assertEqual(self.ask("GET", "/state", Host="localhost:%d" % self.panel.port)[0], 200)
+        self.assertEqual(self.ask("GET", "/state", Host=f"localhost:{self.panel.port}")[0], 200)
 
     def test_other_paths_and_methods(self) -> None:
         for method, path in (("GET", "/none"), ("GET", "/external"), ("GET", "/inputs/3"), ("POST", "/"), ("POST", "/state"),
@@ -124,7 +124,7 @@ class Shown(WithPanel):
     def test_the_page(self) -> None:
         status, text, headers = self.ask("GET", "/")
         self.assertEqual((status, headers["content-type"]), (200, "text/html; charset=utf-8"))
-        core = "core %d" % self.watch.server.core
+        core = f"core {self.watch.server.core}"
         for wanted in ('data-lamp="STB" data-bit="RQS"', 'data-lamp="LIM.event" data-bit="ABOVE"', core):
             self.assertIn(wanted, text)
         self.assertNotIn("{{", text)
@@ -146,7 +146,7 @@ class Shown(WithPanel):
     def test_the_state_has_all_that_was_answered(self) -> None:
         link = self.link()
         for count in range(60):
-            link.write("*ESE %d" % count)
+            link.write(f"*ESE {count}")
             self.assertEqual(self.state()["registers"]["ESE"]["value"], count)
 
     def test_the_record(self) -> None:
@@ -207,7 +207,7 @@ class Shown(WithPanel):
             for path in ("/session?all=1", "/session.html"):
                 status, text, _ = self.ask("GET", path)
                 self.assertEqual(status, 413)
-                self.assertIn("scanvolt-explain FILE --core %d --abort" % self.watch.server.core, json.loads(text)["error"])
+                self.assertIn(f"scanvolt-explain FILE --core {self.watch.server.core} --abort", json.loads(text)["error"])
 
 
 class Streams(WithPanel):
@@ -222,9 +222,9 @@ class Streams(WithPanel):
         streams, link = [self.stream(), self.stream()], self.link()
         self.assertIn("text/event-stream", streams[0].head)
         for count in (1, 2, 4):
-            link.write("*ESE %d" % count)
+            link.write(f"*ESE {count}")
             for one in streams:
-                self.assertLess(one.until('"ESE": {"value": %d' % count), within(1))
+                self.assertLess(one.until(f'"ESE": {{"value": {count}'), within(1))
 
     def test_a_lamp_follows_a_bit(self) -> None:
         stream, link = self.stream(), self.link()

@@ -44,7 +44,7 @@ class InABrowser(WithPanel):
     def sound(self, page: Page) -> None:
         """Nothing came on the console, and nothing was asked for elsewhere."""
         self.assertEqual([one for one in page.faults() if "status of 40" not in one], [])      # what a test asked for in vain
-        self.assertEqual([one for one in page.requests() if not one.startswith("http://127.0.0.1:%d/" % self.panel.port)], [])
+        self.assertEqual([one for one in page.requests() if not one.startswith(f"http://127.0.0.1:{self.panel.port}/")], [])
 
     # knobs
     def test_a_voltage_is_the_next_reading(self) -> None:
@@ -75,10 +75,10 @@ class InABrowser(WithPanel):
         page.wait("!sending && document.getElementById('said').textContent.startsWith('channel 17')")
         wanted = float(page.run("document.getElementById('slider').value"))
         self.assertGreater(wanted, 4)
-        page.wait("channelOf(17).input == %r" % wanted)
+        page.wait(f"channelOf(17).input == {wanted!r}")
         self.assertEqual(float(link.query("MEAS:VOLT? (@17)")), wanted)
         page.key("ArrowRight")
-        page.wait("!sending && channelOf(17).input > %r" % wanted)
+        page.wait(f"!sending && channelOf(17).input > {wanted!r}")
         self.assertAlmostEqual(float(link.query("MEAS:VOLT? (@17)")), wanted + .01)
 
     def test_the_external_trigger(self) -> None:
@@ -94,7 +94,7 @@ class InABrowser(WithPanel):
         page = self.page(token=False)
         page.wait("document.getElementById('alarm').textContent.startsWith('This address has no token')")
         for name in ("set", "slider", "external", "volts", "zero"):
-            self.assertTrue(page.run("document.getElementById('%s').disabled" % name), name)
+            self.assertTrue(page.run(f"document.getElementById('{name}').disabled"), name)
         self.assertEqual(page.run("send('/inputs/3', '1')"), False)
         self.assertEqual(self.state()["happened"], 0)
 
@@ -102,9 +102,10 @@ class InABrowser(WithPanel):
         page = self.browser.page("data:text/html,<title>elsewhere</title>")
         address = self.panel.address
         for how in ("", ", mode: 'no-cors'"):
-            page.run("fetch('%s', {method: 'POST', body: '1'%s}).catch(() => 0)" % (address.replace("/?", "/inputs/3?"), how))
-            page.run("fetch('%s', {method: 'POST'%s}).catch(() => 0)" % (address.replace("/?", "/external?"), how))
-        page.run("document.body.innerHTML = '<iframe src=\"%s\"></iframe>'" % address)
+            inputs, external = address.replace("/?", "/inputs/3?"), address.replace("/?", "/external?")
+            page.run(f"fetch('{inputs}', {{method: 'POST', body: '1'{how}}}).catch(() => 0)")
+            page.run(f"fetch('{external}', {{method: 'POST'{how}}}).catch(() => 0)")
+        page.run(f"document.body.innerHTML = '<iframe src=\"{address}\"></iframe>'")
         time.sleep(.5)
         self.assertEqual(self.state()["happened"], 0)
 
@@ -261,7 +262,7 @@ class InABrowser(WithPanel):
             page, link = self.page(wide), self.link()
             self.followed(page, link)
             for tab in ("session", "front"):
-                page.click("[data-tab=%s]" % tab)
+                page.click(f"[data-tab={tab}]")
                 self.assertTrue(page.run("document.documentElement.scrollWidth <= innerWidth"), (wide, tab))
             values = page.run("[...document.querySelectorAll('.tile .v')].map(one => [one.scrollWidth, one.clientWidth])")
             self.assertEqual([one for one in values if one[0] > one[1] + 1], [])

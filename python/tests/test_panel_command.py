@@ -23,7 +23,7 @@ PANEL = [sys.executable, "-m", "scanvolt.panel"]
 
 def children_of(number: int) -> list[int]:
     """The processes that a process started."""
-    return [int(one) for one in pathlib.Path("/proc/%d/task/%d/children" % (number, number)).read_text().split()]
+    return [int(one) for one in pathlib.Path(f"/proc/{number}/task/{number}/children").read_text().split()]
 
 
 class Command(unittest.TestCase):
@@ -85,7 +85,7 @@ class Command(unittest.TestCase):
         panel = self.start("--port", str(port), "--core", str(core), "--abort", str(abort), "--scenario", str(scenario),
                            "--record", str(record))
         address, ports = self.told(panel)
-        self.assertEqual((ports[:2], address.partition("/?")[0]), ([core, abort], "http://127.0.0.1:%d" % port))
+        self.assertEqual((ports[:2], address.partition("/?")[0]), ([core, abort], f"http://127.0.0.1:{port}"))
         control = Control(ports[3])
         control.set_input(4, 1)
         control.close()
@@ -98,7 +98,7 @@ class Command(unittest.TestCase):
     def test_bad_words(self) -> None:
         for words in (["--port", "65536"], ["--core", "x"], ["--abort", "-1"], ["--control", "\u0662"], ["--portmap", "4.0"]):
             told = self.fault(*words).replace("\\u0662", "\u0662")
-            self.assertEqual(told, "python3 -m scanvolt.panel: not a port, 1 to 65535, or 0 for a free one: %s" % words[1])
+            self.assertEqual(told, f"python3 -m scanvolt.panel: not a port, 1 to 65535, or 0 for a free one: {words[1]}")
         self.assertIn("neither an option nor CHANNELS=SHAPE: file", self.fault("file"))
         self.assertIn("and not from both", self.fault("1=1", "--scenario", "x"))
 
@@ -120,7 +120,7 @@ class Command(unittest.TestCase):
         panel = self.start()
         address, ports = self.told(panel)
         told = self.fault("--core", str(ports[0]))
-        self.assertRegex(told, "^python3 -m scanvolt.panel: port %d is in use by process [0-9]+, " % ports[0])
+        self.assertRegex(told, f"^python3 -m scanvolt.panel: port {ports[0]} is in use by process [0-9]+, ")
         self.assertRegex(self.fault("--port", re.findall(":([0-9]+)/", address)[0]), "port [0-9]+: Address already in use$")
         self.assertTrue(is_there(panel.pid))
 

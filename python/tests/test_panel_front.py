@@ -54,7 +54,7 @@ class Same(unittest.TestCase):
             self.assertEqual(found["registers"][label]["value"], value(name), label)
         for register in ("oper", "ques", "lim"):
             for part, word in (("cond", "condition"), ("event", "event"), ("enable", "enable"), ("ptr", "ptr"), ("ntr", "ntr")):
-                self.assertEqual(found["registers"][register.upper()][word]["value"], value("%s.%s" % (register, part)))
+                self.assertEqual(found["registers"][register.upper()][word]["value"], value(f"{register}.{part}"))
         errors = value("errors")
         self.assertEqual([one["number"] for one in found["errors"]], list(errors if isinstance(errors, tuple) else ()))
         self.assertEqual(found["scan"]["state"], value("state"))

@@ -120,8 +120,8 @@ class Registering(unittest.TestCase):
         mapper = self.mapper(ABORT=7)
         status, reason = self.status(mapper.port)
         self.assertEqual((status, mapper.programs), (1, {calls.ABORT: 7}))
-        self.assertRegex(reason, "^scanvolt-portmap: somebody else has registered the abort program, %d, at port 7; "
-                         "whoever did can unregister it by `rpcinfo -d %d 1`" % (calls.ABORT, calls.ABORT))
+        self.assertRegex(reason, f"^scanvolt-portmap: somebody else has registered the abort program, {calls.ABORT}, at port 7; "
+                         f"whoever did can unregister it by `rpcinfo -d {calls.ABORT} 1`")
 
     def test_a_port_mapper_that_refuses(self) -> None:
         mapper = self.mapper()
@@ -136,7 +136,7 @@ class Registering(unittest.TestCase):
         status, reason = self.status(port)
         self.assertEqual(status, 2)
         self.assertIn("no port mapper answers", reason)
-        self.assertIn("port %d of 127.0.0.1 (Connection refused): is rpcbind there, and does it run?" % port, reason)
+        self.assertIn(f"port {port} of 127.0.0.1 (Connection refused): is rpcbind there, and does it run?", reason)
 
     def test_something_else_listens_there(self) -> None:
         with socket.create_server(("127.0.0.1", 0)) as listener:

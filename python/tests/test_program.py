@@ -122,7 +122,7 @@ class NothingLeft(unittest.TestCase):
             number = server.process.pid
             del server
             gc.collect()
-        self.assertFalse(os.path.exists("/proc/%d" % number))
+        self.assertFalse(os.path.exists(f"/proc/{number}"))
         self.assertEqual(len(os.listdir("/proc/self/fd")), len(before))
 
     def test_closed_twice(self) -> None:
@@ -130,7 +130,7 @@ class NothingLeft(unittest.TestCase):
         server = Server()
         server.close()
         server.close()
-        self.assertFalse(os.path.exists("/proc/%d" % server.process.pid))
+        self.assertFalse(os.path.exists(f"/proc/{server.process.pid}"))
         self.assertEqual(len(os.listdir("/proc/self/fd")), len(before))
 
 
@@ -182,7 +182,7 @@ class Scenarios(unittest.TestCase):
             self.assertIsNone(caught.exception.__context__)
             faults.append(str(caught.exception))
         self.assertEqual(faults[0], faults[1])
-        self.assertRegex(faults[1], "^bad line 2 of the scenario %s: a voltage is .*`1.5`$" % self.path)
+        self.assertRegex(faults[1], f"^bad line 2 of the scenario {self.path}: a voltage is .*`1.5`$")
 
     def test_one_that_cannot_be_read(self) -> None:
         for kind in Meter, Server:

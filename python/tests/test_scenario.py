@@ -73,7 +73,7 @@ class Scenarios(Commands):
 
     def test_a_moment_each_has_a_picture(self) -> None:
         for length in range(1, 70):
-            status, text, faults = self.run_on("0 input 1 1\n%d input 1 2\n" % length, "--picture")
+            status, text, faults = self.run_on(f"0 input 1 1\n{length} input 1 2\n", "--picture")
             self.assertEqual((status, faults), (0, ""), length)
             row = text.splitlines()[1]
             self.assertEqual(row[-1], "*", length)
@@ -83,7 +83,7 @@ class Scenarios(Commands):
             status, text, faults = self.run_on(line + "\n")
             self.assertEqual((status, text), (2, ""), line)
             number = line.count("\n") + 1
-            self.assertTrue(faults.startswith("scanvolt-scenario: FILE, line %d: " % number), faults)
+            self.assertTrue(faults.startswith(f"scanvolt-scenario: FILE, line {number}: "), faults)
 
     def test_lines_that_serve_takes_are_taken(self) -> None:
         for line in GOOD:
@@ -97,7 +97,7 @@ class Scenarios(Commands):
                              (1, "1,2\n0,1\n"), (1, "time,1,1\n0,1,1\n"), (4, 'time,1\n"0\n",1\n1,v\n')):
             status, _, faults = self.run_on(text, option="--csv")
             self.assertEqual(status, 2, text)
-            self.assertTrue(faults.startswith("scanvolt-scenario: FILE, line %d: " % number), faults)
+            self.assertTrue(faults.startswith(f"scanvolt-scenario: FILE, line {number}: "), faults)
 
     def test_a_table_becomes_lines(self) -> None:
         status, text, faults = self.run_on("time,1,3\n0,1.5,\n0.5,,-2\n", option="--csv")
@@ -126,7 +126,7 @@ class Checks(Commands):
         status, told, _ = self.run_on("\n".join(lines) + "\n", option="--check")
         self.assertEqual(status, 1)
         self.assertEqual([line.split(":")[0] for line in told.splitlines()],
-                         ["FILE, line %d" % number for number in range(2, 2 + len(self.REASONS))])
+                         [f"FILE, line {number}" for number in range(2, 2 + len(self.REASONS))])
 
     def test_what_serve_takes_and_refuses(self) -> None:
         for bad, texts in (0, GOOD), (1, BAD):
@@ -201,7 +201,7 @@ class Ranges(Commands):
         return told.splitlines()
 
     def test_each_channel_has_the_shape(self) -> None:
-        wanted = ["0 input %d 1500000" % channel for channel in range(1, 129)]
+        wanted = [f"0 input {channel} 1500000" for channel in range(1, 129)]
         self.assertEqual(self.lines("1:128=1.5"), wanted)
         self.assertEqual(self.lines("3:3=1.5"), wanted[2:3])
         self.assertEqual(self.lines("2:3=steps:1@0,2@0.5", "1=0"), [
@@ -217,7 +217,7 @@ class Ranges(Commands):
                              ("1:129=0", "a channel isn't a whole number from 1 to 128: 129"),
                              ("0:2=0", "a channel isn't a whole number from 1 to 128: 0"),
                              ("1:=0", "a channel isn't a whole number from 1 to 128: ")):
-            self.assertEqual(self.run_words(word), (2, "", "scanvolt-scenario: %s\n" % reason))
+            self.assertEqual(self.run_words(word), (2, "", f"scanvolt-scenario: {reason}\n"))
         self.assertEqual(self.run_words("1:4=0", "3=1"), (2, "", "scanvolt-scenario: channel 3 is there twice\n"))
 
 

@@ -57,8 +57,8 @@ class Serving(unittest.TestCase):
         started.terminate()
         _, told = started.communicate(timeout=20)
         self.assertEqual(started.returncode, -signal.SIGTERM)
-        self.assertIn("scanvolt-serve: vxi11: scanvolt.vxi11.Client(port=%d)\n" % core, told)
-        self.assertIn("PMAP_PORT = %d, then open TCPIP::127.0.0.1::inst0::INSTR\n" % mapper, told)
+        self.assertIn(f"scanvolt-serve: vxi11: scanvolt.vxi11.Client(port={core})\n", told)
+        self.assertIn(f"PMAP_PORT = {mapper}, then open TCPIP::127.0.0.1::inst0::INSTR\n", told)
         self.assertRegex(told, r"scanvolt-serve: ready at \d+\.\d{6}, in seconds since 1970\n")
 
     def test_voltages(self) -> None:
@@ -73,14 +73,15 @@ class Serving(unittest.TestCase):
         with socket.create_server(("127.0.0.1", 0)) as taken:
             number = taken.getsockname()[1]
             status, told = self.refused("--core", str(number))
-        self.assertEqual((status, told), (2, "scanvolt-serve: port %d is in use by process %d, %s\n" % (
-            number, os.getpid(), pathlib.Path("/proc/self/comm").read_text().strip())))
+        name = pathlib.Path("/proc/self/comm").read_text().strip()
+        self.assertEqual((status, told), (
+            2, f"scanvolt-serve: port {number} is in use by process {os.getpid()}, {name}\n"))
 
     def test_a_port_that_is_given_twice(self) -> None:
         with socket.create_server(("127.0.0.1", 0)) as free:
             number = free.getsockname()[1]
         self.assertEqual(self.refused("--core", str(number), "--abort", str(number)), (
-            2, "scanvolt-serve: port %d is given twice\n" % number))
+            2, f"scanvolt-serve: port {number} is given twice\n"))
 
     def test_a_named_port(self) -> None:
         with socket.create_server(("127.0.0.1", 0)) as free:
@@ -100,8 +101,8 @@ class Serving(unittest.TestCase):
                 self.assertEqual(link.query("MEAS:VOLT? (@3)"), "+2.500000")
             started.terminate()
             told = started.communicate(timeout=20)[1]
-            self.assertIn("scanvolt-serve: port %d of 127.0.0.1 sets inputs, by lines such as" % control, told)
-            self.assertIn("scanvolt-serve: record: scanvolt-explain %s --core %d --abort %d\n" % (path, core, abort), told)
+            self.assertIn(f"scanvolt-serve: port {control} of 127.0.0.1 sets inputs, by lines such as", told)
+            self.assertIn(f"scanvolt-serve: record: scanvolt-explain {path} --core {core} --abort {abort}\n", told)
             self.assertIn("input 3 2500000\n", pathlib.Path(path).read_text())
             self.assertIn("MEAS:VOLT", "".join(Explanation(pathlib.Path(path).read_text().splitlines(), find_program()).lines()))
 
@@ -131,7 +132,7 @@ class Serving(unittest.TestCase):
             with self.subTest(given):
                 status, text = self.refused(*given)
                 self.assertEqual(status, 2)
-                self.assertRegex(text, "^scanvolt-serve: [^\n]*%s[^\n]*\n$" % re.escape(told))
+                self.assertRegex(text, f"^scanvolt-serve: [^\n]*{re.escape(told)}[^\n]*\n$")
 
     def test_programs(self) -> None:
         self.assertEqual(self.refused("--program", "/nonexistent/scanvolt")[0], 3)

@@ -53,7 +53,7 @@ class Scenarios(unittest.TestCase):
         self.assertEqual((link.query("READ?"), meter.clock), ("+3.000000", 12))
 
     def test_triggers_while_a_call_waits(self) -> None:
-        meter = self.meter("".join("%d external\n" % clock for clock in (100, 105, 2000)))
+        meter = self.meter("".join(f"{clock} external\n" for clock in (100, 105, 2000)))
         link = meter.connect().create_link()
         link.write("ROUT:SCAN (@1:3);:TRIG:SOUR EXT;COUN 3;:INIT;*OPC?")
         self.assertEqual((link.read(), meter.clock), (b"1\n", 2003))

@@ -28,7 +28,7 @@ class Milliseconds(unittest.TestCase):
         for name, use in uses.items():
             for count in wrong:
                 kind = ValueError if type(count) is int else TypeError
-                text = "^%s wants milliseconds, a whole number from 0 to 4294967295, and not %r$" % (name, count)
+                text = f"^{name} wants milliseconds, a whole number from 0 to 4294967295, and not {count!r}$"
                 with self.subTest(name=name, count=count), self.assertRaisesRegex(kind, text):
                     use(count)
         self.assertEqual(link.query("*IDN?"), "SCANVOLT,SV32,0,1.0")

@@ -51,10 +51,10 @@ class InVirtualTime(Told):
         other.lock()
         self.meter.advance(5)
         locked = "device locked by another link (11)"
-        self.says("device_readstb on link 1: %s, after 0 ms, at 5 ms of the meter's clock" % locked, self.link.readstb)
-        self.says("device_lock on link 1: %s, after 70 ms, at 75 ms of the meter's clock" % locked,
+        self.says(f"device_readstb on link 1: {locked}, after 0 ms, at 5 ms of the meter's clock", self.link.readstb)
+        self.says(f"device_lock on link 1: {locked}, after 70 ms, at 75 ms of the meter's clock",
                   lambda: self.link.lock(70))
-        self.says("create_link: %s, after 30 ms, at 105 ms of the meter's clock" % locked,
+        self.says(f"create_link: {locked}, after 30 ms, at 105 ms of the meter's clock",
                   lambda: self.connection.create_link("inst0", True, 30))
         self.says("device_unlock on link 1: no lock held by this link (12), at 105 ms of the meter's clock",
                   self.link.unlock)
@@ -107,21 +107,21 @@ class OverSockets(Told):
 
     def test_objects(self) -> None:
         with Server() as server:
-            name = "127.0.0.1:%d" % server.core
+            name = f"127.0.0.1:{server.core}"
             with Client(port=server.core) as one, one.create_link() as link, Channel("127.0.0.1", server.core) as other:
                 self.assertEqual((repr(one), repr(link), repr(other)), (
-                    "<Client of %s>" % name, "<Link 1 of %s>" % name, "<Channel of %s>" % name))
+                    f"<Client of {name}>", f"<Link 1 of {name}>", f"<Channel of {name}>"))
                 with Channel("", 0, connected=socket.create_connection(("127.0.0.1", server.core))) as given:
-                    self.assertEqual(repr(given), "<Channel of %s>" % name)
+                    self.assertEqual(repr(given), f"<Channel of {name}>")
             self.assertEqual((repr(one), repr(link), repr(other)), (
-                "<Client of %s, closed>" % name, "<Link 1 of %s, closed>" % name, "<Channel of %s, closed>" % name))
-            with self.assertRaisesRegex(ConnectionError, "the connection is closed: %s$" % name):
+                f"<Client of {name}, closed>", f"<Link 1 of {name}, closed>", f"<Channel of {name}, closed>"))
+            with self.assertRaisesRegex(ConnectionError, f"the connection is closed: {name}$"):
                 one.do(calls.null())
 
     def test_nobody_listens(self) -> None:
         with socket.create_server(("127.0.0.1", 0)) as listener:
             port = listener.getsockname()[1]
-        told = r"\[Errno 111\] Connection refused: 127.0.0.1:%d" % port
+        told = rf"\[Errno 111\] Connection refused: 127.0.0.1:{port}"
         self.refused(told + "$", lambda: Client(port=port))
         hint = r"; no port mapper is there.*Client\(port_mapper=4111\), say.*Client\(port=4096\), say$"
         self.refused(told + hint, lambda: Client(port_mapper=port))
@@ -144,7 +144,7 @@ class OverSockets(Told):
 
     def test_a_program_that_is_not_registered(self) -> None:
         with Server() as server:
-            text = "the port mapper knows no port of program 0x1: 127.0.0.1:%d" % server.port_mapper
+            text = f"the port mapper knows no port of program 0x1: 127.0.0.1:{server.port_mapper}"
             with self.assertRaisesRegex(ConnectionError, text):
                 port_of("127.0.0.1", 1, 1, server.port_mapper)
 

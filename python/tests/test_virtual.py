@@ -188,7 +188,7 @@ class Moments(WithMeter):
         """They take as many milliseconds as readings, wherever their end lies in the time that is tried ahead."""
         for channels, count in ((1, 1), (7, 9), (8, 8), (5, 13), (100, 1), (127, 8), (64, 17 - 1), (128, 9)):
             with self.subTest(channels=channels, count=count):
-                self.link.write("CONF:VOLT (@1:%d);:TRIG:COUN %d" % (channels, count))
+                self.link.write(f"CONF:VOLT (@1:{channels});:TRIG:COUN {count}")
                 answer = self.takes(channels * count, lambda: self.link.query("READ?"))
                 self.assertEqual(answer.count(","), channels * count - 1)
 

@@ -40,10 +40,11 @@ class Client(Core):
         self._carriers: set[asyncio.Task[None]] = set()        # tasks that read the interrupt channels
 
     def __repr__(self) -> str:
-        return "<Client of %s%s>" % (self, "" if self.is_open else ", closed")
+        closed = "" if self.is_open else ", closed"
+        return f"<Client of {self}{closed}>"
 
     def __str__(self) -> str:
-        return "%s:%s" % (self.host, self.port)
+        return f"{self.host}:{self.port}"
 
     async def __aenter__(self: Itself) -> Itself:
         await self.open()
@@ -60,9 +61,9 @@ class Client(Core):
         try:
             self._streams = await asyncio.wait_for(asyncio.open_connection(self.host, port), self.patience)
         except asyncio.TimeoutError:
-            raise TimeoutError("no connection within %g s: %s" % (self.patience, self)) from None
+            raise TimeoutError(f"no connection within {self.patience:g} s: {self}") from None
         except OSError as fault:
-            raise type(fault)(fault.errno, "%s: %s" % (fault.strerror, self)) from None
+            raise type(fault)(fault.errno, f"{fault.strerror}: {self}") from None
         self.is_open, self._turn, self._records = True, asyncio.Lock(), Records()
 
     async def _found(self) -> int:
@@ -71,16 +72,15 @@ class Client(Core):
             async with Client(self.host, self.port_mapper, self.patience) as mapper:
                 found = await mapper.do(calls.getport(calls.CORE, 1))
         except ConnectionRefusedError as fault:
-            raise ConnectionRefusedError(fault.errno, "%s; %s" % (fault.strerror, ELSEWHERE)) from None
+            raise ConnectionRefusedError(fault.errno, f"{fault.strerror}; {ELSEWHERE}") from None
         if found == 0:
-            raise ConnectionError("the port mapper knows no port of program %#x: %s:%d" % (
-                calls.CORE, self.host, self.port_mapper))
+            raise ConnectionError(f"the port mapper knows no port of program {calls.CORE:#x}: {self.host}:{self.port_mapper}")
         return found
 
     def _check_open(self) -> Streams:
         """The streams. Raises ConnectionError if the connection is closed."""
         if self._streams is None:
-            raise ConnectionError("the connection is closed: %s" % self)
+            raise ConnectionError(f"the connection is closed: {self}")
         return self._streams
 
     async def close(self) -> None:
@@ -110,7 +110,7 @@ class Client(Core):
                 body = await asyncio.wait_for(self._reply(call, *streams), patience)
             except asyncio.TimeoutError:
                 await self.close()
-                raise ConnectionError("no reply to %s within %g s: %s" % (call.name, patience, self)) from None
+                raise ConnectionError(f"no reply to {call.name} within {patience:g} s: {self}") from None
             except BaseException:
                 await self.close()
                 raise
@@ -123,7 +123,7 @@ class Client(Core):
         while True:
             data = await reader.read(65536)
             if not data:
-                raise ConnectionError("the connection ended within %s: %s" % (call.name, self))
+                raise ConnectionError(f"the connection ended within {call.name}: {self}")
             found = self._records.push(data)
             if found:
                 return found[0].body

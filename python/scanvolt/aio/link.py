@@ -32,7 +32,7 @@ class Requests:
         try:
             return await asyncio.wait_for(self.queue.get(), most / 1000)
         except asyncio.TimeoutError:
-            raise TimeoutError("no service request within %d ms" % most) from None
+            raise TimeoutError(f"no service request within {most} ms") from None
 
     def _came(self, request: ServiceRequest) -> None:
         """Hands on a service request."""
@@ -86,7 +86,7 @@ class Link:
         self.io_timeout, self.lock_timeout = io_timeout, lock_timeout
 
     def __repr__(self) -> str:
-        return "<Link %d of %s>" % (self.number, self.carrier)
+        return f"<Link {self.number} of {self.carrier}>"
 
     async def __aenter__(self: Itself) -> Itself:
         return self
@@ -118,7 +118,7 @@ class Link:
             if place >= len(data):
                 return place
             if taken == 0:
-                raise BadReply("device_write took no byte of %d" % len(piece))
+                raise BadReply(f"device_write took no byte of {len(piece)}")
 
     async def read_piece(self, size: int = READ_SIZE, termination: int | None = None) -> Piece:
         """Makes one device_read: at most `size` bytes, up to END or a termination character (0 to 255)."""

@@ -82,7 +82,7 @@ def words(given: list[str] | None) -> argparse.Namespace:
     parser.add_argument("--slack", type=int, default=3, help="how many milliseconds ticks may be moved; 3 without it")
     parser.add_argument("--core", type=int, default=4096, help="the port of the core channel; 4096 without it")
     parser.add_argument("--abort", type=int, default=4097, help="the port of the abort channel; 4097 without it")
-    parser.add_argument("--portmap", type=int, help="the port of the port mapper; %d or 4111 without it" % PORT)
+    parser.add_argument("--portmap", type=int, help=f"the port of the port mapper; {PORT} or 4111 without it")
     found = parser.parse_args(given)
     if (found.mode == "recorded") != (found.record is not None):
         parser.error("`recorded` needs --record FILE, and only that does")
@@ -99,11 +99,12 @@ def session_of(given: argparse.Namespace) -> Session:
     end = max((packet.time for packet in found), default=0)
     session = Session(streams(given.capture, found, server), ports, end, start, given.mode == "recorded")
     if not session.connections:
-        raise Fault("the capture has no connection to the ports %s" % ", ".join(map(str, sorted(server))))
+        raise Fault(f"the capture has no connection to the ports {', '.join(map(str, sorted(server)))}")
     gap = session.points[0].time
     if abs(gap) > FAR and not given.far_start:
-        raise Fault("--start %s is %s s %s the first packet of the session, which came at %s; --far-start takes it" % (
-            given.start, moment(abs(gap)), "before" if gap > 0 else "after", moment(session.start + gap)))
+        side, first = "before" if gap > 0 else "after", moment(session.start + gap)
+        raise Fault(f"--start {given.start} is {moment(abs(gap))} s {side} the first packet of the session, "
+                    f"which came at {first}; --far-start takes it")
     return session
 
 
@@ -161,7 +162,7 @@ def main(given_words: list[str] | None = None) -> int:
         say(script(session.points, ticks, entries))
         return 0
     except (Fault, ProgramError) as fault:
-        print("%s: %s" % (NAME, fault), file=sys.stderr)
+        print(f"{NAME}: {fault}", file=sys.stderr)
         return 2
     except KeyboardInterrupt:
         return 130

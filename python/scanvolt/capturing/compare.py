@@ -44,9 +44,9 @@ def replies(program: str, lines: list[str], count: int, options: Sequence[str] =
             printed, faults = tied.process.communicate(text)
             status = tied.process.returncode
     except OSError as error:
-        raise Fault("%s doesn't run: %s" % (program, error.strerror)) from None
+        raise Fault(f"{program} doesn't run: {error.strerror}") from None
     if status != 0:
-        raise Fault("%s replay: status %d, %s" % (program, status, faults.decode(errors="replace").strip()))
+        raise Fault(f"{program} replay: status {status}, {faults.decode(errors='replace').strip()}")
     blocks: list[list[list[str]]] = [[]]
     for line in printed.decode(errors="replace").splitlines():
         if line == MARKED:
@@ -54,10 +54,9 @@ def replies(program: str, lines: list[str], count: int, options: Sequence[str] =
         elif LINE.fullmatch(line):
             blocks[-1].append(line.split())
         else:
-            raise Fault("%s replay prints what no replay does: %s" % (program, line[:60]))
+            raise Fault(f"{program} replay prints what no replay does: {line[:60]}")
     if len(blocks) <= count:
-        raise Fault("%s replay ended early, after %d of %d events, with status 0" % (
-            program, len(blocks) - 1, count))
+        raise Fault(f"{program} replay ended early, after {len(blocks) - 1} of {count} events, with status 0")
     return blocks[:-1]
 
 

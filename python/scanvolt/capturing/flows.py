@@ -87,7 +87,7 @@ class Connection:
         self._backlog += data
         while self._backlog and self._room():
             piece, self._backlog = self._backlog[:self._room()], self._backlog[self._room():]
-            lines.append("bytes %d %s" % (self.number, piece.hex()))
+            lines.append(f"bytes {self.number} {piece.hex()}")
             found = self._asks.push(piece)
             self.records += found
             self.calls += [call_of(record.body) for record in found]
@@ -99,7 +99,7 @@ class Connection:
     def turn(self, place: int, lines: list[str]) -> None:
         """Takes the connection's next call, at the point of this place."""
         self.turns.append(place)
-        lines.append("turn %d" % self.number)
+        lines.append(f"turn {self.number}")
 
 
 def call_of(body: bytes) -> CallMessage:

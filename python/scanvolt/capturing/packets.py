@@ -41,30 +41,36 @@ class Packet:
     size: int
 
 
+def address(end: End) -> str:
+    """An end of a connection: `127.0.0.1:4096`."""
+    host, port = end
+    return f"{host}:{port}"
+
+
 def moment(time: int) -> str:
     """Nanoseconds, in seconds to the millisecond."""
-    return "%d.%03d" % (time // 10 ** 9, time // 10 ** 6 % 1000)
+    return f"{time // 10 ** 9}.{time // 10 ** 6 % 1000:03d}"
 
 
 def nanoseconds(text: str) -> int:
     """A decimal number of seconds, in nanoseconds."""
     whole, _, part = text.partition(".")
     if not (whole + part).isascii() or not (whole + part).isdigit():
-        raise Fault("not a time in seconds: %r" % text)
+        raise Fault(f"not a time in seconds: {text!r}")
     return int(whole or "0") * 10 ** 9 + int(part[:9].ljust(9, "0"))
 
 
 def must_be_capture(path: str) -> None:
     """Raises Fault unless this file begins as a capture does."""
     if not os.path.isfile(path):
-        raise Fault("there is no capture %s" % path)
+        raise Fault(f"there is no capture {path}")
     try:
         with open(path, "rb") as file:
             begin = file.read(4)
     except OSError as fault:
-        raise Fault("%s can't be read: %s" % (path, fault.strerror)) from None
+        raise Fault(f"{path} can't be read: {fault.strerror}") from None
     if not begin.startswith(BEGINNINGS):
-        raise Fault("%s isn't a capture: it begins neither as a pcap file nor as a pcapng file" % path)
+        raise Fault(f"{path} isn't a capture: it begins neither as a pcap file nor as a pcapng file")
 
 
 def tshark(path: str, words: Sequence[str]) -> list[str]:
@@ -77,7 +83,7 @@ def tshark(path: str, words: Sequence[str]) -> list[str]:
         raise Fault("tshark is missing: it is Debian's package tshark") from None
     if told.returncode != 0:
         why = [line for line in told.stderr.splitlines() if "dangerous" not in line]
-        raise Fault("tshark can't read it: " + (why[-1] if why else "status %d" % told.returncode))
+        raise Fault("tshark can't read it: " + (why[-1] if why else f"status {told.returncode}"))
     return told.stdout.splitlines()
 
 
@@ -85,7 +91,7 @@ def packet(line: str) -> Packet:
     """The packet that a line of tshark's output describes."""
     number, time, stream, source, from_port, target, to_port, seq, ack, flags, size, length, kept = line.split("\t")
     if kept != length:
-        raise Fault("packet %s has %s of its %s bytes: capture whole packets" % (number, kept, length))
+        raise Fault(f"packet {number} has {kept} of its {length} bytes: capture whole packets")
     return Packet(int(number), nanoseconds(time), int(stream), (source, int(from_port)), (target, int(to_port)),
                   int(seq), int(ack or "0"), int(flags, 16), int(size))
 

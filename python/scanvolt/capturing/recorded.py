@@ -33,7 +33,7 @@ def read(path: str) -> list[str]:
         with open(path, "rb") as file:
             text = file.read()
     except OSError as fault:
-        raise Fault("%s can't be read: %s" % (path, fault.strerror)) from None
+        raise Fault(f"{path} can't be read: {fault.strerror}") from None
     return text[:text.rfind(b"\n") + 1].decode("latin-1").splitlines()
 
 
@@ -45,8 +45,7 @@ def replayed(program: str, record: list[str], ports: tuple[int, int]) -> list[_S
     now: dict[str, _Sent] = {}       # by the names that the replay prints
     for number, (line, block) in enumerate(zip(record, blocks), 1):
         if len(blocks) > len(record) or ["refused"] in [words[:1] for words in block]:
-            raise Fault("the replay refuses an event of the record, line %d or one before: %s" % (
-                number, in_a_line(line.encode())))
+            raise Fault(f"the replay refuses an event of the record, line {number} or one before: {in_a_line(line.encode())}")
         begin(line.split(" "), now, found)
         for name, sent in block:
             now[name].sent += bytes.fromhex(sent)
@@ -70,7 +69,7 @@ def differences(session: Session, found: list[_Sent]) -> Iterator[str]:
     for role in ROLES:
         taken, sent = [one for one in session.connections if one.role == role], [one for one in found if one.role == role]
         if len(taken) != len(sent):
-            yield "%s of the channel %s in the capture, %d in the record" % (counted(len(taken), "connection"), role, len(sent))
+            yield f"{counted(len(taken), 'connection')} of the channel {role} in the capture, {len(sent)} in the record"
         for connection, one in zip(taken, sent):
             yield from of_connection(connection, one)
 
@@ -79,13 +78,13 @@ def of_connection(connection: Connection, one: _Sent) -> Iterator[str]:
     """How a connection and its channels differ."""
     asked = b"".join(what.data for what in connection.stream.happenings if what.kind == "sent")
     if not asked.startswith(one.came):
-        yield "%s: the record has bytes that didn't come on it" % connection.flow.name
+        yield f"{connection.flow.name}: the record has bytes that didn't come on it"
     # A peer that reset the connection took no more.
     is_reset = any(what.kind == "reset" for what in connection.stream.happenings)
     yield from of_flow(connection.flow, one, is_reset)
     if len(connection.channels) != len(one.channels):
-        yield "%s: %s in the capture, %d in the record" % (
-            connection.flow.name, counted(len(connection.channels), "interrupt channel"), len(one.channels))
+        channels = counted(len(connection.channels), "interrupt channel")
+        yield f"{connection.flow.name}: {channels} in the capture, {len(one.channels)} in the record"
     for flow, channel in zip(connection.channels, one.channels):
         yield from of_flow(flow, channel, flow.loose)
 
@@ -96,8 +95,7 @@ def of_flow(flow: Flow, one: _Sent, is_short: bool) -> Iterator[str]:
     if taken == sent or is_short and sent.startswith(taken):
         return
     place = next((number for number, pair in enumerate(zip(taken, sent)) if pair[0] != pair[1]), min(len(taken), len(sent)))
-    yield "%s: the socket took %d bytes, the record's replay sends %d; they differ from byte %d on" % (
-        flow.name, len(taken), len(sent), place)
+    yield f"{flow.name}: the socket took {len(taken)} bytes, the record's replay sends {len(sent)}; they differ from byte {place} on"
     yield from shown("the capture", taken, place)
     yield from shown("the replay", sent, place)
 
@@ -106,6 +104,6 @@ def summary(session: Session) -> str:
     """What was compared."""
     flows = [flow for one in session.connections for flow in (one.flow, *one.channels)]
     channels = len(flows) - len(session.connections)
-    return "the record's replay sends what the sockets took: %s, %s, %s" % (
-        counted(len(session.connections), "connection"), counted(channels, "interrupt channel"),
-        counted(sum(len(flow.wanted) for flow in flows), "byte"))
+    said = (counted(len(session.connections), "connection"), counted(channels, "interrupt channel"),
+            counted(sum(len(flow.wanted) for flow in flows), "byte"))
+    return "the record's replay sends what the sockets took: " + ", ".join(said)

@@ -19,7 +19,7 @@ def scenario(path: str) -> list[Scheduled]:
     except ValueError as error:
         raise Fault(str(error)) from None
     except OSError as error:
-        raise Fault("the scenario can't be read: %s" % error) from None
+        raise Fault(f"the scenario can't be read: {error}") from None
 
 
 class _Clock:
@@ -42,7 +42,7 @@ class _Clock:
             count = min(ticks - self._ticks, MOST)
             if self._next < len(self._entries):
                 count = min(count, self._entries[self._next][0] - self._ticks)
-            lines.append("tick" if count == 1 else "tick %d" % count)
+            lines.append("tick" if count == 1 else f"tick {count}")
             self._ticks += count
             self._due(lines)
 

@@ -12,6 +12,7 @@ from ..vxi11 import CallMessage, Reader, Record, RpcError, XdrError, calls, read
 from ..vxi11.errors import NOT_ESTABLISHED
 from ..vxi11.rpc import RESULT_AT
 from .flows import Connection, Flow, Point, Reply, name
+from .packets import address
 from .streams import Happening, Stream
 
 MILLISECOND = 10 ** 6
@@ -56,9 +57,9 @@ class Session:
         self._swept = max(self._swept, time)
         point = Point(time - self.start, (self._swept - self.start) // MILLISECOND)
         for number, connection in self._numbers.items():
-            point.owners["c%d" % number] = connection.flow
+            point.owners[f"c{number}"] = connection.flow
             if connection.channel:
-                point.owners["i%d" % number] = connection.channel
+                point.owners[f"i{number}"] = connection.channel
         self.points.append(point)
         return point
 
@@ -131,13 +132,13 @@ class Session:
         self._numbers[free[0]] = connection
         self._by_stream[id(stream)] = connection
         self.connections.append(connection)
-        point.lines.append("open %d %s" % (free[0], connection.role))
-        point.owners["c%d" % free[0]] = connection.flow
+        point.lines.append(f"open {free[0]} {connection.role}")
+        point.owners[f"c{free[0]}"] = connection.flow
 
     def _close(self, connection: Connection, what: Happening) -> None:
         """A connection closes, and with it its interrupt channel."""
         point = self._point(what.time - WRITING)
-        point.lines.append("close c%d" % connection.number)
+        point.lines.append(f"close c{connection.number}")
         del self._numbers[connection.number]
         del self._by_stream[id(what.stream)]
 
@@ -192,14 +193,14 @@ class Session:
         opens = creates and error == 0
         if connection.channel and (opens or not creates and error == NOT_ESTABLISHED):
             # The server noticed a failed write before this call.
-            turn.lines.insert(turn.lines.index("turn %d" % number), "close i%d" % number)
+            turn.lines.insert(turn.lines.index(f"turn {number}"), f"close i{number}")
         if opens:
-            point.lines.append("dialed %d ok" % number)
+            point.lines.append(f"dialed {number} ok")
             connection.channel = self._channel(call, turn)
             connection.channels.append(connection.channel)
-            point.owners["i%d" % number] = connection.channel
+            point.owners[f"i{number}"] = connection.channel
         elif creates and error == NOT_ESTABLISHED:
-            point.lines.append("dialed %d failed" % number)
+            point.lines.append(f"dialed {number} failed")
         elif not creates:
             connection.channel = None
 
@@ -213,7 +214,7 @@ class Session:
                 self.channels[id(one)] = Flow(one.name())
                 return self.channels[id(one)]
         self.unseen += 1
-        return Flow("interrupt channel to %s:%d" % end, loose=True)
+        return Flow(f"interrupt channel to {address(end)}", loose=True)
 
     def _on_channel(self, what: Happening) -> None:
         """The server sent bytes on an interrupt channel, or its peer closed it."""

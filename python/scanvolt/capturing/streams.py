@@ -9,7 +9,7 @@ from collections import defaultdict
 from collections.abc import Iterable
 from dataclasses import dataclass, field
 
-from .packets import ACK, FIN, RST, SYN, End, Fault, Packet, tshark
+from .packets import ACK, FIN, RST, SYN, End, Fault, Packet, address, tshark
 
 AT_ONCE = 200           # streams that one run of tshark follows
 # What tshark writes in place of bytes that it doesn't have.
@@ -41,7 +41,7 @@ class Stream:
 
     def name(self) -> str:
         """Who called whom, in words."""
-        return "%s:%d to %s:%d" % (self.caller + self.callee)
+        return f"{address(self.caller)} to {address(self.callee)}"
 
 
 @dataclass
@@ -59,7 +59,7 @@ def followed(path: str, packets: dict[int, Packet], numbers: list[int]) -> dict[
     for start in range(0, len(numbers), AT_ONCE):
         words = ["-q"]
         for number in numbers[start:start + AT_ONCE]:
-            words += ["-z", "follow,tcp,yaml,%d" % number]
+            words += ["-z", f"follow,tcp,yaml,{number}"]
         for one in pieces(tshark(path, words), packets):
             found[one.packet.stream].append(one)
     return found
@@ -82,7 +82,7 @@ def pieces(lines: Iterable[str], packets: dict[int, Packet]) -> Iterable[_Piece]
         if head == "  - packet":
             packet = packets.get(int(number))
             if packet is None:
-                raise Fault("tshark follows packet %s, which it didn't read before" % number)
+                raise Fault(f"tshark follows packet {number}, which it didn't read before")
         elif head == "    peer":
             called = number == "0"
 
@@ -92,7 +92,7 @@ def decoded(text: str) -> bytes:
     try:
         return base64.b64decode(text, validate=True)
     except binascii.Error:
-        raise Fault("tshark prints what isn't base64: %s" % text[:60]) from None
+        raise Fault(f"tshark prints what isn't base64: {text[:60]}") from None
 
 
 class _Direction:
@@ -182,8 +182,8 @@ class _Following:
                         break
                     count += len(one.data)
             if count < side.size():
-                raise Fault("%s: the capture lacks bytes from %d on that the %s sent" % (
-                    self.stream.name(), count, "caller" if called else "callee"))
+                side_name = "caller" if called else "callee"
+                raise Fault(f"{self.stream.name()}: the capture lacks bytes from {count} on that the {side_name} sent")
 
 
 def later(first: Packet, second: Packet) -> Packet:
@@ -200,8 +200,8 @@ def streams(path: str, packets: list[Packet], ports: set[int]) -> list[Stream]:
         if packet.stream not in begun:
             if packet.flags & (SYN | ACK) != SYN:
                 if packet.target[1] in ports or packet.source[1] in ports:
-                    raise Fault("packet %d: the connection %s:%d to %s:%d began before the capture" % (
-                        (packet.number,) + packet.source + packet.target))
+                    source, target = address(packet.source), address(packet.target)
+                    raise Fault(f"packet {packet.number}: the connection {source} to {target} began before the capture")
                 continue
             begun[packet.stream] = _Following(packet)
         begun[packet.stream].take(packet)

@@ -46,13 +46,12 @@ class Telling(Watch):
         if self._shown is None:
             self._show("at the times of the capture, the first difference is this:", difference)
             if self._slack:
-                say(["capture: other ticks are tried, up to %s earlier or later, for at most %g s" % (
-                    counted(self._slack, "millisecond"), compare.PATIENCE)])
+                say([f"capture: other ticks are tried, up to {counted(self._slack, 'millisecond')} earlier or later, for at most {compare.PATIENCE:g} s"])
 
     def starts(self, difference: Difference) -> None:
         """Prints the difference that other ticks don't settle, and that other starts are tried."""
         self._show("other ticks settle that; then the first difference is this:", difference)
-        say(["capture: other starts of the server are tried, for at most %g s" % compare.PATIENCE])
+        say([f"capture: other starts of the server are tried, for at most {compare.PATIENCE:g} s"])
 
     def remains(self, difference: Difference, comparison: Comparison) -> None:
         """Prints the difference that remains."""
@@ -60,4 +59,4 @@ class Telling(Watch):
             self._show("the difference that remains with other ticks:", difference)
         elif self._slack:
             say(["capture: the difference remains with " + (
-                "what could be tried in %g s" % compare.PATIENCE if comparison.late else "all that was tried")])
+                f"what could be tried in {compare.PATIENCE:g} s" if comparison.late else "all that was tried")])

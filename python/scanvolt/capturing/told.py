@@ -16,7 +16,8 @@ READING, NO_VOLTS = re.compile(rb"[+-][0-9]+[.][0-9]{6}"), b"+0.000000"
 
 
 def counted(count: int, one: str, many: str | None = None) -> str:
-    return "%d %s" % (count, one if count == 1 else many or one + "s")
+    noun = one if count == 1 else many or one + "s"
+    return f"{count} {noun}"
 
 
 def summary(session: Session) -> str:
@@ -42,17 +43,17 @@ def moves(comparison: Comparison, ticks: list[int]) -> str:
     count = sum(1 for one in found if one)
     start = ""
     if early:
-        start = " of a start %d ms %s" % (abs(early), "earlier" if early > 0 else "later")
+        side = "earlier" if early > 0 else "later"
+        start = f" of a start {abs(early)} ms {side}"
     if comparison.swapped:
-        start += ", %s taken after another connection's" % counted(comparison.swapped, "call")
+        start += f", {counted(comparison.swapped, 'call')} taken after another connection's"
     if not count:
         return "at the ticks of the capture's times" + start
-    return "with the ticks of %d of %d events moved by at most %d ms%s" % (
-        count, len(points), max(found), start)
+    return f"with the ticks of {count} of {len(points)} events moved by at most {max(found)} ms{start}"
 
 
 def seconds(points: list[Point], place: int) -> str:
-    return "%.3f s after the start" % (points[place].time / 1e9)
+    return f"{points[place].time / 1e9:.3f} s after the start"
 
 
 def told(session: Session, difference: Difference) -> list[str]:
@@ -60,7 +61,7 @@ def told(session: Session, difference: Difference) -> list[str]:
     points, flow = session.points, difference.flow
     when = seconds(points, difference.point)
     if flow is None:
-        return ["the replay refuses an event %s: refused %s" % (when, difference.found.decode()),
+        return [f"the replay refuses an event {when}: refused {difference.found.decode()}",
                 "  of: " + "; ".join(shown_line(line) for line in points[difference.point].lines)]
     reply = reply_at(flow, difference.place)
     if reply is None:
@@ -71,12 +72,12 @@ def told(session: Session, difference: Difference) -> list[str]:
         begin, end = reply.start, reply.end
     what = {"differs": "differs", "missing": "isn't sent by the replay until then",
             "more": "isn't in the capture"}[difference.kind]
-    lines = ["reply %d (%s) of %s %s, %s" % (number, name, flow.name, what, when)]
+    lines = [f"reply {number} ({name}) of {flow.name} {what}, {when}"]
     lines += messages(session, flow, reply)
     place = difference.place - begin
     if difference.kind == "differs":
-        lines.append("  byte %d of the reply: %02x in the capture, %02x in the replay" % (
-            place, flow.wanted[difference.place], difference.found[difference.place]))
+        wanted, found = flow.wanted[difference.place], difference.found[difference.place]
+        lines.append(f"  byte {place} of the reply: {wanted:02x} in the capture, {found:02x} in the replay")
     if end > begin:
         lines += shown("the capture", bytes(flow.wanted[begin:end]), place)
     if difference.found:
@@ -89,11 +90,11 @@ def shown(where: str, data: bytes, place: int) -> list[str]:
     """Bytes in rows around a place: the number of each row's first byte, the bytes, and their text."""
     row = place // ROW
     starts = range(max(0, row - AROUND) * ROW, min(len(data), (row + AROUND + 1) * ROW), ROW)
-    lines = ["  %d bytes in %s:" % (len(data), where)]
+    lines = [f"  {len(data)} bytes in {where}:"]
     for start in starts:
         piece = data[start:start + ROW]
-        lines.append("  %s %6d  %-35s  %s" % (">" if start == row * ROW else " ", start, piece.hex(" ", -4),
-                                              "".join(map(shown_byte, piece))))
+        mark, text = ">" if start == row * ROW else " ", "".join(map(shown_byte, piece))
+        lines.append(f"  {mark} {start:6d}  {piece.hex(' ', -4):<35}  {text}")
     return lines
 
 
@@ -133,15 +134,15 @@ ON_A_LINK = set(calls.NAMES[calls.CORE]) - {calls.CREATE_LINK, calls.CREATE_INTR
 def quoted(text: bytes) -> str:
     """A message in quotes, with bytes that aren't text escaped. Of a long one, its end."""
     found = text.decode("latin-1").encode("unicode_escape").decode()
-    return '"%s"' % found if len(found) <= TEXT_MOST else '.."%s"' % found[-TEXT_MOST:]
+    return f'"{found}"' if len(found) <= TEXT_MOST else f'.."{found[-TEXT_MOST:]}"'
 
 
 def start_of(comparison: Comparison) -> str:
     """A hint that the start may be wrong."""
     begin = "--start may be wrong" if comparison.told else (
         "the start may be wrong: without --start it is the time of the first packet")
-    end = "Starts up to %d ms off were tried" % comparison.farthest if comparison.others else "--other-starts tries others"
-    return "%s; `make serve` prints it. %s" % (begin, end)
+    end = f"Starts up to {comparison.farthest} ms off were tried" if comparison.others else "--other-starts tries others"
+    return f"{begin}; `make serve` prints it. {end}"
 
 
 def lacks_voltages(difference: Difference) -> bool:

@@ -64,7 +64,7 @@ class Again:
         """Opens a connection, and notes all its calls, which `turn` then sends."""
         connection = self._meter.connect(role)
         if connection.number != number:
-            raise Fault("in virtual time connection %d is %d" % (number, connection.number))
+            raise Fault(f"in virtual time connection {number} is {connection.number}")
         connection.on_service_request(lambda one: self._requests.append((one.xid, one.handle.decode("latin-1"))))
         captured = next(self._captured)
         self._open[number], self._left[number] = connection, deque(sent(captured))
@@ -88,18 +88,17 @@ class Again:
                 found = record(done[place]._body) if place < len(done) and done[place]._body else b""
                 late = place < len(done) and (done[place].clock or 0) > self._ticks[reply.due]
                 if found != wanted or late:
-                    told.append("reply %d (%s) of %s: %s in the capture, %s in virtual time%s" % (
-                        place + 1, reply.name, flow.name, wanted.hex(), found.hex() or "none", " later" * late))
+                    said = f"{found.hex() or 'none'} in virtual time" + " later" * late
+                    told.append(f"reply {place + 1} ({reply.name}) of {flow.name}: {wanted.hex()} in the capture, {said}")
         if self._requests != requested(self._session):
-            told.append("service requests %s in the capture, %s in virtual time" % (
-                requested(self._session), self._requests))
+            told.append(f"service requests {requested(self._session)} in the capture, {self._requests} in virtual time")
         return told
 
     def summary(self) -> str:
         """The line that says how much was the same."""
         count = sum(len(one.flow.replies) for one in self._session.connections)
-        return "%s and %s are the same in virtual time" % (
-            counted(count, "reply", "replies"), counted(len(self._requests), "service request"))
+        requests = counted(len(self._requests), "service request")
+        return f"{counted(count, 'reply', 'replies')} and {requests} are the same in virtual time"
 
 
 def sent(captured: Captured) -> list[tuple[CallMessage, bytes, bool]]:

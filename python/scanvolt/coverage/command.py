@@ -53,6 +53,6 @@ def main(given_words: list[str] | None = None) -> int:
         os.dup2(os.open(os.devnull, os.O_WRONLY), sys.stdout.fileno())
         return 0
     except (OSError, ProgramError) as fault:
-        shown = "%s: %s" % (fault.filename, fault.strerror) if isinstance(fault, OSError) else str(fault)
-        print("%s: %s" % (NAME, shown), file=sys.stderr)
+        shown = f"{fault.filename}: {fault.strerror}" if isinstance(fault, OSError) else str(fault)
+        print(f"{NAME}: {shown}", file=sys.stderr)
         return 2

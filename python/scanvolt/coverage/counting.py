@@ -23,27 +23,27 @@ RQS = 64
 
 
 def _bit(name: str, bit: int, how: str) -> Item:
-    return BITS_OF, "%s.%s %s" % (LABELS[name], bit_name(name, bit), how)
+    return BITS_OF, f"{LABELS[name]}.{bit_name(name, bit)} {how}"
 
 
 def _fault(call: str, number: int) -> Item:
-    return FAULTS_OF, "%s: %d, %s" % (call, number, NAMES.get(number, "reserved"))
+    return FAULTS_OF, f"{call}: {number}, {NAMES.get(number, 'reserved')}"
 
 
 def _error(number: int) -> Item:
-    return QUEUE, '%d "%s"' % (number, ERRORS.get(number, "unknown"))
+    return QUEUE, f'{number} "{ERRORS.get(number, "unknown")}"'
 
 
 def _wait(what: str, how: str) -> Item:
-    return SITUATIONS, "a wait for %s %s" % (AWAITED.get(what, what), how)
+    return SITUATIONS, f"a wait for {AWAITED.get(what, what)} {how}"
 
 
 def _state(start: str, by: str, to: str) -> Item:
-    return SITUATIONS, "the scan goes from %s to %s by %s" % (start, to, by)
+    return SITUATIONS, f"the scan goes from {start} to {to} by {by}"
 
 
 def _read(reason: str) -> Item:
-    return SITUATIONS, "a read ends by %s" % reason
+    return SITUATIONS, f"a read ends by {reason}"
 
 
 INTERRUPT, OVERRUN = (SITUATIONS, "a query is interrupted"), (SITUATIONS, "a message is too long")

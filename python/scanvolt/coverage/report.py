@@ -35,17 +35,19 @@ class Report:
 
     def summary(self) -> str:
         """The summary in one line."""
-        parts = ["%s %d of %d" % (name, self._met(items), len(items)) for name, items in self._lists.items()]
-        return "coverage of the instrument: %d of %d, %.0f %%: %s" % (*self.parts, self._percent, ", ".join(parts))
+        parts = [f"{name} {self._met(items)} of {len(items)}" for name, items in self._lists.items()]
+        met, count = self.parts
+        return f"coverage of the instrument: {met} of {count}, {self._percent:.0f} %: {', '.join(parts)}"
 
     def lines(self, everything_met: bool = False) -> list[str]:
         """The table: of each list what wasn't met; if all is wanted, also how often the rest was met."""
         found: list[str] = []
         for name, items in self._lists.items():
             missing = [words for _, words in items if not self._counts[_, words]]
-            found.append("%-24s%4d of %-4d%s" % (name, self._met(items), len(items), "" if missing else "all"))
+            told = "" if missing else "all"
+            found.append(f"{name:<24}{self._met(items):4d} of {len(items):<4d}{told}")
             if everything_met:
-                found += ["%8d  %s" % (self._counts[item], item[1]) for item in items]
+                found += [f"{self._counts[item]:8d}  {item[1]}" for item in items]
             elif missing:
                 found.append(" " * INDENT + wrapped("not met: " + "; ".join(missing), WIDTH - INDENT, INDENT))
         return found
@@ -54,4 +56,4 @@ class Report:
         """Says so if less than so many percent were met; empty if not."""
         if self._percent >= least:
             return ""
-        return "coverage of the instrument: %.1f %% is below %g %%" % (self._percent, least)
+        return f"coverage of the instrument: {self._percent:.1f} % is below {least:g} %"

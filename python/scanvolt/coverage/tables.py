@@ -1,8 +1,7 @@
 """What tests may meet of the instrument: headers, calls, waits, reads, states. `tools/covering` writes this file."""
+from typing import Dict, Tuple
 
-from __future__ import annotations
-
-HEADERS: tuple[str, ...] = (
+HEADERS: Tuple[str, ...] = (
     '*CLS',
     '*ESE',
     '*ESE?',
@@ -68,7 +67,7 @@ HEADERS: tuple[str, ...] = (
     'CONFigure:VOLTage[:DC]',
     'MEASure:VOLTage[:DC]?',
 )
-CALLS: dict[str, tuple[int, ...]] = {
+CALLS: Dict[str, Tuple[int, ...]] = {
     'create_link': (3, 9, 11),
     'device_write': (4, 5, 11, 15, 23),
     'device_read': (4, 11, 15, 23),
@@ -88,19 +87,19 @@ CALLS: dict[str, tuple[int, ...]] = {
     'GETPORT': (),
 }
 # Of each kind of wait, the errors after a time-out and after device_abort, 0 for none.
-WAITS: dict[str, tuple[int, int]] = {
+WAITS: Dict[str, Tuple[int, int]] = {
     'lock': (11, 23),
     'input': (15, 23),
     'response': (15, 23),
     'dial': (0, 0),
 }
-READS: dict[str, int] = {
+READS: Dict[str, int] = {
     'REQCNT': 1,
     'CHR': 2,
     'END': 4,
     '8,192 bytes': 0,
 }
-STATES: tuple[tuple[str, str, str], ...] = (
+STATES: Tuple[Tuple[str, str, str], ...] = (
     ('idle', 'INITiate', 'waiting'),
     ('waiting', 'trigger', 'scanning'),
     ('scanning', 'tick', 'waiting'),

@@ -34,7 +34,7 @@ def asked(text: str) -> Asked:
     name, _, moment = text.partition("@")
     found = re.fullmatch(r"(?:(line) ?)?(\d+)", moment.strip())
     if moment and not found:
-        raise Unknown("a moment is a millisecond, or `line` and a number, and not `%s`" % moment)
+        raise Unknown(f"a moment is a millisecond, or `line` and a number, and not `{moment}`")
     number = int(found[2]) if found else None
     clock, line = (None, number) if found and found[1] else (number, None)
     value, bit = _value(name.strip(), name.strip().lower())
@@ -57,8 +57,8 @@ def _value(name: str, low: str) -> tuple[str, int | None]:
             for bit, word in NAMES[register].items():
                 if low == word.lower():
                     return register, bit
-        raise Unknown("no value is called `%s`: name a bit (RQS, ESR.CME, stb.5, ques.event.LIM), a register (ESR, ques.cond), "
-                      "or one of %s" % (name, ", ".join(PLAIN)))
+        raise Unknown(f"no value is called `{name}`: name a bit (RQS, ESR.CME, stb.5, ques.event.LIM), a register (ESR, ques.cond), "
+                      f"or one of {', '.join(PLAIN)}")
     head = OTHER.get(head, head)
     if head in REGISTERS:
         if tail in dict(PARTS):
@@ -66,11 +66,11 @@ def _value(name: str, low: str) -> tuple[str, int | None]:
         head += ".event"
     head = head.replace(".condition", ".cond")
     if head not in NAMES:
-        raise Unknown("no register is called `%s`: stb, sre, esr, ese, or %s with %s" % (
-            head, ", ".join(REGISTERS), ", ".join(part for part, _ in PARTS)))
+        registers, parts = ", ".join(REGISTERS), ", ".join(part for part, _ in PARTS)
+        raise Unknown(f"no register is called `{head}`: stb, sre, esr, ese, or {registers} with {parts}")
     for bit, word in NAMES[head].items():
         if tail == word.lower():
             return head, bit
     if tail.isdigit() and int(tail) < (8 if head in BYTES else 16):
         return head, int(tail)
-    raise Unknown("%s has no bit `%s`, only %s" % (head.replace("poll", "stb"), tail, ", ".join(NAMES[head].values())))
+    raise Unknown(f"{head.replace('poll', 'stb')} has no bit `{tail}`, only {', '.join(NAMES[head].values())}")

@@ -122,7 +122,7 @@ class Blocks:
             yield self._event(moment, rows)
         for one in replied:
             if one is not call or kind not in ("turn", "refuse"):
-                waited = "   after %s" % millis(moment.clock - one.turned.clock) if one.turned else ""
+                waited = f"   after {millis(moment.clock - one.turned.clock)}" if one.turned else ""
                 yield Block(moment, one.who, one.words, "answer", one.reply.words + waited, one.reply.is_fault, [], one)
 
     def _rows(self, moment: Moment) -> list[Row]:
@@ -135,12 +135,12 @@ class Blocks:
             if told or step.is_unit or step.conn is not None or self._everything:
                 rows.append(Row(self._doers.label(step), "; ".join(told), step, step.kind))
         for conn, handle in self._story.requests.get(moment.number, ()):
-            rows.append(Row("service request", '"%s" to c%d' % (escaped(handle), conn), None, "request"))
+            rows.append(Row("service request", f'"{escaped(handle)}" to c{conn}', None, "request"))
         return rows
 
     def _refused(self, moment: Moment, rows: list[Row]) -> Block:
         assert moment.refused is not None
-        reply = "refused %d: %s" % (moment.refused, REFUSED.get(moment.refused, "unknown"))
+        reply = f"refused {moment.refused}: {REFUSED.get(moment.refused, 'unknown')}"
         return Block(moment, "script", " ".join(moment.words)[:40], "refused", reply, True, rows if self._everything else [])
 
     def _queued(self, moment: Moment, rows: list[Row]) -> Iterator[Block]:
@@ -198,8 +198,8 @@ class Blocks:
         kind, reply = moment.kind, ""
         if kind == "external" and not rows:
             source, state = self._telling.at("source", moment.steps[0]), self._telling.at("state", moment.steps[0])
-            reply = "ignored: the scan %s" % ("waits for another trigger, %s" % source.upper()
-                                              if state == "waiting" else "is %s" % state)
+            does = f"waits for another trigger, {source.upper()}" if state == "waiting" else f"is {state}"
+            reply = f"ignored: the scan {does}"
         if kind in ("turn", "refuse"):
             reply = "takes no call"
         who = "script" if kind in ("input", "external") or len(moment.words) < 2 else "c" + moment.words[1].lstrip("ci")

@@ -30,6 +30,11 @@ def _create_link(found: Arguments, reader: Reader) -> None:
     found.more = quoted(reader.opaque()) + (" with lock" if lock else "")
 
 
+def _bytes(size: int) -> str:
+    """How many bytes: `1 byte`, `2048 bytes`."""
+    return "1 byte" if size == 1 else f"{size} bytes"
+
+
 def _write(found: Arguments, reader: Reader) -> None:
     found.link = reader.word()
     reader.take(8)
@@ -41,8 +46,8 @@ def _read(found: Arguments, reader: Reader) -> None:
     found.link, size = reader.word(), reader.word()
     reader.take(8)
     found.flags, character = reader.word(), reader.word()
-    said = ["up to %r" % chr(character & 255)] if found.flags & calls.TERMCHRSET else []
-    said += ["at most %d byte%s" % (size, "" if size == 1 else "s")] if size < SMALL else []
+    said = [f"up to {chr(character & 255)!r}"] if found.flags & calls.TERMCHRSET else []
+    said += ["at most " + _bytes(size)] if size < SMALL else []
     found.more = " ".join(said)
 
 
@@ -57,11 +62,11 @@ def _enable_srq(found: Arguments, reader: Reader) -> None:
 
 def _create_intr_chan(found: Arguments, reader: Reader) -> None:
     address, port = ".".join(map(str, reader.take(4))), reader.word()
-    found.more = "to %s:%d" % (address, port)
+    found.more = f"to {address}:{port}"
 
 
 def _getport(found: Arguments, reader: Reader) -> None:
-    found.more = "%#x version %d" % (reader.word(), reader.word())
+    found.more = f"{reader.word():#x} version {reader.word()}"
 
 
 HOW: dict[tuple[int, int], Callable[[Arguments, Reader], None]] = {
@@ -112,10 +117,10 @@ def answer(message: CallMessage, body: bytes) -> Answer:
             return Answer("ok", 0)
         if message.program == calls.PORT_MAPPER:
             port = reader.word()
-            return Answer("port %d" % port, 0, port)
+            return Answer(f"port {port}", 0, port)
         return _result(message, reader)
     except RpcError as fault:
-        return Answer("refused: %s" % fault)
+        return Answer(f"refused: {fault}")
     except XdrError:
         return Answer("a reply that can't be read")
 
@@ -124,21 +129,21 @@ def _result(message: CallMessage, reader: Reader) -> Answer:
     """The result of a call of the core or abort channel."""
     error = reader.signed()
     if error:
-        return Answer("error %d, %s" % (error, ERRORS.get(error, "reserved")), error)
+        return Answer(f"error {error}, {ERRORS.get(error, 'reserved')}", error)
     if message.program != calls.CORE:
         return Answer("ok", 0)
     if message.procedure == calls.CREATE_LINK:
         link = reader.word()
-        return Answer("link %d" % link, 0, link)
+        return Answer(f"link {link}", 0, link)
     if message.procedure == calls.DEVICE_WRITE:
         size = reader.word()
-        return Answer("%d byte%s" % (size, "" if size == 1 else "s"), 0, size)
+        return Answer(_bytes(size), 0, size)
     if message.procedure == calls.DEVICE_READSTB:
         byte = reader.word() & 255
         return Answer(shown_bits("poll", byte), 0, byte)
     if message.procedure == calls.DEVICE_READ:
         reason, data = reader.word(), reader.opaque()
         why = [word for bit, word in REASONS if reason & bit]
-        more = "" if reason & calls.ENDED else " (%s, without END)" % (", ".join(why) or "reason 0")
+        more = "" if reason & calls.ENDED else f" ({', '.join(why) or 'reason 0'}, without END)"
         return Answer(quoted(data) + more, 0, reason, data)
     return Answer("ok", 0)

@@ -54,7 +54,7 @@ def words(given: list[str] | None, name: str) -> argparse.Namespace:
             "" if port == "portmap" else "; of a record: that of its server"))
     found = parser.parse_args(given)
     if found.last is not None and found.last < 0:
-        parser.error("--last wants a number of lines, and not %d" % found.last)
+        parser.error(f"--last wants a number of lines, and not {found.last}")
     return found
 
 
@@ -65,7 +65,7 @@ def is_coloured(given: argparse.Namespace) -> bool:
 
 def told(given: argparse.Namespace, name: str) -> list[str]:
     """The lines to print. Writes the page if that is wanted."""
-    lines, ports = session(given, lambda warning: print("%s: %s" % (name, warning), file=sys.stderr))
+    lines, ports = session(given, lambda warning: print(f"{name}: {warning}", file=sys.stderr))
     found = Explanation(lines, given.program or find_program(), ports=ports)
     if given.why:
         return [found.why(one) for one in given.why]
@@ -89,8 +89,8 @@ def main(given_words: list[str] | None = None, name: str = NAME) -> int:
         os.dup2(os.open(os.devnull, os.O_WRONLY), sys.stdout.fileno())
         return 0
     except (OSError, Fault, ProgramError, Unknown) as fault:
-        shown = "%s: %s" % (fault.filename, fault.strerror) if isinstance(fault, OSError) else str(fault)
-        print("%s: %s" % (name, shown), file=sys.stderr)
+        shown = f"{fault.filename}: {fault.strerror}" if isinstance(fault, OSError) else str(fault)
+        print(f"{name}: {shown}", file=sys.stderr)
         return 2
     except KeyboardInterrupt:
         return 130

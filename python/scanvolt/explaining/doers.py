@@ -27,30 +27,32 @@ class Doers:
             return unit(held.text, 20) if held else "held unit"
         if step.conn is not None:
             call = self.story.call_of(step)
-            return "%s %s" % (call.who if call else "c%d" % step.conn, "resumes" if step.kind == "resume" else "times out")
+            who = call.who if call else f"c{step.conn}"
+            return f"{who} resumes" if step.kind == "resume" else f"{who} times out"
         return STEPS.get(step.kind, "")
 
     def by(self, step: Step) -> str:
         """Who did a step: its millisecond, its line, and what it is."""
-        return "%s, line %d: %s" % (millis(step.moment.clock), step.moment.line, self.what(step))
+        return f"{millis(step.moment.clock)}, line {step.moment.line}: {self.what(step)}"
 
     def what(self, step: Step) -> str:
         """What a step is, with the call that it comes from."""
         call = self.story.call_of(step)
         if step.is_unit:
-            return "unit `%s`%s" % (unit(step.text, UNIT_MOST), of(call))
+            return f"unit `{unit(step.text, UNIT_MOST)}`{of(call)}"
         if step.kind == "finish":
-            return "end of the message%s" % of(call)
+            return f"end of the message{of(call)}"
         if step.kind == "release":
             held = self.story.held_at(step)
-            return "held unit `%s` was answered%s" % (unit(held.text, UNIT_MOST) if held else "?",
-                                                      of(self.story.call_of(held) if held else None))
+            text = unit(held.text, UNIT_MOST) if held else "?"
+            whose = of(self.story.call_of(held) if held else None)
+            return f"held unit `{text}` was answered{whose}"
         if step.kind == "fire":
             return "the IMMediate trigger"
         if step.kind == "overrun":
-            return "the message was too long%s" % of(call)
+            return f"the message was too long{of(call)}"
         if step.kind in ("resume", "timeout"):
-            return "%s %s" % (call_words(call), "resumed" if step.kind == "resume" else "timed out")
+            return call_words(call) + (" resumed" if step.kind == "resume" else " timed out")
         return call_words(call) if call else self.event(step.moment)
 
     def event(self, moment: Moment) -> str:
@@ -60,18 +62,20 @@ class Doers:
             change = moment.steps[0].of("reading")
             return reading(change.new) if change is not None and change.new != "none" else "1 ms passes"
         if words[0] == "input" and len(words) > 2:
-            return "input %s = %s" % (words[1], volts(int(words[2])))
+            return f"input {words[1]} = {volts(int(words[2]))}"
         if words[0] == "external":
             return "EXTernal trigger"
         if words[0] == "open":
-            return "c%s opens, %s" % (words[1], {"core": "core channel", "abort": "abort channel"}.get(words[2], "port mapper"))
+            role = {"core": "core channel", "abort": "abort channel"}.get(words[2], "port mapper")
+            return f"c{words[1]} opens, {role}"
         if words[0] == "close":
-            return "%s closes" % words[1] if words[1][0] == "c" else "interrupt channel of c%s closes" % words[1][1:]
+            return f"{words[1]} closes" if words[1][0] == "c" else f"interrupt channel of c{words[1][1:]} closes"
         if words[0] == "dialed":
-            return "interrupt channel of c%s: connecting %s" % (words[1], "succeeded" if words[2] == "ok" else "failed")
+            ended = "succeeded" if words[2] == "ok" else "failed"
+            return f"interrupt channel of c{words[1]}: connecting {ended}"
         return " ".join(words)[:EVENT_MOST]
 
 
 def of(call: Call | None) -> str:
     """Of which call something is; nothing if that isn't known."""
-    return "" if call is None else " of %s" % call_words(call)
+    return "" if call is None else f" of {call_words(call)}"

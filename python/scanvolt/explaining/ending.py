@@ -24,7 +24,7 @@ class Ending:
 
     def text(self) -> list[str]:
         """The end, in lines."""
-        found = ["at the end, %s:" % millis(self._story.clock)]
+        found = [f"at the end, {millis(self._story.clock)}:"]
         in_line: list[Call] = []        # that wait for the lock
         for call in self._story.waiting():
             if call.waits[-1].what == "lock":
@@ -42,20 +42,21 @@ class Ending:
         return [one.strip() for one in found[1:3]]
 
     def _labelled(self, label: str, lines: Sequence[str]) -> list[str]:
-        return ["    %-*s%s" % (LEFT, label if place == 0 else "", line) for place, line in enumerate(lines)]
+        labels = [label] + [""] * (len(lines) - 1)
+        return [f"    {one:<{LEFT}}{line}" for one, line in zip(labels, lines)]
 
     def _in_line(self, call: Call, place: int) -> list[str]:
         """A call that waits for the lock behind others, in a line."""
         wait, behind = call.waits[-1], self._story.behind(call)
-        most = "until %s at most" % millis(wait.deadline) if wait.deadline is not None else "without a limit"
-        after = "; behind it %s" % call_list(behind) if behind else ""
-        return ["  %s  %s waits for the lock too, since %s, place %d in line, %s%s" % (
-            call.who, call.words, millis(wait.begin.moment.clock), place, most, after)]
+        most = f"until {millis(wait.deadline)} at most" if wait.deadline is not None else "without a limit"
+        after = f"; behind it {call_list(behind)}" if behind else ""
+        since = f"since {millis(wait.begin.moment.clock)}, place {place} in line, {most}{after}"
+        return [f"  {call.who}  {call.words} waits for the lock too, {since}"]
 
     def _call(self, call: Call) -> list[str]:
         """A call that waits."""
         wait, behind = call.waits[-1], self._story.behind(call)
-        found = ["  %s  %s" % (call.who, self._reasons.headline(call, wait))]
+        found = [f"  {call.who}  {self._reasons.headline(call, wait)}"]
         reasons = self._reasons.why(wait, self._story.end)
         found += self._labelled("because", ["  " * depth + why for depth, why in enumerate(reasons)])
         if self._tried is not None:
@@ -66,15 +67,15 @@ class Ending:
             found += self._labelled("not tried", [", ".join(left)] if left else [])
         found += self._labelled("due", [self._due(call)])
         if behind:
-            found += self._labelled("behind it", ["%s: not taken before it is answered" % call_list(behind)])
+            found += self._labelled("behind it", [f"{call_list(behind)}: not taken before it is answered"])
         return found
 
     def _ends(self, call: Call) -> list[str]:
         """What ended the wait when it was tried: when, and with which reply."""
         assert self._tried is not None
-        rows = [(one.what, "at %s: %s" % (millis(one.clock), one.words)) for one in self._tried.of(call) if one.is_end]
+        rows = [(one.what, f"at {millis(one.clock)}: {one.words}") for one in self._tried.of(call) if one.is_end]
         wide = max((len(what) for what, _ in rows), default=0)
-        return ["%-*s  %s" % (wide, what, seen) for what, seen in rows]
+        return [f"{what:<{wide}}  {seen}" for what, seen in rows]
 
     def _due(self, call: Call) -> str:
         """What ends the wait by itself as time passes, if anything does."""
@@ -82,9 +83,9 @@ class Ending:
         scan = self._reasons.due(self._story.end)
         found = []
         if wait.what in ("input", "response") and scan is not None:
-            found.append("this scan, in %s" % millis(scan))
+            found.append(f"this scan, in {millis(scan)}")
         if wait.deadline is not None:
-            found.append("its timeout at %s, in %s" % (millis(wait.deadline), long(wait.deadline - clock)))
+            found.append(f"its timeout at {millis(wait.deadline)}, in {long(wait.deadline - clock)}")
         return "; ".join(found) or "nothing: however much time passes, it waits"
 
     def _held(self) -> list[str]:
@@ -92,29 +93,32 @@ class Ending:
         held = self._story.held_at(self._lines.steps[-1]) if self._lines.steps and self._story.value("held") != "none" else None
         if held is None or any(call.waits[-1].what in ("input", "response") for call in self._story.waiting()):
             return []
-        since = "unit `%s` since %s" % (unit(held.text), millis(held.moment.clock))
+        since = f"unit `{unit(held.text)}` since {millis(held.moment.clock)}"
         found = [since + ": every device_write and device_read will wait",
                  self._reasons.scan(self._story.end)]
-        ends = [] if self._tried is None else ["%s, at %s" % (one.what, millis(one.clock)) for one in self._tried.of_held()]
+        ends = [] if self._tried is None else [f"{one.what}, at {millis(one.clock)}" for one in self._tried.of_held()]
         found += ["would end it: " + "; or ".join(ends)] if ends else []
         left = [] if self._tried is None else [one.what for one in self._tried.left if one.what != TIME]
         found += ["not tried: " + ", ".join(left)] if left else []
-        return ["  %-10s%s" % ("held" if place == 0 else "", line) for place, line in enumerate(found)]
+        labels = ["held"] + [""] * (len(found) - 1)
+        return [f"  {label:<10}{line}" for label, line in zip(labels, found)]
 
     def _state(self) -> list[str]:
         """Errors, lock, status byte, and what can be read."""
         value = self._story.value
         errors, taken = numbers(value("errors")), self._lines.last("lock", self._story.end)
-        held = "free" if value("lock") == "none" or taken is None else "%s, since %s" % (
-            self._telling.link(int(str(value("lock")))), self._reasons.doers.by(taken.step))
+        held = "free"
+        if value("lock") != "none" and taken is not None:
+            link = self._telling.link(int(str(value("lock"))))
+            held = f"{link}, since {self._reasons.doers.by(taken.step)}"
         registers: list[tuple[str, str]] = [("STB", "poll"), ("SRE", "sre"), ("ESR", "esr"), ("ESE", "ese")]
-        shown = ["%s %s" % (label, shown_bits(name, as_number(value(name)))) for label, name in registers]
+        shown = [f"{label} {shown_bits(name, as_number(value(name)))}" for label, name in registers]
         found = ["  errors    " + (folded(errors) or "none"), "  lock      " + held, "  status    " + "; ".join(shown)]
         if value("response"):
-            found.append("  response  %s bytes unread" % value("response"))
+            found.append(f"  response  {value('response')} bytes unread")
         if as_number(value("text")):
-            found.append("  text      %s bytes of a message that hasn't ended" % value("text"))
-        return found + ["  c%-9d%s of a call that isn't whole" % (conn, counted(count, "byte"))
+            found.append(f"  text      {value('text')} bytes of a message that hasn't ended")
+        return found + [f"  c{conn:<9d}{counted(count, 'byte')} of a call that isn't whole"
                         for conn, count in self._story.unfinished()]
 
 
@@ -123,5 +127,5 @@ def folded(errors: Sequence[int]) -> str:
     found = []
     for number, row in itertools.groupby(errors):
         count = len(list(row))
-        found.append(str(number) if count == 1 else "%d (%d times)" % (number, count))
+        found.append(str(number) if count == 1 else f"{number} ({count} times)")
     return ", ".join(found)

@@ -37,7 +37,7 @@ class Explanation:
         self.reasons = Reasons(Doers(Telling(self.story)))
 
     def __repr__(self) -> str:
-        return "<Explanation of %d calls, until %d ms>" % (len(self.story.calls), self.story.clock)
+        return f"<Explanation of {len(self.story.calls)} calls, until {self.story.clock} ms>"
 
     def __str__(self) -> str:
         return self.end()

@@ -76,9 +76,9 @@ class Lanes:
         if begin == end:
             return None
         held = self._story.held_at(wait.begin)
-        what = "`%s`" % unit(held.text, 24) if held else "a message"
+        what = f"`{unit(held.text, 24)}`" if held else "a message"
         others = {"lock": "lock: " + self._reasons.telling.holder(wait.begin), "dial": "connecting"}
-        short = others.get(wait.what, "%s: %s" % (wait.what, what))
+        short = others.get(wait.what, f"{wait.what}: {what}")
         how = {"timeout": "timed out", "resume": "resumed"}.get(wait.end.kind, "ended") if wait.end else ""
         return [begin, end, short, self._reasons.why(wait, wait.begin.number), wait.deadline, how]
 
@@ -154,7 +154,7 @@ class Lanes:
         first = as_number(flips[0].old) >> bit & 1 if flips else as_number(start_of(register)) >> bit & 1
         chains = [[self._slots.at(one.step), self._slots.tree(self._why.bit(register, bit, one.step.number, False))]
                   for one in flips[-CHAINS:]]
-        return {"id": "%s.%d" % (register, bit), "g": group, "k": "bit", "n": NAMES[register][bit], "f": first,
+        return {"id": f"{register}.{bit}", "g": group, "k": "bit", "n": NAMES[register][bit], "f": first,
                 "d": stands(register, bit),
                 "H": [[self._slots.at(one.step), as_number(one.new) >> bit & 1] for one in flips], "y": chains}
 
@@ -184,4 +184,4 @@ def _short(call: Call) -> str:
 
 def _word(name: str, value: Value) -> str:
     """A mask, with the names of its bits."""
-    return "%d %s" % (as_number(value), " ".join(bits(name, as_number(value))))
+    return f"{as_number(value)} {' '.join(bits(name, as_number(value)))}"

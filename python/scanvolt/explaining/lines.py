@@ -115,7 +115,7 @@ class Lines:
             try:
                 self._take(*line.partition(" ")[::2])
             except (ValueError, IndexError):
-                raise Unreadable("a line of `scanvolt explain` isn't known: %s" % line[:80]) from None
+                raise Unreadable(f"a line of `scanvolt explain` isn't known: {line[:80]}") from None
         if self.clock is None:
             raise Unreadable("what `scanvolt explain` printed is cut off")
         return self

@@ -50,14 +50,14 @@ def _hopeless(found: Explanation, conn: int, xid: int, patience: int) -> str | N
     if first is None or due or story.value("state") == "scanning":
         return None
     own = _call(found, conn, xid)
-    told = "%s can't be answered: nothing is due that ends its wait" % call_words(first)
+    told = f"{call_words(first)} can't be answered: nothing is due that ends its wait"
     if own is not None and own is not first:
-        told = "%s of c%d isn't taken: it is behind %s, which can't be answered" % (own.name, conn, call_words(first))
+        told = f"{own.name} of c{conn} isn't taken: it is behind {call_words(first)}, which can't be answered"
     lines = found.reasons.why(first.waits[-1], story.end)
     ends = [str(one) for one in found.tried.of(first) if one.is_end]
     rows = [("because" if place == 0 else "", line) for place, line in enumerate(lines)]
     rows += [("would end it" if place == 0 else "", line) for place, line in enumerate(ends)]
-    return "\n".join([told] + ["  %-*s  %s" % (LEFT, label, line) for label, line in rows])
+    return "\n".join([told] + [f"  {label:<{LEFT}}  {line}" for label, line in rows])
 
 
 def notes(meter: Meter, conn: int, xid: int, moment: Moment) -> list[str]:
@@ -75,7 +75,7 @@ def note(found: Explanation, conn: int, xid: int) -> list[str]:
         return Ending(found.reasons).first_lines()
     wait = call.waits[-1]
     number = wait.end.number - 1 if wait.end is not None else found.story.end
-    return ["%s: %s" % (call.who, found.reasons.headline(call, wait, True)), "because " + found.reasons.brief(wait, number)]
+    return [f"{call.who}: {found.reasons.headline(call, wait, True)}", "because " + found.reasons.brief(wait, number)]
 
 
 def _call(found: Explanation, conn: int, xid: int) -> Call | None:

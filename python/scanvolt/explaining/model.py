@@ -38,7 +38,7 @@ class Model:
 
     def title(self, name: str, bit: int) -> str:
         """A bit's name for people: `STB.RQS`."""
-        return "%s.%s" % (LABELS[name].replace(" ", "."), bit_name(name, bit))
+        return f"{LABELS[name].replace(' ', '.')}.{bit_name(name, bit)}"
 
     def flip(self, name: str, bit: int, number: int, new: int | None = None) -> Change | None:
         """The newest change of a bit, at most at the step of this number; to this value if one is given."""
@@ -50,8 +50,8 @@ class Model:
         value, change = self._lines.bits(name, number) >> bit & 1, self.flip(name, bit, number)
         word = "set" if value else "clear"
         if change is None:
-            return Node("%s is %s, and was so at power on" % (self.title(name, bit), word))
-        node = Node("%s is %s since %s" % (self.title(name, bit), word, self._doers.by(change.step)), change.step)
+            return Node(f"{self.title(name, bit)} is {word}, and was so at power on")
+        node = Node(f"{self.title(name, bit)} is {word} since {self._doers.by(change.step)}", change.step)
         if depth < DEPTH:
             node.children = self.causes(name, bit, value, change, depth + 1)
         return node
@@ -62,7 +62,7 @@ class Model:
         if name.endswith(SET_BY_COMMANDS):
             return []
         found = self._found(name, bit, value, step, depth)
-        return found or [Node("that was so for a moment within this step, %s" % self._doers.what(step), step)]
+        return found or [Node(f"that was so for a moment within this step, {self._doers.what(step)}", step)]
 
     def _found(self, name: str, bit: int, value: int, step: Step, depth: int) -> list[Node]:
         if (name, bit) in SUMS:
@@ -87,7 +87,7 @@ class Model:
         """A bit on which a rise rests: with its causes if it rose in the same step, else since when it is set."""
         change = self.flip(name, bit, step.number)
         if change is not None and change.step is step:
-            node = Node("%s rose in the same step" % self.title(name, bit), step)
+            node = Node(f"{self.title(name, bit)} rose in the same step", step)
             node.children = self.causes(name, bit, 1, change, depth + 1) if depth < DEPTH else []
             return node
         node = self.bit(name, bit, step.number, depth + 1)
@@ -133,8 +133,9 @@ class Model:
             return [Node({"device_read": "the response was read to its end",
                           "device_clear": "device_clear dropped the response"}.get(
                 last, "a message came before the response was read to its end"), step)]
-        found = [Node("response of %s" % counted(self._lines.bits("response", step.number), "byte"), step)]
-        return found + [Node("to the query at %s" % self._doers.by(one), one) for one in self._queries(step)]
+        size = counted(self._lines.bits("response", step.number), "byte")
+        found = [Node(f"response of {size}", step)]
+        return found + [Node(f"to the query at {self._doers.by(one)}", one) for one in self._queries(step)]
 
     def _queries(self, step: Step) -> list[Step]:
         """The units whose answers became a response, the first first."""
@@ -150,41 +151,43 @@ class Model:
     def _queue(self, value: int, step: Step, _depth: int) -> list[Node]:
         """The error queue."""
         queue = numbers(self._lines.at("errors", step.number))
-        return [Node("error %s" % error(queue[0]), step)] if value and queue else [Node("the error queue is empty", step)]
+        return [Node(f"error {error(queue[0])}", step)] if value and queue else [Node("the error queue is empty", step)]
 
     def _standard(self, bit: int, value: int, step: Step) -> list[Node]:
         """A standard event."""
         if not value:
-            return [Node("`%s` clears the standard events" % unit(step.text), step)]
+            return [Node(f"`{unit(step.text)}` clears the standard events", step)]
         if bit == OPC:
             pending = self._lines.last("opc", step.number - 1, lambda one: one.new == 1)
-            found = [] if pending is None else [Node("*OPC pending since %s" % self._doers.by(pending.step), pending.step)]
+            found = [] if pending is None else [Node(f"*OPC pending since {self._doers.by(pending.step)}", pending.step)]
             return found + [Node("the scan is idle", step)]
         change = step.of("errors")
         low = -100 * CLASSES[bit] - 99
         added = [one for one in numbers(change.new if change else ()) if low <= one < low + 100][-1:]
         if added and change is not None and change.new != numbers(change.old)[1:]:
-            return [Node("error %s" % error(added[0]), step)]
-        return [Node("an error of class -%dxx, which is lost: the queue is full" % CLASSES[bit], step)]
+            return [Node(f"error {error(added[0])}", step)]
+        return [Node(f"an error of class -{CLASSES[bit]}xx, which is lost: the queue is full", step)]
 
     def _event(self, register: str, bit: int, value: int, step: Step, depth: int) -> list[Node]:
         """An event of a register: its condition rose with PTR, or fell with NTR."""
         if not value:
-            return [Node("`%s` %sclears the events" % (unit(step.text), "reads and " if b"?" in step.text else ""), step)]
+            does = "reads and clears" if b"?" in step.text else "clears"
+            return [Node(f"`{unit(step.text)}` {does} the events", step)]
         name = register + ".cond"
         change = step.of(name)
         if change is None or not (as_number(change.old) ^ as_number(change.new)) >> bit & 1:
-            return [Node("%s was there for a moment within this step, %s" % (self.title(name, bit), self._doers.what(step)), step)]
+            return [Node(f"{self.title(name, bit)} was there for a moment within this step, {self._doers.what(step)}", step)]
         rises = as_number(change.new) >> bit & 1
-        child = Node("%s %s" % (self.title(name, bit), "rose, with PTR" if rises else "fell, with NTR"), step)
+        moved = "rose, with PTR" if rises else "fell, with NTR"
+        child = Node(f"{self.title(name, bit)} {moved}", step)
         child.children = self.causes(name, bit, rises, change, depth + 1) if depth < DEPTH else []
         return [child]
 
     def _scan(self, step: Step) -> list[Node]:
         """A condition of the operation register: the state of the scan."""
         state, source = str(self._lines.at("state", step.number)), str(self._lines.at("source", step.number))
-        said = "the scan waits for %s trigger" % a(SOURCES[source]) if state == "waiting" else "the scan is %s" % state
-        return [Node("%s since %s" % (said, self._doers.by(step)), step)]
+        said = f"the scan waits for {a(SOURCES[source])} trigger" if state == "waiting" else f"the scan is {state}"
+        return [Node(f"{said} since {self._doers.by(step)}", step)]
 
     def _at(self, step: Step, name: str) -> Value:
         return self._lines.at(name, step.number)
@@ -195,14 +198,13 @@ class Model:
         newest = at("reading")
         if name == "lim.cond" and not at("limits"):
             return [Node("limits are off", step)]
-        limits = "%s to %s" % (volts(as_number(at("lower"))), volts(as_number(at("upper"))))
+        limits = f"{volts(as_number(at('lower')))} to {volts(as_number(at('upper')))}"
         if name == "lim.cond" and bit == 2:
             inside = "is outside the limits" if value else "is inside the limits"
-            return [Node("the monitored input, channel %s, %s, %s: %s" % (at("monitor"), inside, limits,
-                                                                          self._doers.what(step)), step)]
-        said = reading(newest) + ("; limits %s" % limits if name == "lim.cond" else "")
+            return [Node(f"the monitored input, channel {at('monitor')}, {inside}, {limits}: {self._doers.what(step)}", step)]
+        said = reading(newest) + (f"; limits {limits}" if name == "lim.cond" else "")
         if newest == "none":
-            return [Node("there is no reading: %s" % self._doers.what(step), step)]
+            return [Node(f"there is no reading: {self._doers.what(step)}", step)]
         if value:
-            return [Node("%s: %s" % (stands(name, bit), said), step)]
-        return [Node("not so any more: %s" % said, step)]
+            return [Node(f"{stands(name, bit)}: {said}", step)]
+        return [Node(f"not so any more: {said}", step)]

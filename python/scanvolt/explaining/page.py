@@ -82,8 +82,9 @@ def facts(found: Explanation, slots: Slots) -> str:
     said = [millis(story.clock), counted(len(story.calls), "call")]
     if slots.first:
         shown = sum(1 for one in story.calls if one.arrived.number >= slots.first)
-        said.append("only the last %s are shown" % counted(shown, "call"))
-    said += ["%d returned an error" % errors] if errors else []
+        said.append(f"only the last {counted(shown, 'call')} are shown")
+    said += [f"{errors} returned an error"] if errors else []
     said += [counted(queued, "instrument error")] if queued else []
     waiting = len(story.waiting())
-    return " · ".join(said + ["%d still wait%s" % (waiting, "s" if waiting == 1 else "") if waiting else "none waits"])
+    verb = "waits" if waiting == 1 else "wait"
+    return " · ".join(said + [f"{waiting} still {verb}" if waiting else "none waits"])

@@ -21,9 +21,9 @@ class Reasons:
         scan, scans = pair(self.lines.at("scan", number))
         place, length = pair(self.lines.at("place", number))
         if state == "waiting":
-            return "the scan waits for %s trigger (scan %d of %d)" % (a(SOURCES[source]), scan + 1, scans)
+            return f"the scan waits for {a(SOURCES[source])} trigger (scan {scan + 1} of {scans})"
         if state == "scanning":
-            return "scanning: %d of %s read (scan %d of %d)" % (place, counted(length, "channel"), scan, scans)
+            return f"scanning: {place} of {counted(length, 'channel')} read (scan {scan} of {scans})"
         return "the scan is idle"
 
     def due(self, number: int) -> int | None:
@@ -43,27 +43,27 @@ class Reasons:
         """Why a call waits, in one line: the held unit and the scan, or else the first reason."""
         held = self.story.held_at(self.lines.steps[number])
         if wait.what in ("input", "response") and held is not None and self.lines.at("held", number) != "none":
-            return "unit `%s` waits until the scan is idle: %s" % (unit(held.text), self.scan(number))
+            return f"unit `{unit(held.text)}` waits until the scan is idle: {self.scan(number)}"
         return "".join(self.why(wait, number)[:1])
 
     def _executed(self, wait: Wait) -> list[str]:
         """The message that was executed in the same event when the wait began."""
         call = self.story.executed.get(wait.begin.number)
-        return [] if call is None else ["a message is under way%s, and is executed first" % of(call)]
+        return [] if call is None else [f"a message is under way{of(call)}, and is executed first"]
 
     def _lock(self, wait: Wait, number: int) -> list[str]:
         holder, taken = str(self.lines.at("lock", number)), self.lines.last("lock", number)
         if holder == "none" or taken is None:
             return []
-        found = ["%s holds the lock since %s" % (self.telling.link(int(holder)), self.doers.by(taken.step))]
+        found = [f"{self.telling.link(int(holder))} holds the lock since {self.doers.by(taken.step)}"]
         ahead = [one for one in self.story.calls for other in one.waits
                  if other.what == "lock" and other is not wait and other.is_on(number) and other.begin.number < wait.begin.number]
         if ahead:
-            found.append("before it in line: %s" % call_list(ahead))
+            found.append(f"before it in line: {call_list(ahead)}")
         own = next((one for one in self.story.calls if wait in one.waits), None)
         if own is not None and self.story.owners.get(int(holder)) == own.conn:
-            found.append("c%d is the holder's own connection: what comes behind this call, as device_unlock, isn't taken before "
-                         "it is answered" % own.conn)
+            found.append(f"c{own.conn} is the holder's own connection: what comes behind this call, as device_unlock, isn't taken before "
+                         "it is answered")
         return found
 
     def _message(self, number: int) -> list[str]:
@@ -71,15 +71,15 @@ class Reasons:
         held = self.story.held_at(self.lines.steps[number])
         if self.lines.at("held", number) == "none" or held is None:
             return []
-        found = ["a message is under way%s" % of(self.story.call_of(held)),
-                 "its unit `%s` waits until the scan is idle, since %s" % (unit(held.text), millis(held.moment.clock)),
+        found = [f"a message is under way{of(self.story.call_of(held))}",
+                 f"its unit `{unit(held.text)}` waits until the scan is idle, since {millis(held.moment.clock)}",
                  self.scan(number)]
         source = self.lines.last("source", number)
         if self.lines.at("state", number) == "waiting" and source is not None:
-            found.append("source %s since %s" % (SOURCES[str(source.new)], self.doers.by(source.step)))
+            found.append(f"source {SOURCES[str(source.new)]} since {self.doers.by(source.step)}")
         return found
 
     def headline(self, call: Call, wait: Wait, over: bool = False) -> str:
         """That a call waits, since when, and for what."""
-        return "%s %s since %s for %s" % (call.words, "waited" if over else "waits", millis(wait.begin.moment.clock),
-                                          AWAITED[wait.what])
+        verb = "waited" if over else "waits"
+        return f"{call.words} {verb} since {millis(wait.begin.moment.clock)} for {AWAITED[wait.what]}"

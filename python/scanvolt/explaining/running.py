@@ -30,16 +30,16 @@ def lines_of(script: Sequence[str], program: str, patience: float | None = None,
             told, fault = tied.process.communicate(given, patience)
             status = tied.process.returncode
     except OSError as error:
-        raise ProgramError("the program can't be run: %s: %s" % (program, error.strerror)) from None
+        raise ProgramError(f"the program can't be run: {program}: {error.strerror}") from None
     except subprocess.TimeoutExpired:
-        raise ProgramError("%s takes more than %g s to explain the session" % (program, patience or 0)) from None
+        raise ProgramError(f"{program} takes more than {patience or 0:g} s to explain the session") from None
     if status:
         said = in_a_line(fault)
-        raise ProgramError(why_not(said, script, program) or "%s ended with status %d" % (program, status))
+        raise ProgramError(why_not(said, script, program) or f"{program} ended with status {status}")
     try:
         return Lines(script).read(told.decode("ascii", "replace"))
     except Unreadable as error:
-        raise ProgramError("%s: %s" % (program, error)) from None
+        raise ProgramError(f"{program}: {error}") from None
 
 
 def why_not(said: str, script: Sequence[str], program: str) -> str:
@@ -49,7 +49,7 @@ def why_not(said: str, script: Sequence[str], program: str) -> str:
     number = said[len(BAD_LINE):]
     if said.startswith(BAD_LINE) and number.isdigit() and 0 < int(number) <= len(script):
         line = unit(script[int(number) - 1].encode("latin-1"), SHOWN)
-        return "line %s isn't one of a replay script (docs/REPLAY.md): %s" % (number, line)
+        return f"line {number} isn't one of a replay script (docs/REPLAY.md): {line}"
     return said
 
 

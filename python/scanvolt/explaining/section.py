@@ -19,7 +19,10 @@ FLUSHED = 1.0           # seconds after which a packet is in the file that tshar
 def section(found: Explanation, name: str, folder: str | None) -> str:
     """The last lines of the timeline, and the end. If there is a folder, keeps script, text and page there."""
     timeline, end = found.lines(), found.end_lines()
-    last = HINT if not folder else "kept: %s.replay, .txt, .html" % kept(found, timeline + end, name, folder)
+    last = HINT
+    if folder:
+        stem = kept(found, timeline + end, name, folder)
+        last = f"kept: {stem}.replay, .txt, .html"
     return "\n".join(found.lines(LINES) + end + [last])
 
 
@@ -41,6 +44,6 @@ def captured(server: Server, start: float, capture: str) -> tuple[Explanation, l
     time.sleep(FLUSHED)
     warnings: list[str] = []
     given = argparse.Namespace(
-        file=capture, program=server.program, start="%.6f" % start, core=server.core, abort=server.abort,
+        file=capture, program=server.program, start=f"{start:.6f}", core=server.core, abort=server.abort,
         portmap=server.port_mapper, scenario=None if server.scenario == os.devnull else server.scenario)
     return Explanation(script(given, warnings.append), server.program), warnings

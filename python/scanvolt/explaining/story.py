@@ -51,12 +51,12 @@ class Call:
     @property
     def words(self) -> str:
         """Its name and arguments."""
-        return ("%s %s" % (self.name, self.arguments.more)).rstrip()
+        return (f"{self.name} {self.arguments.more}").rstrip()
 
     @property
     def who(self) -> str:
         """Its connection and link: `c0 link 1`."""
-        return "c%d" % self.conn + (" link %d" % self.link if self.link else "")
+        return f"c{self.conn}" + (f" link {self.link}" if self.link else "")
 
     @property
     def is_open(self) -> bool:
@@ -197,7 +197,7 @@ class Story:
 
     def _executed(self, moment: Moment, step: Step, call: Call) -> None:
         """What a call that is executed does to the text that came."""
-        wait = step.of("c%d.wait" % call.conn)
+        wait = step.of(f"c{call.conn}.wait")
         done = call.ended is moment and (wait is None or wait.new == "none")
         if not done or call.answer is None or call.answer.error is None:
             return
@@ -255,7 +255,7 @@ class Story:
     def unfinished(self) -> list[tuple[int, int]]:
         """The open connections on which a call came that isn't whole, and how many bytes of it."""
         found = [(conn, port.asks.count - port.asks.start) for conn, port in sorted(self._ports.items())]
-        return [(conn, count) for conn, count in found if count and self.value("c%d.role" % conn) != "closed"]
+        return [(conn, count) for conn, count in found if count and self.value(f"c{conn}.role") != "closed"]
 
     def behind(self, call: Call) -> list[Call]:
         """The calls that came after it on its connection and aren't answered."""
@@ -272,10 +272,10 @@ def _message(body: bytes) -> CallMessage:
 
 def call_words(call: Call | None) -> str:
     """A call with its link, in words."""
-    return "a call" if call is None else "%s (%s)" % (call.words, call.who)
+    return "a call" if call is None else f"{call.words} ({call.who})"
 
 
 def call_list(calls: Sequence[Call], most: int = 3) -> str:
     """Calls in a row; of many, the first."""
     more = len(calls) - most
-    return ", ".join(map(call_words, calls[:most])) + (" and %d more" % more if more > 0 else "")
+    return ", ".join(map(call_words, calls[:most])) + (f" and {more} more" if more > 0 else "")

@@ -33,7 +33,7 @@ def _block(block: Block, slots: Slots, is_new: bool) -> str:
     place = slots.last(block.moment) if block.kind == "answer" else slots.at(block.moment.steps[0])
     call = block.call
     rows = "" if block.kind == "reading" else "".join(_row(row, slots, place) for row in block.rows if row.label or row.words)
-    who, colour = block.who.replace("link ", "L"), "c%d" % (call.conn % COLOURS) if call else "c9"
+    who, colour = block.who.replace("link ", "L"), f"c{call.conn % COLOURS}" if call else "c9"
     return BLOCK % (
         block.kind, " err" if block.is_fault else "", place, call.link or "" if call else "", " new" if is_new else "",
         millis(block.clock)[:-3], colour, html.escape(who), _head(block), _reply(block), rows)
@@ -47,17 +47,17 @@ def _head(block: Block) -> str:
         return html.escape(block.head)
     name, _, more = block.head.partition(" ")
     mark = "‹ " if block.kind == "answer" else ""
-    rest = " <code>%s</code>" % html.escape(more) if more else ""
-    return "%s<b>%s</b>%s" % (mark, html.escape(name.replace("device_", "")), rest)
+    rest = f" <code>{html.escape(more)}</code>" if more else ""
+    return f"{mark}<b>{html.escape(name.replace('device_', ''))}</b>{rest}"
 
 
 def _reply(block: Block) -> str:
     found = ""
     if block.reply:
         arrow = "…" if block.kind in ("waits", "queued") else "→"
-        found = ' <span class="re">%s %s</span>' % (arrow, html.escape(block.reply))
+        found = f' <span class="re">{arrow} {html.escape(block.reply)}</span>'
     if block.times > 1 and block.kind == "call":
-        found += ' <span class="dim">%d times, until %s</span>' % (block.times, millis(block.last))
+        found += f' <span class="dim">{block.times} times, until {millis(block.last)}</span>'
     return found
 
 
@@ -65,9 +65,9 @@ def _row(row: Row, slots: Slots, place: int) -> str:
     """What a step changed."""
     label = row.label if row.kind != "event" else ""
     kind = "srq" if row.kind == "request" else "u" if row.kind in ("unit", "interrupt") else ""
-    return '<div class="r %s" data-s="%d">%s%s</div>' % (
-        kind, slots.at(row.step) if row.step else place, "<code>%s</code> " % html.escape(label) if label else "",
-        _chips(row.words))
+    at = slots.at(row.step) if row.step else place
+    code = f"<code>{html.escape(label)}</code> " if label else ""
+    return f'<div class="r {kind}" data-s="{at}">{code}{_chips(row.words)}</div>'
 
 
 def _chips(words: str) -> str:
@@ -75,7 +75,7 @@ def _chips(words: str) -> str:
     found = []
     for part in words.split("; ") if words else ():
         kind = "bad" if part.startswith("error -") and "taken" not in part else "st" if part.startswith("STB") else ""
-        found.append('<span class="ch %s">%s</span>' % (kind, html.escape(part)))
+        found.append(f'<span class="ch {kind}">{html.escape(part)}</span>')
     return " ".join(found)
 
 
@@ -85,8 +85,8 @@ def ending(lines: list[str]) -> str:
     for line in lines[1:]:
         label, words, deep = _labelled(line)
         who = not label and len(line) - len(line.lstrip()) == 2
-        found.append('<div class="e%s"><span>%s</span><div class="d%d">%s</div></div>' % (
-            " who" if who else "", label, deep, html.escape(re.sub(" {2,}", ", ", words))))
+        kind, said = "e who" if who else "e", html.escape(re.sub(" {2,}", ", ", words))
+        found.append(f'<div class="{kind}"><span>{label}</span><div class="d{deep}">{said}</div></div>')
     return "".join(found)
 
 

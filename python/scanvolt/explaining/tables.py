@@ -1,8 +1,7 @@
 """Tables of the documents: bits, sums of bits, errors, and why an event is refused. `tools/explaining` writes this file."""
+from typing import Dict, Tuple
 
-from __future__ import annotations
-
-BITS: dict[str, dict[int, tuple[str, str]]] = {
+BITS: Dict[str, Dict[int, Tuple[str, str]]] = {
     'poll': {
         2: ('EAV', 'an error is queued'),
         3: ('QUES', 'an enabled questionable event'),
@@ -34,19 +33,19 @@ BITS: dict[str, dict[int, tuple[str, str]]] = {
         2: ('MONITORED', 'the monitored input is outside the limits'),
     },
 }
-SUMS: dict[tuple[str, int], tuple[str, str]] = {
+SUMS: Dict[Tuple[str, int], Tuple[str, str]] = {
     ('poll', 7): ('oper.event', 'oper.enable'),
     ('poll', 5): ('esr', 'ese'),
     ('poll', 3): ('ques.event', 'ques.enable'),
     ('ques.cond', 9): ('lim.event', 'lim.enable'),
 }
-CLASSES: dict[int, int] = {
+CLASSES: Dict[int, int] = {
     2: 4,
     3: 3,
     4: 2,
     5: 1,
 }
-ERRORS: dict[int, str] = {
+ERRORS: Dict[int, str] = {
     -101: "Invalid character",
     -102: "Syntax error",
     -104: "Data type error",
@@ -75,7 +74,7 @@ ERRORS: dict[int, str] = {
     -420: "Query UNTERMINATED",
     -430: "Query DEADLOCKED",
 }
-REFUSED: dict[int, str] = {
+REFUSED: Dict[int, str] = {
     1: "memory was refused",
     2: "the connection is open already",
     3: "the connection or interrupt channel doesn't exist or isn't open",
@@ -86,7 +85,7 @@ REFUSED: dict[int, str] = {
     9: "the voltage is beyond plus or minus 1,000,000,000 microvolts",
     10: "the clock has its last value",
 }
-START: dict[str, object] = {
+START: Dict[str, object] = {
     'esr': 128,
     'count': 1,
     'source': "imm",

@@ -38,19 +38,19 @@ class Telling:
         self._by_name: dict[str, Callable[[Change], str | None]] = {
             "poll": self._poll, "errors": self._errors, "lost": self._lost, "lock": self._lock, "held": self._held,
             "state": self._state,
-            "source": lambda one: "trigger source %s" % SOURCES[str(one.new)], "reading": self._reading, "text": self._text,
+            "source": lambda one: f"trigger source {SOURCES[str(one.new)]}", "reading": self._reading, "text": self._text,
             "response": self._response, "opc": lambda one: "*OPC pending" if one.new else None,
-            "count": lambda one: "count of scans %s" % one.new, "list": lambda one: "scan list %s" % channels(one.new),
-            "range": lambda one: "range %s" % volts(as_number(one.new)), "monitor": lambda one: "monitored channel %s" % one.new,
-            "upper": lambda one: "upper limit %s" % volts(as_number(one.new)),
-            "lower": lambda one: "lower limit %s" % volts(as_number(one.new)),
-            "limits": lambda one: "limits %s" % ("on" if one.new else "off"),
+            "count": lambda one: f"count of scans {one.new}", "list": lambda one: f"scan list {channels(one.new)}",
+            "range": lambda one: f"range {volts(as_number(one.new))}", "monitor": lambda one: f"monitored channel {one.new}",
+            "upper": lambda one: f"upper limit {volts(as_number(one.new))}",
+            "lower": lambda one: f"lower limit {volts(as_number(one.new))}",
+            "limits": lambda one: "limits on" if one.new else "limits off",
         }
         self._by_tail: dict[str, Callable[[Change], str | None]] = {"wait": self._wait, "open": self._open,
                                                                       "faulted": self._faulted}
         self._by_head: dict[str, Callable[[Change], str | None]] = {
-            "link": lambda one: "link %s ended" % one.name[5:] if one.new == "none" else None,
-            "srq": lambda one: "service requests of link %s %s" % (one.name[4:], one.new)}
+            "link": lambda one: f"link {one.name[5:]} ended" if one.new == "none" else None,
+            "srq": lambda one: f"service requests of link {one.name[4:]} {one.new}"}
 
     def change(self, change: Change) -> str | None:
         """A change in words; None if it is noise."""
@@ -60,7 +60,7 @@ class Telling:
             how = self._bits
         found = None if how is None else how(change)
         if found is None and self.everything:
-            return "%s %s -> %s" % (change.name, shown(change.old), shown(change.new))
+            return f"{change.name} {shown(change.old)} -> {shown(change.new)}"
         return found
 
     def at(self, name: str, step: Step) -> str:
@@ -70,7 +70,7 @@ class Telling:
     def link(self, number: int) -> str:
         """A link, with its connection."""
         conn = self.story.owners.get(number)
-        return "link %d" % number + ("" if conn is None else " (c%d)" % conn)
+        return f"link {number}" + ("" if conn is None else f" (c{conn})")
 
     def holder(self, step: Step) -> str:
         """The link that holds the lock after a step."""
@@ -79,32 +79,33 @@ class Telling:
 
     def _poll(self, change: Change) -> str:
         old, new = as_number(change.old), as_number(change.new)
-        return "STB %d -> %d (%s)" % (old, new, moved("poll", old, new))
+        return f"STB {old} -> {new} ({moved('poll', old, new)})"
 
     def _bits(self, change: Change) -> str | None:
         name, old, new = change.name, as_number(change.old), as_number(change.new)
         if name == "oper.event" and not (old ^ new) & self.lines.bits("oper.enable", change.step.number):
             return None
         if name in FLAGS:
-            return "%s %s" % (LABELS[name], moved(name, old, new))
+            return f"{LABELS[name]} {moved(name, old, new)}"
         named = moved(name, known(name, old), known(name, new))
-        return "%s %d -> %d%s" % (LABELS[name], old, new, " (%s)" % named if named and len(named) < LONG else "")
+        told = f"{LABELS[name]} {old} -> {new}"
+        return f"{told} ({named})" if named and len(named) < LONG else told
 
     def _errors(self, change: Change) -> str:
         old, new = numbers(change.old), numbers(change.new)
         if not new:
-            return "error %s taken: queue empty" % error(old[0]) if len(old) == 1 else "error queue cleared (%d)" % len(old)
+            return f"error {error(old[0])} taken: queue empty" if len(old) == 1 else f"error queue cleared ({len(old)})"
         if new == old[1:]:
-            return "error %s taken, %d left" % (error(old[0]), len(new))
+            return f"error {error(old[0])} taken, {len(new)} left"
         added = new[len(old):] if new[:len(old)] == old else new[-1:]
-        return "error " + ", ".join(map(error, added)) + ("" if len(new) == len(added) else " (%d in the queue)" % len(new))
+        return "error " + ", ".join(map(error, added)) + ("" if len(new) == len(added) else f" ({len(new)} in the queue)")
 
     def _lost(self, change: Change) -> str | None:
         count = as_number(change.new) - as_number(change.old)
-        return "%s lost: the queue is full" % counted(count, "error") if count > 0 else None
+        return f"{counted(count, 'error')} lost: the queue is full" if count > 0 else None
 
     def _lock(self, change: Change) -> str:
-        return "lock freed by link %s" % change.old if change.new == "none" else "lock: %s" % self.link(int(str(change.new)))
+        return f"lock freed by link {change.old}" if change.new == "none" else f"lock: {self.link(int(str(change.new)))}"
 
     def _held(self, change: Change) -> str:
         if change.new != "none":
@@ -115,10 +116,11 @@ class Telling:
         scan, of = pair(self.lines.at("scan", change.step.number))
         if change.new == "waiting":
             scan += 1
-        where = " (scan %d of %d)" % (scan, of) if of > 1 else ""
+        where = f" (scan {scan} of {of})" if of > 1 else ""
         if change.new == "waiting":
-            return "scan: waiting for %s trigger%s" % (a(SOURCES[self.at("source", change.step)]), where)
-        return "scan: %s%s" % (change.new, where)
+            source = a(SOURCES[self.at("source", change.step)])
+            return f"scan: waiting for {source} trigger{where}"
+        return f"scan: {change.new}{where}"
 
     def _reading(self, change: Change) -> str | None:
         return reading(change.new) if change.new != "none" else "readings dropped"
@@ -126,29 +128,31 @@ class Telling:
     def _text(self, change: Change) -> str | None:
         if change.new in (0, "ended"):
             dropped = change.new == 0 and isinstance(change.old, int) and change.step.kind in ("event", "resume")
-            return "unfinished message of %s dropped" % counted(as_number(change.old), "byte") if dropped else None
-        return "%s of a message that hasn't ended" % counted(as_number(change.new), "byte")
+            return f"unfinished message of {counted(as_number(change.old), 'byte')} dropped" if dropped else None
+        return f"{counted(as_number(change.new), 'byte')} of a message that hasn't ended"
 
     def _response(self, change: Change) -> str | None:
         old, new, call = as_number(change.old), as_number(change.new), self.story.call_of(change.step)
         if new > old:
-            return "response of %s ready" % counted(new, "byte")
+            return f"response of {counted(new, 'byte')} ready"
         if new == 0 and call is not None and call.name == "device_read" and change.step.kind != "interrupt":
             return None
-        return "response dropped, %s" % counted(old, "byte") if new == 0 else "%d of %d bytes left" % (new, old)
+        return f"response dropped, {counted(old, 'byte')}" if new == 0 else f"{new} of {old} bytes left"
 
     def _wait(self, change: Change) -> str | None:
         if change.new == "none":
             return None
         what, _, deadline = str(change.new).split()
-        most = ", until %s at most" % millis(int(deadline)) if deadline != "never" else ""
-        return "waits for %s%s%s" % (AWAITED[what], ", held by %s" % self.holder(change.step) if what == "lock" else "", most)
+        most = f", until {millis(int(deadline))} at most" if deadline != "never" else ""
+        held = f", held by {self.holder(change.step)}" if what == "lock" else ""
+        return f"waits for {AWAITED[what]}{held}{most}"
 
     def _open(self, change: Change) -> str:
-        return "interrupt channel of c%s %s" % (change.name[1:].split(".")[0], "open" if change.new else "closed")
+        conn, state = change.name[1:].split(".")[0], "open" if change.new else "closed"
+        return f"interrupt channel of c{conn} {state}"
 
     def _faulted(self, change: Change) -> str | None:
-        return "c%s takes no further call" % change.name[1:].split(".")[0] if change.new else None
+        return f"c{change.name[1:].split('.')[0]} takes no further call" if change.new else None
 
 
 def numbers(value: object) -> tuple[int, ...]:

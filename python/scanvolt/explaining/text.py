@@ -40,7 +40,7 @@ def row_text(row: Row, paint: Paint) -> str:
     label = row.label if row.kind != "event" else ""
     if label:
         indent = INDENT + LABEL + 2
-        body = "%-*s  %s" % (LABEL, label, wrapped(row.words, WIDTH - indent, indent))
+        body = f"{label:<{LABEL}}  {wrapped(row.words, WIDTH - indent, indent)}"
     else:
         body = wrapped(row.words, WIDTH - INDENT, INDENT)
     return " " * INDENT + paint(body.rstrip(), YELLOW if row.kind == "request" else "")
@@ -50,19 +50,20 @@ def readings(block: Block) -> str:
     """One reading, or how many until when."""
     if block.times == 1:
         return block.rows[-1].words if block.rows else block.head
-    return "%d readings, until %s; the last: %s" % (block.times, millis(block.last), block.rows[-1].words)
+    return f"{block.times} readings, until {millis(block.last)}; the last: {block.rows[-1].words}"
 
 
 def block_text(block: Block, clock: str, paint: Paint) -> list[str]:
     """The lines of a block."""
-    start = "%s %s" % (paint("%8s" % clock, DIM), "<" if block.kind == "answer" else " ")
+    start = paint(f"{clock:>8}", DIM) + (" <" if block.kind == "answer" else "  ")
+    who = paint(f"{block.who:<10}", BLUE)
     if block.kind == "reading":
-        return [start + "%s %s" % (paint("%-10s" % block.who, BLUE), readings(block))]
+        return [f"{start}{who} {readings(block)}"]
     waits = block.kind in ("waits", "queued")
     arrow = "" if not block.reply else " .. " if waits else " -> "
     reply = paint(block.reply, RED if block.is_fault else YELLOW if waits else GREEN)
-    times = paint("   %d times, until %s" % (block.times, millis(block.last)), DIM) if block.times > 1 else ""
-    found = [start + "%s %s%s%s%s" % (paint("%-10s" % block.who, BLUE), paint(block.head, BOLD), arrow, reply, times)]
+    times = paint(f"   {block.times} times, until {millis(block.last)}", DIM) if block.times > 1 else ""
+    found = [f"{start}{who} {paint(block.head, BOLD)}{arrow}{reply}{times}"]
     found += [row_text(row, paint) for row in block.rows if row.label or row.words]
     return [line for one in found for line in one.split("\n")]
 
@@ -84,4 +85,5 @@ def newest(lines: Sequence[str], count: int) -> list[str]:
         return []
     if len(lines) <= count:
         return list(lines)
-    return ["%8s  %d lines before" % ("..", len(lines) - count)] + list(lines[len(lines) - count:])
+    left = len(lines) - count
+    return [f"      ..  {left} lines before"] + list(lines[left:])

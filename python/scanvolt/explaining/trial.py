@@ -64,7 +64,7 @@ class Trial:
                     self._take(part, place < count - 1)
             milliseconds -= count
             while self._late:
-                self.do("turn %d\n" % self._late.pop(0))
+                self.do(f"turn {self._late.pop(0)}\n")
 
     def skip(self, milliseconds: int) -> None:
         """Lets time pass in which nothing is due, at once."""
@@ -80,22 +80,22 @@ class Trial:
         message = read_call(Records().push(data)[0].body)
         queue = self._queues.setdefault(conn, [])
         queue.append((watched, message))
-        self.do("bytes %d %s\n" % (conn, data.hex()) + ("turn %d\n" % conn if len(queue) == 1 else ""))
+        self.do(f"bytes {conn} {data.hex()}\n" + (f"turn {conn}\n" if len(queue) == 1 else ""))
 
     def close(self, conn: int) -> None:
         """Closes a connection: its calls get no reply."""
         for number, _ in self._queues.pop(conn, []):
             if number is not None:
                 self.ended[number] = (self.clock, "no reply, its connection is closed", self.doing)
-        self.do("close c%d\n" % conn)
+        self.do(f"close c{conn}\n")
 
     def fresh(self, role: str = "core") -> int:
         """Opens a connection that nobody has. Raises ValueError if all are taken."""
-        number = next((one for one in range(PLACES) if one not in self._queues and self.value("c%d.role" % one) == "closed"), None)
+        number = next((one for one in range(PLACES) if one not in self._queues and self.value(f"c{one}.role") == "closed"), None)
         if number is None:
             raise ValueError("all connections are taken")
         self._queues[number] = []
-        self.do("open %d %s\n" % (number, role))
+        self.do(f"open {number} {role}\n")
         return number
 
     def link(self, conn: int) -> int:
@@ -139,4 +139,4 @@ class Trial:
         if queue and is_late:
             self._late.append(conn)
         elif queue:
-            self.do("turn %d\n" % conn)
+            self.do(f"turn {conn}\n")

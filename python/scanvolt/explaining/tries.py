@@ -39,7 +39,7 @@ class Outcome:
         return self.words is not None
 
     def __str__(self) -> str:
-        return "%s, at %s: %s" % (self.what, millis(self.clock), self.words)
+        return f"{self.what}, at {millis(self.clock)}: {self.words}"
 
 
 @dataclass(frozen=True)
@@ -180,14 +180,14 @@ def _kinds(story: Story) -> Iterator[Kind]:
     if "lock" in waits and story.value("lock") != "none":
         holder = int(str(story.value("lock")))
         conn = story.owners[holder]
-        yield Kind("device_unlock of link %d" % holder, ("lock",), lambda trial: trial.send(conn, calls.device_unlock(holder)))
-        yield Kind("the close of c%d" % conn, ("lock",), lambda trial: trial.close(conn))
+        yield Kind(f"device_unlock of link {holder}", ("lock",), lambda trial: trial.send(conn, calls.device_unlock(holder)))
+        yield Kind(f"the close of c{conn}", ("lock",), lambda trial: trial.close(conn))
     for call in [one for one in story.waiting() if one.waits[-1].what == "dial"][:1]:
         for how in ("ok", "failed"):
-            yield Kind("connecting: %s" % how, ("dial",), _dialed(call.conn, how))
+            yield Kind(f"connecting: {how}", ("dial",), _dialed(call.conn, how))
     for call in [one for one in story.waiting() if one.waits[-1].link][:ABORTED]:
         link = call.waits[-1].link or 0
-        yield Kind("device_abort of link %d" % link, (call.waits[-1].what,), _abort(link), link)
+        yield Kind(f"device_abort of link {link}", (call.waits[-1].what,), _abort(link), link)
 
 
 def _time(trial: Trial) -> None:
@@ -216,9 +216,9 @@ def _by_link(trial: Trial, what: str, make: Callable[[int, int], Sent[None]], mo
     holder = trial.value("lock")
     conn = trial.fresh() if holder == "none" else trial.story.owners[int(str(holder))]
     link = trial.link(conn) if holder == "none" else int(str(holder))
-    done = "%s of %s" % (what, "any link" if holder == "none" else "link %d" % link)
+    done = f"{what} of any link" if holder == "none" else f"{what} of link {link}"
     for count in range(1, most + 1):
-        trial.doing = done + (", %d times" % count if count > 1 else "")
+        trial.doing = done + (f", {count} times" if count > 1 else "")
         trial.send(conn, make(link, 0))
         if most > 1:
             trial.pass_time(pair(trial.value("place"))[1])
@@ -227,7 +227,7 @@ def _by_link(trial: Trial, what: str, make: Callable[[int, int], Sent[None]], mo
 
 
 def _dialed(conn: int, how: str) -> Act:
-    return lambda trial: trial.do("dialed %d %s\n" % (conn, how))
+    return lambda trial: trial.do(f"dialed {conn} {how}\n")
 
 
 def _abort(link: int) -> Act:

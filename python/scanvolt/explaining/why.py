@@ -31,7 +31,7 @@ class Why:
             return self.bit(one.name, one.bit, number)
         if one.name in NAMES:
             value = self._lines.bits(one.name, number)
-            return Node("%s is %d" % (LABELS[one.name], value), None,
+            return Node(f"{LABELS[one.name]} is {value}", None,
                         [self.bit(one.name, bit, number) for bit in range(15, -1, -1) if value >> bit & 1])
         return self.errors(number) if one.name == "errors" else self.plain(one.name, number)
 
@@ -49,7 +49,7 @@ class Why:
             return node
         before = None if node.step is None else self.model.flip(name, bit, node.step.number - 1, 1)
         if before is not None:
-            node.children.append(Node("it had been set at %s" % self._doers.by(before.step), before.step,
+            node.children.append(Node(f"it had been set at {self._doers.by(before.step)}", before.step,
                                       self.model.causes(name, bit, 1, before, 1)))
         if lacks:
             node.children += self._lacks(name, bit, number)
@@ -65,15 +65,14 @@ class Why:
         else:
             return []
         has, wants = (self._lines.bits(one, number) & (~MASTER if bit == RQS else -1) for one in (event, enable))
-        said = "; ".join("%s has %s" % (label, ", ".join(bits(one, value)) or "nothing")
+        said = "; ".join(f"{label} has {', '.join(bits(one, value)) or 'nothing'}"
                          for label, one, value in zip(labels, (event, enable), (has, wants)))
         if bit == RQS and has & wants:
             stayed = ", ".join(bits("stb", has & wants))
-            return [Node("%s: %s stayed set at the poll, and only a bit that is newly set, or newly enabled, requests again" % (
-                said, stayed))]
-        node = Node("%s: no bit is in both" % said)
+            return [Node(f"{said}: {stayed} stayed set at the poll, and only a bit that is newly set, or newly enabled, requests again")]
+        node = Node(f"{said}: no bit is in both")
         if bit == RQS:
-            node.children = [Node("to get %s: %s" % (self.model.title("poll", one), lack.text))
+            node.children = [Node(f"to get {self.model.title('poll', one)}: {lack.text}")
                              for one in range(8) if wants >> one & 1 for lack in self._lacks("poll", one, number)]
         return [node]
 
@@ -82,16 +81,17 @@ class Why:
         queue = numbers(self._lines.at("errors", number))
         if queue:
             rows = zip(queue, self._origins(number))
-            return Node("%d error%s in the queue, the oldest first" % (len(queue), "" if len(queue) == 1 else "s"), None,
-                        [Node("%s: %s" % (error(one), self._doers.by(step)), step) for one, step in rows])
+            count = "1 error" if len(queue) == 1 else f"{len(queue)} errors"
+            return Node(f"{count} in the queue, the oldest first", None,
+                        [Node(f"{error(one)}: {self._doers.by(step)}", step) for one, step in rows])
         change = self._lines.last("errors", number)
         if change is None:
             return Node("the error queue is empty, and was so at power on")
-        node = Node("the error queue is empty since %s" % self._doers.by(change.step), change.step)
+        node = Node(f"the error queue is empty since {self._doers.by(change.step)}", change.step)
         before = self._lines.last("errors", number, lambda one: len(numbers(one.new)) > len(numbers(one.old)))
         if before is not None:
-            node.children.append(Node("the last error was %s: %s" % (error(numbers(before.new)[-1]),
-                                                                     self._doers.by(before.step)), before.step))
+            last = error(numbers(before.new)[-1])
+            node.children.append(Node(f"the last error was {last}: {self._doers.by(before.step)}", before.step))
         return node
 
     def _origins(self, number: int) -> list[Step]:
@@ -115,7 +115,7 @@ class Why:
         said = self._said(name, value)
         if change is None:
             return Node(said + ", and was so at power on")
-        node = Node("%s since %s" % (said, self._doers.by(change.step)), change.step)
+        node = Node(f"{said} since {self._doers.by(change.step)}", change.step)
         if name == "lock":
             node.children = self._lock(value, change.step, number)
         elif name == "state" and value != "idle":
@@ -128,51 +128,51 @@ class Why:
     def _said(self, name: str, value: Value) -> str:
         """A value in words."""
         if name == "lock":
-            return "the lock is free" if value == "none" else "%s holds the lock" % self._telling.link(int(str(value)))
+            return "the lock is free" if value == "none" else f"{self._telling.link(int(str(value)))} holds the lock"
         if name == "reading":
             return "there is no reading" if value == "none" else reading(value)
         if name in ("range", "upper", "lower"):
-            return "%s is %s" % (name, volts(as_number(value)))
-        return {"held": "no unit is held" if value == "none" else "a unit is held", "state": "the scan is %s" % value,
-                "source": "the trigger source is %s" % SOURCES.get(str(value), value),
-                "list": "the scan list is %s" % channels(value),
-                "response": "the response has %s bytes" % value}.get(name, "%s is %s" % (name, shown(value)))
+            return f"{name} is {volts(as_number(value))}"
+        return {"held": "no unit is held" if value == "none" else "a unit is held", "state": f"the scan is {value}",
+                "source": f"the trigger source is {SOURCES.get(str(value), value)}",
+                "list": f"the scan list is {channels(value)}",
+                "response": f"the response has {value} bytes"}.get(name, f"{name} is {shown(value)}")
 
     def _lock(self, value: Value, step: Step, number: int) -> list[Node]:
         """Who waits for the lock, or who held it before."""
         if value != "none":
             waiting = [one for one in self._story.calls if any(wait.what == "lock" and wait.is_on(number) for wait in one.waits)]
-            return [Node("for it waits %s, since %s" % (call_words(one), millis(one.waits[0].begin.moment.clock)),
+            return [Node(f"for it waits {call_words(one)}, since {millis(one.waits[0].begin.moment.clock)}",
                          one.waits[0].begin)
                     for one in waiting]
         before = self._lines.last("lock", step.number - 1)
         if before is None or before.new == "none":
             return []
-        return [Node("before, %s held it since %s" % (self._telling.link(int(str(before.new))), self._doers.by(before.step)),
-                     before.step)]
+        link, doer = self._telling.link(int(str(before.new))), self._doers.by(before.step)
+        return [Node(f"before, {link} held it since {doer}", before.step)]
 
     def _wait(self, port: str, number: int) -> Node:
         """Why the newest call of a connection waits, or waited."""
         call, wait = self._newest(port, number)
         over = wait.end is not None and wait.end.number <= number
-        most = ", until %s at most" % millis(wait.deadline) if wait.deadline is not None else ""
-        node = Node("%s: %s%s" % (call.who, self._reasons.headline(call, wait, over), most), wait.begin)
+        most = f", until {millis(wait.deadline)} at most" if wait.deadline is not None else ""
+        node = Node(f"{call.who}: {self._reasons.headline(call, wait, over)}{most}", wait.begin)
         parent = node
         for reason in self._reasons.why(wait, wait.begin.number if over else number):
             parent.children.append(Node(reason))
             parent = parent.children[-1]
         if over and wait.end is not None:
-            node.children.append(Node("it ended at %s: %s" % (self._doers.by(wait.end), call.reply.words), wait.end))
+            node.children.append(Node(f"it ended at {self._doers.by(wait.end)}: {call.reply.words}", wait.end))
         elif self._tried is not None and wait.end is None:
             node.children.append(Node("would end it", None, [Node(str(one)) for one in self._tried.of(call) if one.is_end]))
         return node
 
     def _newest(self, port: str, number: int) -> tuple[Call, Wait]:
         """The newest call of a connection that waited, and its wait."""
-        found = [(one, wait) for one in self._story.calls if "c%d" % one.conn == port for wait in one.waits
+        found = [(one, wait) for one in self._story.calls if f"c{one.conn}" == port for wait in one.waits
                  if wait.begin.number <= number]
         if not found:
-            raise Unknown("no call of %s waited" % port)
+            raise Unknown(f"no call of {port} waited")
         return max(found, key=lambda pair: pair[1].begin.number)
 
 

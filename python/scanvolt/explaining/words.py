@@ -16,14 +16,14 @@ NAMES: dict[str, dict[int, str]] = {
     value: {bit: name for bit, (name, _) in BITS[register].items()}
     for value, register in (("poll", "poll"), ("stb", "poll"), ("sre", "poll"), ("esr", "esr"), ("ese", "esr"))
 }
-NAMES.update(("%s.%s" % (register, part), {bit: name for bit, (name, _) in BITS[register].items()})
+NAMES.update((f"{register}.{part}", {bit: name for bit, (name, _) in BITS[register].items()})
              for register in REGISTERS for part, _ in PARTS)
 NAMES["stb"] = {**NAMES["stb"], 6: "MSS"}
 NAMES["sre"] = {bit: name for bit, name in NAMES["sre"].items() if bit != 6}
 
 # What people call a value.
 LABELS: dict[str, str] = {"poll": "STB", "stb": "STB (MSS)", "sre": "SRE", "esr": "ESR", "ese": "ESE"}
-LABELS.update(("%s.%s" % (register, part), "%s %s" % (register.upper(), word)) for register in REGISTERS for part, word in PARTS)
+LABELS.update((f"{register}.{part}", f"{register.upper()} {word}") for register in REGISTERS for part, word in PARTS)
 
 
 def stands(name: str, bit: int) -> str:
@@ -34,7 +34,7 @@ def stands(name: str, bit: int) -> str:
 
 def bit_name(name: str, bit: int) -> str:
     """The name of a bit, or else its number."""
-    return NAMES.get(name, {}).get(bit, "bit %d" % bit)
+    return NAMES.get(name, {}).get(bit, f"bit {bit}")
 
 
 def bits(name: str, value: int) -> list[str]:
@@ -54,12 +54,12 @@ def moved(name: str, old: int, new: int) -> str:
 
 def shown_bits(name: str, value: int) -> str:
     """A number with the names of its bits: `68 (RQS, EAV)`."""
-    return "%d%s" % (value, " (%s)" % ", ".join(bits(name, value)) if value else "")
+    return f"{value} ({', '.join(bits(name, value))})" if value else "0"
 
 
 def error(number: int) -> str:
     """An error of the queue, with its text."""
-    return '%d "%s"' % (number, ERRORS.get(number, "unknown"))
+    return f'{number} "{ERRORS.get(number, "unknown")}"'
 
 
 def escaped(data: bytes) -> str:
@@ -72,7 +72,7 @@ def quoted(data: bytes, most: int = TEXT_MOST) -> str:
     found = escaped(data).replace('"', '\\"')
     if len(found) > most:
         found = found[:most // 2] + ".." + found[-most // 2 + 2:]
-    return '"%s"' % found
+    return f'"{found}"'
 
 
 def unit(data: bytes, most: int = UNIT_MOST) -> str:
@@ -83,7 +83,7 @@ def unit(data: bytes, most: int = UNIT_MOST) -> str:
 
 def counted(count: int, one: str) -> str:
     """How many there are of something: `1 call`, `2,000 calls`."""
-    return "%s %s" % (f"{count:,}", one if count == 1 else one + "s")
+    return f"{count:,} {one}" if count == 1 else f"{count:,} {one}s"
 
 
 def millis(count: int) -> str:
@@ -94,13 +94,14 @@ def millis(count: int) -> str:
 def long(count: int) -> str:
     """A time, in days or hours if it has many."""
     if count > 2 * DAY:
-        return "%d days" % (count // DAY)
-    return "%d hours" % (count // HOUR) if count > 2 * HOUR else millis(count)
+        return f"{count // DAY} days"
+    return f"{count // HOUR} hours" if count > 2 * HOUR else millis(count)
 
 
 def volts(micro: int) -> str:
     """Microvolts as volts."""
-    text = "%s%d.%06d" % ("-" if micro < 0 else "", abs(micro) // MICRO, abs(micro) % MICRO)
+    sign, whole, rest = "-" if micro < 0 else "", abs(micro) // MICRO, abs(micro) % MICRO
+    text = f"{sign}{whole}.{rest:06d}"
     return text.rstrip("0").rstrip(".") + " V"
 
 
@@ -109,8 +110,8 @@ def reading(value: Value) -> str:
     words = str(value).split()
     if len(words) != 3:
         return "no reading"
-    said = "overload, %s9.9E+37" % words[2][0] if words[2].endswith("over") else volts(int(words[2]))
-    return "reading %s: channel %s, %s" % (words[0], words[1], said)
+    said = f"overload, {words[2][0]}9.9E+37" if words[2].endswith("over") else volts(int(words[2]))
+    return f"reading {words[0]}: channel {words[1]}, {said}"
 
 
 def pair(value: Value) -> tuple[int, int]:
@@ -133,4 +134,5 @@ def channels(value: Value) -> str:
             runs[-1].append(one)
         else:
             runs.append([one])
-    return "(@%s)" % ",".join("%d:%d" % (run[0], run[-1]) if len(run) > 2 else ",".join(map(str, run)) for run in runs)
+    told = ",".join(f"{run[0]}:{run[-1]}" if len(run) > 2 else ",".join(map(str, run)) for run in runs)
+    return f"(@{told})"

@@ -39,7 +39,8 @@ class Order:
 
     def __str__(self) -> str:
         given = [repr(self.call)] if self.call else []
-        return "%s(%s)" % (self.kind, ", ".join(given + ([str(self.much)] if self.much else [])))
+        given += [str(self.much)] if self.much else []
+        return f"{self.kind}({', '.join(given)})"
 
 
 class Faults:
@@ -57,7 +58,7 @@ class Faults:
         self._cut: list[tuple[Connection, ConnectionError]] = []                   # connections to be closed
 
     def __repr__(self) -> str:
-        return "<Faults: %d ordered, %d came>" % (len(self.ordered), len(self.told))
+        return f"<Faults: {len(self.ordered)} ordered, {len(self.told)} came>"
 
     def next(self, call: str, error: int = 17, connection: Connection | None = None) -> None:
         """The next such call is answered with this VXI-11 error, 1 to 4,294,967,295. The instrument isn't asked."""
@@ -90,7 +91,7 @@ class Faults:
 
     def _order(self, kind: str, call: str | None, connection: Connection | None, much: int) -> None:
         if call is not None and call not in CALLS:
-            raise ValueError("no call of VXI-11: %r; there are %s" % (call, ", ".join(CALLS)))
+            raise ValueError(f"no call of VXI-11: {call!r}; there are {', '.join(CALLS)}")
         with self._meter._guard:
             self.ordered.append(Order(kind, call, connection, much))
 
@@ -118,12 +119,12 @@ class Faults:
         if order is None:
             return None
         if order.kind == "close":
-            return ConnectionError("%s: %s" % (self._tell(
-                who(pending), "the connection ended before %s came to the instrument" % call.name), HOW))
-        named = "%d, %s" % (order.much, ERRORS.get(order.much, "reserved error"))
+            told = self._tell(who(pending), f"the connection ended before {call.name} came to the instrument")
+            return ConnectionError(f"{told}: {HOW}")
+        named = f"{order.much}, {ERRORS.get(order.much, 'reserved error')}"
         pending._made = encode_reply(pending.xid, words(order.much))[MARK:]
-        pending._note = "%s: %s" % (self._tell(
-            who(pending), "%s was answered with error %s; the instrument wasn't asked" % (call.name, named)), HOW)
+        told = self._tell(who(pending), f"{call.name} was answered with error {named}; the instrument wasn't asked")
+        pending._note = f"{told}: {HOW}"
         return None
 
     def _reply(self, pending: Pending[object], body: bytes) -> bool:
@@ -132,14 +133,15 @@ class Faults:
         order = self._taken(connection, name, "delay", "drop_after") if self.ordered else None
         if order is not None and order.kind == "drop_after":
             size = min(order.much, MARK + len(body))
-            fault = ConnectionError("%s: %s" % (self._tell(who(pending), "the connection ended after %d of %d bytes of the "
-                                                           "reply to %s" % (size, MARK + len(body), name)), HOW))
+            told = self._tell(
+                who(pending), f"the connection ended after {size} of {MARK + len(body)} bytes of the reply to {name}")
+            fault = ConnectionError(f"{told}: {HOW}")
             self._cut.append((connection, fault))
             if size < MARK + len(body):
                 pending._end(clock, fault=fault)
                 return True
         elif order is not None:
-            self._tell(who(pending), "the reply to %s comes %d ms late" % (name, order.much))
+            self._tell(who(pending), f"the reply to {name} comes {order.much} ms late")
             return self._comes_later(pending, body, clock + order.much)
         return self._comes_later(pending, body)
 
@@ -155,8 +157,7 @@ class Faults:
         """Whether a service request of the instrument is lost."""
         order = self._taken(connection, "", "lose_request") if self.ordered else None
         if order is not None:
-            self._tell("c%d" % connection.number, "the service request %d, handle %r, was lost" % (
-                request.xid, request.handle))
+            self._tell(f"c{connection.number}", f"the service request {request.xid}, handle {request.handle!r}, was lost")
         return order is not None
 
     def _at_most(self, most: int) -> int:
@@ -181,4 +182,4 @@ class Faults:
 def who(pending: Pending[object]) -> str:
     """The connection and the link of a call, as the timeline names them."""
     link = getattr(pending.call, "link", 0)
-    return "c%d" % pending.connection.number + (" link %d" % link if link else "")
+    return f"c{pending.connection.number}" + (f" link {link}" if link else "")

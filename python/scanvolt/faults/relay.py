@@ -37,7 +37,7 @@ class _Way:
     def __init__(self, relay: Relay, source: socket.socket, target: socket.socket, towards: str, number: int) -> None:
         self._relay, self._source, self._target = relay, source, target
         self.towards, self.number = towards, number
-        self.thread = threading.Thread(target=self._run, daemon=True, name="relay towards the %s" % towards)
+        self.thread = threading.Thread(target=self._run, daemon=True, name=f"relay towards the {towards}")
 
     def _run(self) -> None:
         """Passes bytes on until one side ends."""
@@ -61,15 +61,15 @@ class _Way:
             return data[count or len(data):]
         if order.kind == "drop":
             size = min(order.much, len(data))
-            self._relay._tell(self, "drops %d bytes: %s" % (size, data[:size].hex()))
+            self._relay._tell(self, f"drops {size} bytes: {data[:size].hex()}")
             if size < order.much:
                 self._relay._again(_Order("drop", self.towards, 0, order.much - size))
             return data[size:]
         if order.kind == "delay":
-            self._relay._tell(self, "waits %d ms" % order.much)
+            self._relay._tell(self, f"waits {order.much} ms")
             self._relay._closed.wait(order.much / 1000)
             return data
-        self._relay._tell(self, "ends the connection; %d bytes that came aren't passed on" % len(data))
+        self._relay._tell(self, f"ends the connection; {len(data)} bytes that came aren't passed on")
         raise ConnectionAbortedError
 
     def _send(self, data: bytes) -> None:
@@ -77,7 +77,7 @@ class _Way:
         if not size or len(data) <= size:
             self._target.sendall(data)
             return
-        self._relay._tell(self, "splits %d bytes into pieces of %d" % (len(data), size))
+        self._relay._tell(self, f"splits {len(data)} bytes into pieces of {size}")
         for start in range(0, len(data), size):
             self._target.sendall(data[start:start + size])
             time.sleep(0.001)           # else the system joins the pieces
@@ -111,7 +111,9 @@ class Relay:
         RELAYS[next(_numbers)] = self
 
     def __repr__(self) -> str:
-        return "<Relay of port %d to %s:%d%s>" % (self.port, *self._peer, ", closed" if self._closed.is_set() else "")
+        host, port = self._peer
+        closed = ", closed" if self._closed.is_set() else ""
+        return f"<Relay of port {self.port} to {host}:{port}{closed}>"
 
     def __enter__(self: Itself) -> Itself:
         return self
@@ -150,11 +152,11 @@ class Relay:
     @staticmethod
     def _towards(towards: str) -> None:
         if towards not in (CLIENT, SERVER):
-            raise ValueError("bytes go towards the client or the server, and not %r" % (towards,))
+            raise ValueError(f"bytes go towards the client or the server, and not {towards!r}")
 
     def _order(self, kind: str, towards: str, after: int, much: int) -> None:
         self._towards(towards)
-        order = _Order(kind, towards, whole(after, 0, WORD, "%s wants a number of bytes before it" % kind), much)
+        order = _Order(kind, towards, whole(after, 0, WORD, f"{kind} wants a number of bytes before it"), much)
         with self._guard:
             self._orders.append(order)
 
@@ -177,8 +179,8 @@ class Relay:
 
     def _tell(self, way: _Way, words: str) -> None:
         """Notes a fault for the traces."""
-        told = "%.3f s, connection %d, towards the %s: the relay %s" % (
-            time.monotonic() - self._began, way.number, way.towards, words)
+        passed = time.monotonic() - self._began
+        told = f"{passed:.3f} s, connection {way.number}, towards the {way.towards}: the relay {words}"
         with self._guard:
             self.told.append(told)
 

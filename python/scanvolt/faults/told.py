@@ -27,5 +27,6 @@ def end_lines(faults: Sequence[Told]) -> list[str]:
     """The lines about faults at the end of a trace; none if none came."""
     found = [f"{one.clock:,} ms, {one.who}: {one.words}" for one in faults[-SHOWN:]]
     if len(faults) > SHOWN:
-        found.insert(0, "%d came; the last:" % len(faults))
-    return ["  %-10s%s" % ("" if place else "on order", line) for place, line in enumerate(found)]
+        found.insert(0, f"{len(faults)} came; the last:")
+    labels = ["on order"] + [""] * (len(found) - 1)
+    return [f"  {label:<10}{line}" for label, line in zip(labels, found)]

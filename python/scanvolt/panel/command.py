@@ -61,7 +61,7 @@ def _serve(given: argparse.Namespace) -> None:
             watch.start()
             threading.Thread(target=panel.serve_forever, daemon=True).start()
             server = watch.server
-            print("panel %s\nready %d %d %d %s" % (panel.address, server.core, server.abort, server.port_mapper, server.control),
+            print(f"panel {panel.address}\nready {server.core} {server.abort} {server.port_mapper} {server.control}",
                   flush=True)
             over.wait()
             panel.shutdown()
@@ -76,7 +76,7 @@ def main(given_words: list[str] | None = None, name: str = NAME) -> int:
         _serve(given)
         return 0
     except (OSError, ProgramError, ValueError, Wrong) as fault:
-        shown = "%s: %s" % (fault.filename, fault.strerror) if isinstance(fault, OSError) and fault.filename else \
+        shown = f"{fault.filename}: {fault.strerror}" if isinstance(fault, OSError) and fault.filename else \
             fault.strerror or str(fault) if isinstance(fault, OSError) else str(fault)
-        print("%s: %s" % (name, shown), file=sys.stderr)
+        print(f"{name}: {shown}", file=sys.stderr)
         return 2

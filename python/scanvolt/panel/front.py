@@ -12,7 +12,7 @@ from ..explaining.lines import REGISTERS, Value, as_number, start_of, value_of
 
 LOG = 60                # things that happened which are kept
 WRITE = slice(40, 48), "0000000b"      # where a call has its procedure, and that of device_write, in hexadecimal digits
-LAMPS = ("poll", "esr", *("%s.%s" % (name, part) for name in REGISTERS for part in ("cond", "event")))
+LAMPS = ("poll", "esr", *(f"{name}.{part}" for name in REGISTERS for part in ("cond", "event")))
 
 
 @dataclass

@@ -43,7 +43,7 @@ def static(path: str) -> tuple[bytes, str]:
 def page(server: Server) -> bytes:
     """The page of a server."""
     text = (HERE / "panel.html").read_text(encoding="utf-8")
-    ports = "core %d · abort %d · port mapper %d" % (server.core, server.abort, server.port_mapper)
+    ports = f"core {server.core} · abort {server.abort} · port mapper {server.port_mapper}"
     return filled(text, {"LAMPS": "".join(map(_group, GROUPS)), "PORTS": html.escape(ports), "VERSION": html.escape(__version__),
                          "PROGRAM": html.escape(os.path.basename(server.program))}).encode()
 
@@ -51,8 +51,8 @@ def page(server: Server) -> bytes:
 def _group(group: tuple[str, str, str, tuple[tuple[str, str], ...]]) -> str:
     """The lamps of a register and of what belongs to it."""
     name, title, register, columns = group
-    heads = "".join('<th scope="col">%s</th>' % head for head, _ in columns)
-    values = "".join('<td class="num" data-value="%s">0</td>' % where for _, where in columns)
+    heads = "".join(f'<th scope="col">{head}</th>' for head, _ in columns)
+    values = "".join(f'<td class="num" data-value="{where}">0</td>' for _, where in columns)
     return TABLE % (name, name, title, heads, "".join(_bits(register, columns)), values)
 
 
@@ -61,8 +61,7 @@ def _bits(register: str, columns: tuple[tuple[str, str], ...]) -> list[str]:
     found = []
     for bit, (name, what) in sorted(BITS[register].items(), reverse=True):
         lamps = "".join(_lamp(name, where, place) for place, (_, where) in enumerate(columns))
-        found.append('<tr title="bit %d: %s"><th scope="row">%s</th><td class="what">%s</td>%s</tr>' % (
-            bit, html.escape(what), name, html.escape(what), lamps))
+        found.append(f'<tr title="bit {bit}: {html.escape(what)}"><th scope="row">{name}</th><td class="what">{html.escape(what)}</td>{lamps}</tr>')
     return found
 
 
@@ -71,5 +70,4 @@ def _lamp(name: str, where: str, place: int) -> str:
     if (name, where) == ("RQS", "SRE"):
         return "<td></td>"
     kind = "enable" if where.endswith(("SRE", "ESE", "enable")) else "rqs" if name == "RQS" else "bad" if name in BAD else "good"
-    return '<td><span class="lamp %s" data-lamp="%s" data-bit="%s" role="img" aria-label="%s %s: off"></span></td>' % (
-        kind, where, name, where, name)
+    return f'<td><span class="lamp {kind}" data-lamp="{where}" data-bit="{name}" role="img" aria-label="{where} {name}: off"></span></td>'

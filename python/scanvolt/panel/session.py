@@ -58,9 +58,9 @@ class Sessions:
             end = found.end_lines() if is_whole else Ending(found.reasons).text()
             rest = {"facts": facts(found, slots), "wide": wide(found), "table": table(Blocks(found.reasons), slots),
                     "end": ending(end)}
-            return ('{"data":%s,%s' % (data(found, slots), json.dumps(rest)[1:])).encode()
+            return (f'{{"data":{data(found, slots)},{json.dumps(rest)[1:]}').encode()
 
     def page(self) -> bytes:
         """The page that needs nothing else, with all that happened. Raises TooLong and ProgramError."""
         with self._guard:
-            return self._explained().page("scanvolt, port %d" % self._watch.server.core).encode()
+            return self._explained().page(f"scanvolt, port {self._watch.server.core}").encode()

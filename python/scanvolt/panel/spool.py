@@ -6,7 +6,7 @@ import os
 import tempfile
 
 MOST = 2 ** 30          # bytes of a record without a name
-KEPT = "the record has more than %d bytes, and isn't followed any further" % MOST
+KEPT = f"the record has more than {MOST} bytes, and isn't followed any further"
 
 
 class Spool:
@@ -36,7 +36,7 @@ class Spool:
                 count = os.pwrite(self._file, data, self.size)
                 self.size, data = self.size + count, data[count:]
         except OSError as fault:
-            self.fault = "the record can't be written: %s" % fault.strerror
+            self.fault = f"the record can't be written: {fault.strerror}"
 
     def read(self, place: int, most: int) -> bytes:
         """The bytes from a place on, at most so many."""

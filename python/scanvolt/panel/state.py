@@ -90,9 +90,10 @@ def _now(front: Front) -> str:
     """What the scan does, in words."""
     (scan, scans), (place, length) = pair(front.value("scan")), pair(front.value("place"))
     if front.value("state") == "waiting":
-        return "waits for %s trigger, scan %d of %d" % (a(SOURCES[str(front.value("source"))]), scan + 1, scans)
+        source = a(SOURCES[str(front.value("source"))])
+        return f"waits for {source} trigger, scan {scan + 1} of {scans}"
     if front.value("state") == "scanning":
-        return "reads channel %d of %d, scan %d of %d" % (place + 1, length, scan, scans)
+        return f"reads channel {place + 1} of {length}, scan {scan} of {scans}"
     return "is idle"
 
 
@@ -108,7 +109,7 @@ def _registers(front: Front) -> State:
     """The status byte as a poll returns it, the standard events, and the three registers."""
     found: State = {label: _register(front, name) for label, name in BYTES}
     for register in REGISTERS:
-        found[register.upper()] = {word.lower(): _register(front, "%s.%s" % (register, part)) for part, word in PARTS}
+        found[register.upper()] = {word.lower(): _register(front, f"{register}.{part}") for part, word in PARTS}
     return found
 
 
@@ -128,18 +129,18 @@ def _lock(front: Front) -> State | None:
 
 
 def _owner(front: Front, link: Value) -> int | None:
-    said = str(front.value("link.%s" % link))
+    said = str(front.value(f"link.{link}"))
     return int(said[1:]) if said[0] == "c" else None
 
 
 def _links(front: Front) -> list[State]:
     found = sorted(int(name[5:]) for name in front.values if name.startswith("link."))
-    return [{"link": one, "connection": _owner(front, one), "requests": front.value("srq.%d" % one) == "on",
+    return [{"link": one, "connection": _owner(front, one), "requests": front.value(f"srq.{one}") == "on",
              "lock": front.value("lock") == one} for one in found]
 
 
 def _connections(front: Front) -> list[State]:
-    return [{"connection": conn, "role": port.role, "interrupt": bool(front.number("i%d.open" % conn))}
+    return [{"connection": conn, "role": port.role, "interrupt": bool(front.number(f"i{conn}.open"))}
             for conn, port in sorted(front.ports.items())]
 
 
@@ -147,7 +148,7 @@ def _call(digits: str) -> tuple[str, int | None]:
     """A call in words, and its link."""
     message = _message(bytes.fromhex(digits))
     found = arguments(message)
-    return ("%s %s" % (name_of(message), found.more)).rstrip(), found.link
+    return (f"{name_of(message)} {found.more}").rstrip(), found.link
 
 
 def _reply(happened: Happened) -> Answer:
@@ -173,15 +174,15 @@ def _because(front: Front, what: str) -> list[str]:
     """Why a call waits, each line the cause of the one before."""
     lock = _lock(front)
     if what == "lock" and lock is not None:
-        return ["link %d%s holds it since %s" % (
-            lock["link"], "" if lock["connection"] is None else " (c%d)" % lock["connection"], millis(lock["since"]))]
+        conn = "" if lock["connection"] is None else f" (c{lock['connection']})"
+        return [f"link {lock['link']}{conn} holds it since {millis(lock['since'])}"]
     if what == "dial":
         return ["the peer hasn't taken the connection of the interrupt channel"]
     if not front.held:
         return []
-    by = "" if front.held_by is None else " of c%d" % front.held_by
-    return ["unit `%s`%s waits until the scan is idle, since %s" % (_unit(front.held), by, millis(front.held_at)),
-            "the scan %s" % _now(front)]
+    by = "" if front.held_by is None else f" of c{front.held_by}"
+    return [f"unit `{_unit(front.held)}`{by} waits until the scan is idle, since {millis(front.held_at)}",
+            f"the scan {_now(front)}"]
 
 
 def _log(front: Front) -> list[State]:
@@ -201,10 +202,10 @@ def _log(front: Front) -> list[State]:
 def _row(one: Happened) -> State:
     if one.conn is None:
         event = one.what.split()
-        said = "input %s = %s" % (event[1], volts(int(event[2]))) if event[0] == "input" else "EXTernal trigger"
+        said = f"input {event[1]} = {volts(int(event[2]))}" if event[0] == "input" else "EXTernal trigger"
         return {"clock": one.clock, "who": "input", "what": said, "reply": "", "fault": False, "times": 1}
     words, link = _call(one.what)
     reply = _reply(one)
-    waited = "" if one.clock == one.since else ", after %s" % millis(one.clock - one.since)
-    return {"clock": one.clock, "who": "c%d" % one.conn + (" link %d" % link if link else ""), "what": words,
+    waited = "" if one.clock == one.since else f", after {millis(one.clock - one.since)}"
+    return {"clock": one.clock, "who": f"c{one.conn}" + (f" link {link}" if link else ""), "what": words,
             "reply": reply.words + waited, "fault": reply.is_fault, "times": 1}

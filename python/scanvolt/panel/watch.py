@@ -105,7 +105,7 @@ class Watch(threading.Thread):
             while not self._turn():
                 pass
         except Exception as fault:      # whatever it is, the page says it, and the pipe is read on
-            self._lost("the panel failed: %s: %s" % (type(fault).__name__, fault))
+            self._lost(f"the panel failed: {type(fault).__name__}: {fault}")
             while not self._only_drain():
                 pass
 
@@ -413,8 +413,9 @@ def _how(status: int, process: subprocess.Popen[bytes]) -> str:
         os.set_blocking(process.stderr.fileno(), False)
         said = process.stderr.read(SAID) or b""
     if status < 0:
-        return "the server was ended by signal %d" % -status
-    return "the server ended with status %d%s" % (status, ": " + in_a_line(said) if said else "")
+        return f"the server was ended by signal {-status}"
+    why = ": " + in_a_line(said) if said else ""
+    return f"the server ended with status {status}{why}"
 
 
 def _served(scenario: Name | None, program: Name | None, ports: list[int] | None) -> tuple[Server, int]:

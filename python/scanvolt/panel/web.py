@@ -70,7 +70,7 @@ class Panel(socketserver.ThreadingTCPServer):
         try:
             super().__init__((HOST, port), _Handler)
         except OSError as fault:
-            raise OSError(fault.errno, fault.strerror, "port %d" % port) from None
+            raise OSError(fault.errno, fault.strerror, f"port {port}") from None
 
     @property
     def port(self) -> int:
@@ -80,12 +80,12 @@ class Panel(socketserver.ThreadingTCPServer):
     @property
     def address(self) -> str:
         """The address of the page, with the token."""
-        return "http://%s:%d/?token=%s" % (HOST, self.port, self.token)
+        return f"http://{HOST}:{self.port}/?token={self.token}"
 
     @property
     def _hosts(self) -> tuple[str, str]:
         """What a browser of this machine calls it."""
-        return "%s:%d" % (HOST, self.port), "localhost:%d" % self.port
+        return f"{HOST}:{self.port}", f"localhost:{self.port}"
 
     def server_close(self) -> None:
         """Ends the streams, and listens no more."""
@@ -135,7 +135,7 @@ class _Handler(http.server.BaseHTTPRequestHandler):
             self._check_host()
             how = known.get("/inputs" if self.path.startswith("/inputs/") else self.path)
             if how is None:
-                raise _Refused(HTTPStatus.NOT_FOUND, "there is nothing at %s for %s" % (self.path[:80], self.command))
+                raise _Refused(HTTPStatus.NOT_FOUND, f"there is nothing at {self.path[:80]} for {self.command}")
             how()
         except _Refused as fault:
             self._refuse(fault.status, str(fault))
@@ -151,7 +151,7 @@ class _Handler(http.server.BaseHTTPRequestHandler):
     def _check_host(self) -> None:
         """Refuses names that aren't this machine's, and pages of other origins."""
         if self.headers.get("Host") not in self.server._hosts:
-            raise _Refused(HTTPStatus.FORBIDDEN, "the Host isn't %s" % self.server._hosts[0])
+            raise _Refused(HTTPStatus.FORBIDDEN, f"the Host isn't {self.server._hosts[0]}")
         origin = self.headers.get("Origin")
         if origin is not None and origin not in ["http://" + one for one in self.server._hosts]:
             raise _Refused(HTTPStatus.FORBIDDEN, "a page of another origin asks")
@@ -212,7 +212,7 @@ class _Handler(http.server.BaseHTTPRequestHandler):
     def _events(self) -> None:
         """The state, each time it changes, as server-sent events."""
         if not self.server._streams.acquire(blocking=False):
-            raise _Refused(HTTPStatus.SERVICE_UNAVAILABLE, "there are %d streams already" % STREAMS)
+            raise _Refused(HTTPStatus.SERVICE_UNAVAILABLE, f"there are {STREAMS} streams already")
         try:
             self.close_connection = True
             self._head("text/event-stream", HTTPStatus.OK, {})
@@ -237,14 +237,14 @@ class _Handler(http.server.BaseHTTPRequestHandler):
         if not said.isdigit() or self.headers.get("Transfer-Encoding"):
             raise _Refused(HTTPStatus.LENGTH_REQUIRED, "the length of the body is missing")
         if len(said) > 9 or int(said) > BODY_MOST:
-            raise _Refused(HTTPStatus.REQUEST_ENTITY_TOO_LARGE, "a voltage has at most %d bytes" % BODY_MOST)
+            raise _Refused(HTTPStatus.REQUEST_ENTITY_TOO_LARGE, f"a voltage has at most {BODY_MOST} bytes")
         return self.rfile.read(int(said)).decode("latin-1").strip()
 
     def _input(self) -> None:
         self._check_token()
         number, said = self.path[len("/inputs/"):], self._body()
         if not re.fullmatch("[1-9][0-9]{0,2}", number) or int(number) > CHANNELS:
-            raise _Refused(HTTPStatus.NOT_FOUND, "a channel is a whole number, 1 to %d, and not `%s`" % (CHANNELS, number[:40]))
+            raise _Refused(HTTPStatus.NOT_FOUND, f"a channel is a whole number, 1 to {CHANNELS}, and not `{number[:40]}`")
         try:
             micro = microvolts(said if VOLTS.fullmatch(said) else "none")
         except ValueError:

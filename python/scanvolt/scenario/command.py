@@ -48,9 +48,9 @@ def parsed(name: str) -> tuple[Plan, list[int]]:
     try:
         entries, bad = checked_scenario(name)
     except OSError as error:
-        raise Wrong("%s can't be read: %s" % (name, error.strerror)) from None
+        raise Wrong(f"{name} can't be read: {error.strerror}") from None
     if bad:
-        raise Wrong("%s, line %d: %s" % (name, bad[0].number, bad[0].reason))
+        raise Wrong(f"{name}, line {bad[0].number}: {bad[0].reason}")
     for entry in entries:
         if entry.channel is None:
             triggers.append(entry.clock)
@@ -64,12 +64,12 @@ def check(name: str) -> int:
     try:
         entries, bad = checked_scenario(name)
     except OSError as error:
-        raise Wrong("%s can't be read: %s" % (name, error.strerror)) from None
+        raise Wrong(f"{name} can't be read: {error.strerror}") from None
     for one in bad:
-        print("%s, line %d: %s: %s" % (name, one.number, shown(one.line), one.reason))
+        print(f"{name}, line {one.number}: {shown(one.line)}: {one.reason}")
     if not bad:
-        print("%s: %d entries, up to %.3f s, no bad line" % (
-            name, len(entries), (entries[-1].clock if entries else 0) / 1000))
+        end = entries[-1].clock / 1000 if entries else 0
+        print(f"{name}: {len(entries)} entries, up to {end:.3f} s, no bad line")
     return 1 if bad else 0
 
 
@@ -80,9 +80,9 @@ def lines(plan: Plan, triggers: list[int]) -> list[str]:
         value: int | None = None
         for tick, new in pairs:
             if new != value:
-                events.append((tick, channel, "%d input %d %d" % (tick, channel, new)))
+                events.append((tick, channel, f"{tick} input {channel} {new}"))
             value = new
-    events += [(tick, CHANNELS + 1, "%d external" % tick) for tick in triggers]
+    events += [(tick, CHANNELS + 1, f"{tick} external") for tick in triggers]
     return [line for _, _, line in sorted(events, key=lambda event: event[:2])]
 
 
@@ -91,16 +91,16 @@ def words_of(arguments: list[str]) -> tuple[dict[str, str], dict[int, tuple[str,
     try:
         pairs, words = getopt.gnu_getopt(arguments, "h", list(OPTIONS))
     except getopt.GetoptError as error:
-        raise Wrong("%s; see --help" % error) from None
+        raise Wrong(f"{error}; see --help") from None
     given: dict[str, str] = {"--seconds": "60", "--every": "100", **dict(pairs)}
     shapes: dict[int, tuple[str, int]] = {}
     for word in words:
         name, equals, shape = word.partition("=")
         if not equals:
-            raise Wrong("neither an option nor CHANNELS=SHAPE: %s; see --help" % word)
+            raise Wrong(f"neither an option nor CHANNELS=SHAPE: {word}; see --help")
         for place, channel in enumerate(channels_of(name)):
             if channel in shapes:
-                raise Wrong("channel %d is there twice" % channel)
+                raise Wrong(f"channel {channel} is there twice")
             shapes[channel] = (shape, place)
     return given, shapes
 
@@ -122,11 +122,11 @@ def made(given: dict[str, str], shapes: dict[int, tuple[str, int]]) -> tuple[Pla
     every = whole(given["--every"], "--every", 1, 10 ** 9)
     period = whole(given["--trigger"], "--trigger", 1, 10 ** 9) if "--trigger" in given else every
     if length // min(every, period) > MOST:
-        raise Wrong("there would be more than %d values of a channel, or triggers" % MOST)
+        raise Wrong(f"there would be more than {MOST} values of a channel, or triggers")
     plan = {channel: changes(shape, every, length, place) for channel, (shape, place) in shapes.items()}
     for channel, pairs in (table(given["--csv"]) if "--csv" in given else {}).items():
         if channel in plan:
-            raise Wrong("channel %d has a shape and a column" % channel)
+            raise Wrong(f"channel {channel} has a shape and a column")
         plan[channel] = pairs
     triggers = list(range(period, length + 1, period)) if "--trigger" in given else []
     length = max([length] + [pairs[-1][0] for pairs in plan.values() if pairs])
@@ -147,7 +147,7 @@ def main(arguments: list[str] | None = None) -> int:
             return check(given["--check"])
         plan, triggers, length = made(given, shapes)
     except Wrong as error:
-        print("%s: %s" % (NAME, error), file=sys.stderr)
+        print(f"{NAME}: {error}", file=sys.stderr)
         return 2
     print("\n".join(picture(plan, triggers, length) if "--picture" in given else lines(plan, triggers)))
     return 0

@@ -33,8 +33,8 @@ def plot(channel: int, pairs: list[Pair], length: int) -> list[str]:
         top, bottom = (round((high - value) * (height - 1) / ((high - low) or 1)) for value in reversed(span))
         for row in range(top, bottom + 1):
             rows[row][column] = "*"
-    labels = ["%+.6f" % (high / 1e6)] + [""] * (height - 2) + ["%+.6f" % (low / 1e6)] * (height > 1)
-    return ["channel %d, volts" % channel] + [("%*s |%s" % (LABEL - 2, label, "".join(line))).rstrip()
+    labels = [f"{high / 1e6:+.6f}"] + [""] * (height - 2) + [f"{low / 1e6:+.6f}"] * (height > 1)
+    return [f"channel {channel}, volts"] + [(f"{label:>{LABEL - 2}} |{''.join(line)}").rstrip()
                                               for label, line in zip(labels, rows)]
 
 
@@ -42,9 +42,8 @@ def trigger_row(triggers: list[int], length: int) -> list[str]:
     """The lines that draw the external triggers."""
     places = {tick * COLUMNS // (length + 1) for tick in triggers}
     row = "".join("^" if column in places else " " for column in range(COLUMNS))
-    head = "%d external triggers, from %.3f s to %.3f s" % (
-        len(triggers), triggers[0] / 1000, triggers[-1] / 1000)
-    return [head, ("%*s |%s" % (LABEL - 2, "", row)).rstrip()]
+    head = f"{len(triggers)} external triggers, from {triggers[0] / 1000:.3f} s to {triggers[-1] / 1000:.3f} s"
+    return [head, (" " * (LABEL - 2) + f" |{row}").rstrip()]
 
 
 def picture(plan: dict[int, list[Pair]], triggers: list[int], length: int) -> list[str]:
@@ -54,5 +53,5 @@ def picture(plan: dict[int, list[Pair]], triggers: list[int], length: int) -> li
         drawn += plot(channel, plan[channel], length)
     if triggers:
         drawn += trigger_row(triggers, length)
-    end = "%.3f s" % (length / 1000)
+    end = f"{length / 1000:.3f} s"
     return drawn + [" " * (LABEL - 1) + "0" + end.rjust(COLUMNS)]

@@ -25,16 +25,16 @@ def number(text: str, what: str, least: Decimal | None = None) -> Decimal:
     except InvalidOperation:
         value = Decimal("NaN")
     if not value.is_finite() or abs(value) > 10 ** 12:
-        raise Wrong("%s is no number, or too large a one: %s" % (what, text))
+        raise Wrong(f"{what} is no number, or too large a one: {text}")
     if least is not None and value < least:
-        raise Wrong("%s is below %s: %s" % (what, least, text))
+        raise Wrong(f"{what} is below {least}: {text}")
     return value
 
 
 def whole(text: str, what: str, least: int, most: int) -> int:
     """A whole number in this range."""
     if not (re.fullmatch("[0-9]{1,20}", text) and least <= int(text) <= most):
-        raise Wrong("%s isn't a whole number from %d to %d: %s" % (what, least, most, text))
+        raise Wrong(f"{what} isn't a whole number from {least} to {most}: {text}")
     return int(text)
 
 
@@ -48,14 +48,14 @@ def channels_of(text: str) -> list[int]:
     begin = channel_of(first)
     end = channel_of(last) if colon else begin
     if end < begin:
-        raise Wrong("a range of channels ends before it begins: %s" % text)
+        raise Wrong(f"a range of channels ends before it begins: {text}")
     return list(range(begin, end + 1))
 
 
 def microvolts(volts: Decimal) -> int:
     """Volts in microvolts, rounded to the nearest, halves away from zero."""
     if abs(volts) > LIMIT:
-        raise Wrong("a voltage is beyond %d V: %s" % (LIMIT, volts))
+        raise Wrong(f"a voltage is beyond {LIMIT} V: {volts}")
     return int((volts * 1000000).quantize(Decimal(1), ROUND_HALF_UP))
 
 

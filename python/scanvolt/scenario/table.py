@@ -14,13 +14,13 @@ def opened(name: str) -> str:
         with open(name, newline="", encoding="utf-8") as file:
             return file.read()
     except (OSError, UnicodeDecodeError) as error:
-        raise Wrong("%s can't be read: %s" % (name, error)) from None
+        raise Wrong(f"{name} can't be read: {error}") from None
 
 
 def table_line(row: list[str], names: list[int], last: int) -> tuple[int, list[Pair]]:
     """The tick of a line of the table, and its channels and microvolts."""
     if len(row) != 1 + len(names):
-        raise Wrong("it has %d fields and not %d" % (len(row), 1 + len(names)))
+        raise Wrong(f"it has {len(row)} fields and not {1 + len(names)}")
     tick = milliseconds(number(row[0].strip(), "a time", Decimal(0)))
     if tick < last:
         raise Wrong("the time is earlier than that of the line before: " + row[0])
@@ -53,7 +53,7 @@ def table(name: str) -> dict[int, list[Pair]]:
             for channel, value in values:
                 plan[channel].append((last, value))
     except (Wrong, csv.Error) as error:
-        raise Wrong("%s, line %d: %s" % (name, rows.line_num, error)) from None
+        raise Wrong(f"{name}, line {rows.line_num}: {error}") from None
     if plan is None:
-        raise Wrong("%s has no line time,CHANNEL,.." % name)
+        raise Wrong(f"{name} has no line time,CHANNEL,..")
     return plan

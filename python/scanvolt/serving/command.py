@@ -43,7 +43,7 @@ RECORDED = "record: scanvolt-explain %s --core %d --abort %d"
 def say(text: str) -> None:
     """Prints lines about the server."""
     for line in text.splitlines():
-        print("%s: %s" % (NAME, line), file=sys.stderr, flush=True)
+        print(f"{NAME}: {line}", file=sys.stderr, flush=True)
 
 
 def words(given: list[str] | None) -> argparse.Namespace:
@@ -90,7 +90,7 @@ def main(given_words: list[str] | None = None) -> int:
         say(str(fault))
         return 2
     except OSError as fault:
-        say("%s: %s" % (fault.filename, fault.strerror) if fault.filename else str(fault))
+        say(f"{fault.filename}: {fault.strerror}" if fault.filename else str(fault))
     except ProgramError as fault:
         say(str(fault))
     return 3

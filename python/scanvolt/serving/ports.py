@@ -42,12 +42,13 @@ def owner(port: int) -> str:
         for line in pathlib.Path(name).read_text(encoding="ascii").splitlines()[1:]:
             words = line.split()
             if words[3] == "0A" and int(words[1].split(":")[1], 16) == port:
-                inodes.add("socket:[%s]" % words[9])
+                inodes.add(f"socket:[{words[9]}]")
     for link in glob.glob("/proc/[0-9]*/fd/*"):
         try:
             if os.readlink(link) in inodes:
                 pid = link.split("/")[2]
-                return "by process %s, %s" % (pid, pathlib.Path("/proc/%s/comm" % pid).read_text(errors="replace").strip())
+                name = pathlib.Path(f"/proc/{pid}/comm").read_text(errors="replace").strip()
+                return f"by process {pid}, {name}"
         except OSError:
             pass
     return "by a process that can't be found"
@@ -59,7 +60,7 @@ def lacks(port: int, held: list[socket.socket] | None = None) -> str | None:
         made = listener(port)
     except OSError as error:
         if error.errno != errno.EADDRINUSE:
-            return "can't be bound: %s" % error.strerror
+            return f"can't be bound: {error.strerror}"
         mine = port in [one.getsockname()[1] for one in held or []]
         return "is given twice" if mine else "is in use " + owner(port)
     if held is None:
@@ -77,12 +78,12 @@ def free(wanted: Sequence[int]) -> tuple[int, ...]:
     for one in held:
         one.close()
     if len(ports) < len(wanted):
-        raise Taken(["port %d %s" % (port, why) for port, why in reasons if why is not None])
+        raise Taken([f"port {port} {why}" for port, why in reasons if why is not None])
     return ports
 
 
 def port(text: str) -> int:
     """A port, or 0 for a free one. Raises ValueError."""
     if not (text.isascii() and text.isdigit() and int(text) <= HIGHEST):
-        raise ValueError("not a port, 1 to %d, or 0 for a free one: %s" % (HIGHEST, text))
+        raise ValueError(f"not a port, 1 to {HIGHEST}, or 0 for a free one: {text}")
     return int(text)

@@ -91,12 +91,12 @@ class Call(Generic[Value]):
         try:
             result = read_reply(body, xid)
         except ProgramUnavailable as fault:
-            raise ProgramUnavailable("%s: %s at this port. Is it that of %s?" % (
-                self.name, fault, CHANNELS.get(self.program, "another program"))) from None
+            whose = CHANNELS.get(self.program, "another program")
+            raise ProgramUnavailable(f"{self.name}: {fault} at this port. Is it that of {whose}?") from None
         try:
             return self.read(result)
         except XdrError as fault:
-            raise BadReply("the result of %s can't be read: %s" % (self.name, fault)) from None
+            raise BadReply(f"the result of {self.name} can't be read: {fault}") from None
         except DeviceError as fault:
             fault.call, fault.timeout = str(self), self.timeout(fault.number)
             raise
@@ -111,7 +111,7 @@ class LinkCall(Call[Value]):
     lock_timeout: int = 0
 
     def __str__(self) -> str:
-        return "%s on link %d" % (self.name, self.link)
+        return f"{self.name} on link {self.link}"
 
     def timeout(self, number: int) -> int | None:
         """The timeout after which the call ends with this error. None if it isn't an error of a timeout."""
@@ -146,7 +146,7 @@ def name_of(program: int, procedure: int) -> str:
     """The name of a procedure in the standard."""
     if procedure == NULL:
         return "the null procedure"
-    return NAMES.get(program, {}).get(procedure, "procedure %d of program %#x" % (procedure, program))
+    return NAMES.get(program, {}).get(procedure, f"procedure {procedure} of program {program:#x}")
 
 
 def _nothing(_result: bytes) -> None:
@@ -218,7 +218,7 @@ def create_link(device: str = "inst0", lock: bool = False, lock_timeout: int = 0
     """Makes a link. With `lock` the link has the lock, for which the call waits up to lock_timeout."""
     lock_timeout = milliseconds(lock_timeout, "lock_timeout")
     if not isinstance(device, str):
-        raise TypeError("the name of a device is text, such as 'inst0', and not %r" % (device,))
+        raise TypeError(f"the name of a device is text, such as 'inst0', and not {device!r}")
     arguments = words(client, lock, lock_timeout) + opaque(device.encode("latin-1"))
     return Call(CORE, CREATE_LINK, arguments, _made, lock_timeout if lock else 0)
 
@@ -291,9 +291,9 @@ def device_unlock(link: int) -> Call[None]:
 def device_enable_srq(link: int, handle: bytes | None) -> Call[None]:
     """Turns on service requests, with this handle of at most 40 bytes; None turns them off."""
     if not isinstance(handle, (bytes, bytearray, type(None))):
-        raise TypeError("a handle is bytes, such as b'meter 1', and not %r" % (handle,))
+        raise TypeError(f"a handle is bytes, such as b'meter 1', and not {handle!r}")
     if handle is not None and len(handle) > SRQ_MOST:
-        raise ValueError("a handle of %d bytes, at most %d may be" % (len(handle), SRQ_MOST))
+        raise ValueError(f"a handle of {len(handle)} bytes, at most {SRQ_MOST} may be")
     arguments = words(link, handle is not None) + opaque(handle or b"")
     return LinkCall(CORE, DEVICE_ENABLE_SRQ, arguments, _error, 0, link)
 

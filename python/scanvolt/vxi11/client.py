@@ -41,14 +41,15 @@ class Channel:
         self.patience = patience
         self.socket = _connected(host, port, patience) if connected is None else connected
         peer = (host, port) if connected is None else connected.getpeername()
-        self.name = "%s:%d" % peer[:2] if isinstance(peer, tuple) else str(peer)
+        self.name = f"{peer[0]}:{peer[1]}" if isinstance(peer, tuple) else str(peer)
         self.is_open = True
         self._xid = 0
         self._records = Records()
         self._turn = threading.Lock()
 
     def __repr__(self) -> str:
-        return "<%s of %s%s>" % (type(self).__name__, self.name, "" if self.is_open else ", closed")
+        closed = "" if self.is_open else ", closed"
+        return f"<{type(self).__name__} of {self.name}{closed}>"
 
     def __str__(self) -> str:
         return self.name
@@ -67,7 +68,7 @@ class Channel:
     def check_open(self) -> None:
         """Raises ConnectionError if the connection is closed."""
         if not self.is_open:
-            raise ConnectionError("the connection is closed: %s" % self.name)
+            raise ConnectionError(f"the connection is closed: {self.name}")
 
     def do(self, call: Call[Value]) -> Value:
         """Makes a call, and waits for its result."""
@@ -91,10 +92,10 @@ class Channel:
             return self._record(call)
         except socket.timeout:
             self.close()
-            raise ConnectionError("no reply to %s within %g s: %s" % (call.name, patience, self.name)) from None
+            raise ConnectionError(f"no reply to {call.name} within {patience:g} s: {self.name}") from None
         except OSError as fault:
             self.close()
-            raise _named(fault, "%s within %s: %s" % (fault.strerror, call.name, self.name)) from None
+            raise _named(fault, f"{fault.strerror} within {call.name}: {self.name}") from None
         except BaseException:
             self.close()
             raise
@@ -104,7 +105,7 @@ class Channel:
         while True:
             data = self.socket.recv(65536)
             if not data:
-                raise ConnectionError("the connection ended within %s: %s" % (call.name, self.name))
+                raise ConnectionError(f"the connection ended within {call.name}: {self.name}")
             found = self._records.push(data)
             if found:
                 return found[0].body
@@ -121,9 +122,9 @@ def _connected(host: str, port: int, patience: float) -> socket.socket:
     try:
         connected = socket.create_connection((host, port), patience)
     except socket.timeout:
-        raise TimeoutError("no connection within %g s: %s:%d" % (patience, host, port)) from None
+        raise TimeoutError(f"no connection within {patience:g} s: {host}:{port}") from None
     except OSError as fault:
-        raise _named(fault, "%s: %s:%d" % (fault.strerror, host, port)) from None
+        raise _named(fault, f"{fault.strerror}: {host}:{port}") from None
     connected.setsockopt(socket.IPPROTO_TCP, socket.TCP_NODELAY, 1)
     return connected
 
@@ -135,11 +136,11 @@ def port_of(host: str, program: int, version: int, port: int = 111, patience: fl
     try:
         mapper = Channel(host, port, patience)
     except ConnectionRefusedError as fault:
-        raise _named(fault, "%s; %s" % (fault.strerror, ELSEWHERE)) from None
+        raise _named(fault, f"{fault.strerror}; {ELSEWHERE}") from None
     with mapper:
         found = mapper.do(calls.getport(program, version))
     if found == 0:
-        raise ConnectionError("the port mapper knows no port of program %#x: %s:%d" % (program, host, port))
+        raise ConnectionError(f"the port mapper knows no port of program {program:#x}: {host}:{port}")
     return found
 
 
@@ -206,7 +207,7 @@ class ServiceRequests:
         try:
             return self.queue.get(timeout=most / 1000)
         except queue.Empty:
-            raise TimeoutError("no service request within %d ms" % most) from None
+            raise TimeoutError(f"no service request within {most} ms") from None
 
     def close(self) -> None:
         """Stops listening; requests that came stay in the queue."""

@@ -52,10 +52,9 @@ class DeviceError(Exception):
 
     def __str__(self) -> str:
         if self.call is None:
-            return "%s (VXI-11 error %d)" % (self.name, self.number)
-        told = "%s: %s (%d)" % (self.call, self.name, self.number)
+            return f"{self.name} (VXI-11 error {self.number})"
+        told = f"{self.call}: {self.name} ({self.number})"
         if self.timeout is not None:
             whole = self.waited is None or self.waited >= self.timeout - EARLY
-            told += ", after %d ms" % self.timeout if whole else ", after %d of %d ms" % (
-                self.waited or 0, self.timeout)
-        return told + ("" if self.clock is None else ", at %d ms of the meter's clock" % self.clock)
+            told += f", after {self.timeout} ms" if whole else f", after {int(self.waited or 0)} of {self.timeout} ms"
+        return told + ("" if self.clock is None else f", at {self.clock} ms of the meter's clock")

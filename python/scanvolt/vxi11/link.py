@@ -93,7 +93,7 @@ class LinkCalls:
 def message_bytes(message: bytes | str) -> bytes:
     """The bytes of a message. Raises TypeError if it is neither text nor bytes."""
     if not isinstance(message, (str, bytes, bytearray, memoryview)):
-        raise TypeError("a message is text or bytes, and not %r" % (message,))
+        raise TypeError(f"a message is text or bytes, and not {message!r}")
     return message.encode("latin-1") if isinstance(message, str) else bytes(message)
 
 
@@ -122,7 +122,8 @@ class Link:
 
     def __repr__(self) -> str:
         ended = self._is_destroyed or not self.carrier.is_open
-        return "<Link %d of %s%s>" % (self.number, self.carrier, ", closed" if ended else "")
+        closed = ", closed" if ended else ""
+        return f"<Link {self.number} of {self.carrier}{closed}>"
 
     def __enter__(self: Itself) -> Itself:
         return self
@@ -154,7 +155,7 @@ class Link:
             if place >= len(data):
                 return place
             if taken == 0:
-                raise BadReply("device_write took no byte of %d" % len(piece))
+                raise BadReply(f"device_write took no byte of {len(piece)}")
 
     def read_piece(self, size: int = READ_SIZE, termination: int | None = None) -> Piece:
         """Makes one device_read: at most `size` bytes, up to END or a termination character (0 to 255)."""

@@ -41,7 +41,7 @@ class RequestStream:
 def checked_callback(callback: Callback | None) -> Callback | None:
     """The callback of service requests, if it may be one: a function, or None."""
     if callback is not None and not callable(callback):
-        raise TypeError("a callback of service requests is a function, and not %r" % (callback,))
+        raise TypeError(f"a callback of service requests is a function, and not {callback!r}")
     return callback
 
 

@@ -33,7 +33,7 @@ class ProgramMismatch(RpcError):
     """The server doesn't have this version of the program, only those from low to high (PROG_MISMATCH)."""
 
     def __init__(self, low: int, high: int) -> None:
-        super().__init__("versions %d to %d of the program are there" % (low, high))
+        super().__init__(f"versions {low} to {high} of the program are there")
         self.low, self.high = low, high
 
 
@@ -53,7 +53,7 @@ class RpcMismatch(RpcError):
     """The server doesn't have this version of RPC, only those from low to high (RPC_MISMATCH)."""
 
     def __init__(self, low: int, high: int) -> None:
-        super().__init__("versions %d to %d of RPC are there" % (low, high))
+        super().__init__(f"versions {low} to {high} of RPC are there")
         self.low, self.high = low, high
 
 
@@ -61,7 +61,7 @@ class AuthenticationRefused(RpcError):
     """The server refused the credential or the verifier (AUTH_ERROR). The message has the reason's number."""
 
     def __init__(self, number: int) -> None:
-        super().__init__("authentication error %d" % number)
+        super().__init__(f"authentication error {number}")
         self.number = number
 
 
@@ -183,10 +183,10 @@ def read_reply(body: bytes, xid: int) -> bytes:
     reader = Reader(body)
     try:
         if (reader.word(), reader.word()) != (xid, REPLY):
-            raise BadReply("no reply to call %d: %s" % (xid, body.hex()))
+            raise BadReply(f"no reply to call {xid}: {body.hex()}")
         refusal = _refusal(reader)
     except XdrError as fault:
-        raise BadReply("a reply that can't be read: %s" % fault) from None
+        raise BadReply(f"a reply that can't be read: {fault}") from None
     if refusal is not None:
         raise refusal
     return reader.rest()
@@ -200,7 +200,7 @@ def _refusal(reader: Reader) -> RpcError | None:
             return RpcMismatch(reader.word(), reader.word())
         return AuthenticationRefused(reader.word())
     if status != ACCEPTED:
-        return BadReply("a reply neither accepted nor denied: %d" % status)
+        return BadReply(f"a reply neither accepted nor denied: {status}")
     reader.word()               # the verifier
     reader.opaque(AUTH_MOST)
     return _accepted(reader.word(), reader)
@@ -216,4 +216,4 @@ def _accepted(status: int, reader: Reader) -> RpcError | None:
                 PROC_UNAVAIL: ProcedureUnavailable("there is no such procedure"),
                 GARBAGE_ARGS: GarbageArguments("the arguments can't be read"),
                 SYSTEM_ERR: SystemFault("the other side failed")}
-    return refusals.get(status, BadReply("an accepted reply of status %d" % status))
+    return refusals.get(status, BadReply(f"an accepted reply of status {status}"))

@@ -12,7 +12,7 @@ def milliseconds(count: int, name: str) -> int:
     """The count, if it is a whole number from 0 to LONGEST. If not, raises TypeError or ValueError, which says what
     `name` wants.
     """
-    return whole(count, 0, LONGEST, "%s wants milliseconds" % name)
+    return whole(count, 0, LONGEST, f"{name} wants milliseconds")
 
 
 class Milliseconds:

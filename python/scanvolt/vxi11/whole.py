@@ -12,7 +12,7 @@ def whole(number: int, least: int, most: int, wants: str) -> int:
     """The number, if it is whole and from `least` to `most`. If not, raises TypeError or ValueError, whose text begins
     with `wants`: who wants what.
     """
-    wanted = "%s, a whole number from %d to %d, and not %r" % (wants, least, most, number)
+    wanted = f"{wants}, a whole number from {least} to {most}, and not {number!r}"
     try:
         found = operator.index(number)
     except TypeError:

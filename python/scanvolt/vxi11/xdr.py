@@ -13,7 +13,7 @@ class XdrError(ValueError):
 
 def words(*numbers: int) -> bytes:
     """Words of four bytes, the most significant byte first. A negative number is written in two's complement."""
-    return struct.pack(">%dI" % len(numbers), *(number & 0xFFFFFFFF for number in numbers))
+    return struct.pack(f">{len(numbers)}I", *(number & 0xFFFFFFFF for number in numbers))
 
 
 def opaque(data: bytes) -> bytes:
@@ -32,7 +32,7 @@ class Reader:
         """The next bytes, as they are."""
         piece = self.data[self.place:self.place + count]
         if len(piece) < count:
-            raise XdrError("%d bytes are wanted at byte %d of %d" % (count, self.place, len(self.data)))
+            raise XdrError(f"{count} bytes are wanted at byte {self.place} of {len(self.data)}")
         self.place += count
         return piece
 
@@ -48,14 +48,14 @@ class Reader:
         """A boolean, 0 or 1."""
         found = self.word()
         if found > 1:
-            raise XdrError("%d is no boolean" % found)
+            raise XdrError(f"{found} is no boolean")
         return found == 1
 
     def opaque(self, most: int = 0xFFFFFFFF) -> bytes:
         """Variable-length opaque data of at most `most` bytes. The padding has to be zeros."""
         size = self.word()
         if size > most:
-            raise XdrError("%d bytes of opaque data, at most %d may be" % (size, most))
+            raise XdrError(f"{size} bytes of opaque data, at most {most} may be")
         data = self.take(size)
         if any(self.take(-size % 4)):
             raise XdrError("a pad that isn't zero")

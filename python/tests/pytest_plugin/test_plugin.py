@@ -10,7 +10,6 @@ import time
 from importlib.util import find_spec
 
 import pytest
-
 from scanvolt import __version__
 from scanvolt.explaining.explanation import Explanation
 from scanvolt.program import find_program
@@ -72,13 +71,12 @@ def test_the_head(pytester: pytest.Pytester, monkeypatch: pytest.MonkeyPatch) ->
     pytester.makepyfile("def test_one(): pass")
     result = pytester.runpytest_subprocess(*PLUGIN)
     result.assert_outcomes(passed=1)
-    result.stdout.fnmatch_lines(["scanvolt: %s, program %s (found by SCANVOLT, version *, kind *)" % (
-        __version__, find_program())])
+    result.stdout.fnmatch_lines([f"scanvolt: {__version__}, program {find_program()} (found by SCANVOLT, version *, kind *)"])
     monkeypatch.setenv("SCANVOLT", "/nonexistent/scanvolt")
     result = pytester.runpytest_subprocess(*PLUGIN)
     result.assert_outcomes(passed=1)
     result.stdout.fnmatch_lines([
-        "scanvolt: %s, no program: SCANVOLT names no program: /nonexistent/scanvolt" % __version__])
+        f"scanvolt: {__version__}, no program: SCANVOLT names no program: /nonexistent/scanvolt"])
 
 
 def test_what_a_failure_shows(pytester: pytest.Pytester) -> None:
@@ -321,7 +319,7 @@ def test_what_is_kept(pytester: pytest.Pytester) -> None:
     result.assert_outcomes(passed=1, failed=5)
     assert result.stdout.str().count("- what the instrument saw -") == 4
     names = sorted(path.name for path in pytester.path.joinpath("trace").iterdir())
-    assert names == ["test_what_is_kept.py_test_fails_%d_%s" % (number, ending) for number in range(4)
+    assert names == [f"test_what_is_kept.py_test_fails_{number}_{ending}" for number in range(4)
                      for ending in (".html", ".replay", ".txt")]
     result.stdout.fnmatch_lines(["kept: trace/test_what_is_kept.py_test_fails_0_.replay, .txt, .html"])
     text = pytester.path.joinpath("trace", "test_what_is_kept.py_test_fails_0_.txt").read_text()

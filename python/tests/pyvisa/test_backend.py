@@ -23,7 +23,6 @@ from pyvisa.constants import (
     ResourceAttribute,
     StatusCode,
 )
-
 from pyvisa_scanvolt import meter_of
 from pyvisa_scanvolt.library import UNSUPPORTED
 from scanvolt.program import ProgramError
@@ -118,7 +117,7 @@ class Names(WithResource):
         with tempfile.TemporaryDirectory() as folder:
             path = pathlib.Path(folder, "scenario")
             path.write_text("0 input 1 4000000\n5 input 1 5000000\n")
-            manager = pyvisa.ResourceManager("%s@scanvolt" % path)
+            manager = pyvisa.ResourceManager(f"{path}@scanvolt")
             self.addCleanup(manager.close)
             resource: Any = manager.open_resource("TCPIP::scanvolt::INSTR", read_termination="\n")
             found = [resource.query("MEAS:VOLT? (@1)") for _ in range(7)]
@@ -150,7 +149,7 @@ class Messages(WithResource):
         """Also a response of 20,480 bytes, as many as PyVISA reads at once."""
         self.resource.timeout = 5000
         for count in (1, 8, 15, 16):
-            self.resource.write("CONF:VOLT (@1:128);:TRIG:COUN %d" % count)
+            self.resource.write(f"CONF:VOLT (@1:128);:TRIG:COUN {count}")
             self.resource.write("READ?")
             for chunk in (20480, 4096, 10240, 8192, 10 ** 5):
                 with self.subTest(count=count, chunk=chunk):

@@ -8,10 +8,9 @@ from collections.abc import Callable
 from typing import Any
 
 from pyvisa.constants import AccessModes, Lock, StatusCode
-from test_backend import WithResource
-
 from scanvolt.virtual import NoAnswer
 from scanvolt.vxi11 import DeviceError
+from test_backend import WithResource
 
 
 class Shared(WithResource):

@@ -9,7 +9,6 @@ from typing import Any
 
 import pyvisa
 from pyvisa.constants import InterfaceType, ResourceAttribute, StatusCode
-
 from pyvisa_scanvolt import meter_of
 
 SETTINGS = """# the bench of the second floor
@@ -35,7 +34,7 @@ class Names(unittest.TestCase):
     def manager(self, text: str) -> Any:
         path = self.folder / "settings"
         path.write_text(text)
-        manager = pyvisa.ResourceManager("%s@scanvolt" % path)
+        manager = pyvisa.ResourceManager(f"{path}@scanvolt")
         self.addCleanup(manager.close)
         return manager
 
@@ -77,7 +76,7 @@ class Names(unittest.TestCase):
                            "of an instrument: 'bench'"), ("TCPIP::host::5025::SOCKET = scanvolt", "no resource name"),
                            ("patience = long", "patience wants milliseconds, and not long")):
             with self.subTest(line), self.assertRaisesRegex(ValueError, "settings, line 2: " + told):
-                self.manager("call_time = 1\n%s\n" % line)
+                self.manager(f"call_time = 1\n{line}\n")
 
 
 if __name__ == "__main__":

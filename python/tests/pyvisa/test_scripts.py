@@ -31,7 +31,7 @@ class Scripts(unittest.TestCase):
     def prints(self, text: str, expected: str) -> None:
         with tempfile.TemporaryDirectory() as folder:
             path = pathlib.Path(folder, "script.py")
-            path.write_text("import sys\nsys.path.insert(0, %r)\n" % str(TOP) + text)
+            path.write_text(f"import sys\nsys.path.insert(0, {str(TOP)!r})\n" + text)
             done = subprocess.run([sys.executable, "-W", "error", str(path)], stdin=subprocess.DEVNULL,
                                   capture_output=True, text=True, timeout=60)
         self.assertEqual((done.stdout, done.stderr, done.returncode), (expected, "", 0))

@@ -10,7 +10,6 @@ from typing import Any
 
 import pyvisa
 from pyvisa.constants import EventMechanism, EventType
-
 from pyvisa_scanvolt import meter_of, resource_of
 from scanvolt.virtual import Meter, OrderFails
 
