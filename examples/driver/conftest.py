@@ -16,7 +16,7 @@ HERE = pathlib.Path(__file__).resolve().parent
 SCENARIO = HERE / "stand.scenario"
 if importlib.util.find_spec("scanvolt") is None:    # it isn't installed: this is a checkout
     sys.path.insert(0, str(HERE.parent.parent / "python"))
-from voltmeter import Voltmeter
+from voltmeter import Voltmeter  # noqa: E402
 
 pytest_plugins = ["scanvolt.pytest_plugin"]
 

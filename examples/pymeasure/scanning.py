@@ -46,12 +46,14 @@ class ScanningVoltmeter(Instrument):
             self.check_errors()
             return self.values("READ?")
         except pyvisa.VisaIOError:
-            self.adapter.connection.clear()     # drops the response that wasn't read; else the next message fails (-410)
+            # drops the response that wasn't read; else the next message fails (-410)
+            self.adapter.connection.clear()
             raise
 
     def wait_for_alarm(self, channel, seconds):
         """Waits until the input of a channel is outside the limits. Raises TimeoutError."""
-        self.write(f"ROUT:MON (@{channel});:STAT:QUES:LIM:ENAB 4;:STAT:QUES:ENAB 512;*CLS;*SRE 8;:CALC:LIM:STAT ON")
+        enabled = "STAT:QUES:LIM:ENAB 4;:STAT:QUES:ENAB 512;*CLS;*SRE 8"
+        self.write(f"ROUT:MON (@{channel});:{enabled};:CALC:LIM:STAT ON")
         self.check_errors()
         end = time.monotonic() + seconds
         while time.monotonic() < end:

@@ -50,7 +50,8 @@ def test_an_error(voltmeter):
     assert voltmeter.scan([1]) == [1.25]
 
 
-@pytest.mark.scanvolt(scenario="stand.scenario", names={NAME: "scanvolt"})     # faults are ordered in virtual time
+# faults are ordered in virtual time
+@pytest.mark.scanvolt(scenario="stand.scenario", names={NAME: "scanvolt"})
 def test_a_read_that_fails(voltmeter, visa_meter):
     visa_meter.meter.faults.next("device_read", error=17)
     with pytest.raises(pyvisa.VisaIOError, match="VI_ERROR_IO"):

@@ -26,10 +26,12 @@ Files = list[tuple[str, bytes]]
 PACKAGES = ("scanvolt", "pyvisa_scanvolt")
 OLDEST = 315532800          # 1 January 1980, the first date that a wheel can have
 SUFFIXES = (".py", ".html", ".css", ".js")      # of the packages' files
-PURE, PLATFORM = "py3-none-any", "py3-none-manylinux_2_36_x86_64"     # without the program, and with it
+# without the program, and with it
+PURE, PLATFORM = "py3-none-any", "py3-none-manylinux_2_36_x86_64"
 WHEEL = "Wheel-Version: 1.0\nGenerator: scanvolt_build\nRoot-Is-Purelib: %s\nTag: %s\n"
 # The setting that names the installation of the program that a wheel gets, and which of its files.
-PROGRAM, IN_PROGRAM = "program", ("bin/scanvolt", "share/scanvolt/VERSION", "share/doc/scanvolt/KIT")
+PROGRAM = "program"
+IN_PROGRAM = ("bin/scanvolt", "share/scanvolt/VERSION", "share/doc/scanvolt/KIT")
 
 
 def project(text: str) -> dict[str, dict[str, Value]]:

@@ -50,7 +50,10 @@ class ScanvoltLibrary(highlevel.VisaLibraryBase):
             return {"Program": str(fault)}
 
     def _init(self) -> None:
-        self._settings = settings.Settings() if self.library_path == NONE else settings.read(str(self.library_path))
+        if self.library_path == NONE:
+            self._settings = settings.Settings()
+        else:
+            self._settings = settings.read(str(self.library_path))
         self._sharings: dict[str, Sharing] = {}
         self._meters: dict[str, Meter] = {}
         self._given: list[str] = []          # the hosts of instruments that were made elsewhere
@@ -154,7 +157,10 @@ class ScanvoltLibrary(highlevel.VisaLibraryBase):
             opened = Session(meter, self._sharings[host.lower()], attributes.of_instrument(parsed, host, device), device,
                              lock_timeout)
         except FAULTS as fault:
-            status = StatusCode.error_allocation if isinstance(fault, ConnectionError) else status_of(fault)
+            if isinstance(fault, ConnectionError):
+                status = StatusCode.error_allocation
+            else:
+                status = status_of(fault)
         self.handle_return_value(session, status)
         number: Any = next(self._numbers)
         opened.number, opened.new_context = number, self._new_context

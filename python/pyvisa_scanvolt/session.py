@@ -21,7 +21,9 @@ from .statuses import Refusal
 
 __tracebackhide__ = True        # pytest shows the line that calls the package, and not these frames
 Handler = Callable[[int, EventType, int, Any], object]
-QUEUE, HANDLER, SUSPENDED = EventMechanism.queue, EventMechanism.handler, EventMechanism.suspend_handler
+QUEUE = EventMechanism.queue
+HANDLER = EventMechanism.handler
+SUSPENDED = EventMechanism.suspend_handler
 LOCAL = (constants.RENLineOperation.deassert, constants.RENLineOperation.deassert_gtl,
          constants.RENLineOperation.address_gtl)
 LONGEST = 0xFFFFFFFF            # VI_TMO_INFINITE, no timeout
@@ -56,7 +58,8 @@ class Session:
     def close(self) -> None:
         """Ends the connection, and with it the link, its lock and its service requests."""
         if self._connection.is_open:
-            with contextlib.suppress(ProgramError, DeviceError):    # the locks of a program that ended have ended
+            # the locks of a program that ended have ended
+            with contextlib.suppress(ProgramError, DeviceError):
                 self.sharing.leave(self)
         self._connection.close()
 

@@ -32,7 +32,8 @@ class Sharing:
     def __init__(self) -> None:
         self._key = ""
         self.shares: dict[Session, int] = {}              # how often each session took the shared lock
-        self._holder: Session | None = None             # of these, the one whose link has the instrument's lock
+        # of these, the one whose link has the instrument's lock
+        self._holder: Session | None = None
         self._exclusive: Session | None = None          # of these, the one that has the exclusive lock too
 
     def enter(self, session: Session) -> None:

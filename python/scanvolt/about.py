@@ -10,7 +10,8 @@ from .program import BUILT
 
 UNKNOWN = "unknown"
 KINDS = ("proved", "unproved")      # of the programs that BUILT names
-SHIPPED = f"program {BUILT[0]},"  # how the line of KIT begins, in a release, if the program in it is proved
+# how the line of KIT begins, in a release, if the program in it is proved
+SHIPPED = f"program {BUILT[0]},"
 
 
 def first_line(path: pathlib.Path) -> str:

@@ -42,7 +42,8 @@ class Pending(Generic[Value]):
         self.clock: int | None = None
         self._body = b""
         self._fault: Exception | None = None
-        self._made: bytes | None = None       # the reply that a fault on order makes, in place of the instrument
+        # the reply that a fault on order makes, in place of the instrument
+        self._made: bytes | None = None
         self._note: str | None = None         # what that fault was
 
     def __repr__(self) -> str:

@@ -23,7 +23,12 @@ def without_additions(data: bytes, name: str) -> tuple[list[bytes], list[Fault]]
     ended = [number for number, line in enumerate(lines, 1) if line.endswith(b"\r")]
     if ended:
         first, others = ended[0], len(ended) - 1
-        also = ", and so does a line after it" if others == 1 else f", and so do {others} lines after it" if others else ""
+        if others == 1:
+            also = ", and so does a line after it"
+        elif others:
+            also = f", and so do {others} lines after it"
+        else:
+            also = ""
         faults.append((first, data.split(b"\n")[first - 1], RETURN % (also, name)))
         lines = [line[:-1] if line.endswith(b"\r") else line for line in lines]
     return lines, faults

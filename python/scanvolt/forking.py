@@ -21,7 +21,8 @@ class Twins:
     def __init__(self) -> None:
         self._connections: dict[int, Connection] = {}
         self._pending: dict[int, Pending[object]] = {}
-        self._kept: list[object] = []          # the first ones: while they are kept, no other object has their id
+        # the first ones: while they are kept, no other object has their id
+        self._kept: list[object] = []
 
     def _add(self, first: object, twin: Connection | Pending[object]) -> None:
         self._kept.append(first)
@@ -57,7 +58,8 @@ def fork(meter: Meter) -> Meter:
         twin._sent, twin._handed = meter._sent, meter._handed
         for number, connection in meter.connections.items():
             twin.connections[number] = _connection(connection, twin)
-        twin.faults.told, twin.faults.ordered = list(meter.faults.told), [copy.copy(one) for one in meter.faults.ordered]
+        twin.faults.told = list(meter.faults.told)
+        twin.faults.ordered = [copy.copy(one) for one in meter.faults.ordered]
         for order in twin.faults.ordered:
             if order.connection is not None:
                 order.connection = twin._twins._connections.get(id(order.connection), order.connection)

@@ -84,7 +84,10 @@ class _Run:
                 raise ValueError(f"{LETTERS[wanted]} can't go on at turn {place + 1} of this order, only {others}")
             found = wanted
         else:
-            found = self._then(sorted(ready, key=lambda one: one.number)).number if self._then else numbers[0]
+            if self._then:
+                found = self._then(sorted(ready, key=lambda one: one.number)).number
+            else:
+                found = numbers[0]
         self._taken.append((numbers, found))
         return next(one for one in ready if one.number == found)
 
@@ -143,5 +146,8 @@ def _numbers(order: str, count: int) -> list[int]:
 
 
 def ordinal(number: int) -> str:
-    ending = "th" if number % 100 in (11, 12, 13) else {1: "st", 2: "nd", 3: "rd"}.get(number % 10, "th")
+    if number % 100 in (11, 12, 13):
+        ending = "th"
+    else:
+        ending = {1: "st", 2: "nd", 3: "rd"}.get(number % 10, "th")
     return f"{number}{ending}"

@@ -28,14 +28,19 @@ if TYPE_CHECKING:
     from .virtual import Meter
 
 __tracebackhide__ = True        # pytest shows the line that calls the package, and not these frames
-CLOCKS = ("time", "monotonic", "perf_counter")  # of Python's module time; each also in nanoseconds, with _ns
+# of Python's module time; each also in nanoseconds, with _ns
+CLOCKS = ("time", "monotonic", "perf_counter")
 SELECTORS = ("SelectSelector", "PollSelector", "EpollSelector", "DevpollSelector", "KqueueSelector")
 KINDS = tuple(vars(selectors)[name] for name in SELECTORS if name in vars(selectors))
-READS_MOST = 10000      # times that a clock may be read in a row, without a call and without time that passes
+# times that a clock may be read in a row, without a call and without time that passes
+READS_MOST = 10000
 POLLS_MOST = 25000      # the same, with calls
-SLICE, SLICES = 0.1, 600    # a wait without a timeout waits so often so many seconds of real time for other threads
-STRIDE = 1000           # milliseconds after which a loop looks for its files: Ctrl-C writes to one, and raises nothing
-GRID = 10 ** 9 // 512   # nanoseconds; a clock begins at a multiple, exact as a float, so that runs round alike
+# a wait without a timeout waits so often so many seconds of real time for other threads
+SLICE, SLICES = 0.1, 600
+# milliseconds after which a loop looks for its files: Ctrl-C writes to one, and raises nothing
+STRIDE = 1000
+# nanoseconds; a clock begins at a multiple, exact as a float, so that runs round alike
+GRID = 10 ** 9 // 512
 ENDLESS = 2 ** 32       # milliseconds; a longer timeout is none
 HELP = "Let the loop sleep between its polls (time.sleep), or let each call take time: Meter(call_time=1)"
 
@@ -114,7 +119,8 @@ class _Keeper:
         loop = loop_of(selector)
         if loop is None:
             return real(selector, timeout)
-        found, handed = real(selector, timeout if timeout and shuts_executor(loop) else 0), self._meter._handed
+        found = real(selector, timeout if timeout and shuts_executor(loop) else 0)
+        handed = self._meter._handed
 
         def ready() -> bool:
             found.extend(real(selector, 0))
@@ -127,7 +133,8 @@ class _Keeper:
         if found:
             return found
         if timeout is None:
-            self._endless(ready, ready_really, len(selector.get_map()) > 1)     # a loop has one file of its own
+            # a loop has one file of its own
+            self._endless(ready, ready_really, len(selector.get_map()) > 1)
         else:
             rest = whole(timeout)
             while not self._meter.until(ready, min(rest, STRIDE)) and rest > STRIDE:
@@ -233,13 +240,15 @@ def replaced() -> Iterator[tuple[object, str, Callable[..., object]]]:
     yield time, "sleep", lambda keeper, _real, seconds: keeper.sleep(seconds)
     yield threading.Condition, "wait", _Keeper.wait
     yield threading.Thread, "start", _Keeper.start
-    yield threading, "_time", reads("monotonic")     # these modules imported time.monotonic by another name
+    # these modules imported time.monotonic by another name
+    yield threading, "_time", reads("monotonic")
     yield queue, "time", reads("monotonic")
     for kind in {next(one for one in kind.__mro__ if "select" in vars(one)) for kind in KINDS}:
         yield kind, "select", _Keeper.select
 
 
-keepers: dict[int, list[_Keeper]] = {}       # of each thread that is within blocks; the last is of the innermost
+# of each thread that is within blocks; the last is of the innermost
+keepers: dict[int, list[_Keeper]] = {}
 guard = threading.Lock()
 put_back = contextlib.ExitStack()
 

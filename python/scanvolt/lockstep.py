@@ -28,12 +28,15 @@ if TYPE_CHECKING:
 
 __tracebackhide__ = True        # pytest shows the line that calls the package, and not these frames
 POLL = 0.001            # seconds after which a thread that waits looks where the others are
-JOINS = 0.05            # seconds after which a thread that joins another one looks whether the lock step is broken
+# seconds after which a thread that joins another one looks whether the lock step is broken
+JOINS = 0.05
 ASLEEP = 0.5            # seconds that a thread with the turn may sleep outside of the meter
-STUCK = 20.0            # seconds that all threads may sleep outside of the meter, while the block's thread joins them
+# seconds that all threads may sleep outside of the meter, while the block's thread joins them
+STUCK = 20.0
 NEW, RUNS, READY, WAITS, AWAY, ENDED = "new", "runs", "ready", "waits", "away", "ended"
 PACKAGE = os.path.join(os.path.dirname(__file__), "")
-STARTER = PACKAGE + "interleaving.py"   # its threads begin there, and are outside of the meter in what it calls
+# its threads begin there, and are outside of the meter in what it calls
+STARTER = PACKAGE + "interleaving.py"
 WORKER = "concurrent/futures/thread.py"
 
 
@@ -53,9 +56,11 @@ class Place:
         self.passes = False                     # whether it is to let time pass
         self.expected: Pending[object] | None = None       # the call that its next wait is for
         self.pending: Pending[object] | None = None        # the call for which it waits
-        self.released: Callable[[], bool] = lambda: False       # whether what it waits for elsewhere has come
+        # whether what it waits for elsewhere has come
+        self.released: Callable[[], bool] = lambda: False
         self.fault: Exception | None = None                  # what it has to raise
-        self.asleep: tuple[float, str] = (0.0, "")              # since when it sleeps, and its processor time then
+        # since when it sleeps, and its processor time then
+        self.asleep: tuple[float, str] = (0.0, "")
 
     @property
     def name(self) -> str:
@@ -64,7 +69,8 @@ class Place:
 
 
 Pick = Callable[[list[Place]], Place]
-PLACES: weakref.WeakKeyDictionary[threading.Thread, Place] = weakref.WeakKeyDictionary()   # where each was in a meter last
+# where each was in a meter last
+PLACES: weakref.WeakKeyDictionary[threading.Thread, Place] = weakref.WeakKeyDictionary()
 
 
 class LockStep:
@@ -370,7 +376,12 @@ class LockStep:
             frame = frame.f_back
         if frame is None:
             return "has ended"
-        where = "outside of the meter" if not inside else "in the meter" if place.depth else "in another meter"
+        if not inside:
+            where = "outside of the meter"
+        elif place.depth:
+            where = "in the meter"
+        else:
+            where = "in another meter"
         file = os.path.basename(frame.f_code.co_filename)
         return f"waits {where}, at {file}:{frame.f_lineno} in {frame.f_code.co_name},"
 

@@ -23,17 +23,22 @@ if TYPE_CHECKING:
 __all__ = ["ProgramError", "Server", "find_program", "found"]
 __tracebackhide__ = True        # pytest shows the line that calls the package, and not these frames
 Itself = TypeVar("Itself", bound="Server")
-IN_WHEEL = str(pathlib.Path(__file__).resolve().parent / "program/bin/scanvolt")     # of a platform's wheel
+# of a platform's wheel
+IN_WHEEL = str(pathlib.Path(__file__).resolve().parent / "program/bin/scanvolt")
 BUILT = ("crates/scanvolt/out/scanvolt", "out/unproved/scanvolt")     # in a checkout
-SWEEPS = 10 ** 8        # a server that nobody ends ends after this many sweeps, which take an hour at least
-TRIES = 5               # tries to start a server: another process may take a free port before the server listens on it
+# a server that nobody ends ends after this many sweeps, which take an hour at least
+SWEEPS = 10 ** 8
+# tries to start a server: another process may take a free port before the server listens on it
+TRIES = 5
 PATIENCE = 30.0         # seconds that a program may take to answer, or to be ready
-READING = 10 ** 5       # bytes of a scenario for which a program with run-time checks may take one more second
+# bytes of a scenario for which a program with run-time checks may take one more second
+READING = 10 ** 5
 MISSING = ("scanvolt isn't found: set SCANVOLT to its path, install the wheel that has it, put it on PATH, or build it in a "
            "checkout by `tools/serve BUILD=1`")
 # A replay of these lines prints this, since the instrument has 128 channels.
 PROBES, ANSWER = b"input 128 0\ninput 255 0\n", b"refused 8\n"
-OF_SCENARIO = ("scanvolt: bad line", "scanvolt: input")     # what it says if it refuses a scenario, or can't read it
+# what it says if it refuses a scenario, or can't read it
+OF_SCENARIO = ("scanvolt: bad line", "scanvolt: input")
 BAD_WORDS = {"scanvolt: bad words": "scanvolt: bad words; `man scanvolt` has the words that it takes"}
 HEARD_MOST = 65536      # bytes of what a program printed that are kept
 SHOWN_MOST = 200        # characters of what a program printed that are shown
@@ -155,7 +160,8 @@ class _Heard:
         return f"it ended by signal {-status}" if status < 0 else f"it ended with status {status}"
 
 
-_fitting: set[tuple[str, int, int]] = set()     # the programs that were found to fit: path, time and size
+# the programs that were found to fit: path, time and size
+_fitting: set[tuple[str, int, int]] = set()
 
 
 def check_fits(path: str) -> None:

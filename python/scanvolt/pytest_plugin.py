@@ -134,7 +134,10 @@ def options_of(request: pytest.FixtureRequest) -> dict[str, Any]:
     """The options that the marker of a test gives."""
     marker = request.node.get_closest_marker("scanvolt")
     options = {} if marker is None else dict(marker.kwargs)
-    unknown = sorted(set(options) - set(OPTIONS)) if marker is None or not marker.args else ["without a name"]
+    if marker is None or not marker.args:
+        unknown = sorted(set(options) - set(OPTIONS))
+    else:
+        unknown = ["without a name"]
     if unknown:
         pytest.fail(f"the marker scanvolt has no option {unknown[0]}, but {', '.join(OPTIONS)}", False)
     if options.get("scenario") is not None:
@@ -148,7 +151,8 @@ def made(make: Callable[[], Made]) -> Made:
         return make()
     except (ProgramError, OSError, TypeError, ValueError) as fault:
         told = str(fault)
-    return pytest.fail(told, pytrace=False)         # outside of `except`, where pytest would show `fault` too
+    # outside of `except`, where pytest would show `fault` too
+    return pytest.fail(told, pytrace=False)
 
 
 @pytest.fixture

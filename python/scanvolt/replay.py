@@ -26,7 +26,8 @@ STEPS = 64                  # single milliseconds that are tried before longer s
 CELLS = 64                  # cells that are tried at once
 FIRST_CELL, LAST_CELL = 16, 1024    # milliseconds of the first cells, and of the longest
 Moment = tuple[int, int]    # of a session: entries of the log, and milliseconds after them
-LOG_MOST = 4000000          # bytes of lines that are kept for a second program, which takes about 20 ms to read them
+# bytes of lines that are kept for a second program, which takes about 20 ms to read them
+LOG_MOST = 4000000
 
 
 def ticks(milliseconds: int) -> bytes:
@@ -134,7 +135,8 @@ class Replay:
 
     def __init__(self, path: str) -> None:
         self.path = path
-        self.log: list[bytes] | None = []        # all lines that were executed; None if they became too many
+        # all lines that were executed; None if they became too many
+        self.log: list[bytes] | None = []
         self.size = 0                               # how many bytes they have
         self._since = 0                              # milliseconds that passed after the last of them
         self.checksum = 0                           # of all that was printed
@@ -241,7 +243,10 @@ class Replay:
         session became too long to be kept.
         """
         other.script()
-        self.log, self.size, self._since, self.checksum = list(other.log or ()), other.size, other._since, other.checksum
+        self.log = list(other.log or ())
+        self.size = other.size
+        self._since = other._since
+        self.checksum = other.checksum
         self._play_again()
 
     def _play_again(self) -> None:

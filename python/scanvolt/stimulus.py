@@ -17,7 +17,9 @@ CHANNELS = 128
 MOST_MICROVOLTS = 10 ** 9
 LONGEST_LINE = 65536        # bytes
 SHOWN_MOST = 40             # characters of a bad word that are shown
-DIGITS, CHANNEL, LEVEL = re.compile(b"[0-9]{1,18}"), re.compile(b"[1-9][0-9]{0,2}"), re.compile(b"-?[0-9]{1,18}")
+DIGITS = re.compile(b"[0-9]{1,18}")
+CHANNEL = re.compile(b"[1-9][0-9]{0,2}")
+LEVEL = re.compile(b"-?[0-9]{1,18}")
 Name = Union[str, os.PathLike[str]]
 Volts = Union[decimal.Decimal, int, float, str]
 
@@ -120,7 +122,8 @@ def entry_of(line: bytes, last: int = 0) -> Entry:
     if not CHANNEL.fullmatch(channel) or int(channel) > CHANNELS:
         raise ValueError(f"a channel is a whole number, 1 to {CHANNELS}, and not {shown(channel)}")
     if not LEVEL.fullmatch(level) or abs(int(level)) > MOST_MICROVOLTS:
-        raise ValueError(f"a voltage is a whole number of microvolts, of at most 18 digits, {-MOST_MICROVOLTS} to {MOST_MICROVOLTS}, and not {shown(level)}")
+        raise ValueError("a voltage is a whole number of microvolts, of at most 18 digits, "
+                         f"{-MOST_MICROVOLTS} to {MOST_MICROVOLTS}, and not {shown(level)}")
     return Entry(int(clock), b"input %d %d\n" % (int(channel), int(level)), int(channel), int(level))
 
 

@@ -48,7 +48,8 @@ __all__ = ["Connection", "Meter", "NeverEnds", "NoAnswer", "NotInStep", "OrderFa
 __tracebackhide__ = True        # pytest shows the line that calls the package, and not these frames
 Value = TypeVar("Value")
 PLACES = 16             # connections that the instrument has room for
-METERS: weakref.WeakValueDictionary[int, Meter] = weakref.WeakValueDictionary()       # those that there are, in their order
+# those that there are, in their order
+METERS: weakref.WeakValueDictionary[int, Meter] = weakref.WeakValueDictionary()
 STARTED: list[Callable[[Meter], object]] = []      # what is told of each meter that is turned on
 _numbers = itertools.count()
 Awaited = tuple[Pending[Any], Callable[[Optional[Exception]], None]]
@@ -86,7 +87,8 @@ class Meter:
         self._ahead: collections.deque[Entry] = collections.deque(entries)
         self.clock = 0                  # milliseconds since the instrument was turned on
         self.dials = True               # whether the dialing of an interrupt channel succeeds
-        self._sent = self._handed = 0     # calls that were sent, and service requests that were handed on
+        # calls that were sent, and service requests that were handed on
+        self._sent = self._handed = 0
         self.connections: dict[int, Connection] = {}        # those that are open, by number
         self._deliveries: collections.deque[Callable[[], object]] = collections.deque()
         self.faults = Faults(self)      # faults on order
@@ -326,7 +328,10 @@ class Meter:
                 self.drop(connection, ended)
                 return
             first = len(connection._pending) == 1
-            lines = b"" if pending._made else b"bytes %d %s\n" % (connection.number, record.hex().encode())
+            if pending._made:
+                lines = b""
+            else:
+                lines = b"bytes %d %s\n" % (connection.number, record.hex().encode())
             lines += self._turn(connection) if first else b""
             if lines and 4 in self._perform(lines):
                 connection._pending.remove(pending)

@@ -37,7 +37,10 @@ class VisaMeter:
         self.server: Server | None = None
         self._meter: Meter | None = None
         try:
-            own = self._virtual(options, monkeypatch, folder) if backend == "virtual" else self._sockets(options, monkeypatch)
+            if backend == "virtual":
+                own = self._virtual(options, monkeypatch, folder)
+            else:
+                own = self._sockets(options, monkeypatch)
             self.name = next(iter(self._names), own)
             self.resource = self.open()
         except BaseException:

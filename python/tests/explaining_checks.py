@@ -58,7 +58,8 @@ class Checks:
                 yield f"no reply to {call.words}"
             if call.name == "device_readstb" and call.answer and call.answer.error == 0:
                 self.counts["polls"] += 1
-                before = (call.waits[-1].end if call.waits else call.turned and call.turned.steps[0])
+                taken = call.turned and call.turned.steps[0]
+                before = call.waits[-1].end if call.waits else taken
                 if before is None or self.lines.bits("poll", before.number - 1) != call.answer.value:
                     yield f"a poll returned {call.answer.words} at {before and where(before)}"
             for wait in call.waits:

@@ -119,7 +119,8 @@ class Sockets(unittest.TestCase):
 
         faults: list[object] = []
         with warnings.catch_warnings():
-            warnings.simplefilter("ignore", ResourceWarning)        # of the sockets that the second one leaves open
+            # of the sockets that the second one leaves open
+            warnings.simplefilter("ignore", ResourceWarning)
             for is_closed in True, False:
                 asyncio.run(session(is_closed))
             gc.collect()
@@ -182,7 +183,8 @@ class Virtual(unittest.TestCase):
         async def session() -> None:
             async with aio.Meter() as meter:
                 one, other = meter.connect(), meter.connect()
-                first, second = await one.create_link(lock=True), await other.create_link(lock_timeout=LONG)
+                first = await one.create_link(lock=True)
+                second = await other.create_link(lock_timeout=LONG)
                 requests = await one.listen()
                 await first.enable_srq(b"first")
                 task = asyncio.create_task(second.write("*SRE 4;UNKNOWN"))

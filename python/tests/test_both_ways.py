@@ -130,7 +130,8 @@ class BothWays(unittest.TestCase):
 
         def recording(call: calls.Call[object], body: bytes, xid: int) -> object:
             found = answer(call, body, xid)
-            if isinstance(found, calls.Made):           # it has the port of the abort channel, which the server chose
+            # it has the port of the abort channel, which the server chose
+            if isinstance(found, calls.Made):
                 body = body.replace(words(found.abort_port), words(ABORT_PORT))
             if not (call.procedure == calls.DEVICE_READSTB and found == 0):
                 replies.append((call.name, body[4:]))

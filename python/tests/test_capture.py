@@ -294,8 +294,8 @@ class Starts(unittest.TestCase):
             capture = self.asked(10, 0)
             status, text = self.folder.compare(capture, *told(start))
             self.assertEqual((status, text), (2, (
-                f"scanvolt-capture: --start {(START + start) / 1000:.3f} is {how} the first packet of the session, which came at 1700000000.010; "
-                "--far-start takes it\n")))
+                f"scanvolt-capture: --start {(START + start) / 1000:.3f} is {how} the first packet of the session, "
+                "which came at 1700000000.010; --far-start takes it\n")))
             self.assertEqual(self.folder.compare(capture, *told(start), "--far-start")[0], 0)
         self.assertEqual(self.folder.compare(self.asked(10, 0), *told(-59000))[0], 0)
 

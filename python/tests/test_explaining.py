@@ -123,7 +123,8 @@ class Texts(unittest.TestCase):
     def test_what_is_folded(self) -> None:
         """Only readings, and calls that are equal and change nothing. Each of them counts."""
         found = explained("scan")
-        plain, everything = Blocks(found.reasons).all(), Blocks(Reasons(Doers(Telling(found.story, True)))).all()
+        plain = Blocks(found.reasons).all()
+        everything = Blocks(Reasons(Doers(Telling(found.story, True)))).all()
         for block in plain:
             if block.times > 1:
                 self.assertTrue(block.kind == "reading" or block.kind == "call" and not block.rows)

@@ -73,7 +73,8 @@ class Faults(unittest.TestCase):
     def test_a_script_that_is_cut_off(self) -> None:
         self.refused("line 2 isn't one of a replay script .*: bytes 0 800", self.file("open 0 core\nbytes 0 800"))
         self.refused("line 1 isn't one of a replay script .*: ope", self.file("ope"))
-        status, out, _ = run(self.file("open 0 core\nbytes 0 8000"))        # in the middle of a call, but whole lines
+        # in the middle of a call, but whole lines
+        status, out, _ = run(self.file("open 0 core\nbytes 0 8000"))
         self.assertEqual((status, out.splitlines()[-1]), (0, "  c0        2 bytes of a call that isn't whole"))
 
     def test_a_line_that_is_unknown(self) -> None:

@@ -120,7 +120,10 @@ class AtOnce(WithMeter):
                 found = Explanation(session.script, meter._replay.path)
                 for call in found.story.waiting():
                     hopeless = meters._hopeless(found, call.conn, call.message.xid, 1000) is not None
-                    printed = b"c%d " % call.conn in meter._replay.pass_time(1000) if hopeless else False
+                    if hopeless:
+                        printed = b"c%d " % call.conn in meter._replay.pass_time(1000)
+                    else:
+                        printed = False
                     said += hopeless
                     self.assertFalse(printed, (seed, call.words))
         self.assertGreater(said, 3)
@@ -161,7 +164,8 @@ class Notes(WithMeter):
             self.link.read()
         except DeviceError as fault:
             shown = "".join(traceback.format_exception(type(fault), fault, None))
-            self.assertEqual("waited since 0 ms" in shown, hasattr(BaseException, "add_note"))      # since Python 3.11
+            # since Python 3.11
+            self.assertEqual("waited since 0 ms" in shown, hasattr(BaseException, "add_note"))
             again = pickle.loads(pickle.dumps(fault))
             self.assertEqual((again.number, str(again)), (fault.number, str(fault)))
 

@@ -27,15 +27,18 @@ CHROMIUM = shutil.which("chromium")
 ACTS = r"""
 addEventListener("load", () => setTimeout(() => {
   const out = {faults: window.faults}, s = document.getElementById("svg"), find = document.getElementById("find");
-  const fire = (kind, x, y, more) => s.dispatchEvent(new MouseEvent(kind, {bubbles: true, cancelable: true, clientX: x, clientY: y, ...more}));
+  const at = (x, y) => ({bubbles: true, cancelable: true, clientX: x, clientY: y});
+  const fire = (kind, x, y, more) => s.dispatchEvent(new MouseEvent(kind, {...at(x, y), ...more}));
   const key = name => dispatchEvent(new KeyboardEvent("keydown", {key: name}));
   out.lanes = lanes.filter(one => one.k != "group").map(one => one.n);
   const chosen = document.querySelector(".b.sel").getBoundingClientRect(), rows = document.getElementById("table").getBoundingClientRect();
   out.opened = chosen.top >= rows.top && chosen.bottom <= rows.bottom + 1;
   fit(); draw();
-  out.inside = [...document.querySelectorAll("#over text")].every(one => one.getBoundingClientRect().right <= over.getBoundingClientRect().right);
+  out.inside = [...document.querySelectorAll("#over text")].every(
+    one => one.getBoundingClientRect().right <= over.getBoundingClientRect().right);
   out.uncut = document.getElementById("lanes").scrollHeight <= document.getElementById("lanes").clientHeight + 1;
-  const rqs = lanes.find(one => one.id == "poll.6"), rise = rqs.H.filter(one => one[1]).map(one => one[0])[0], box = s.getBoundingClientRect();
+  const rqs = lanes.find(one => one.id == "poll.6"), rise = rqs.H.filter(one => one[1]).map(one => one[0])[0];
+  const box = s.getBoundingClientRect();
   const x = X(rise) + box.left + 1, y = box.top + rqs.y + 8;
   fire("mousemove", x, y);
   out.tip = document.getElementById("tip").hidden ? "" : document.getElementById("tip").textContent;

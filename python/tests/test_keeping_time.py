@@ -113,7 +113,8 @@ class Waits(WithMeter):
 
         self.assertFalse(self.takes(70, wait_for))
         self.assertRaises(queue.Empty, self.within, lambda: queue.Queue[int]().get(timeout=9))
-        self.assertRaises(RuntimeError, self.within, lambda: condition.wait(1))     # its lock isn't taken
+        # its lock isn't taken
+        self.assertRaises(RuntimeError, self.within, lambda: condition.wait(1))
         with condition:
             self.assertEqual(len(vars(condition)["_waiters"]), 0)
 

@@ -107,7 +107,8 @@ class Inputs(unittest.TestCase):
         self.assertIn("input 3 2500000", script)
         self.assertIn("external", script)
         printed = replayed(self.server, list(script))
-        self.assertTrue(any("2b322e3530303030300a" in line for line in printed), printed)       # +2.500000 and NL
+        # +2.500000 and NL
+        self.assertTrue(any("2b322e3530303030300a" in line for line in printed), printed)
         self.assertFalse([line for line in printed if line.startswith("refused")])
         # create_link returned the server's own abort port.
         self.assertTrue(any(f"{self.server.abort:08x}" in line for line in printed), printed)

@@ -78,7 +78,8 @@ class Knobs(WithPanel):
         self.refused(403, "another site", "POST", "/inputs/3", "1", Sec_Fetch_Site="cross-site")
         self.refused(403, "another site", "GET", "/record", Sec_Fetch_Site="same-site")
         self.assertEqual(self.ask("POST", "/inputs/3", "1", True, Origin=mine, Sec_Fetch_Site="same-origin")[0], 200)
-        self.assertEqual(self.ask("GET", "/", Sec_Fetch_Site="cross-site")[0], 200)        # a link leads to the page
+        # a link leads to the page
+        self.assertEqual(self.ask("GET", "/", Sec_Fetch_Site="cross-site")[0], 200)
 
     def test_names_that_lead_here(self) -> None:
         port = self.panel.port
@@ -230,7 +231,8 @@ class Streams(WithPanel):
         stream, link = self.stream(), self.link()
         took: list[float] = []
         for _ in range(5):
-            link.write("*CLS;*ESE 1;*SRE 32;CONF:VOLT (@1:3);:INIT;*OPC")     # the bit rises 3 ms later, without another event
+            # the bit rises 3 ms later, without another event
+            link.write("*CLS;*ESE 1;*SRE 32;CONF:VOLT (@1:3);:INIT;*OPC")
             took.append(stream.until('"RQS", "ESB"'))
             link.write("*CLS")
             took.append(stream.until('"STB": {"value": 0'))

@@ -43,7 +43,8 @@ class InABrowser(WithPanel):
 
     def sound(self, page: Page) -> None:
         """Nothing came on the console, and nothing was asked for elsewhere."""
-        self.assertEqual([one for one in page.faults() if "status of 40" not in one], [])      # what a test asked for in vain
+        # what a test asked for in vain
+        self.assertEqual([one for one in page.faults() if "status of 40" not in one], [])
         self.assertEqual([one for one in page.requests() if not one.startswith(f"http://127.0.0.1:{self.panel.port}/")], [])
 
     # knobs
@@ -102,7 +103,8 @@ class InABrowser(WithPanel):
         page = self.browser.page("data:text/html,<title>elsewhere</title>")
         address = self.panel.address
         for how in ("", ", mode: 'no-cors'"):
-            inputs, external = address.replace("/?", "/inputs/3?"), address.replace("/?", "/external?")
+            inputs = address.replace("/?", "/inputs/3?")
+            external = address.replace("/?", "/external?")
             page.run(f"fetch('{inputs}', {{method: 'POST', body: '1'{how}}}).catch(() => 0)")
             page.run(f"fetch('{external}', {{method: 'POST'{how}}}).catch(() => 0)")
         page.run(f"document.body.innerHTML = '<iframe src=\"{address}\"></iframe>'")
@@ -184,7 +186,8 @@ class InABrowser(WithPanel):
         page.run("window.old = true")
         page.reload()
         page.wait("!window.old && state && " + LIT % ("ESR", "CME"), 20)
-        self.assertFalse(page.run("document.getElementById('set').disabled"))       # the token stayed in the address
+        # the token stayed in the address
+        self.assertFalse(page.run("document.getElementById('set').disabled"))
 
     def test_a_server_that_is_killed_is_said(self) -> None:
         page, link = self.page(), self.link()
@@ -235,7 +238,8 @@ class InABrowser(WithPanel):
         page.click("[data-tab=session]")
         page.wait("document.getElementById('ending').textContent.includes('every device_write and device_read will wait')")
         self.assertNotIn("would end it", page.run("document.getElementById('ending').textContent"))
-        page.run("(asking = true, $('follow').click(), asking = false, wholeNext && ask(true))")      # while it asks
+        # while it asks
+        page.run("(asking = true, $('follow').click(), asking = false, wholeNext && ask(true))")
         page.wait("document.getElementById('ending').textContent.includes('EXTernal trigger, at')")
         self.watch.server.external()
 

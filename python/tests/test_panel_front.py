@@ -67,7 +67,10 @@ class Same(unittest.TestCase):
         links = {int(name[5:]): int(str(change[-1].new)[1:]) for name, change in story.lines.history.items()
                  if name.startswith("link.") and change[-1].new != "none"}
         self.assertEqual({one["link"]: one["connection"] for one in found["links"]}, links)
-        held = story.held_at(story.lines.steps[-1]) if story.lines.steps and value("held") != "none" else None
+        if story.lines.steps and value("held") != "none":
+            held = story.held_at(story.lines.steps[-1])
+        else:
+            held = None
         self.assertEqual(found["message"]["held"], None if held is None else held.text.decode())
         for name in ("poll", "esr", "oper.event", "ques.event", "lim.event", "oper.cond", "ques.cond", "lim.cond"):
             where, _, part = name.partition(".")

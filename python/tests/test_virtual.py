@@ -301,7 +301,8 @@ class InFlight(WithMeter):
         self.link.write("TRIG:SOUR EXT;:INIT;*OPC?")
         connection, link = self.controller()
         self.link.io_timeout, link.io_timeout = 300, 200
-        first, second = self.connection.start(self.link.calls.read()), connection.start(link.calls.read())
+        first = self.connection.start(self.link.calls.read())
+        second = connection.start(link.calls.read())
         self.error(15, first.result)
         self.assertEqual((first.clock, second.clock), (300, 200))
 

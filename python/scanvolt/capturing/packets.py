@@ -89,7 +89,8 @@ def tshark(path: str, words: Sequence[str]) -> list[str]:
 
 def packet(line: str) -> Packet:
     """The packet that a line of tshark's output describes."""
-    number, time, stream, source, from_port, target, to_port, seq, ack, flags, size, length, kept = line.split("\t")
+    number, time, stream, *ends, seq, ack, flags, size, length, kept = line.split("\t")
+    source, from_port, target, to_port = ends
     if kept != length:
         raise Fault(f"packet {number} has {kept} of its {length} bytes: capture whole packets")
     return Packet(int(number), nanoseconds(time), int(stream), (source, int(from_port)), (target, int(to_port)),

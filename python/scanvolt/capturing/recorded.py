@@ -67,7 +67,8 @@ def begin(words: Sequence[str], now: dict[str, _Sent], found: list[_Sent]) -> No
 def differences(session: Session, found: list[_Sent]) -> Iterator[str]:
     """The lines that say how the record and the capture differ."""
     for role in ROLES:
-        taken, sent = [one for one in session.connections if one.role == role], [one for one in found if one.role == role]
+        taken = [one for one in session.connections if one.role == role]
+        sent = [one for one in found if one.role == role]
         if len(taken) != len(sent):
             yield f"{counted(len(taken), 'connection')} of the channel {role} in the capture, {len(sent)} in the record"
         for connection, one in zip(taken, sent):

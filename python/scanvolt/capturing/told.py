@@ -139,9 +139,14 @@ def quoted(text: bytes) -> str:
 
 def start_of(comparison: Comparison) -> str:
     """A hint that the start may be wrong."""
-    begin = "--start may be wrong" if comparison.told else (
-        "the start may be wrong: without --start it is the time of the first packet")
-    end = f"Starts up to {comparison.farthest} ms off were tried" if comparison.others else "--other-starts tries others"
+    if comparison.told:
+        begin = "--start may be wrong"
+    else:
+        begin = "the start may be wrong: without --start it is the time of the first packet"
+    if comparison.others:
+        end = f"Starts up to {comparison.farthest} ms off were tried"
+    else:
+        end = "--other-starts tries others"
     return f"{begin}; `make serve` prints it. {end}"
 
 

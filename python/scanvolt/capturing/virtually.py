@@ -85,7 +85,10 @@ class Again:
             flow = captured.flow
             for place, reply in enumerate(flow.replies):
                 wanted = bytes(flow.wanted[reply.start:reply.end])
-                found = record(done[place]._body) if place < len(done) and done[place]._body else b""
+                if place < len(done) and done[place]._body:
+                    found = record(done[place]._body)
+                else:
+                    found = b""
                 late = place < len(done) and (done[place].clock or 0) > self._ticks[reply.due]
                 if found != wanted or late:
                     said = f"{found.hex() or 'none'} in virtual time" + " later" * late

@@ -14,8 +14,12 @@ from ..vxi11.errors import NAMES
 from .headers import Headers
 from .tables import CALLS, HEADERS, READS, STATES, WAITS
 
-COMMANDS, QUEUE, BITS_OF, CALLS_OF, FAULTS_OF, SITUATIONS = (
-    "commands and queries", "errors", "status bits", "VXI-11 calls", "errors of calls", "situations")
+COMMANDS = "commands and queries"
+QUEUE = "errors"
+BITS_OF = "status bits"
+CALLS_OF = "VXI-11 calls"
+FAULTS_OF = "errors of calls"
+SITUATIONS = "situations"
 AWAITED = {"lock": "the lock", "input": "input", "response": "a response", "dial": "the interrupt channel"}
 REGISTER = "poll", "esr"
 Item = tuple[str, str]          # a list, and an entry of it
@@ -47,7 +51,8 @@ def _read(reason: str) -> Item:
 
 
 INTERRUPT, OVERRUN = (SITUATIONS, "a query is interrupted"), (SITUATIONS, "a message is too long")
-SENT, UNHEARD = (SITUATIONS, "a service request is sent"), (SITUATIONS, "a service request with none listening")
+SENT = (SITUATIONS, "a service request is sent")
+UNHEARD = (SITUATIONS, "a service request with none listening")
 LOST = SITUATIONS, "an error is lost: the queue is full"
 
 

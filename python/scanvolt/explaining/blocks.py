@@ -11,7 +11,8 @@ from .story import Call, Story
 from .tables import REFUSED
 from .words import escaped, millis
 
-READING = {"reading", "readings", "place"}      # what changes in a millisecond that only takes a reading
+# what changes in a millisecond that only takes a reading
+READING = {"reading", "readings", "place"}
 
 
 @dataclass
@@ -78,7 +79,10 @@ class Blocks:
     """Makes the blocks of a session."""
 
     def __init__(self, reasons: Reasons) -> None:
-        self._reasons, self._doers, self._telling, self._story = reasons, reasons.doers, reasons.telling, reasons.story
+        self._reasons = reasons
+        self._doers = reasons.doers
+        self._telling = reasons.telling
+        self._story = reasons.story
         self._everything = self._telling.everything
 
     def all(self) -> list[Block]:
@@ -174,7 +178,10 @@ class Blocks:
     def _tick(self, moment: Moment, rows: list[Row]) -> Block:
         """A millisecond that passes."""
         changed = {change.name for change in moment.changes()}
-        kind = "reading" if len(moment.steps) == 1 and changed <= READING and "reading" in changed else "time"
+        if len(moment.steps) == 1 and changed <= READING and "reading" in changed:
+            kind = "reading"
+        else:
+            kind = "time"
         shown = [row for row in rows if row.kind != "timeout" or row.words or self._everything]
         head = self._brings(moment)
         if kind == "time" and not self._everything and shown and shown[0].words.startswith(head + "; "):
@@ -197,10 +204,17 @@ class Blocks:
         """An event of the script that takes no call."""
         kind, reply = moment.kind, ""
         if kind == "external" and not rows:
-            source, state = self._telling.at("source", moment.steps[0]), self._telling.at("state", moment.steps[0])
-            does = f"waits for another trigger, {source.upper()}" if state == "waiting" else f"is {state}"
+            source = self._telling.at("source", moment.steps[0])
+            state = self._telling.at("state", moment.steps[0])
+            if state == "waiting":
+                does = f"waits for another trigger, {source.upper()}"
+            else:
+                does = f"is {state}"
             reply = f"ignored: the scan {does}"
         if kind in ("turn", "refuse"):
             reply = "takes no call"
-        who = "script" if kind in ("input", "external") or len(moment.words) < 2 else "c" + moment.words[1].lstrip("ci")
+        if kind in ("input", "external") or len(moment.words) < 2:
+            who = "script"
+        else:
+            who = "c" + moment.words[1].lstrip("ci")
         return Block(moment, who, self._doers.event(moment), "event", reply, False, rows)

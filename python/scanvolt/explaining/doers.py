@@ -60,7 +60,9 @@ class Doers:
         words = moment.words
         if words[0] == "tick":
             change = moment.steps[0].of("reading")
-            return reading(change.new) if change is not None and change.new != "none" else "1 ms passes"
+            if change is not None and change.new != "none":
+                return reading(change.new)
+            return "1 ms passes"
         if words[0] == "input" and len(words) > 2:
             return f"input {words[1]} = {volts(int(words[2]))}"
         if words[0] == "external":
@@ -69,7 +71,9 @@ class Doers:
             role = {"core": "core channel", "abort": "abort channel"}.get(words[2], "port mapper")
             return f"c{words[1]} opens, {role}"
         if words[0] == "close":
-            return f"{words[1]} closes" if words[1][0] == "c" else f"interrupt channel of c{words[1][1:]} closes"
+            if words[1][0] == "c":
+                return f"{words[1]} closes"
+            return f"interrupt channel of c{words[1][1:]} closes"
         if words[0] == "dialed":
             ended = "succeeded" if words[2] == "ok" else "failed"
             return f"interrupt channel of c{words[1]}: connecting {ended}"

@@ -29,7 +29,10 @@ class Ending:
         for call in self._story.waiting():
             if call.waits[-1].what == "lock":
                 in_line.append(call)
-            found += self._in_line(call, len(in_line)) if call.waits[-1].what == "lock" and len(in_line) > 1 else self._call(call)
+            if call.waits[-1].what == "lock" and len(in_line) > 1:
+                found += self._in_line(call, len(in_line))
+            else:
+                found += self._call(call)
         if not self._story.waiting():
             found.append("  no call waits")
         return found + self._held() + self._state()
@@ -48,7 +51,10 @@ class Ending:
     def _in_line(self, call: Call, place: int) -> list[str]:
         """A call that waits for the lock behind others, in a line."""
         wait, behind = call.waits[-1], self._story.behind(call)
-        most = f"until {millis(wait.deadline)} at most" if wait.deadline is not None else "without a limit"
+        if wait.deadline is not None:
+            most = f"until {millis(wait.deadline)} at most"
+        else:
+            most = "without a limit"
         after = f"; behind it {call_list(behind)}" if behind else ""
         since = f"since {millis(wait.begin.moment.clock)}, place {place} in line, {most}{after}"
         return [f"  {call.who}  {call.words} waits for the lock too, {since}"]
@@ -90,15 +96,24 @@ class Ending:
 
     def _held(self) -> list[str]:
         """A unit that is held while no call waits for it."""
-        held = self._story.held_at(self._lines.steps[-1]) if self._lines.steps and self._story.value("held") != "none" else None
+        if self._lines.steps and self._story.value("held") != "none":
+            held = self._story.held_at(self._lines.steps[-1])
+        else:
+            held = None
         if held is None or any(call.waits[-1].what in ("input", "response") for call in self._story.waiting()):
             return []
         since = f"unit `{unit(held.text)}` since {millis(held.moment.clock)}"
         found = [since + ": every device_write and device_read will wait",
                  self._reasons.scan(self._story.end)]
-        ends = [] if self._tried is None else [f"{one.what}, at {millis(one.clock)}" for one in self._tried.of_held()]
+        if self._tried is None:
+            ends = []
+        else:
+            ends = [f"{one.what}, at {millis(one.clock)}" for one in self._tried.of_held()]
         found += ["would end it: " + "; or ".join(ends)] if ends else []
-        left = [] if self._tried is None else [one.what for one in self._tried.left if one.what != TIME]
+        if self._tried is None:
+            left = []
+        else:
+            left = [one.what for one in self._tried.left if one.what != TIME]
         found += ["not tried: " + ", ".join(left)] if left else []
         labels = ["held"] + [""] * (len(found) - 1)
         return [f"  {label:<10}{line}" for label, line in zip(labels, found)]

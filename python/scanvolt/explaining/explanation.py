@@ -32,7 +32,8 @@ class Explanation:
     def __init__(self, script: Sequence[str], program: str, patience: float | None = None,
                  ports: Ports | None = None, faults: Sequence[Told] = ()) -> None:
         self.script, self.program = script, program
-        self.story = Story(lines_of(script, program, patience, ports))      # the session, for other views
+        # the session, for other views
+        self.story = Story(lines_of(script, program, patience, ports))
         self.story.faults = faults
         self.reasons = Reasons(Doers(Telling(self.story)))
 

@@ -9,8 +9,9 @@ from collections.abc import Callable, Sequence
 from ..program import find_program
 from .running import Ports
 
+# how they begin
 CAPTURES = (b"\x0a\x0d\x0d\x0a", b"\xd4\xc3\xb2\xa1", b"\xa1\xb2\xc3\xd4", b"\x4d\x3c\xb2\xa1",
-            b"\xa1\xb2\x3c\x4d")    # how they begin
+            b"\xa1\xb2\x3c\x4d")
 OTHERWISE = "the replay answers otherwise than the capture; scanvolt-capture compare says where"
 
 

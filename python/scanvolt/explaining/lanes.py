@@ -27,7 +27,10 @@ class Lanes:
     """Makes the data of the lanes."""
 
     def __init__(self, reasons: Reasons, slots: Slots) -> None:
-        self._reasons, self._slots, self._story, self._lines = reasons, slots, reasons.story, reasons.lines
+        self._reasons = reasons
+        self._slots = slots
+        self._story = reasons.story
+        self._lines = reasons.lines
         self._why = Why(reasons)
 
     def places(self) -> list[tuple[int, int]]:
@@ -79,7 +82,10 @@ class Lanes:
         what = f"`{unit(held.text, 24)}`" if held else "a message"
         others = {"lock": "lock: " + self._reasons.telling.holder(wait.begin), "dial": "connecting"}
         short = others.get(wait.what, f"{wait.what}: {what}")
-        how = {"timeout": "timed out", "resume": "resumed"}.get(wait.end.kind, "ended") if wait.end else ""
+        if wait.end:
+            how = {"timeout": "timed out", "resume": "resumed"}.get(wait.end.kind, "ended")
+        else:
+            how = ""
         return [begin, end, short, self._reasons.why(wait, wait.begin.number), wait.deadline, how]
 
     def units(self) -> list[Row]:
@@ -124,11 +130,15 @@ class Lanes:
         first = next((step.number for step in self._lines.steps if self._slots.is_kept(step)), 0)
         value = self._lines.at(name, first - 1)
         if name == "lock":
-            return None if value == "none" else [int(str(value)), self._story.owners.get(int(str(value)))]
+            if value == "none":
+                return None
+            return [int(str(value)), self._story.owners.get(int(str(value)))]
         return len(numbers(value)) if name == "errors" else value
 
     def _owner(self, change: Change) -> object:
-        return None if change.new == "none" else [int(str(change.new)), self._story.owners.get(int(str(change.new)))]
+        if change.new == "none":
+            return None
+        return [int(str(change.new)), self._story.owners.get(int(str(change.new)))]
 
     def _count(self, change: Change) -> object:
         old, new = numbers(change.old), numbers(change.new)
@@ -151,7 +161,10 @@ class Lanes:
     def _bit(self, register: str, bit: int, group: str) -> dict[str, Any]:
         """The lane of a bit."""
         flips = self._flips(register, bit)
-        first = as_number(flips[0].old) >> bit & 1 if flips else as_number(start_of(register)) >> bit & 1
+        if flips:
+            first = as_number(flips[0].old) >> bit & 1
+        else:
+            first = as_number(start_of(register)) >> bit & 1
         chains = [[self._slots.at(one.step), self._slots.tree(self._why.bit(register, bit, one.step.number, False))]
                   for one in flips[-CHAINS:]]
         return {"id": f"{register}.{bit}", "g": group, "k": "bit", "n": NAMES[register][bit], "f": first,

@@ -37,7 +37,9 @@ def why_no_answer(meter: Meter, pending: Pending[object]) -> str | None:
     if meter._ahead and meter._ahead[0].clock <= meter.clock + meter.patience:
         return None
     found = of_meter(meter)
-    return None if found is None else _hopeless(found, pending.connection.number, pending.xid, meter.patience)
+    if found is None:
+        return None
+    return _hopeless(found, pending.connection.number, pending.xid, meter.patience)
 
 
 def _hopeless(found: Explanation, conn: int, xid: int, patience: int) -> str | None:

@@ -34,7 +34,10 @@ class Model:
     """Finds the causes of bits."""
 
     def __init__(self, doers: Doers) -> None:
-        self._doers, self._telling, self._story, self._lines = doers, doers.telling, doers.story, doers.lines
+        self._doers = doers
+        self._telling = doers.telling
+        self._story = doers.story
+        self._lines = doers.lines
 
     def title(self, name: str, bit: int) -> str:
         """A bit's name for people: `STB.RQS`."""
@@ -151,7 +154,9 @@ class Model:
     def _queue(self, value: int, step: Step, _depth: int) -> list[Node]:
         """The error queue."""
         queue = numbers(self._lines.at("errors", step.number))
-        return [Node(f"error {error(queue[0])}", step)] if value and queue else [Node("the error queue is empty", step)]
+        if value and queue:
+            return [Node(f"error {error(queue[0])}", step)]
+        return [Node("the error queue is empty", step)]
 
     def _standard(self, bit: int, value: int, step: Step) -> list[Node]:
         """A standard event."""
@@ -159,7 +164,10 @@ class Model:
             return [Node(f"`{unit(step.text)}` clears the standard events", step)]
         if bit == OPC:
             pending = self._lines.last("opc", step.number - 1, lambda one: one.new == 1)
-            found = [] if pending is None else [Node(f"*OPC pending since {self._doers.by(pending.step)}", pending.step)]
+            if pending is None:
+                found = []
+            else:
+                found = [Node(f"*OPC pending since {self._doers.by(pending.step)}", pending.step)]
             return found + [Node("the scan is idle", step)]
         change = step.of("errors")
         low = -100 * CLASSES[bit] - 99
@@ -185,8 +193,12 @@ class Model:
 
     def _scan(self, step: Step) -> list[Node]:
         """A condition of the operation register: the state of the scan."""
-        state, source = str(self._lines.at("state", step.number)), str(self._lines.at("source", step.number))
-        said = f"the scan waits for {a(SOURCES[source])} trigger" if state == "waiting" else f"the scan is {state}"
+        state = str(self._lines.at("state", step.number))
+        source = str(self._lines.at("source", step.number))
+        if state == "waiting":
+            said = f"the scan waits for {a(SOURCES[source])} trigger"
+        else:
+            said = f"the scan is {state}"
         return [Node(f"{said} since {self._doers.by(step)}", step)]
 
     def _at(self, step: Step, name: str) -> Value:

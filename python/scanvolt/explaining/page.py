@@ -63,7 +63,10 @@ def data(found: Explanation, slots: Slots) -> str:
     rows: list[list[object]] = []
     for step in slots.found:
         call = found.story.call_of(step)
-        label = (call.words if call else doers.event(step.moment)) if step.kind == "event" else doers.label(step)
+        if step.kind == "event":
+            label = call.words if call else doers.event(step.moment)
+        else:
+            label = doers.label(step)
         rows.append([step.moment.clock, step.moment.line, step.kind, label])
     folded = [[moment.clock, change.new] for moment in found.story.moments if moment.number in slots.folded
               and moment.number >= slots.first

@@ -13,7 +13,10 @@ class Reasons:
 
     def __init__(self, doers: Doers) -> None:
         # the session, for what takes its reasons from here
-        self.doers, self.telling, self.story, self.lines = doers, doers.telling, doers.story, doers.lines
+        self.doers = doers
+        self.telling = doers.telling
+        self.story = doers.story
+        self.lines = doers.lines
 
     def scan(self, number: int) -> str:
         """What the scan does after a step, and where it stands."""

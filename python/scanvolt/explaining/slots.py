@@ -10,7 +10,8 @@ from .story import Story
 FOLD = 3                # readings in a row that are drawn as one stretch
 QUIET = ("role", "output")
 UNSEEN = ("stb", "rqs", "answers")
-MOST, KEPT = 5000, 3000     # calls that a page shows; if a session has more, only so many of the last ones
+# calls that a page shows; if a session has more, only so many of the last ones
+MOST, KEPT = 5000, 3000
 
 
 class Slots:

@@ -100,10 +100,12 @@ class Story:
         self._of_step: dict[int, Call | None] = {}
         self.replied: dict[int, list[Call]] = {}    # the calls that were answered in a moment
         self.came: dict[int, list[Call]] = {}       # the calls whose last byte came in a moment
-        self.requests: dict[int, list[tuple[int, bytes]]] = {}     # service requests: connection, handle
+        # service requests: connection, handle
+        self.requests: dict[int, list[tuple[int, bytes]]] = {}
         self.faults: Sequence[Told] = ()            # on order, in their order
         self._strays: list[Step] = []                # units whose bytes aren't in what was written
-        self.executed: dict[int, Call] = {}         # whose text is executed when a wait begins, by the step of that
+        # whose text is executed when a wait begins, by the step of that
+        self.executed: dict[int, Call] = {}
         self._ports: dict[int, _Port] = {}
         self._of_conn: dict[int, list[Call]] = {}
         for moment in self.moments:
@@ -166,7 +168,8 @@ class Story:
             self._ports[int(head[1:])].channel = RequestStream()
         elif tail == "role" and change.new == "closed" or tail == "faulted" and change.new == 1:
             port = self._ports[int(head[1:])]
-            for call in port.queue if tail == "role" else [one for one in port.queue if one.turned is not None]:
+            taken = [one for one in port.queue if one.turned is not None]
+            for call in port.queue if tail == "role" else taken:
                 call.gone = moment
             port.queue = [call for call in port.queue if call.gone is None]
 

@@ -32,7 +32,10 @@ def _block(block: Block, slots: Slots, is_new: bool) -> str:
     """The row of a block."""
     place = slots.last(block.moment) if block.kind == "answer" else slots.at(block.moment.steps[0])
     call = block.call
-    rows = "" if block.kind == "reading" else "".join(_row(row, slots, place) for row in block.rows if row.label or row.words)
+    if block.kind == "reading":
+        rows = ""
+    else:
+        rows = "".join(_row(row, slots, place) for row in block.rows if row.label or row.words)
     who, colour = block.who.replace("link ", "L"), f"c{call.conn % COLOURS}" if call else "c9"
     return BLOCK % (
         block.kind, " err" if block.is_fault else "", place, call.link or "" if call else "", " new" if is_new else "",
@@ -74,7 +77,12 @@ def _chips(words: str) -> str:
     """Changes, each as a chip."""
     found = []
     for part in words.split("; ") if words else ():
-        kind = "bad" if part.startswith("error -") and "taken" not in part else "st" if part.startswith("STB") else ""
+        if part.startswith("error -") and "taken" not in part:
+            kind = "bad"
+        elif part.startswith("STB"):
+            kind = "st"
+        else:
+            kind = ""
         found.append(f'<span class="ch {kind}">{html.escape(part)}</span>')
     return " ".join(found)
 

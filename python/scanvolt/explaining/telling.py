@@ -22,8 +22,10 @@ from .words import (
     volts,
 )
 
-NOISE = ("stb", "rqs", "oper.cond", "answers", "scan", "place", "readings")     # said by another value, or of no use
-FLAGS = ("esr", "oper.event", "ques.event", "lim.event", "ques.cond", "lim.cond")      # whose numbers say less than their bits
+# said by another value, or of no use
+NOISE = ("stb", "rqs", "oper.cond", "answers", "scan", "place", "readings")
+# whose numbers say less than their bits
+FLAGS = ("esr", "oper.event", "ques.event", "lim.event", "ques.cond", "lim.cond")
 LONG = 60       # characters of moved bits that are too many to be told
 AWAITED = {"lock": "the lock", "input": "the message under way to end", "response": "a response",
            "dial": "the interrupt channel to be connected"}
@@ -94,7 +96,9 @@ class Telling:
     def _errors(self, change: Change) -> str:
         old, new = numbers(change.old), numbers(change.new)
         if not new:
-            return f"error {error(old[0])} taken: queue empty" if len(old) == 1 else f"error queue cleared ({len(old)})"
+            if len(old) == 1:
+                return f"error {error(old[0])} taken: queue empty"
+            return f"error queue cleared ({len(old)})"
         if new == old[1:]:
             return f"error {error(old[0])} taken, {len(new)} left"
         added = new[len(old):] if new[:len(old)] == old else new[-1:]
@@ -105,7 +109,9 @@ class Telling:
         return f"{counted(count, 'error')} lost: the queue is full" if count > 0 else None
 
     def _lock(self, change: Change) -> str:
-        return f"lock freed by link {change.old}" if change.new == "none" else f"lock: {self.link(int(str(change.new)))}"
+        if change.new == "none":
+            return f"lock freed by link {change.old}"
+        return f"lock: {self.link(int(str(change.new)))}"
 
     def _held(self, change: Change) -> str:
         if change.new != "none":
@@ -128,16 +134,22 @@ class Telling:
     def _text(self, change: Change) -> str | None:
         if change.new in (0, "ended"):
             dropped = change.new == 0 and isinstance(change.old, int) and change.step.kind in ("event", "resume")
-            return f"unfinished message of {counted(as_number(change.old), 'byte')} dropped" if dropped else None
+            if dropped:
+                return f"unfinished message of {counted(as_number(change.old), 'byte')} dropped"
+            return None
         return f"{counted(as_number(change.new), 'byte')} of a message that hasn't ended"
 
     def _response(self, change: Change) -> str | None:
-        old, new, call = as_number(change.old), as_number(change.new), self.story.call_of(change.step)
+        old = as_number(change.old)
+        new = as_number(change.new)
+        call = self.story.call_of(change.step)
         if new > old:
             return f"response of {counted(new, 'byte')} ready"
         if new == 0 and call is not None and call.name == "device_read" and change.step.kind != "interrupt":
             return None
-        return f"response dropped, {counted(old, 'byte')}" if new == 0 else f"{new} of {old} bytes left"
+        if new == 0:
+            return f"response dropped, {counted(old, 'byte')}"
+        return f"{new} of {old} bytes left"
 
     def _wait(self, change: Change) -> str | None:
         if change.new == "none":

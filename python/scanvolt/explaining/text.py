@@ -7,7 +7,13 @@ from collections.abc import Callable, Sequence
 from .blocks import Block, Blocks, Row
 from .words import millis
 
-DIM, BOLD, RED, GREEN, YELLOW, BLUE, RESET = "\x1b[2m", "\x1b[1m", "\x1b[31m", "\x1b[32m", "\x1b[33m", "\x1b[34m", "\x1b[0m"
+DIM = "\x1b[2m"
+BOLD = "\x1b[1m"
+RED = "\x1b[31m"
+GREEN = "\x1b[32m"
+YELLOW = "\x1b[33m"
+BLUE = "\x1b[34m"
+RESET = "\x1b[0m"
 WIDTH, INDENT, LABEL = 120, 24, 26      # columns of a line, before what changed, and of a step's name
 Paint = Callable[[str, str], str]
 
@@ -62,7 +68,10 @@ def block_text(block: Block, clock: str, paint: Paint) -> list[str]:
     waits = block.kind in ("waits", "queued")
     arrow = "" if not block.reply else " .. " if waits else " -> "
     reply = paint(block.reply, RED if block.is_fault else YELLOW if waits else GREEN)
-    times = paint(f"   {block.times} times, until {millis(block.last)}", DIM) if block.times > 1 else ""
+    if block.times > 1:
+        times = paint(f"   {block.times} times, until {millis(block.last)}", DIM)
+    else:
+        times = ""
     found = [f"{start}{who} {paint(block.head, BOLD)}{arrow}{reply}{times}"]
     found += [row_text(row, paint) for row in block.rows if row.label or row.words]
     return [line for one in found for line in one.split("\n")]

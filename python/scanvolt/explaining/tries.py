@@ -76,7 +76,8 @@ class Tried:
                 continue
             if seen is not None and (what == TIME or timeout is None or seen[:2] != timeout[:2]):
                 found.append(Outcome(seen[2], seen[1], seen[0]))
-            elif what != TIME or call.waits[-1].deadline is None:       # a timeout that is far off isn't waited for
+            elif what != TIME or call.waits[-1].deadline is None:
+                # a timeout that is far off isn't waited for
                 found.append(Outcome(what))
         return found
 

@@ -18,7 +18,10 @@ class Why:
 
     def __init__(self, reasons: Reasons, tried: Tried | None = None) -> None:
         self._reasons, self._tried = reasons, tried
-        self._doers, self._telling, self._story, self._lines = reasons.doers, reasons.telling, reasons.story, reasons.lines
+        self._doers = reasons.doers
+        self._telling = reasons.telling
+        self._story = reasons.story
+        self._lines = reasons.lines
         self.model = Model(self._doers)
 
     def tree(self, text: str) -> Node:
@@ -128,7 +131,9 @@ class Why:
     def _said(self, name: str, value: Value) -> str:
         """A value in words."""
         if name == "lock":
-            return "the lock is free" if value == "none" else f"{self._telling.link(int(str(value)))} holds the lock"
+            if value == "none":
+                return "the lock is free"
+            return f"{self._telling.link(int(str(value)))} holds the lock"
         if name == "reading":
             return "there is no reading" if value == "none" else reading(value)
         if name in ("range", "upper", "lower"):

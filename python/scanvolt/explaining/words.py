@@ -28,7 +28,12 @@ LABELS.update((f"{register}.{part}", f"{register.upper()} {word}") for register 
 
 def stands(name: str, bit: int) -> str:
     """What a bit stands for, as docs/INSTRUMENT.md says."""
-    register = "poll" if name in ("poll", "stb", "sre") else "esr" if name == "ese" else name.split(".")[0]
+    if name in ("poll", "stb", "sre"):
+        register = "poll"
+    elif name == "ese":
+        register = "esr"
+    else:
+        register = name.split(".")[0]
     return BITS[register].get(bit, ("", ""))[1]
 
 

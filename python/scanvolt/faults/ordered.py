@@ -54,7 +54,8 @@ class Faults:
         self._meter = meter
         self.ordered: list[Order] = []      # faults that haven't come
         self.told: list[Told] = []          # faults that came
-        self._late: list[tuple[int, Connection, Pending[object], bytes]] = []      # replies that come at a time
+        # replies that come at a time
+        self._late: list[tuple[int, Connection, Pending[object], bytes]] = []
         self._cut: list[tuple[Connection, ConnectionError]] = []                   # connections to be closed
 
     def __repr__(self) -> str:

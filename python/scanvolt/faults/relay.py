@@ -17,7 +17,8 @@ __tracebackhide__ = True        # pytest shows the line that calls the package, 
 Itself = TypeVar("Itself", bound="Relay")
 CLIENT, SERVER = "client", "server"     # towards whom bytes go
 TURN = 0.1              # seconds after which a relay looks whether it is closed
-RELAYS: weakref.WeakValueDictionary[int, Relay] = weakref.WeakValueDictionary()       # those that there are, in their order
+# those that there are, in their order
+RELAYS: weakref.WeakValueDictionary[int, Relay] = weakref.WeakValueDictionary()
 _numbers = itertools.count()
 
 

@@ -76,7 +76,11 @@ def main(given_words: list[str] | None = None, name: str = NAME) -> int:
         _serve(given)
         return 0
     except (OSError, ProgramError, ValueError, Wrong) as fault:
-        shown = f"{fault.filename}: {fault.strerror}" if isinstance(fault, OSError) and fault.filename else \
-            fault.strerror or str(fault) if isinstance(fault, OSError) else str(fault)
+        if isinstance(fault, OSError) and fault.filename:
+            shown = f"{fault.filename}: {fault.strerror}"
+        elif isinstance(fault, OSError):
+            shown = fault.strerror or str(fault)
+        else:
+            shown = str(fault)
         print(f"{name}: {shown}", file=sys.stderr)
         return 2

@@ -11,7 +11,8 @@ from dataclasses import dataclass, field
 from ..explaining.lines import REGISTERS, Value, as_number, start_of, value_of
 
 LOG = 60                # things that happened which are kept
-WRITE = slice(40, 48), "0000000b"      # where a call has its procedure, and that of device_write, in hexadecimal digits
+# where a call has its procedure, and that of device_write, in hexadecimal digits
+WRITE = slice(40, 48), "0000000b"
 LAMPS = ("poll", "esr", *(f"{name}.{part}" for name in REGISTERS for part in ("cond", "event")))
 
 
@@ -153,7 +154,9 @@ class Front:
         elif name == "reading":
             self._read(str(new))
         elif name == "held":
-            self.held, self.held_by, self.held_at = ("" if new == "none" else self.unit), self.writer, self.clock
+            self.held = "" if new == "none" else self.unit
+            self.held_by = self.writer
+            self.held_at = self.clock
         elif name == "lock":
             self.lock_at = self.clock
         elif head in ("link", "srq") and new in ("none", "off"):

@@ -69,5 +69,12 @@ def _lamp(name: str, where: str, place: int) -> str:
     """A lamp. SRE has no RQS."""
     if (name, where) == ("RQS", "SRE"):
         return "<td></td>"
-    kind = "enable" if where.endswith(("SRE", "ESE", "enable")) else "rqs" if name == "RQS" else "bad" if name in BAD else "good"
+    if where.endswith(("SRE", "ESE", "enable")):
+        kind = "enable"
+    elif name == "RQS":
+        kind = "rqs"
+    elif name in BAD:
+        kind = "bad"
+    else:
+        kind = "good"
     return f'<td><span class="lamp {kind}" data-lamp="{where}" data-bit="{name}" role="img" aria-label="{where} {name}: off"></span></td>'

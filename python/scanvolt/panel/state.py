@@ -62,8 +62,11 @@ def _stands(front: Front, one: Channel) -> str:
     if one.reading in OVER:
         return "overload"
     if front.number("limits"):
-        return "above" if int(one.reading) > front.number("upper") else "below" if int(one.reading) < front.number("lower") \
-            else "inside"
+        if int(one.reading) > front.number("upper"):
+            return "above"
+        if int(one.reading) < front.number("lower"):
+            return "below"
+        return "inside"
     return "inside"
 
 
@@ -83,7 +86,9 @@ def _scan(front: Front) -> State:
 def _newest(front: Front) -> State | None:
     """The newest reading."""
     words = str(front.value("reading")).split()
-    return None if len(words) != 3 else {"number": int(words[0]), "channel": int(words[1]), "reading": _read(words[2])}
+    if len(words) != 3:
+        return None
+    return {"number": int(words[0]), "channel": int(words[1]), "reading": _read(words[2])}
 
 
 def _now(front: Front) -> str:
@@ -125,7 +130,9 @@ def _unit(digits: str) -> str:
 
 def _lock(front: Front) -> State | None:
     link = front.value("lock")
-    return None if link == "none" else {"link": link, "connection": _owner(front, link), "since": front.lock_at}
+    if link == "none":
+        return None
+    return {"link": link, "connection": _owner(front, link), "since": front.lock_at}
 
 
 def _owner(front: Front, link: Value) -> int | None:
@@ -154,7 +161,9 @@ def _call(digits: str) -> tuple[str, int | None]:
 def _reply(happened: Happened) -> Answer:
     """The reply to a call, in words."""
     records = list(Records().push(bytes.fromhex(happened.reply)))
-    return answer(_message(bytes.fromhex(happened.what)), records[0].body) if records else Answer("no reply")
+    if records:
+        return answer(_message(bytes.fromhex(happened.what)), records[0].body)
+    return Answer("no reply")
 
 
 def _waits(front: Front) -> list[State]:
@@ -202,7 +211,10 @@ def _log(front: Front) -> list[State]:
 def _row(one: Happened) -> State:
     if one.conn is None:
         event = one.what.split()
-        said = f"input {event[1]} = {volts(int(event[2]))}" if event[0] == "input" else "EXTernal trigger"
+        if event[0] == "input":
+            said = f"input {event[1]} = {volts(int(event[2]))}"
+        else:
+            said = "EXTernal trigger"
         return {"clock": one.clock, "who": "input", "what": said, "reply": "", "fault": False, "times": 1}
     words, link = _call(one.what)
     reply = _reply(one)

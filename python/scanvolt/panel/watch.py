@@ -28,11 +28,13 @@ from .state import State, state_of
 __tracebackhide__ = True        # pytest shows the line that calls the package, and not these frames
 PIPE = 1 << 20          # bytes that the pipe holds
 PIECE = 1 << 15         # bytes that are read at once
-LONGEST = 1 << 17       # bytes of the record that are explained at once: at least a line, which has up to 65,537
+# bytes of the record that are explained at once: at least a line, which has up to 65,537
+LONGEST = 1 << 17
 SWEEPS = 4294967295     # the most that there are
 DUE, IDLE = 0.04, 0.5   # seconds between two questions, while something is due and else
 MARGIN = 3              # milliseconds that the server's clock may be behind when it answers
-PAUSE = 0.9             # seconds without a sign of the server after which it is not known how much time passed for it
+# seconds without a sign of the server after which it is not known how much time passed for it
+PAUSE = 0.9
 MOST_PASSED = 1000      # milliseconds that pass at most for the server after a pause
 SILENT = 1.0            # seconds without an answer after which the server is said not to answer
 LATE = 0.01             # seconds that the record may be read late
@@ -226,7 +228,10 @@ class Watch(threading.Thread):
         except subprocess.TimeoutExpired:
             pass
         status = process.returncode
-        self.ended = "the server runs, but writes no record" if status is None else _how(status, process)
+        if status is None:
+            self.ended = "the server runs, but writes no record"
+        else:
+            self.ended = _how(status, process)
         self._hang_up()
         self._tell()
 
@@ -290,7 +295,8 @@ class Watch(threading.Thread):
         os.set_blocking(self._output, False)
         self._selector.register(self._output, selectors.EVENT_READ, self._read)
         self.place, self._line, self._fed, self._ahead = 0, 0, 0, 0
-        self._flight: list[list[str]] = []      # the words of the lines that are being explained, a probe the last
+        # the words of the lines that are being explained, a probe the last
+        self._flight: list[list[str]] = []
         self._base, self._left, self._rest = 0, b"", b""
 
     def _again(self) -> None:

@@ -103,7 +103,8 @@ class Panel(socketserver.ThreadingTCPServer):
         with self._guard:
             now = time.monotonic()
             if now - self._of >= QUICKEST / 2:
-                self._text, self._of = json.dumps(self._watch.state(), separators=(",", ":")).encode(), now
+                self._text = json.dumps(self._watch.state(), separators=(",", ":")).encode()
+                self._of = now
             return self._text
 
 

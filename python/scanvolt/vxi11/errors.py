@@ -12,8 +12,19 @@ NAMES = {
     21: "invalid address", 23: "abort", 29: "channel already established",
 }
 
-SYNTAX_ERROR, NOT_ACCESSIBLE, INVALID_LINK, PARAMETER_ERROR, NOT_ESTABLISHED, NOT_SUPPORTED = 1, 3, 4, 5, 6, 8
-OUT_OF_RESOURCES, LOCKED, NO_LOCK, IO_TIMEOUT, IO_ERROR, INVALID_ADDRESS, ABORTED = 9, 11, 12, 15, 17, 21, 23
+SYNTAX_ERROR = 1
+NOT_ACCESSIBLE = 3
+INVALID_LINK = 4
+PARAMETER_ERROR = 5
+NOT_ESTABLISHED = 6
+NOT_SUPPORTED = 8
+OUT_OF_RESOURCES = 9
+LOCKED = 11
+NO_LOCK = 12
+IO_TIMEOUT = 15
+IO_ERROR = 17
+INVALID_ADDRESS = 21
+ABORTED = 23
 ALREADY_ESTABLISHED = 29
 EARLY = 5       # milliseconds by which a timeout may seem to be early, by this machine's clock
 
@@ -56,5 +67,8 @@ class DeviceError(Exception):
         told = f"{self.call}: {self.name} ({self.number})"
         if self.timeout is not None:
             whole = self.waited is None or self.waited >= self.timeout - EARLY
-            told += f", after {self.timeout} ms" if whole else f", after {int(self.waited or 0)} of {self.timeout} ms"
+            if whole:
+                told += f", after {self.timeout} ms"
+            else:
+                told += f", after {int(self.waited or 0)} of {self.timeout} ms"
         return told + ("" if self.clock is None else f", at {self.clock} ms of the meter's clock")

@@ -13,7 +13,8 @@ SUCCESS = 0                     # states of an accepted call: it was executed
 LAST = 0x80000000               # in the mark of a fragment: it is the last of its record
 AUTH_MOST = 400                 # bytes that a credential or a verifier may have
 RPC_VERSION = 2
-PROG_UNAVAIL, PROG_MISMATCH, PROC_UNAVAIL, GARBAGE_ARGS, SYSTEM_ERR = 1, 2, 3, 4, 5    # or why it wasn't
+# why the call of an accepted reply wasn't executed
+PROG_UNAVAIL, PROG_MISMATCH, PROC_UNAVAIL, GARBAGE_ARGS, SYSTEM_ERR = 1, 2, 3, 4, 5
 RPC_MISMATCH, AUTH_ERROR = 0, 1 # why a call was denied
 
 

@@ -29,7 +29,9 @@ from scanvolt.program import ProgramError
 from scanvolt.virtual import Meter, NoAnswer
 
 SRQ = EventType.service_request
-QUEUE, HANDLER, SUSPENDED = EventMechanism.queue, EventMechanism.handler, EventMechanism.suspend_handler
+QUEUE = EventMechanism.queue
+HANDLER = EventMechanism.handler
+SUSPENDED = EventMechanism.suspend_handler
 
 
 class WithResource(unittest.TestCase):
