@@ -14,6 +14,7 @@ FILES = {
     "tools/rows": PASSES,
     "tools/lint-documents": PASSES,
     "tools/lint-numbers": PASSES,
+    "tools/lint-python": PASSES,
     "tools/book": PASSES,
     "tools/pictures": PASSES,
     "tools/tests/test_none.py": "",
@@ -57,7 +58,7 @@ class Linting(unittest.TestCase):
 
     def test_a_part_that_crashes_is_told(self):
         for name in ("tools/lint-errors", "tools/header-rows", "tools/rows", "tools/lint-documents", "tools/lint-numbers",
-                     "tools/book", "tools/pictures"):
+                     "tools/lint-python", "tools/book", "tools/pictures"):
             for crash, status in (("exit 1", 1), ("exit 3", 3), ("kill -9 $$", 137)):
                 self.write(name, PASSES + crash + "\n")
                 self.assertEqual(self.lint(), (1, "lint: %s ended with status %d\n" % (name, status)))
