@@ -40,21 +40,21 @@ class Voltmeter:
 
     def __init__(self, resource: MessageBasedResource) -> None:
         self.resource = resource
-        self.channels = 1       # how many channels the scan list has
+        self._channels = 1       # how many channels the scan list has
         resource.read_termination = resource.write_termination = "\n"
         resource.chunk_size = WHOLE
         try:
             resource.enable_event(EventType.service_request, EventMechanism.queue)
-            self.has_events = True
+            self._has_events = True
         except (NotImplementedError, pyvisa.Error):     # PyVISA-py has no events
-            self.has_events = False
+            self._has_events = False
 
     def reset(self) -> None:
         """Clears what earlier users left: responses, settings, events, and what they enabled."""
         self.resource.clear()
         self.resource.write("*RST;*CLS;*ESE 0;*SRE 0;:STAT:PRES")
-        self.channels = 1
-        if self.has_events:
+        self._channels = 1
+        if self._has_events:
             self.resource.discard_events(EventType.service_request, EventMechanism.queue)
 
     def command(self, text: str) -> None:
@@ -70,14 +70,14 @@ class Voltmeter:
         """Sets which channels are scanned, in which order, at which range (1, 10 or 100 V), and how often."""
         listed = ",".join(str(channel) for channel in channels)
         self.command(f"CONF:VOLT (@{listed});:VOLT:RANG {volts:g};:TRIG:COUN {scans}")
-        self.channels = len(channels)
+        self._channels = len(channels)
 
     def scan(self) -> list[list[float | None]]:
         """The voltages of each scan, in the order of the channels; None for an overload."""
         answer = self.resource.query("READ?")
         readings = [float(text) for text in answer.split(",")]
         found = [None if abs(volts) > LARGEST else volts for volts in readings]
-        return [found[start:start + self.channels] for start in range(0, len(found), self.channels)]
+        return [found[start:start + self._channels] for start in range(0, len(found), self._channels)]
 
     def watch(self, channel: int, lower: float, upper: float) -> None:
         """Enables the alarm: from now on it is raised when a reading, or the input of this channel, is outside
@@ -95,7 +95,7 @@ class Voltmeter:
 
     def wait_for_alarm(self, seconds: float) -> int:
         """Waits for a service request. Returns the status byte, and clears its bit 6."""
-        if self.has_events:
+        if self._has_events:
             response = self.resource.wait_on_event(EventType.service_request, int(1000 * seconds), True)
             if not response.timed_out:
                 return self.resource.read_stb()
