@@ -11,7 +11,7 @@ import time
 import pyvisa
 from pyvisa_py.protocols import rpc
 
-REQUEST = 64    # bit 6 of the status byte: the instrument requests service
+REQUEST = 64  # bit 6 of the status byte: the instrument requests service
 
 
 def wait_for_request(meter, seconds=30):
@@ -30,12 +30,12 @@ def voltages(answer):
     return [float(text) for text in answer.split(",")]
 
 
-rpc.PMAP_PORT = int(sys.argv[1]) if len(sys.argv) > 1 else 4111     # PyVISA-py would ask port 111
+rpc.PMAP_PORT = int(sys.argv[1]) if len(sys.argv) > 1 else 4111  # PyVISA-py would ask port 111
 address = sys.argv[2] if len(sys.argv) > 2 else "127.0.0.1"
 manager = pyvisa.ResourceManager("@py")
 meter = manager.open_resource(f"TCPIP::{address}::inst0::INSTR")
 meter.read_termination = meter.write_termination = "\n"
-meter.timeout = 5000    # milliseconds; longer than any scan
+meter.timeout = 5000  # milliseconds; longer than any scan
 
 # Clear what earlier users left: first their unread answers, then their settings and events, then
 # what they enabled, which *RST keeps.

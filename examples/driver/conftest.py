@@ -14,7 +14,7 @@ import pyvisa
 
 HERE = pathlib.Path(__file__).resolve().parent
 SCENARIO = HERE / "stand.scenario"
-if importlib.util.find_spec("scanvolt") is None:    # it isn't installed: this is a checkout
+if importlib.util.find_spec("scanvolt") is None:  # it isn't installed: this is a checkout
     sys.path.insert(0, str(HERE.parent.parent / "python"))
 from voltmeter import Voltmeter  # noqa: E402
 
@@ -33,7 +33,9 @@ class Stand(NamedTuple):
 def in_virtual_time(_request: pytest.FixtureRequest) -> Iterator[Stand]:
     """An instrument without ports. time.sleep and time.monotonic use its virtual time."""
     manager = pyvisa.ResourceManager(f"{SCENARIO}@scanvolt")
-    with contextlib.closing(manager), manager.visalib.meter("TCPIP::scanvolt::INSTR").keeping_time():
+    with contextlib.closing(manager), manager.visalib.meter(
+        "TCPIP::scanvolt::INSTR"
+    ).keeping_time():
         yield Stand(manager, "TCPIP::scanvolt::INSTR", True)
 
 
@@ -60,7 +62,9 @@ def connect(stand: Stand) -> Iterator[Callable[[], Voltmeter]]:
     resources: list[pyvisa.Resource] = []
 
     def make() -> Voltmeter:
-        resources.append(stand.manager.open_resource(stand.address, open_timeout=5000, timeout=5000))
+        resources.append(
+            stand.manager.open_resource(stand.address, open_timeout=5000, timeout=5000)
+        )
         return Voltmeter(resources[-1])
 
     yield make

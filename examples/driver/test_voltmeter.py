@@ -36,7 +36,7 @@ def test_limits_of_a_scan(voltmeter):
     assert voltmeter.limits() == Limits.BELOW
     voltmeter.configure([4])
     voltmeter.scan()
-    assert voltmeter.limits() == Limits.ABOVE       # an overload is above each limit
+    assert voltmeter.limits() == Limits.ABOVE  # an overload is above each limit
     assert voltmeter.limits() == 0
 
 
@@ -61,7 +61,7 @@ def test_an_error(voltmeter):
     with pytest.raises(VoltmeterError) as caught:
         voltmeter.configure([1, 129])
     assert (caught.value.number, caught.value.text) == (-222, "Data out of range")
-    voltmeter.configure([1])                        # the queue is empty again
+    voltmeter.configure([1])  # the queue is empty again
     assert voltmeter.scan() == [[1.25]]
 
 

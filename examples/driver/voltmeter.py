@@ -11,19 +11,19 @@ import pyvisa
 from pyvisa.constants import EventMechanism, EventType
 from pyvisa.resources import MessageBasedResource
 
-LARGEST = 1e37          # an overload reads as 9.9E+37 or -9.9E+37
-REQUEST = 64            # bit 6 of the status byte: the instrument requests service
-LIMIT = 512             # bit 9 of the questionable register: a limit was passed
-WHOLE = 32768           # bytes of the longest response
-POLLS = 0.01            # seconds between two polls
+LARGEST = 1e37  # an overload reads as 9.9E+37 or -9.9E+37
+REQUEST = 64  # bit 6 of the status byte: the instrument requests service
+LIMIT = 512  # bit 9 of the questionable register: a limit was passed
+WHOLE = 32768  # bytes of the longest response
+POLLS = 0.01  # seconds between two polls
 
 
 class Limits(enum.IntFlag):
     """Events of the register of limits."""
 
-    BELOW = 1           # the last reading was below the lower limit
-    ABOVE = 2           # the last reading was above the upper limit
-    OUTSIDE = 4         # the input of the monitored channel is outside the limits; this needs no scan
+    BELOW = 1  # the last reading was below the lower limit
+    ABOVE = 2  # the last reading was above the upper limit
+    OUTSIDE = 4  # the input of the monitored channel is outside the limits; this needs no scan
 
 
 class VoltmeterError(Exception):
@@ -40,13 +40,13 @@ class Voltmeter:
 
     def __init__(self, resource: MessageBasedResource) -> None:
         self.resource = resource
-        self._channels = 1       # how many channels the scan list has
+        self._channels = 1  # how many channels the scan list has
         resource.read_termination = resource.write_termination = "\n"
         resource.chunk_size = WHOLE
         try:
             resource.enable_event(EventType.service_request, EventMechanism.queue)
             self._has_events = True
-        except (NotImplementedError, pyvisa.Error):     # PyVISA-py has no events
+        except (NotImplementedError, pyvisa.Error):  # PyVISA-py has no events
             self._has_events = False
 
     def reset(self) -> None:
@@ -77,7 +77,9 @@ class Voltmeter:
         answer = self.resource.query("READ?")
         readings = [float(text) for text in answer.split(",")]
         found = [None if abs(volts) > LARGEST else volts for volts in readings]
-        return [found[start:start + self._channels] for start in range(0, len(found), self._channels)]
+        return [
+            found[start : start + self._channels] for start in range(0, len(found), self._channels)
+        ]
 
     def watch(self, channel: int, lower: float, upper: float) -> None:
         """Enables the alarm: from now on it is raised when a reading, or the input of this channel, is outside
@@ -96,7 +98,9 @@ class Voltmeter:
     def wait_for_alarm(self, seconds: float) -> int:
         """Waits for a service request. Returns the status byte, and clears its bit 6."""
         if self._has_events:
-            response = self.resource.wait_on_event(EventType.service_request, int(1000 * seconds), True)
+            response = self.resource.wait_on_event(
+                EventType.service_request, int(1000 * seconds), True
+            )
             if not response.timed_out:
                 return self.resource.read_stb()
         else:

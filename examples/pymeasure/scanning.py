@@ -6,9 +6,9 @@ import pyvisa
 from pymeasure.instruments import Instrument
 from pymeasure.instruments.validators import strict_discrete_set, strict_range
 
-REQUEST = 64            # bit 6 of the status byte: the instrument requests service
-WHOLE = 32768           # bytes of the longest response
-POLLS = 0.01            # seconds between two polls
+REQUEST = 64  # bit 6 of the status byte: the instrument requests service
+WHOLE = 32768  # bytes of the longest response
+POLLS = 0.01  # seconds between two polls
 
 
 class VoltmeterError(Exception):
@@ -18,17 +18,42 @@ class VoltmeterError(Exception):
 class ScanningVoltmeter(Instrument):
     """The voltmeter with this resource name. Other links to it may exist."""
 
-    span = Instrument.control("VOLT:RANG?", "VOLT:RANG %g", "The range: 1, 10 or 100 V.",
-                              validator=strict_discrete_set, values=(1, 10, 100), check_set_errors=True)
-    upper = Instrument.control("CALC:LIM:UPP?", "CALC:LIM:UPP %g", "The upper limit, in volts.",
-                               validator=strict_range, values=(-1000, 1000), check_set_errors=True)
-    lower = Instrument.control("CALC:LIM:LOW?", "CALC:LIM:LOW %g", "The lower limit, in volts.",
-                               validator=strict_range, values=(-1000, 1000), check_set_errors=True)
+    span = Instrument.control(
+        "VOLT:RANG?",
+        "VOLT:RANG %g",
+        "The range: 1, 10 or 100 V.",
+        validator=strict_discrete_set,
+        values=(1, 10, 100),
+        check_set_errors=True,
+    )
+    upper = Instrument.control(
+        "CALC:LIM:UPP?",
+        "CALC:LIM:UPP %g",
+        "The upper limit, in volts.",
+        validator=strict_range,
+        values=(-1000, 1000),
+        check_set_errors=True,
+    )
+    lower = Instrument.control(
+        "CALC:LIM:LOW?",
+        "CALC:LIM:LOW %g",
+        "The lower limit, in volts.",
+        validator=strict_range,
+        values=(-1000, 1000),
+        check_set_errors=True,
+    )
 
     def __init__(self, resource_name, **options):
-        super().__init__(resource_name, "scanning voltmeter", read_termination="\n", write_termination="\n",
-                         chunk_size=WHOLE, timeout=5000, **options)
-        self.adapter.connection.clear()         # of what an earlier session left
+        super().__init__(
+            resource_name,
+            "scanning voltmeter",
+            read_termination="\n",
+            write_termination="\n",
+            chunk_size=WHOLE,
+            timeout=5000,
+            **options,
+        )
+        self.adapter.connection.clear()  # of what an earlier session left
         self.write("*RST;*CLS;*SRE 0;:STAT:PRES")
 
     def check_errors(self):

@@ -4,8 +4,10 @@ import pytest
 import pyvisa
 from scanning import ScanningVoltmeter, VoltmeterError
 
-NAME = "TCPIP::192.168.1.7::INSTR"      # a fixed address
-pytestmark = pytest.mark.scanvolt(scenario="stand.scenario", names={NAME: "scanvolt"}, backend=("virtual", "sockets"))
+NAME = "TCPIP::192.168.1.7::INSTR"  # a fixed address
+pytestmark = pytest.mark.scanvolt(
+    scenario="stand.scenario", names={NAME: "scanvolt"}, backend=("virtual", "sockets")
+)
 
 
 @pytest.fixture

@@ -24,8 +24,8 @@ Settings = Optional[dict[str, object]]
 Value = Union[str, list[str], dict[str, str]]
 Files = list[tuple[str, bytes]]
 PACKAGES = ("scanvolt", "pyvisa_scanvolt")
-OLDEST = 315532800          # 1 January 1980, the first date that a wheel can have
-SUFFIXES = (".py", ".html", ".css", ".js")      # of the packages' files
+OLDEST = 315532800  # 1 January 1980, the first date that a wheel can have
+SUFFIXES = (".py", ".html", ".css", ".js")  # of the packages' files
 # without the program, and with it
 PURE, PLATFORM = "py3-none-any", "py3-none-manylinux_2_36_x86_64"
 WHEEL = "Wheel-Version: 1.0\nGenerator: scanvolt_build\nRoot-Is-Purelib: %s\nTag: %s\n"
@@ -47,10 +47,15 @@ def project(text: str) -> dict[str, dict[str, Value]]:
             key, equals, value = line.partition(" = ")
             key = ast.literal_eval(key) if key.startswith('"') else key
             try:
-                table[key] = ast.literal_eval(re.sub(r"(?<=[{ ])(\w+) = ", r'"\1": ', value)
-                                              if value.startswith("{") else value.replace("true", "True"))
+                table[key] = ast.literal_eval(
+                    re.sub(r"(?<=[{ ])(\w+) = ", r'"\1": ', value)
+                    if value.startswith("{")
+                    else value.replace("true", "True")
+                )
             except (SyntaxError, ValueError):
-                raise ValueError(f"pyproject.toml has a line that isn't read here: {line}") from None
+                raise ValueError(
+                    f"pyproject.toml has a line that isn't read here: {line}"
+                ) from None
     return tables
 
 
@@ -79,8 +84,12 @@ def _licence() -> Files:
 
 def _sources() -> Files:
     """The files of the packages."""
-    paths = [path for package in PACKAGES for path in pathlib.Path(package).rglob("*")
-             if path.suffix in SUFFIXES or path.name == "py.typed"]
+    paths = [
+        path
+        for package in PACKAGES
+        for path in pathlib.Path(package).rglob("*")
+        if path.suffix in SUFFIXES or path.name == "py.typed"
+    ]
     return [(path.as_posix(), path.read_bytes()) for path in paths]
 
 
@@ -89,8 +98,12 @@ def _metadata() -> bytes:
     tables = _settings()
     found = tables["project"]
     lines = ["Metadata-Version: 2.1"]
-    for head, key in (("Name", "name"), ("Version", "version"), ("Summary", "description"),
-                      ("Requires-Python", "requires-python")):
+    for head, key in (
+        ("Name", "name"),
+        ("Version", "version"),
+        ("Summary", "description"),
+        ("Requires-Python", "requires-python"),
+    ):
         lines.append(f"{head}: {_text(found[key])}")
     licence = found["license"]
     assert isinstance(licence, dict)
@@ -109,24 +122,36 @@ def _entry_points() -> bytes:
     tables = _settings()
     groups = {"console_scripts": tables["project.scripts"]}
     start = "project.entry-points."
-    groups.update((name[len(start):], table) for name, table in tables.items() if name.startswith(start))
-    parts = [f"[{group}]\n" + "".join(f"{name} = {_text(what)}\n" for name, what in sorted(table.items()))
-             for group, table in sorted(groups.items())]
+    groups.update(
+        (name[len(start) :], table) for name, table in tables.items() if name.startswith(start)
+    )
+    parts = [
+        f"[{group}]\n"
+        + "".join(f"{name} = {_text(what)}\n" for name, what in sorted(table.items()))
+        for group, table in sorted(groups.items())
+    ]
     return "\n".join(parts).encode()
 
 
 def _program(prefix: str) -> Files:
     """The files of the program, as `make install PREFIX=..` puts them there. Raises OSError if it isn't there."""
     paths = [pathlib.Path(prefix, name) for name in IN_PROGRAM]
-    return [("scanvolt/program/" + name, path.read_bytes())
-            for name, path in zip(IN_PROGRAM, paths) if path.is_file() or name == IN_PROGRAM[0]]
+    return [
+        ("scanvolt/program/" + name, path.read_bytes())
+        for name, path in zip(IN_PROGRAM, paths)
+        if path.is_file() or name == IN_PROGRAM[0]
+    ]
 
 
 def _information(tag: str) -> Files:
     """The files of a wheel's .dist-info, except RECORD."""
     wheel = WHEEL % ("true" if tag == PURE else "false", tag)
-    return _licence() + [("METADATA", _metadata()), ("WHEEL", wheel.encode()), ("entry_points.txt", _entry_points()),
-                         ("top_level.txt", "".join(name + "\n" for name in sorted(PACKAGES)).encode())]
+    return _licence() + [
+        ("METADATA", _metadata()),
+        ("WHEEL", wheel.encode()),
+        ("entry_points.txt", _entry_points()),
+        ("top_level.txt", "".join(name + "\n" for name in sorted(PACKAGES)).encode()),
+    ]
 
 
 def _epoch() -> int:
@@ -149,13 +174,16 @@ def _wheel(folder: str, files: Files, tag: str = PURE) -> str:
         for member, data in files + [(information + "RECORD", record.encode())]:
             one = zipfile.ZipInfo(member, time.gmtime(_epoch())[:6])
             one.compress_type, one.create_system = zipfile.ZIP_DEFLATED, 3
-            one.external_attr = (0o100755 if member.endswith("/" + IN_PROGRAM[0]) else 0o100644) << 16
+            one.external_attr = (
+                0o100755 if member.endswith("/" + IN_PROGRAM[0]) else 0o100644
+            ) << 16
             packed.writestr(one, data)
     return name
 
 
-def build_wheel(wheel_directory: str, config_settings: Settings = None,
-                metadata_directory: str | None = None) -> str:
+def build_wheel(
+    wheel_directory: str, config_settings: Settings = None, metadata_directory: str | None = None
+) -> str:
     """Writes the wheel into a folder. Returns its name. With the setting `program`, the prefix of an installation, it is the
     wheel of a platform that has the program inside.
     """
@@ -165,8 +193,9 @@ def build_wheel(wheel_directory: str, config_settings: Settings = None,
     return _wheel(wheel_directory, _sources() + _program(str(prefix)), PLATFORM)
 
 
-def build_editable(wheel_directory: str, config_settings: Settings = None,
-                   metadata_directory: str | None = None) -> str:
+def build_editable(
+    wheel_directory: str, config_settings: Settings = None, metadata_directory: str | None = None
+) -> str:
     """Writes a wheel that makes Python load the packages from here, for `pip install --editable`."""
     return _wheel(wheel_directory, [("scanvolt.pth", os.fsencode(os.getcwd()) + b"\n")])
 
@@ -174,7 +203,11 @@ def build_editable(wheel_directory: str, config_settings: Settings = None,
 def build_sdist(sdist_directory: str, config_settings: Settings = None) -> str:
     """Writes the sdist into a folder. Returns its name."""
     own = pathlib.Path(__file__)
-    files = _sources() + _licence() + [("PKG-INFO", _metadata()), ("backend/" + own.name, own.read_bytes())]
+    files = (
+        _sources()
+        + _licence()
+        + [("PKG-INFO", _metadata()), ("backend/" + own.name, own.read_bytes())]
+    )
     files += [(name, pathlib.Path(name).read_bytes()) for name in ("pyproject.toml", "README.md")]
     packed = io.BytesIO()
     with tarfile.open(fileobj=packed, mode="w", format=tarfile.USTAR_FORMAT) as archive:

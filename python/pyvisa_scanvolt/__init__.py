@@ -27,15 +27,18 @@ if TYPE_CHECKING:
 
     from .library import ScanvoltLibrary
 
-__tracebackhide__ = True        # pytest shows the line that calls the package, and not these frames
+__tracebackhide__ = True  # pytest shows the line that calls the package, and not these frames
 
 
 def meter_of(resource: Resource) -> Meter:
     """The instrument of a resource that a manager of this backend opened. Raises TypeError for any other resource."""
     from .library import ScanvoltLibrary
+
     library = getattr(resource, "visalib", None)
     if not isinstance(library, ScanvoltLibrary):
-        raise TypeError(f"no resource of this backend, pyvisa.ResourceManager('@scanvolt'): {resource!r}")
+        raise TypeError(
+            f"no resource of this backend, pyvisa.ResourceManager('@scanvolt'): {resource!r}"
+        )
     return library.meter(resource)
 
 
@@ -45,6 +48,7 @@ def resource_of(meter: Meter, **options: Any) -> Any:
     doesn't turn such a meter off.
     """
     import pyvisa
+
     manager = pyvisa.ResourceManager("@scanvolt")
     library: Any = manager.visalib
     return manager.open_resource(f"TCPIP::{library.host_of(meter)}::INSTR", **options)
@@ -55,4 +59,5 @@ def __getattr__(name: str) -> type[ScanvoltLibrary]:
     if name not in ("WRAPPER_CLASS", "ScanvoltLibrary"):
         raise AttributeError(f"module {__name__} has no attribute {name}")
     from .library import ScanvoltLibrary
+
     return ScanvoltLibrary

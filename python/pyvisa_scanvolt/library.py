@@ -17,10 +17,10 @@ from .session import Session
 from .sharing import Sharing
 from .statuses import FAULTS, Refusal, VisaIOError, status_of
 
-__tracebackhide__ = True        # pytest shows the line that calls the package, and not these frames
+__tracebackhide__ = True  # pytest shows the line that calls the package, and not these frames
 Value = TypeVar("Value")
 HOST = re.compile(r"scanvolt[0-9a-z_.-]*", re.IGNORECASE)
-FIRST = "TCPIP0::scanvolt::inst0::INSTR"        # is always listed
+FIRST = "TCPIP0::scanvolt::inst0::INSTR"  # is always listed
 NONE = "no scenario"
 UNSUPPORTED = """
     assert_interrupt_signal assert_utility_signal get_buffer_from_id gpib_command gpib_control_atn
@@ -44,6 +44,7 @@ class ScanvoltLibrary(highlevel.VisaLibraryBase):
     def get_debug_info() -> dict[str, Any]:
         """The path of the program, or why none was found."""
         from scanvolt.program import ProgramError, find_program
+
         try:
             return {"Program": find_program()}
         except ProgramError as fault:
@@ -56,7 +57,7 @@ class ScanvoltLibrary(highlevel.VisaLibraryBase):
             self._settings = settings.read(str(self.library_path))
         self._sharings: dict[str, Sharing] = {}
         self._meters: dict[str, Meter] = {}
-        self._given: list[str] = []          # the hosts of instruments that were made elsewhere
+        self._given: list[str] = []  # the hosts of instruments that were made elsewhere
         self._sessions: dict[int, Session] = {}
         self._contexts: dict[int, constants.EventType] = {}
         self._numbers = itertools.count(1)
@@ -139,12 +140,20 @@ class ScanvoltLibrary(highlevel.VisaLibraryBase):
 
     def list_resources(self, session: Any, query: str = "?*::INSTR") -> tuple[str, ...]:
         """The instruments that are on, and one that is always listed (viFindRsrc)."""
-        names = {f"TCPIP0::{host}::inst0::INSTR" for host in self._meters} | {FIRST} | set(self._settings.hosts)
+        names = (
+            {f"TCPIP0::{host}::inst0::INSTR" for host in self._meters}
+            | {FIRST}
+            | set(self._settings.hosts)
+        )
         return rname.filter(sorted(names), query)
 
-    def open(self, session: Any, resource_name: str,
-             access_mode: constants.AccessModes = constants.AccessModes.no_lock,
-             open_timeout: int = constants.VI_TMO_IMMEDIATE) -> tuple[Any, StatusCode]:
+    def open(
+        self,
+        session: Any,
+        resource_name: str,
+        access_mode: constants.AccessModes = constants.AccessModes.no_lock,
+        open_timeout: int = constants.VI_TMO_IMMEDIATE,
+    ) -> tuple[Any, StatusCode]:
         """Opens a session to an instrument, with its lock if access_mode asks for that (viOpen)."""
         if access_mode not in (constants.AccessModes.no_lock, constants.AccessModes.exclusive_lock):
             self.handle_return_value(session, StatusCode.error_invalid_access_mode)
@@ -154,8 +163,13 @@ class ScanvoltLibrary(highlevel.VisaLibraryBase):
         status = StatusCode.success
         try:
             meter = self._meter(host)
-            opened = Session(meter, self._sharings[host.lower()], attributes.of_instrument(parsed, host, device), device,
-                             lock_timeout)
+            opened = Session(
+                meter,
+                self._sharings[host.lower()],
+                attributes.of_instrument(parsed, host, device),
+                device,
+                lock_timeout,
+            )
         except FAULTS as fault:
             if isinstance(fault, ConnectionError):
                 status = StatusCode.error_allocation
@@ -199,12 +213,16 @@ class ScanvoltLibrary(highlevel.VisaLibraryBase):
         """The state of an attribute of a session, an event or the resource manager (viGetAttribute)."""
         if session in self._contexts:
             if attribute == constants.EventAttribute.event_type:
-                return self._contexts[session], self.handle_return_value(session, StatusCode.success)
+                return self._contexts[session], self.handle_return_value(
+                    session, StatusCode.success
+                )
             self.handle_return_value(session, StatusCode.error_nonsupported_attribute)
         if session == self._manager:
             if attribute not in self._common:
                 self.handle_return_value(session, StatusCode.error_nonsupported_attribute)
-            return self._common[attribute].state, self.handle_return_value(session, StatusCode.success)
+            return self._common[attribute].state, self.handle_return_value(
+                session, StatusCode.success
+            )
         if attribute == constants.ResourceAttribute.resource_manager_session:
             return self._manager, self.handle_return_value(session, StatusCode.success)
         state = self._done(session, lambda one: [one.get(attribute)])[0]
@@ -264,48 +282,66 @@ class ScanvoltLibrary(highlevel.VisaLibraryBase):
         """Selects remote or local operation (viGpibControlREN)."""
         return self._plain(session, lambda one: one.control_ren(mode))
 
-    def lock(self, session: Any, lock_type: constants.Lock, timeout: int,
-             requested_key: str | None = None) -> tuple[str, StatusCode]:
+    def lock(
+        self,
+        session: Any,
+        lock_type: constants.Lock,
+        timeout: int,
+        requested_key: str | None = None,
+    ) -> tuple[str, StatusCode]:
         """Takes the exclusive lock, or a shared one by an access key. Waits for it up to `timeout` milliseconds (viLock)."""
-        key, status = self._done(session, lambda one: one.lock(lock_type, int(timeout), requested_key))
+        key, status = self._done(
+            session, lambda one: one.lock(lock_type, int(timeout), requested_key)
+        )
         return key, self.handle_return_value(session, status)
 
     def unlock(self, session: Any) -> StatusCode:
         """Frees the lock (viUnlock)."""
         return self._told(session, Session.unlock)
 
-    def enable_event(self, session: Any, event_type: constants.EventType, mechanism: constants.EventMechanism,
-                     context: None = None) -> StatusCode:
+    def enable_event(
+        self,
+        session: Any,
+        event_type: constants.EventType,
+        mechanism: constants.EventMechanism,
+        context: None = None,
+    ) -> StatusCode:
         """Turns on service requests (viEnableEvent)."""
         return self._told(session, lambda one: one.enable(event_type, mechanism))
 
-    def disable_event(self, session: Any, event_type: constants.EventType,
-                      mechanism: constants.EventMechanism) -> StatusCode:
+    def disable_event(
+        self, session: Any, event_type: constants.EventType, mechanism: constants.EventMechanism
+    ) -> StatusCode:
         """Turns off service requests (viDisableEvent)."""
         return self._told(session, lambda one: one.disable(event_type, mechanism))
 
-    def discard_events(self, session: Any, event_type: constants.EventType,
-                       mechanism: constants.EventMechanism) -> StatusCode:
+    def discard_events(
+        self, session: Any, event_type: constants.EventType, mechanism: constants.EventMechanism
+    ) -> StatusCode:
         """Discards service requests that came (viDiscardEvents)."""
         return self._told(session, lambda one: one.discard(event_type, mechanism))
 
-    def wait_on_event(self, session: Any, in_event_type: constants.EventType,
-                      timeout: int | None) -> tuple[constants.EventType, Any, StatusCode]:
+    def wait_on_event(
+        self, session: Any, in_event_type: constants.EventType, timeout: int | None
+    ) -> tuple[constants.EventType, Any, StatusCode]:
         """Waits for a service request, up to `timeout` milliseconds (viWaitOnEvent)."""
         status = self._told(session, lambda one: one.wait(in_event_type, timeout))
         return constants.EventType.service_request, self._new_context(), status
 
-    def install_handler(self, session: Any, event_type: constants.EventType, handler: Any,
-                        user_handle: Any) -> tuple[Any, Any, Any, StatusCode]:
+    def install_handler(
+        self, session: Any, event_type: constants.EventType, handler: Any, user_handle: Any
+    ) -> tuple[Any, Any, Any, StatusCode]:
         """Adds a handler of service requests. It is called while they are turned on (viInstallHandler)."""
         if event_type != constants.EventType.service_request:
             self.handle_return_value(session, StatusCode.error_invalid_event)
         status = self._plain(session, lambda one: one.handlers.append((handler, user_handle)))
         return handler, user_handle, handler, status
 
-    def uninstall_handler(self, session: Any, event_type: constants.EventType, handler: Any,
-                          user_handle: Any = None) -> StatusCode:
+    def uninstall_handler(
+        self, session: Any, event_type: constants.EventType, handler: Any, user_handle: Any = None
+    ) -> StatusCode:
         """Removes a handler (viUninstallHandler)."""
+
         def uninstall(one: Session) -> None:
             if (handler, user_handle) not in one.handlers:
                 raise Refusal(StatusCode.error_invalid_handler_reference)

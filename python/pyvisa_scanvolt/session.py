@@ -19,14 +19,17 @@ from . import attributes
 from .sharing import Sharing
 from .statuses import Refusal
 
-__tracebackhide__ = True        # pytest shows the line that calls the package, and not these frames
+__tracebackhide__ = True  # pytest shows the line that calls the package, and not these frames
 Handler = Callable[[int, EventType, int, Any], object]
 QUEUE = EventMechanism.queue
 HANDLER = EventMechanism.handler
 SUSPENDED = EventMechanism.suspend_handler
-LOCAL = (constants.RENLineOperation.deassert, constants.RENLineOperation.deassert_gtl,
-         constants.RENLineOperation.address_gtl)
-LONGEST = 0xFFFFFFFF            # VI_TMO_INFINITE, no timeout
+LOCAL = (
+    constants.RENLineOperation.deassert,
+    constants.RENLineOperation.deassert_gtl,
+    constants.RENLineOperation.address_gtl,
+)
+LONGEST = 0xFFFFFFFF  # VI_TMO_INFINITE, no timeout
 
 
 class Session:
@@ -36,19 +39,27 @@ class Session:
     calls.
     """
 
-    def __init__(self, meter: Meter, sharing: Sharing, states: dict[Name, attributes.Kept], device: str,
-                 lock_timeout: int | None) -> None:
+    def __init__(
+        self,
+        meter: Meter,
+        sharing: Sharing,
+        states: dict[Name, attributes.Kept],
+        device: str,
+        lock_timeout: int | None,
+    ) -> None:
         self.meter, self.sharing, self._states = meter, sharing, states
         self._connection = meter.connect()
         try:
-            self.link = self._connection.create_link(device, lock_timeout is not None, lock_timeout or 0)
+            self.link = self._connection.create_link(
+                device, lock_timeout is not None, lock_timeout or 0
+            )
         except Exception:
             self._connection.close()
             raise
-        self.link.lock_timeout = 0                          # a call that needs the lock of another link fails at once
-        self.locks = 0 if lock_timeout is None else 1       # how often the lock was taken
-        self.number = 0         # by which PyVISA knows it
-        self._mechanisms = 0                                 # the mechanisms for which events are enabled
+        self.link.lock_timeout = 0  # a call that needs the lock of another link fails at once
+        self.locks = 0 if lock_timeout is None else 1  # how often the lock was taken
+        self.number = 0  # by which PyVISA knows it
+        self._mechanisms = 0  # the mechanisms for which events are enabled
         self.handlers: list[tuple[Handler, Any]] = []
         self._queued: collections.deque[ServiceRequest] = collections.deque()
         self._suspended: collections.deque[ServiceRequest] = collections.deque()
@@ -140,8 +151,11 @@ class Session:
         """
         if kind not in (EventType.service_request, EventType.all_enabled):
             raise Refusal(StatusCode.error_invalid_event)
-        if not mechanism or mechanism & ~(QUEUE | HANDLER | SUSPENDED) or (
-                mechanism & HANDLER and mechanism & SUSPENDED):
+        if (
+            not mechanism
+            or mechanism & ~(QUEUE | HANDLER | SUSPENDED)
+            or (mechanism & HANDLER and mechanism & SUSPENDED)
+        ):
             raise Refusal(StatusCode.error_invalid_mechanism)
         if mechanism & (HANDLER | SUSPENDED) and not self.handlers:
             raise Refusal(StatusCode.error_handler_not_installed)
@@ -162,7 +176,7 @@ class Session:
         already = self._mechanisms & mechanism == 0
         left = self._mechanisms & ~mechanism
         if self._mechanisms and not left and self._connection.is_open:
-            with contextlib.suppress(ProgramError):     # a program that ended requests nothing
+            with contextlib.suppress(ProgramError):  # a program that ended requests nothing
                 self.link.disable_srq()
         self._mechanisms = left
         return StatusCode.success_event_already_disabled if already else StatusCode.success

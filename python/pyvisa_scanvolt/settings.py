@@ -13,7 +13,7 @@ from dataclasses import dataclass, field
 from pyvisa import rname
 from scanvolt.virtual import PATIENCE, Meter
 
-__tracebackhide__ = True        # pytest shows the line that calls the package, and not these frames
+__tracebackhide__ = True  # pytest shows the line that calls the package, and not these frames
 NUMBERS = ("patience", "call_time")
 Names = Mapping[str, str]
 
@@ -56,7 +56,7 @@ def read(path: str) -> Settings:
     try:
         text = pathlib.Path(path).read_text(encoding="utf-8")
     except (OSError, ValueError):
-        return Settings(path)           # what is wrong with a scenario is said when a meter takes it
+        return Settings(path)  # what is wrong with a scenario is said when a meter takes it
     if "=" not in text:
         return Settings(path)
     found = Settings()
@@ -86,5 +86,7 @@ def _take(found: Settings, key: str, value: str, folder: pathlib.Path) -> None:
 
 def written(names: Names, **options: object) -> str:
     """The text of a file of settings."""
-    pairs = [(key, str(value)) for key, value in options.items() if value is not None] + list(names.items())
+    pairs = [(key, str(value)) for key, value in options.items() if value is not None] + list(
+        names.items()
+    )
     return "".join(f"{key} = {value}\n" for key, value in pairs)

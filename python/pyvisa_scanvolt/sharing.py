@@ -21,8 +21,8 @@ from .statuses import Refusal
 if TYPE_CHECKING:
     from .session import Session
 
-__tracebackhide__ = True        # pytest shows the line that calls the package, and not these frames
-KEY_MOST = 255          # characters of an access key
+__tracebackhide__ = True  # pytest shows the line that calls the package, and not these frames
+KEY_MOST = 255  # characters of an access key
 _numbers = itertools.count(1)
 
 
@@ -31,10 +31,10 @@ class Sharing:
 
     def __init__(self) -> None:
         self._key = ""
-        self.shares: dict[Session, int] = {}              # how often each session took the shared lock
+        self.shares: dict[Session, int] = {}  # how often each session took the shared lock
         # of these, the one whose link has the instrument's lock
         self._holder: Session | None = None
-        self._exclusive: Session | None = None          # of these, the one that has the exclusive lock too
+        self._exclusive: Session | None = None  # of these, the one that has the exclusive lock too
 
     def enter(self, session: Session) -> None:
         """Before a call of a session: gives its link the instrument's lock if the session shares it."""
@@ -53,9 +53,13 @@ class Sharing:
         session.link.lock(0)
         self._holder = session
 
-    def lock_shared(self, session: Session, timeout: int, requested: str | None) -> tuple[str, StatusCode]:
+    def lock_shared(
+        self, session: Session, timeout: int, requested: str | None
+    ) -> tuple[str, StatusCode]:
         """Takes the shared lock, with this key or a new one. Returns the key."""
-        if requested is not None and not (isinstance(requested, str) and 0 < len(requested) <= KEY_MOST):
+        if requested is not None and not (
+            isinstance(requested, str) and 0 < len(requested) <= KEY_MOST
+        ):
             raise Refusal(StatusCode.error_invalid_access_key)
         if session in self.shares:
             if requested not in (None, self._key):
@@ -63,7 +67,11 @@ class Sharing:
             self.shares[session] += 1
             return self._key, StatusCode.success_nested_shared
         began = session.meter.clock
-        self._await(session, timeout, lambda: not self.shares or requested == self._key and self._exclusive is None)
+        self._await(
+            session,
+            timeout,
+            lambda: not self.shares or requested == self._key and self._exclusive is None,
+        )
         if not self.shares:
             if session.locks == 0:
                 self._take(session, timeout, began)
@@ -78,7 +86,9 @@ class Sharing:
             session.locks += 1
             return StatusCode.success_nested_exclusive
         began, is_member = session.meter.clock, session in self.shares
-        self._await(session, timeout, lambda: self._exclusive is None if is_member else not self.shares)
+        self._await(
+            session, timeout, lambda: self._exclusive is None if is_member else not self.shares
+        )
         if is_member:
             self._exclusive = session
             if self._holder is not session:
@@ -130,7 +140,9 @@ class Sharing:
         if session.meter.until(holds, min(timeout, patience)):
             return
         if timeout > patience:
-            raise NoAnswer(f"no lock within {patience} ms of virtual time: other sessions share the lock of the instrument")
+            raise NoAnswer(
+                f"no lock within {patience} ms of virtual time: other sessions share the lock of the instrument"
+            )
         raise Refusal(StatusCode.error_timeout if timeout else StatusCode.error_resource_locked)
 
     @staticmethod

@@ -6,7 +6,7 @@ from pyvisa import errors
 from pyvisa.constants import StatusCode
 from scanvolt.vxi11 import DeviceError, RpcError
 
-__tracebackhide__ = True        # pytest shows the line that calls the package, and not these frames
+__tracebackhide__ = True  # pytest shows the line that calls the package, and not these frames
 OF_DEVICE: dict[int, StatusCode] = {
     3: StatusCode.error_resource_not_found,
     4: StatusCode.error_connection_lost,

@@ -16,8 +16,11 @@ from .program import ProgramError, check_fits, found
 
 def main(given: list[str] | None = None) -> int:
     """Runs the command. Returns its status."""
-    argparse.ArgumentParser(prog="python3 -m scanvolt", description=__doc__,
-                            formatter_class=argparse.RawDescriptionHelpFormatter).parse_args(given)
+    argparse.ArgumentParser(
+        prog="python3 -m scanvolt",
+        description=__doc__,
+        formatter_class=argparse.RawDescriptionHelpFormatter,
+    ).parse_args(given)
     print(f"package {__version__}")
     try:
         path, where = found()

@@ -9,7 +9,7 @@ import pathlib
 from .program import BUILT
 
 UNKNOWN = "unknown"
-KINDS = ("proved", "unproved")      # of the programs that BUILT names
+KINDS = ("proved", "unproved")  # of the programs that BUILT names
 # how the line of KIT begins, in a release, if the program in it is proved
 SHIPPED = f"program {BUILT[0]},"
 
@@ -25,7 +25,9 @@ def first_line(path: pathlib.Path) -> str:
 def is_shipped_proved(kit: pathlib.Path) -> bool:
     """Whether the file KIT of a release says that its program is proved."""
     try:
-        return any(line.startswith(SHIPPED) for line in kit.read_text(encoding="utf-8").splitlines())
+        return any(
+            line.startswith(SHIPPED) for line in kit.read_text(encoding="utf-8").splitlines()
+        )
     except (OSError, UnicodeDecodeError):
         return False
 

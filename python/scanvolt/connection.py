@@ -20,7 +20,7 @@ from .vxi11.timeouts import milliseconds as checked
 if TYPE_CHECKING:
     from .virtual import Meter
 
-__tracebackhide__ = True        # pytest shows the line that calls the package, and not these frames
+__tracebackhide__ = True  # pytest shows the line that calls the package, and not these frames
 Value = TypeVar("Value")
 Itself = TypeVar("Itself", bound="Connection")
 
@@ -38,13 +38,13 @@ class Pending(Generic[Value]):
         self.connection = connection
         self.call = call
         self.xid = xid
-        self._turned: int | None = None       # the millisecond at which the instrument took the call
+        self._turned: int | None = None  # the millisecond at which the instrument took the call
         self.clock: int | None = None
         self._body = b""
         self._fault: Exception | None = None
         # the reply that a fault on order makes, in place of the instrument
         self._made: bytes | None = None
-        self._note: str | None = None         # what that fault was
+        self._note: str | None = None  # what that fault was
 
     def __repr__(self) -> str:
         told = "not answered" if self.clock is None else f"answered at {self.clock} ms"
@@ -70,7 +70,9 @@ class Pending(Generic[Value]):
             if why is not None:
                 raise NoAnswer(why)
         if not meter.until(lambda: self.done, meter.patience):
-            raise NoAnswer(f"{self.call.name} waits for more than {meter.patience} ms of virtual time; see patience of Meter")
+            raise NoAnswer(
+                f"{self.call.name} waits for more than {meter.patience} ms of virtual time; see patience of Meter"
+            )
 
     def result(self) -> Value:
         """Advances time until the call is answered. Returns its result, or raises the exception of its error."""
@@ -96,6 +98,7 @@ class Pending(Generic[Value]):
 def _notes(pending: Pending[Value], moment: Moment) -> list[str]:
     """The notes of the error with which a call ended at a moment of the session."""
     from .explaining import meters
+
     return meters.notes(pending.connection.meter, pending.connection.number, pending.xid, moment)
 
 
@@ -118,7 +121,7 @@ class Requests:
     def close(self) -> None:
         """Closes the interrupt channel, if there is one. Requests that came stay in the queue."""
         if self._connection.has_channel:
-            with contextlib.suppress(ProgramError):     # a program that ended has no channel
+            with contextlib.suppress(ProgramError):  # a program that ended has no channel
                 self._connection.destroy_intr_chan()
 
 
@@ -127,14 +130,14 @@ class Connection(Core):
 
     def __init__(self, meter: Meter, number: int, role: str) -> None:
         self.meter = meter
-        self.number = number                                # by which the script knows it, 0 to 15
-        self.role = role                                    # core, abort or portmap
+        self.number = number  # by which the script knows it, 0 to 15
+        self.role = role  # core, abort or portmap
         self.is_open = True
-        self.has_channel = False                            # whether it has an interrupt channel
+        self.has_channel = False  # whether it has an interrupt channel
         self._xid = 0
         self._records = Records()
         self._pending: collections.deque[Pending[object]] = collections.deque()
-        self.requests = Requests(self)                      # what `listen` returns
+        self.requests = Requests(self)  # what `listen` returns
 
     def __repr__(self) -> str:
         closed = "" if self.is_open else ", closed"
@@ -164,7 +167,7 @@ class Connection(Core):
         if not isinstance(call, Call):
             raise TypeError(f"start wants a call, such as link.calls.readstb(), and not {call!r}")
         with self.meter._guard:
-            self._xid = (self._xid + 1) % 2 ** 32
+            self._xid = (self._xid + 1) % 2**32
             pending = Pending(self, call, self._xid)
             self.meter._send(self, cast("Pending[object]", pending))
             return pending

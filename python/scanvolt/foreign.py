@@ -4,11 +4,13 @@ from __future__ import annotations
 
 import codecs
 
-__tracebackhide__ = True        # pytest shows the line that calls the package, and not these frames
-Fault = tuple[int, bytes, str]          # the number of a line, the line, and what is wrong with it
+__tracebackhide__ = True  # pytest shows the line that calls the package, and not these frames
+Fault = tuple[int, bytes, str]  # the number of a line, the line, and what is wrong with it
 MARK = "the file begins with a byte order mark; save it as UTF-8 without one"
 WIDE = "the file is UTF-16 text, as some programs on Windows write it; save it as UTF-8 without a byte order mark"
-RETURN = "it ends in a carriage return, as a line on Windows does%s; `sed -i 's/\\r$//' %s` removes it"
+RETURN = (
+    "it ends in a carriage return, as a line on Windows does%s; `sed -i 's/\\r$//' %s` removes it"
+)
 
 
 def without_additions(data: bytes, name: str) -> tuple[list[bytes], list[Fault]]:
@@ -19,7 +21,7 @@ def without_additions(data: bytes, name: str) -> tuple[list[bytes], list[Fault]]
     faults: list[Fault] = []
     if data.startswith(codecs.BOM_UTF8):
         faults.append((1, lines[0], MARK))
-        lines[0] = lines[0][len(codecs.BOM_UTF8):]
+        lines[0] = lines[0][len(codecs.BOM_UTF8) :]
     ended = [number for number, line in enumerate(lines, 1) if line.endswith(b"\r")]
     if ended:
         first, others = ended[0], len(ended) - 1

@@ -11,7 +11,7 @@ from .vxi11 import Link, Made
 if TYPE_CHECKING:
     from .virtual import Meter
 
-__tracebackhide__ = True        # pytest shows the line that calls the package, and not these frames
+__tracebackhide__ = True  # pytest shows the line that calls the package, and not these frames
 One = TypeVar("One", bound=Union[Connection, Link, Pending[Any]])
 
 
@@ -37,7 +37,12 @@ class Twins:
         if isinstance(one, Link):
             carrier = self._connections.get(id(one.carrier))
             if carrier is not None:
-                found = Link(carrier, Made(one.number, one.abort_port, one.most), one.io_timeout, one.lock_timeout)
+                found = Link(
+                    carrier,
+                    Made(one.number, one.abort_port, one.most),
+                    one.io_timeout,
+                    one.lock_timeout,
+                )
         else:
             found = self._connections.get(id(one)) or self._pending.get(id(one))
         if found is None:
@@ -62,7 +67,9 @@ def fork(meter: Meter) -> Meter:
         twin.faults.ordered = [copy.copy(one) for one in meter.faults.ordered]
         for order in twin.faults.ordered:
             if order.connection is not None:
-                order.connection = twin._twins._connections.get(id(order.connection), order.connection)
+                order.connection = twin._twins._connections.get(
+                    id(order.connection), order.connection
+                )
         for clock, connection, pending, body in meter.faults._late:
             other = twin._twins.of(connection)
             twin.faults._late.append((clock, other, _pending(pending, other), body))

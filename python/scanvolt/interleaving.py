@@ -11,12 +11,12 @@ from .lockstep import LockStep, Pick, Place, seeded
 if TYPE_CHECKING:
     from .virtual import Meter
 
-__tracebackhide__ = True        # pytest shows the line that calls the package, and not these frames
+__tracebackhide__ = True  # pytest shows the line that calls the package, and not these frames
 Controller = Callable[["Meter"], object]
 LETTERS = "ABCDEFGHIJKLMNOP"
-MOST = 10000            # orders that are tried, unless a number is given
-SHOWN = 12              # lines of the timeline that a failure shows
-Taken = tuple[list[int], int]   # at a turn: the controllers that could go on, and the one that did
+MOST = 10000  # orders that are tried, unless a number is given
+SHOWN = 12  # lines of the timeline that a failure shows
+Taken = tuple[list[int], int]  # at a turn: the controllers that could go on, and the one that did
 
 
 class OrderFails(AssertionError):
@@ -29,19 +29,30 @@ class OrderFails(AssertionError):
         how = "" if order else ", each as far as it can go, A first"
         said = str(fault).split("\n")[0]
         what = type(fault).__name__ + (": " + said if said else "")
-        super().__init__("\n".join([
-            f"in the order {order!r} of their calls{how}, the {ordinal(tried)} that was tried: {what}",
-            f"interleavings(.., order={order!r}) repeats it. What the instrument saw:", *told]))
+        super().__init__(
+            "\n".join(
+                [
+                    f"in the order {order!r} of their calls{how}, the {ordinal(tried)} that was tried: {what}",
+                    f"interleavings(.., order={order!r}) repeats it. What the instrument saw:",
+                    *told,
+                ]
+            )
+        )
 
 
 class _Run:
     """One run of the controllers: they start in the given order, and go on with the first that can, or by `pick`."""
 
-    def __init__(self, meter: Meter, controllers: Sequence[Controller], start: Sequence[int],
-                 pick: Pick | None = None) -> None:
+    def __init__(
+        self,
+        meter: Meter,
+        controllers: Sequence[Controller],
+        start: Sequence[int],
+        pick: Pick | None = None,
+    ) -> None:
         self._start, self._then = start, pick
         self._taken: list[Taken] = []
-        self._until = 0                  # turns that were taken when the first controller failed
+        self._until = 0  # turns that were taken when the first controller failed
         self.fault: BaseException | None = None
         self.told: list[str] = []
         twin = meter.fork()
@@ -52,8 +63,12 @@ class _Run:
 
     def _run(self, twin: Meter, controllers: Sequence[Controller]) -> None:
         """Runs the controllers, each in a thread. Keeps the first fault."""
-        threads = [threading.Thread(target=self._controlled, args=(one, twin), name=LETTERS[place], daemon=True)
-                   for place, one in enumerate(controllers)]
+        threads = [
+            threading.Thread(
+                target=self._controlled, args=(one, twin), name=LETTERS[place], daemon=True
+            )
+            for place, one in enumerate(controllers)
+        ]
         try:
             with LockStep(twin, len(threads), self._pick):
                 for thread in threads:
@@ -81,7 +96,9 @@ class _Run:
             wanted = self._start[place]
             if wanted not in numbers:
                 others = " and ".join(LETTERS[one] for one in numbers)
-                raise ValueError(f"{LETTERS[wanted]} can't go on at turn {place + 1} of this order, only {others}")
+                raise ValueError(
+                    f"{LETTERS[wanted]} can't go on at turn {place + 1} of this order, only {others}"
+                )
             found = wanted
         else:
             if self._then:
@@ -94,7 +111,7 @@ class _Run:
     @property
     def order(self) -> str:
         """The turns up to the fault, without those at the end that come by themselves."""
-        taken = self._taken[:self._until]
+        taken = self._taken[: self._until]
         while taken and taken[-1][1] == taken[-1][0][0]:
             taken.pop()
         return "".join(LETTERS[number] for _, number in taken)
@@ -108,11 +125,18 @@ class _Run:
         return None
 
 
-def interleavings(meter: Meter, controllers: Sequence[Controller], count: int | None = None, seed: int = 0,
-                  order: str | None = None) -> int:
+def interleavings(
+    meter: Meter,
+    controllers: Sequence[Controller],
+    count: int | None = None,
+    seed: int = 0,
+    order: str | None = None,
+) -> int:
     """Runs controllers in the orders of their calls: see Meter.interleavings."""
     if not 2 <= len(controllers) <= len(LETTERS):
-        raise ValueError(f"interleavings wants 2 to {len(LETTERS)} controllers, and not {len(controllers)}")
+        raise ValueError(
+            f"interleavings wants 2 to {len(LETTERS)} controllers, and not {len(controllers)}"
+        )
     if order is not None:
         _check(_Run(meter, controllers, _numbers(order, len(controllers))), 1)
         return 1
@@ -124,7 +148,9 @@ def interleavings(meter: Meter, controllers: Sequence[Controller], count: int | 
     tried = 0
     while start is not None:
         if tried == MOST:
-            raise RuntimeError(f"there are more than {MOST} orders: let interleavings(.., count=1000) try some at random")
+            raise RuntimeError(
+                f"there are more than {MOST} orders: let interleavings(.., count=1000) try some at random"
+            )
         run = _Run(meter, controllers, start)
         tried += 1
         _check(run, tried)
@@ -141,7 +167,9 @@ def _numbers(order: str, count: int) -> list[int]:
     """The controllers of an order such as ABBA."""
     for letter in order:
         if letter not in LETTERS[:count]:
-            raise ValueError(f"an order has letters from A to {LETTERS[count - 1]}, and not {letter!r}")
+            raise ValueError(
+                f"an order has letters from A to {LETTERS[count - 1]}, and not {letter!r}"
+            )
     return [LETTERS.index(letter) for letter in order]
 
 

@@ -27,21 +27,21 @@ from typing import TYPE_CHECKING, Any
 if TYPE_CHECKING:
     from .virtual import Meter
 
-__tracebackhide__ = True        # pytest shows the line that calls the package, and not these frames
+__tracebackhide__ = True  # pytest shows the line that calls the package, and not these frames
 # of Python's module time; each also in nanoseconds, with _ns
 CLOCKS = ("time", "monotonic", "perf_counter")
 SELECTORS = ("SelectSelector", "PollSelector", "EpollSelector", "DevpollSelector", "KqueueSelector")
 KINDS = tuple(vars(selectors)[name] for name in SELECTORS if name in vars(selectors))
 # times that a clock may be read in a row, without a call and without time that passes
 READS_MOST = 10000
-POLLS_MOST = 25000      # the same, with calls
+POLLS_MOST = 25000  # the same, with calls
 # a wait without a timeout waits so often so many seconds of real time for other threads
 SLICE, SLICES = 0.1, 600
 # milliseconds after which a loop looks for its files: Ctrl-C writes to one, and raises nothing
 STRIDE = 1000
 # nanoseconds; a clock begins at a multiple, exact as a float, so that runs round alike
-GRID = 10 ** 9 // 512
-ENDLESS = 2 ** 32       # milliseconds; a longer timeout is none
+GRID = 10**9 // 512
+ENDLESS = 2**32  # milliseconds; a longer timeout is none
 HELP = "Let the loop sleep between its polls (time.sleep), or let each call take time: Meter(call_time=1)"
 
 
@@ -61,15 +61,17 @@ class _Keeper:
         self._meter = meter
         self._begin = meter.clock
         grid = 1 if threading.get_ident() in keepers else GRID
-        self._since: dict[str, int] = {name: -(-getattr(time, name + "_ns")() // grid) * grid for name in CLOCKS}
-        self._is_real = False        # whether waits are real now
+        self._since: dict[str, int] = {
+            name: -(-getattr(time, name + "_ns")() // grid) * grid for name in CLOCKS
+        }
+        self._is_real = False  # whether waits are real now
         self._seen = (meter.clock, meter._sent)
         self._reads = self._polls = 0
 
     def read(self, name: str) -> int:
         """The clock of this name, in nanoseconds. Raises NeverEnds if it is read too often while no time passes."""
         self._idle()
-        return self._since[name] + (self._meter.clock - self._begin) * 10 ** 6
+        return self._since[name] + (self._meter.clock - self._begin) * 10**6
 
     def _idle(self) -> None:
         """Counts something that a loop does while no time passes. Raises NeverEnds if that is too often."""
@@ -83,8 +85,10 @@ class _Keeper:
         self._polls += 1
         if self._reads > READS_MOST or self._polls > POLLS_MOST:
             count, self._reads, self._polls = max(self._reads, self._polls) - 1, 0, 0
-            raise NeverEnds(f"the clock was read {count} times at {clock} ms of the meter's clock, and no time passed: time "
-                            f"passes only in calls that wait. {HELP}")
+            raise NeverEnds(
+                f"the clock was read {count} times at {clock} ms of the meter's clock, and no time passed: time "
+                f"passes only in calls that wait. {HELP}"
+            )
 
     def sleep(self, seconds: float) -> None:
         """Lets this much time pass."""
@@ -102,19 +106,25 @@ class _Keeper:
         finally:
             self._is_real = before
 
-    def wait(self, real: Callable[..., object], condition: Any, timeout: float | None = None) -> object:
+    def wait(
+        self, real: Callable[..., object], condition: Any, timeout: float | None = None
+    ) -> object:
         """Lets time pass until the condition is notified, or its timeout is over. Returns whether it was notified."""
         steps = self._meter._steps
         if self._is_real or not condition._is_owned() or steps is not None and steps.stands_aside():
             return real(condition, timeout)
         with released(condition) as waiter:
             if timeout is None or whole(timeout) >= ENDLESS:
-                return self._endless(lambda: not waiter.locked(), lambda: waiter.acquire(timeout=SLICE))
+                return self._endless(
+                    lambda: not waiter.locked(), lambda: waiter.acquire(timeout=SLICE)
+                )
             if timeout <= 0:
                 self._idle()
             return self._meter.until(lambda: not waiter.locked(), whole(timeout))
 
-    def select(self, real: Callable[..., list[object]], selector: Any, timeout: float | None = None) -> list[object]:
+    def select(
+        self, real: Callable[..., list[object]], selector: Any, timeout: float | None = None
+    ) -> list[object]:
         """Lets time pass until a file of a loop is ready, a service request was handed on, or the timeout is over."""
         loop = loop_of(selector)
         if loop is None:
@@ -141,12 +151,16 @@ class _Keeper:
                 rest -= STRIDE
         return found
 
-    def _endless(self, holds: Callable[[], bool], really: Callable[[], bool], has_files: bool = False) -> bool:
+    def _endless(
+        self, holds: Callable[[], bool], really: Callable[[], bool], has_files: bool = False
+    ) -> bool:
         """Waits without a timeout: lets time pass if a service request may end the wait, and then waits for what
         else may end it, in real time. `really` does so for a short while. Returns true, or raises NeverEnds.
         """
         meter = self._meter
-        if (meter._has_channel or meter._steps or meter._awaited) and meter.until(holds, meter.patience):
+        if (meter._has_channel or meter._steps or meter._awaited) and meter.until(
+            holds, meter.patience
+        ):
             return True
         if meter._give_up():
             return True
@@ -157,8 +171,10 @@ class _Keeper:
                 break
             if really():
                 return True
-        raise NeverEnds(f"a wait without a timeout at {self._meter.clock} ms of the meter's clock: nothing ends it, neither in the "
-                        "meter's time nor in another thread. Give it a timeout")
+        raise NeverEnds(
+            f"a wait without a timeout at {self._meter.clock} ms of the meter's clock: nothing ends it, neither in the "
+            "meter's time nor in another thread. Give it a timeout"
+        )
 
 
 @contextlib.contextmanager
@@ -174,20 +190,27 @@ def released(condition: Any) -> Iterator[threading.Lock]:
         yield waiter
     finally:
         condition._acquire_restore(saved)
-        with contextlib.suppress(ValueError):       # notify removed it
+        with contextlib.suppress(ValueError):  # notify removed it
             condition._waiters.remove(waiter)
 
 
 def others() -> bool:
     """Whether another thread runs that may end a wait of this one: one that doesn't wait for the end of this one."""
     own, frames = threading.current_thread(), sys._current_frames()
-    return any(one is not own and not joins(frames.get(one.ident or 0), own) for one in threading.enumerate())
+    return any(
+        one is not own and not joins(frames.get(one.ident or 0), own)
+        for one in threading.enumerate()
+    )
 
 
 def joins(frame: FrameType | None, thread: threading.Thread) -> bool:
     """Whether a frame is in Thread.join, of this thread."""
-    return (frame is not None and frame.f_code.co_filename == threading.__file__
-            and frame.f_code.co_name in ("join", "_wait_for_tstate_lock") and frame.f_locals.get("self") is thread)
+    return (
+        frame is not None
+        and frame.f_code.co_filename == threading.__file__
+        and frame.f_code.co_name in ("join", "_wait_for_tstate_lock")
+        and frame.f_locals.get("self") is thread
+    )
 
 
 def loop_of(selector: object) -> Any:
@@ -215,20 +238,27 @@ def shuts_executor(loop: Any) -> bool:
 def check_python() -> None:
     """Raises RuntimeError if this Python lacks a part that is used here."""
     of_condition = "_waiters", "_is_owned", "_release_save", "_acquire_restore"
-    for where, name, parts in ((threading, "threading", ("_time",)), (queue, "queue", ("time",)),
-                               (threading.Condition(threading.Lock()), "threading.Condition", of_condition)):
+    for where, name, parts in (
+        (threading, "threading", ("_time",)),
+        (queue, "queue", ("time",)),
+        (threading.Condition(threading.Lock()), "threading.Condition", of_condition),
+    ):
         for part in parts:
             if not hasattr(where, part):
                 version = f"{sys.version_info.major}.{sys.version_info.minor}"
-                raise RuntimeError(f"keeping_time doesn't know Python {version}: its {name} has no {part}. "
-                                   "Use Python 3.9 to 3.13, or a later release of scanvolt")
+                raise RuntimeError(
+                    f"keeping_time doesn't know Python {version}: its {name} has no {part}. "
+                    "Use Python 3.9 to 3.13, or a later release of scanvolt"
+                )
 
 
 def reads(name: str, in_seconds: bool = True) -> Callable[..., float]:
     """What reads a clock, in seconds or in nanoseconds."""
+
     def read(keeper: _Keeper, _real: object) -> float:
         nanoseconds = keeper.read(name)
-        return nanoseconds / 10 ** 9 if in_seconds else nanoseconds
+        return nanoseconds / 10**9 if in_seconds else nanoseconds
+
     return read
 
 
@@ -255,10 +285,12 @@ put_back = contextlib.ExitStack()
 
 def choosing(real: Callable[..., object], virtual: Callable[..., object]) -> Callable[..., object]:
     """A function that is virtual for the threads within a block."""
+
     @functools.wraps(real)
     def chosen(*given: object, **named: object) -> object:
         own = keepers.get(threading.get_ident())
         return virtual(own[-1], real, *given, **named) if own else real(*given, **named)
+
     return chosen
 
 

@@ -18,10 +18,10 @@ import weakref
 from collections.abc import Sequence
 from typing import TypeVar
 
-__tracebackhide__ = True        # pytest shows the line that calls the package, and not these frames
+__tracebackhide__ = True  # pytest shows the line that calls the package, and not these frames
 Itself = TypeVar("Itself", bound="Tied")
-GRACE = 1.0             # seconds that a program has to end after SIGTERM
-_ends: set[int] = set()     # the write ends that are open
+GRACE = 1.0  # seconds that a program has to end after SIGTERM
+_ends: set[int] = set()  # the write ends that are open
 
 
 def _let_go() -> None:
@@ -57,7 +57,7 @@ def _end(process: subprocess.Popen[bytes], end: int, owner: int, grace: float) -
         os.close(end)
         process.wait()
     else:
-        process.returncode = 0          # Popen would warn that it still runs
+        process.returncode = 0  # Popen would warn that it still runs
     for pipe in (process.stdin, process.stdout, process.stderr):
         if pipe is not None:
             pipe.close()
@@ -69,13 +69,21 @@ class Tied:
     once. Raises OSError if it can't be run.
     """
 
-    def __init__(self, command: Sequence[str], stdin: int | None = subprocess.DEVNULL, grace: float = GRACE) -> None:
+    def __init__(
+        self, command: Sequence[str], stdin: int | None = subprocess.DEVNULL, grace: float = GRACE
+    ) -> None:
         source, target = os.pipe()
         _ends.add(target)
         try:
             self.process: subprocess.Popen[bytes] = subprocess.Popen(
-                command, stdin=stdin, stdout=subprocess.PIPE, stderr=subprocess.PIPE, bufsize=0,
-                pass_fds=(source,), start_new_session=True)
+                command,
+                stdin=stdin,
+                stdout=subprocess.PIPE,
+                stderr=subprocess.PIPE,
+                bufsize=0,
+                pass_fds=(source,),
+                start_new_session=True,
+            )
         except BaseException:
             _ends.discard(target)
             os.close(target)

@@ -16,13 +16,13 @@ from collections.abc import Callable
 from .stimulus import Name, Volts, input_line
 
 __all__ = ["Control", "ControlError"]
-__tracebackhide__ = True        # pytest shows the line that calls the package, and not these frames
+__tracebackhide__ = True  # pytest shows the line that calls the package, and not these frames
 HOST = "127.0.0.1"
-PATIENCE = 10.0         # seconds that the server may take to answer a line
+PATIENCE = 10.0  # seconds that the server may take to answer a line
 DONE, BAD = b"ok\n", b"bad line\n"
-LONGEST_ANSWER = 4096   # bytes; answers are `ok` and `bad line`
-SETTLED = 0.02          # seconds after which a record has what was answered
-COARSE = 10             # milliseconds that the time of a file may be too early
+LONGEST_ANSWER = 4096  # bytes; answers are `ok` and `bad line`
+SETTLED = 0.02  # seconds after which a record has what was answered
+COARSE = 10  # milliseconds that the time of a file may be too early
 
 
 class ControlError(ConnectionError):
@@ -73,10 +73,14 @@ class Control:
                 answer = self._answer(line)
             except OSError as fault:
                 self._close()
-                raise ControlError(f"the control port {self.port} doesn't answer: {fault.strerror or fault}") from None
+                raise ControlError(
+                    f"the control port {self.port} doesn't answer: {fault.strerror or fault}"
+                ) from None
             if answer != wanted:
                 self._close()
-                raise ControlError(f"the control port answered {answer!r} to {line!r}, and not {wanted!r}")
+                raise ControlError(
+                    f"the control port answered {answer!r} to {line!r}, and not {wanted!r}"
+                )
 
     def _answer(self, line: bytes) -> bytes:
         """The answer to a line. A connection that the server closed meanwhile is made anew, once."""
@@ -138,19 +142,24 @@ class Record:
         milliseconds are left out.
         """
         from .replay import ticks  # which imports this module
+
         assert self.path is not None
         try:
             if control is not None:
                 control.pass_by()
                 control.pass_by()
-        except ControlError:        # it ended: then the record is as long as it will be
+        except ControlError:  # it ended: then the record is as long as it will be
             pass
         time.sleep(SETTLED)
         with open(self.path, "rb") as file:
             text = file.read()
             passed = int(1000 * (time.time() - os.fstat(file.fileno()).st_mtime)) - COARSE
-        whole = text[:text.rfind(b"\n") + 1]
-        return (whole + (ticks(passed) if runs and whole and passed > 0 else b"")).decode("latin-1").splitlines()
+        whole = text[: text.rfind(b"\n") + 1]
+        return (
+            (whole + (ticks(passed) if runs and whole and passed > 0 else b""))
+            .decode("latin-1")
+            .splitlines()
+        )
 
     def end(self) -> None:
         """Removes the file that isn't to stay."""

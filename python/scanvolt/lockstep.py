@@ -26,11 +26,11 @@ from .connection import NoAnswer, Pending
 if TYPE_CHECKING:
     from .virtual import Meter
 
-__tracebackhide__ = True        # pytest shows the line that calls the package, and not these frames
-POLL = 0.001            # seconds after which a thread that waits looks where the others are
+__tracebackhide__ = True  # pytest shows the line that calls the package, and not these frames
+POLL = 0.001  # seconds after which a thread that waits looks where the others are
 # seconds after which a thread that joins another one looks whether the lock step is broken
 JOINS = 0.05
-ASLEEP = 0.5            # seconds that a thread with the turn may sleep outside of the meter
+ASLEEP = 0.5  # seconds that a thread with the turn may sleep outside of the meter
 # seconds that all threads may sleep outside of the meter, while the block's thread joins them
 STUCK = 20.0
 NEW, RUNS, READY, WAITS, AWAY, ENDED = "new", "runs", "ready", "waits", "away", "ended"
@@ -49,16 +49,16 @@ class Place:
 
     def __init__(self, thread: threading.Thread, number: int, state: str) -> None:
         self.thread, self.number, self.state = thread, number, state
-        self.baton = threading.Lock()           # free when the thread is given the turn
+        self.baton = threading.Lock()  # free when the thread is given the turn
         self.baton.acquire()
-        self.depth = 0                          # how deep it is in the meter
-        self.end, self.seen = 0, -1             # until when it waits, and up to which change it has looked
-        self.passes = False                     # whether it is to let time pass
-        self.expected: Pending[object] | None = None       # the call that its next wait is for
-        self.pending: Pending[object] | None = None        # the call for which it waits
+        self.depth = 0  # how deep it is in the meter
+        self.end, self.seen = 0, -1  # until when it waits, and up to which change it has looked
+        self.passes = False  # whether it is to let time pass
+        self.expected: Pending[object] | None = None  # the call that its next wait is for
+        self.pending: Pending[object] | None = None  # the call for which it waits
         # whether what it waits for elsewhere has come
         self.released: Callable[[], bool] = lambda: False
-        self.fault: Exception | None = None                  # what it has to raise
+        self.fault: Exception | None = None  # what it has to raise
         # since when it sleeps, and its processor time then
         self.asleep: tuple[float, str] = (0.0, "")
 
@@ -82,11 +82,11 @@ class LockStep:
         self._mutex, self._free = threading.Lock(), meter._guard
         self._owner = threading.current_thread()
         self._places: dict[threading.Thread, Place] = {}
-        self._last = -1                          # the number of the thread that made the last call
-        self._version = 0                        # changes that a thread that waits has to look at
+        self._last = -1  # the number of the thread that made the last call
+        self._version = 0  # changes that a thread that waits has to look at
         self._over = False
         self._broken: str | None = None
-        self._raised: list[tuple[BaseException, threading.ExceptHookArgs]] = []      # by threads
+        self._raised: list[tuple[BaseException, threading.ExceptHookArgs]] = []  # by threads
         self._real: tuple[Any, Any, Any] = (None, None, None)
 
     # the block
@@ -101,8 +101,12 @@ class LockStep:
         threading.excepthook = self._except
         return self
 
-    def __exit__(self, kind: type[BaseException] | None, fault: BaseException | None,
-                 trace: TracebackType | None) -> None:
+    def __exit__(
+        self,
+        kind: type[BaseException] | None,
+        fault: BaseException | None,
+        trace: TracebackType | None,
+    ) -> None:
         own = self._places.get(self._owner)
         left = [one for one in self._places.values() if one is not own and not self._is_done(one)]
         told = "; ".join(f"thread {one.name} {self._where(one)}" for one in left)
@@ -115,20 +119,32 @@ class LockStep:
         first = self._raised[0][0] if kind is None and self._raised else None
         shown = first or fault
         for one, given in self._raised:
-            if one is shown or any(isinstance(one, kind) and isinstance(shown, kind) for kind in (NoAnswer, NotInStep)):
-                continue            # it is raised, or is of the same deadlock
+            if one is shown or any(
+                isinstance(one, kind) and isinstance(shown, kind) for kind in (NoAnswer, NotInStep)
+            ):
+                continue  # it is raised, or is of the same deadlock
             threading.excepthook(given)
         if first is not None:
             raise first
         if kind is None and (left or self._broken):
-            raise NotInStep(self._broken or "threads still run at the end of the block, join them there: " + told)
+            raise NotInStep(
+                self._broken
+                or "threads still run at the end of the block, join them there: " + told
+            )
 
-    def _starting(self, real: Callable[[threading.Thread], None]) -> Callable[[threading.Thread], None]:
+    def _starting(
+        self, real: Callable[[threading.Thread], None]
+    ) -> Callable[[threading.Thread], None]:
         """What starts a thread: one that this block's thread or one of its threads starts takes part."""
+
         def start(thread: threading.Thread) -> None:
             here = threading.current_thread()
             place = None
-            if not self._over and (here is self._owner or here in self._places) and len(self._places) < self._count:
+            if (
+                not self._over
+                and (here is self._owner or here in self._places)
+                and len(self._places) < self._count
+            ):
                 with self._mutex:
                     place = self._places[thread] = Place(thread, len(self._places), NEW)
             try:
@@ -138,12 +154,20 @@ class LockStep:
                 raise
             if place is not None and place.state == NEW:
                 place.state = RUNS
+
         return start
 
-    def _joining(self, real: Callable[[threading.Thread, float | None], None]) -> Callable[..., None]:
+    def _joining(
+        self, real: Callable[[threading.Thread, float | None], None]
+    ) -> Callable[..., None]:
         """What joins a thread: the block's thread doesn't wait for ever for one that sleeps outside of the meter."""
+
         def join(thread: threading.Thread, timeout: float | None = None) -> None:
-            if timeout is not None or threading.current_thread() is not self._owner or thread not in self._places:
+            if (
+                timeout is not None
+                or threading.current_thread() is not self._owner
+                or thread not in self._places
+            ):
                 real(thread, timeout)
                 return
             while thread.is_alive():
@@ -152,6 +176,7 @@ class LockStep:
                 real(thread, JOINS)
                 with self._mutex:
                     self._look()
+
         return join
 
     def _look(self) -> None:
@@ -161,7 +186,9 @@ class LockStep:
         alive = [one for one in self._places.values() if one.thread.is_alive()]
         if not alive or self._broken or any(one.state not in (RUNS, AWAY) for one in alive):
             return
-        is_stuck = len(alive) > 1 or is_endless(sys._current_frames().get(alive[0].thread.ident or 0))
+        is_stuck = len(alive) > 1 or is_endless(
+            sys._current_frames().get(alive[0].thread.ident or 0)
+        )
         if all([self._sleeps(one, STUCK) for one in alive]) and is_stuck:
             told = "; ".join(f"thread {one.name} {self._where(one)}" for one in alive)
             self._break(f"no thread goes on: {told}")
@@ -169,7 +196,11 @@ class LockStep:
     def _except(self, given: threading.ExceptHookArgs) -> None:
         """Keeps what a thread raised, for the end of the block."""
         fault = given.exc_value
-        if isinstance(fault, NotInStep) or isinstance(fault, Exception) and given.thread in self._places:
+        if (
+            isinstance(fault, NotInStep)
+            or isinstance(fault, Exception)
+            and given.thread in self._places
+        ):
             self._raised.append((fault, given))
         else:
             self._real[2](given)
@@ -247,7 +278,8 @@ class LockStep:
             if thread not in self._places:
                 if len(self._places) >= self._count or thread is not self._owner:
                     raise NotInStep(
-                        f"threads({self._count}): thread {thread.name} uses the meter, but {self._names()} take part")
+                        f"threads({self._count}): thread {thread.name} uses the meter, but {self._names()} take part"
+                    )
                 self._places[thread] = Place(thread, len(self._places), RUNS)
             return self._places[thread]
 
@@ -267,7 +299,11 @@ class LockStep:
                 if self._over:
                     return
                 self._choose()
-                if len(self._places) < self._count and monotonic() - began > 10 * ASLEEP and not self._broken:
+                if (
+                    len(self._places) < self._count
+                    and monotonic() - began > 10 * ASLEEP
+                    and not self._broken
+                ):
                     self._break(f"threads({self._count}): only {self._names()} came to the meter")
         fault, place.fault = place.fault, None
         if fault is not None:
@@ -319,12 +355,16 @@ class LockStep:
             if why is None:
                 return False
             reasons.append(f"thread {one.name}: {why}")
-        reasons += [f"thread {one.name} {self._where(one)}" for one in self._places.values() if one.state == AWAY]
+        reasons += [
+            f"thread {one.name} {self._where(one)}"
+            for one in self._places.values()
+            if one.state == AWAY
+        ]
         for one in waiting:
             one.fault = NoAnswer("\n".join(["no thread can go on:"] + reasons))
         self._give(waiting[0])
         for one in waiting[1:]:
-            one.state = READY           # it raises when it has the turn
+            one.state = READY  # it raises when it has the turn
         return True
 
     # where the others are
@@ -344,7 +384,9 @@ class LockStep:
             place.state, place.released = AWAY, released
             return False
         if self._sleeps(place):
-            self._break(f"thread {place.name} {self._where(place)} for {ASLEEP:g} s, and the others can't go on")
+            self._break(
+                f"thread {place.name} {self._where(place)} for {ASLEEP:g} s, and the others can't go on"
+            )
         return True
 
     def _in_another(self, place: Place) -> Callable[[], bool] | None:
@@ -365,14 +407,18 @@ class LockStep:
         return monotonic() - place.asleep[0] > seconds
 
     def _is_done(self, place: Place) -> bool:
-        return not place.thread.is_alive() or is_idle(sys._current_frames().get(place.thread.ident or 0))
+        return not place.thread.is_alive() or is_idle(
+            sys._current_frames().get(place.thread.ident or 0)
+        )
 
     @staticmethod
     def _where(place: Place) -> str:
         frame = sys._current_frames().get(place.thread.ident or 0)
         inside = [one.f_back for one in callers(frame) if is_own(one)]
-        frame = inside[-1] if inside else frame         # the line that calls the package
-        while frame is not None and (is_own(frame) or frame.f_code.co_filename == threading.__file__):
+        frame = inside[-1] if inside else frame  # the line that calls the package
+        while frame is not None and (
+            is_own(frame) or frame.f_code.co_filename == threading.__file__
+        ):
             frame = frame.f_back
         if frame is None:
             return "has ended"
@@ -419,13 +465,21 @@ def is_own(frame: FrameType) -> bool:
 
 def is_idle(frame: FrameType | None) -> bool:
     """Whether a frame is that of a worker of an executor which has nothing to do."""
-    return frame is not None and frame.f_code.co_name == "_worker" and frame.f_code.co_filename.endswith(WORKER)
+    return (
+        frame is not None
+        and frame.f_code.co_name == "_worker"
+        and frame.f_code.co_filename.endswith(WORKER)
+    )
 
 
 def is_endless(frame: FrameType | None) -> bool:
     """Whether a frame is that of Condition.wait, without a timeout."""
-    return (frame is not None and frame.f_code.co_filename == threading.__file__ and frame.f_code.co_name == "wait"
-            and frame.f_locals.get("timeout", "none given") is None)
+    return (
+        frame is not None
+        and frame.f_code.co_filename == threading.__file__
+        and frame.f_code.co_name == "wait"
+        and frame.f_locals.get("timeout", "none given") is None
+    )
 
 
 def wait_of(thread: threading.Thread) -> Callable[[], bool] | None:

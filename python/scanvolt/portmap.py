@@ -25,8 +25,8 @@ from .vxi11.calls import ABORT, CORE, INTERRUPT, PORT
 
 NAME = "scanvolt-portmap"
 LOCAL = "/run/rpcbind.sock"
-PATIENCE = 10.0                         # seconds that the port mapper may take to answer
-RESERVED = range(600, 1024)             # ports that only root may bind
+PATIENCE = 10.0  # seconds that the port mapper may take to answer
+RESERVED = range(600, 1024)  # ports that only root may bind
 ENDING = (signal.SIGINT, signal.SIGTERM, signal.SIGHUP)
 PROGRAMS = (("core", CORE, 4096), ("abort", ABORT, 4097), ("interrupt", INTERRUPT, None))
 
@@ -49,11 +49,19 @@ def port_of(text: str) -> int:
 def words(given: list[str] | None) -> argparse.Namespace:
     """The arguments of the command line."""
     parser = argparse.ArgumentParser(
-        prog=NAME, description=__doc__, formatter_class=argparse.RawDescriptionHelpFormatter)
+        prog=NAME, description=__doc__, formatter_class=argparse.RawDescriptionHelpFormatter
+    )
     for name, _, usual in PROGRAMS:
-        parser.add_argument("--" + name, type=port_of, default=usual, metavar="PORT",
-                            help=f"the port of the {name} program; {usual or 'none is registered'} without it")
-    parser.add_argument("--port", type=port_of, default=PORT, help=f"the port of the port mapper; {PORT} without it")
+        parser.add_argument(
+            "--" + name,
+            type=port_of,
+            default=usual,
+            metavar="PORT",
+            help=f"the port of the {name} program; {usual or 'none is registered'} without it",
+        )
+    parser.add_argument(
+        "--port", type=port_of, default=PORT, help=f"the port of the port mapper; {PORT} without it"
+    )
     return parser.parse_args(given)
 
 
@@ -65,13 +73,15 @@ def mapper(port: int) -> Channel:
         try:
             local.connect(LOCAL)
             return Channel("", 0, PATIENCE, local)
-        except OSError:                 # a port mapper that ended left the socket there
+        except OSError:  # a port mapper that ended left the socket there
             local.close()
     try:
         return Channel("", 0, PATIENCE, loopback(port))
     except OSError as fault:
-        raise _Fault(f"no port mapper answers, neither at {LOCAL} nor at port {port} of 127.0.0.1 "
-                     f"({fault.strerror or fault}): is rpcbind there, and does it run?") from None
+        raise _Fault(
+            f"no port mapper answers, neither at {LOCAL} nor at port {port} of 127.0.0.1 "
+            f"({fault.strerror or fault}): is rpcbind there, and does it run?"
+        ) from None
 
 
 def loopback(port: int) -> socket.socket:
@@ -93,10 +103,15 @@ def register(port: int, wanted: dict[int, tuple[str, int]]) -> list[int]:
             for program, (name, wish) in wanted.items():
                 known = channel.do(calls.getport(program, 1))
                 if known:
-                    raise _Fault(f"somebody else has registered the {name} program, {program}, at port {known}; whoever did can unregister it by "
-                                f"`rpcinfo -d {program} 1`", 1)
+                    raise _Fault(
+                        f"somebody else has registered the {name} program, {program}, at port {known}; whoever did can unregister it by "
+                        f"`rpcinfo -d {program} 1`",
+                        1,
+                    )
                 if not channel.do(calls.set_port(program, 1, wish)):
-                    raise _Fault(f"the port mapper refuses port {wish} of the {name} program: run this as root")
+                    raise _Fault(
+                        f"the port mapper refuses port {wish} of the {name} program: run this as root"
+                    )
                 made.append(program)
     except (_Fault, RpcError, OSError) as fault:
         take_back(port, made)
@@ -125,8 +140,12 @@ def take_back(port: int, made: list[int]) -> None:
 def main(given_words: list[str] | None = None) -> int:
     """Runs the command. Returns its status."""
     given = words(given_words)
-    wanted = {program: (name, getattr(given, name)) for name, program, _ in PROGRAMS if getattr(given, name)}
-    signal.pthread_sigmask(signal.SIG_BLOCK, ENDING)        # these signals wait until sigwait takes one
+    wanted = {
+        program: (name, getattr(given, name))
+        for name, program, _ in PROGRAMS
+        if getattr(given, name)
+    }
+    signal.pthread_sigmask(signal.SIG_BLOCK, ENDING)  # these signals wait until sigwait takes one
     try:
         made = register(given.port, wanted)
         print("ready: " + ", ".join(f"{name} {port}" for name, port in wanted.values()), flush=True)

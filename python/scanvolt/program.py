@@ -21,27 +21,31 @@ if TYPE_CHECKING:
     from .explaining.explanation import Explanation
 
 __all__ = ["ProgramError", "Server", "find_program", "found"]
-__tracebackhide__ = True        # pytest shows the line that calls the package, and not these frames
+__tracebackhide__ = True  # pytest shows the line that calls the package, and not these frames
 Itself = TypeVar("Itself", bound="Server")
 # of a platform's wheel
 IN_WHEEL = str(pathlib.Path(__file__).resolve().parent / "program/bin/scanvolt")
-BUILT = ("crates/scanvolt/out/scanvolt", "out/unproved/scanvolt")     # in a checkout
+BUILT = ("crates/scanvolt/out/scanvolt", "out/unproved/scanvolt")  # in a checkout
 # a server that nobody ends ends after this many sweeps, which take an hour at least
-SWEEPS = 10 ** 8
+SWEEPS = 10**8
 # tries to start a server: another process may take a free port before the server listens on it
 TRIES = 5
-PATIENCE = 30.0         # seconds that a program may take to answer, or to be ready
+PATIENCE = 30.0  # seconds that a program may take to answer, or to be ready
 # bytes of a scenario for which a program with run-time checks may take one more second
-READING = 10 ** 5
-MISSING = ("scanvolt isn't found: set SCANVOLT to its path, install the wheel that has it, put it on PATH, or build it in a "
-           "checkout by `tools/serve BUILD=1`")
+READING = 10**5
+MISSING = (
+    "scanvolt isn't found: set SCANVOLT to its path, install the wheel that has it, put it on PATH, or build it in a "
+    "checkout by `tools/serve BUILD=1`"
+)
 # A replay of these lines prints this, since the instrument has 128 channels.
 PROBES, ANSWER = b"input 128 0\ninput 255 0\n", b"refused 8\n"
 # what it says if it refuses a scenario, or can't read it
 OF_SCENARIO = ("scanvolt: bad line", "scanvolt: input")
-BAD_WORDS = {"scanvolt: bad words": "scanvolt: bad words; `man scanvolt` has the words that it takes"}
-HEARD_MOST = 65536      # bytes of what a program printed that are kept
-SHOWN_MOST = 200        # characters of what a program printed that are shown
+BAD_WORDS = {
+    "scanvolt: bad words": "scanvolt: bad words; `man scanvolt` has the words that it takes"
+}
+HEARD_MOST = 65536  # bytes of what a program printed that are kept
+SHOWN_MOST = 200  # characters of what a program printed that are shown
 Name = Union[str, os.PathLike[str]]
 
 
@@ -95,7 +99,9 @@ def free_ports(count: int) -> list[int]:
     return list(free([0] * count))
 
 
-def serve_command(program: str, scenario: str, sweeps: str, ports: Mapping[str, int], record: str | None) -> list[str]:
+def serve_command(
+    program: str, scenario: str, sweeps: str, ports: Mapping[str, int], record: str | None
+) -> list[str]:
     """The command line by which a program serves. `ports` has the port of each role."""
     command = [program, "serve", "--scenario=" + scenario, "--sweeps=" + sweeps]
     command += [f"--{role}={port}" for role, port in ports.items()]
@@ -119,7 +125,9 @@ def in_a_line(data: bytes) -> str:
 class _Heard:
     """What a program printed and wrote to standard error until it was `enough`, it ended, or the time was over."""
 
-    def __init__(self, process: subprocess.Popen[bytes], seconds: float, enough: Callable[[bytes], bool]) -> None:
+    def __init__(
+        self, process: subprocess.Popen[bytes], seconds: float, enough: Callable[[bytes], bool]
+    ) -> None:
         assert process.stdout is not None and process.stderr is not None
         self.process = process
         self._out, self._err = process.stdout.fileno(), process.stderr.fileno()
@@ -129,7 +137,7 @@ class _Heard:
         while self._out in self._open and not enough(self._told[self._out]) and self._more(until):
             pass
         self.late = self._out in self._open and not enough(self._told[self._out])
-        if not self.late and not enough(self._told[self._out]):       # its output ended; so should it
+        if not self.late and not enough(self._told[self._out]):  # its output ended; so should it
             until = time.monotonic() + 1
             while self._open and self._more(until):
                 pass
@@ -168,7 +176,7 @@ def check_fits(path: str) -> None:
     """Raises ProgramError unless the program at this path is a scanvolt that this package can use. Each program is
     asked once, unless its file changes.
     """
-    found = shutil.which(path) or path          # a name is looked for on PATH, as it is when it is run
+    found = shutil.which(path) or path  # a name is looked for on PATH, as it is when it is run
     try:
         status = os.stat(found)
     except OSError as fault:
@@ -178,7 +186,9 @@ def check_fits(path: str) -> None:
         how = _unlike(path)
         if how:
             release = ".".join(__version__.split(".")[:2])
-            raise ProgramError(f"{path} isn't scanvolt {release}, or doesn't fit this package: {how}")
+            raise ProgramError(
+                f"{path} isn't scanvolt {release}, or doesn't fit this package: {how}"
+            )
         _fitting.add(known)
 
 
@@ -217,8 +227,15 @@ class Server:
 
     _sweeps = SWEEPS
 
-    def __init__(self, scenario: Name | None = None, program: Name | None = None, *, record: None | bool | Name = None,
-                 control: bool = False, ports: Sequence[int] | None = None) -> None:
+    def __init__(
+        self,
+        scenario: Name | None = None,
+        program: Name | None = None,
+        *,
+        record: None | bool | Name = None,
+        control: bool = False,
+        ports: Sequence[int] | None = None,
+    ) -> None:
         self.program = os.fspath(program) if program is not None else find_program()
         self.scenario = os.devnull if scenario is None else os.fspath(scenario)
         check_fits(self.program)
@@ -268,8 +285,11 @@ class Server:
         Raises OSError if the record can't be read, and ProgramError without `record`.
         """
         if self.record is None:
-            raise ProgramError("this server keeps no record: start it by Server(record=True), or with the name of a file")
+            raise ProgramError(
+                "this server keeps no record: start it by Server(record=True), or with the name of a file"
+            )
         from .explaining.explanation import Explanation
+
         lines = self._record.lines(self._inputs, self.process.poll() is None)
         return Explanation(lines, self.program, ports=(self.core, self.abort))
 
@@ -287,7 +307,9 @@ class Server:
             except Taken as fault:
                 raise ProgramError(str(fault)) from None
             roles = dict(zip(self._roles, ports))
-            tied = started(serve_command(self.program, self.scenario, str(self._sweeps), roles, self.record))
+            tied = started(
+                serve_command(self.program, self.scenario, str(self._sweeps), roles, self.record)
+            )
             try:
                 told = self._told(tied.process, f"ready {' '.join(map(str, ports))}\n")
             except BaseException:
@@ -296,12 +318,12 @@ class Server:
             if not told:
                 return tied, ports
             tied.end()
-            if told != "scanvolt: socket":      # with this message, another process took a port first
+            if told != "scanvolt: socket":  # with this message, another process took a port first
                 break
         if told.startswith(OF_SCENARIO):
-            read_scenario(self.scenario)        # raises the exception that explains it
+            read_scenario(self.scenario)  # raises the exception that explains it
         if told == "scanvolt: output":
-            self._record.check()                # as well
+            self._record.check()  # as well
         raise ProgramError(f"{self.program} doesn't serve: {told}")
 
     def _told(self, process: subprocess.Popen[bytes], ready: str) -> str:

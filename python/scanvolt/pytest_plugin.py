@@ -29,40 +29,68 @@ from .replay import Moment
 from .virtual import METERS, Meter
 from .visa_fixture import BACKENDS, VisaMeter
 
-__tracebackhide__ = True        # pytest shows the line that calls the package, and not these frames
+__tracebackhide__ = True  # pytest shows the line that calls the package, and not these frames
 Made = TypeVar("Made")
-MARKER = ("scanvolt(scenario=FILE, patience=MILLISECONDS, call_time=MILLISECONDS, names={NAME: HOST}, backend=BACKEND): "
-          "the instrument of `meter` and `visa_meter`; `scanvolt_server` takes the scenario")
+MARKER = (
+    "scanvolt(scenario=FILE, patience=MILLISECONDS, call_time=MILLISECONDS, names={NAME: HOST}, backend=BACKEND): "
+    "the instrument of `meter` and `visa_meter`; `scanvolt_server` takes the scenario"
+)
 OPTIONS = ("scenario", "patience", "call_time", "names", "backend")
 OF_METER = OPTIONS[:3]
 SECTION = "what the instrument saw"
-SECTIONS = 3        # instruments of a test that are told
+SECTIONS = 3  # instruments of a test that are told
 RELAYED = "faults on order of the relay"
 BEFORE = pytest.StashKey[dict[int, Moment]]()
-SERVED = pytest.StashKey[tuple[Server, float]]()        # the server of a test, and when it was ready
+SERVED = pytest.StashKey[tuple[Server, float]]()  # the server of a test, and when it was ready
 RELAYED_BEFORE = pytest.StashKey[dict[int, int]]()
 
 
 def pytest_configure(config: pytest.Config) -> None:
     """Registers the marker with pytest, and the coverage of the instrument if it is wanted."""
     config.addinivalue_line("markers", MARKER)
-    wanted, least, everything = (config.getoption("--scanvolt-coverage" + more) for more in ("", "-least", "-all"))
+    wanted, least, everything = (
+        config.getoption("--scanvolt-coverage" + more) for more in ("", "-least", "-all")
+    )
     if wanted or everything or least is not None:
         from .coverage.plugin import Coverage
+
         config.pluginmanager.register(Coverage(config, least or 0, everything))
 
 
 def pytest_addoption(parser: pytest.Parser) -> None:
     """Adds the options of this plugin."""
     group = parser.getgroup("scanvolt")
-    group.addoption("--scanvolt-trace", metavar="DIR", help=(
-        "keeps script, text and page of what the instrument saw, for each failed test that used one"))
-    group.addoption("--scanvolt-capture", metavar="FILE", help=(
-        "tells what the instrument of `scanvolt_server` saw from the capture that `tshark -i lo -f tcp -w FILE` writes, and not "
-        "from its record"))
-    group.addoption("--scanvolt-coverage", action="store_true", help="tells what the tests in virtual time met of the instrument")
-    group.addoption("--scanvolt-coverage-least", metavar="PERCENT", type=float, help="the same, and fails if that is less")
-    group.addoption("--scanvolt-coverage-all", action="store_true", help="the same, and how often each entry was met")
+    group.addoption(
+        "--scanvolt-trace",
+        metavar="DIR",
+        help=(
+            "keeps script, text and page of what the instrument saw, for each failed test that used one"
+        ),
+    )
+    group.addoption(
+        "--scanvolt-capture",
+        metavar="FILE",
+        help=(
+            "tells what the instrument of `scanvolt_server` saw from the capture that `tshark -i lo -f tcp -w FILE` writes, and not "
+            "from its record"
+        ),
+    )
+    group.addoption(
+        "--scanvolt-coverage",
+        action="store_true",
+        help="tells what the tests in virtual time met of the instrument",
+    )
+    group.addoption(
+        "--scanvolt-coverage-least",
+        metavar="PERCENT",
+        type=float,
+        help="the same, and fails if that is less",
+    )
+    group.addoption(
+        "--scanvolt-coverage-all",
+        action="store_true",
+        help="the same, and how often each entry was met",
+    )
 
 
 def _begun(item: pytest.Item) -> None:
@@ -78,15 +106,23 @@ def _reported(item: pytest.Item) -> Generator[None, Any, None]:
     before: dict[int, Moment] = item.stash.get(BEFORE, {})
     if not report.failed:
         return
-    used = [one for number, one in sorted(METERS.items()) if before.get(number) != one._replay.moment()]
+    used = [
+        one for number, one in sorted(METERS.items()) if before.get(number) != one._replay.moment()
+    ]
     for place, meter in enumerate(used[:SECTIONS], 1):
         name = item.nodeid + ("" if place == 1 else f"_{place}")
         report.sections.append((SECTION, told(functools.partial(_of_meter, item, meter, name))))
     if SERVED in item.stash:
-        report.sections.append((SECTION, told(functools.partial(_of_server, item, *item.stash[SERVED]))))
+        report.sections.append(
+            (SECTION, told(functools.partial(_of_server, item, *item.stash[SERVED])))
+        )
         del item.stash[SERVED]
     relayed: dict[int, int] = item.stash.get(RELAYED_BEFORE, {})
-    lines = [line for number, one in sorted(RELAYS.items()) for line in one.told[relayed.get(number, 0):]]
+    lines = [
+        line
+        for number, one in sorted(RELAYS.items())
+        for line in one.told[relayed.get(number, 0) :]
+    ]
     if lines:
         report.sections.append((RELAYED, "\n".join(lines)))
     _begun(item)
@@ -107,17 +143,28 @@ def told(tell: Callable[[], str]) -> str:
 def _of_meter(item: pytest.Item, meter: Meter, name: str) -> str:
     """What an instrument in virtual time saw."""
     from .explaining.section import section
+
     return section(meter.explain(), name, item.config.getoption("--scanvolt-trace"))
 
 
 def _of_server(item: pytest.Item, server: Server, start: float) -> str:
     """What an instrument on sockets saw: from a capture if there is one, else from its record."""
     from .explaining import section
+
     capture = item.config.getoption("--scanvolt-capture")
     if not capture:
-        return section.section(server.explain(), item.nodeid + "_server", item.config.getoption("--scanvolt-trace"))
+        return section.section(
+            server.explain(), item.nodeid + "_server", item.config.getoption("--scanvolt-trace")
+        )
     found, warnings = section.captured(server, start, capture)
-    return "\n".join([section.section(found, item.nodeid + "_server", item.config.getoption("--scanvolt-trace")), *warnings])
+    return "\n".join(
+        [
+            section.section(
+                found, item.nodeid + "_server", item.config.getoption("--scanvolt-trace")
+            ),
+            *warnings,
+        ]
+    )
 
 
 def pytest_report_header() -> str:
@@ -139,7 +186,9 @@ def options_of(request: pytest.FixtureRequest) -> dict[str, Any]:
     else:
         unknown = ["without a name"]
     if unknown:
-        pytest.fail(f"the marker scanvolt has no option {unknown[0]}, but {', '.join(OPTIONS)}", False)
+        pytest.fail(
+            f"the marker scanvolt has no option {unknown[0]}, but {', '.join(OPTIONS)}", False
+        )
     if options.get("scenario") is not None:
         options["scenario"] = request.path.parent / options["scenario"]
     return options
@@ -172,18 +221,26 @@ def pytest_generate_tests(metafunc: pytest.Metafunc) -> None:
 
 
 @pytest.fixture
-def visa_meter(request: pytest.FixtureRequest, monkeypatch: pytest.MonkeyPatch,
-               tmp_path_factory: pytest.TempPathFactory) -> Iterator[VisaMeter]:
+def visa_meter(
+    request: pytest.FixtureRequest,
+    monkeypatch: pytest.MonkeyPatch,
+    tmp_path_factory: pytest.TempPathFactory,
+) -> Iterator[VisaMeter]:
     """An instrument by PyVISA: a VisaMeter."""
     options = options_of(request)
     backend = options.pop("backend", None) or BACKENDS[0]
     backend = getattr(request, "param", backend)
     if backend not in BACKENDS:
-        pytest.fail(f"the marker scanvolt wants as backend {' or '.join(BACKENDS)}, and not {backend!r}", False)
+        pytest.fail(
+            f"the marker scanvolt wants as backend {' or '.join(BACKENDS)}, and not {backend!r}",
+            False,
+        )
     pytest.importorskip("pyvisa")
     if backend == "sockets":
         pytest.importorskip("pyvisa_py", reason="PyVISA-py isn't there")
-    with made(lambda: VisaMeter(backend, options, monkeypatch, tmp_path_factory.mktemp("scanvolt"))) as one:
+    with made(
+        lambda: VisaMeter(backend, options, monkeypatch, tmp_path_factory.mktemp("scanvolt"))
+    ) as one:
         if one.server is not None:
             request.node.stash[SERVED] = (one.server, time.time())
         yield one

@@ -15,17 +15,17 @@ from collections.abc import Iterator, Sequence
 
 from .program import ProgramError, check_fits, started
 
-__tracebackhide__ = True        # pytest shows the line that calls the package, and not these frames
+__tracebackhide__ = True  # pytest shows the line that calls the package, and not these frames
 PROBE, SEEN = b"input 255 0\n", b"refused 8\n"
 FORKED = "this process was forked from the one that made the meter; make a meter in each process that uses one"
-PATIENCE = 60.0             # seconds that the program may take to answer
-PIECE = 30000               # bytes of lines that are written at once; a pipe holds 65,536
-LONGEST_TICK = 1000000      # milliseconds of one line
-LONGEST_ASK = 50000         # milliseconds that pass before the program has to answer
-STEPS = 64                  # single milliseconds that are tried before longer steps, the cells
-CELLS = 64                  # cells that are tried at once
-FIRST_CELL, LAST_CELL = 16, 1024    # milliseconds of the first cells, and of the longest
-Moment = tuple[int, int]    # of a session: entries of the log, and milliseconds after them
+PATIENCE = 60.0  # seconds that the program may take to answer
+PIECE = 30000  # bytes of lines that are written at once; a pipe holds 65,536
+LONGEST_TICK = 1000000  # milliseconds of one line
+LONGEST_ASK = 50000  # milliseconds that pass before the program has to answer
+STEPS = 64  # single milliseconds that are tried before longer steps, the cells
+CELLS = 64  # cells that are tried at once
+FIRST_CELL, LAST_CELL = 16, 1024  # milliseconds of the first cells, and of the longest
+Moment = tuple[int, int]  # of a session: entries of the log, and milliseconds after them
 # bytes of lines that are kept for a second program, which takes about 20 ms to read them
 LOG_MOST = 4000000
 
@@ -82,7 +82,7 @@ class Program:
         found = bytearray()
         while lines:
             try:
-                lines = lines[os.write(self._target, lines):]
+                lines = lines[os.write(self._target, lines) :]
             except BlockingIOError:
                 if self._waits(self._room):
                     found += self._read(self._printed)
@@ -115,7 +115,7 @@ class Program:
             if not piece:
                 break
             told += piece
-        else:                                   # it closed its output, but still runs
+        else:  # it closed its output, but still runs
             self.process.kill()
         self.process.wait()
         status = self.process.returncode
@@ -137,9 +137,9 @@ class Replay:
         self.path = path
         # all lines that were executed; None if they became too many
         self.log: list[bytes] | None = []
-        self.size = 0                               # how many bytes they have
-        self._since = 0                              # milliseconds that passed after the last of them
-        self.checksum = 0                           # of all that was printed
+        self.size = 0  # how many bytes they have
+        self._since = 0  # milliseconds that passed after the last of them
+        self.checksum = 0  # of all that was printed
         check_fits(path)
         self.program = Program(path)
         self.program.ask(PROBE)
@@ -150,7 +150,7 @@ class Replay:
 
     def do(self, lines: bytes) -> bytes:
         """Executes events, given as lines. Returns what they print."""
-        return self._kept(lines, self.program.ask(lines + PROBE)[:-len(SEEN)])
+        return self._kept(lines, self.program.ask(lines + PROBE)[: -len(SEEN)])
 
     def moment(self) -> Moment:
         """Where the session is: how many entries its log has, and how many milliseconds passed after them."""
@@ -161,7 +161,9 @@ class Replay:
         too long to be kept.
         """
         if self.log is None:
-            raise ProgramError(f"the session is too long to be told: its lines have more than {LOG_MOST} bytes")
+            raise ProgramError(
+                f"the session is too long to be told: its lines have more than {LOG_MOST} bytes"
+            )
         count, since = self.moment() if moment is None else moment
         return (b"".join(self.log[:count]) + ticks(since)).decode().splitlines()
 
@@ -170,7 +172,7 @@ class Replay:
         found = b""
         for start in range(0, milliseconds, LONGEST_ASK):
             passed = min(LONGEST_ASK, milliseconds - start)
-            found += self._kept(b"", self.program.ask(ticks(passed) + PROBE)[:-len(SEEN)])
+            found += self._kept(b"", self.program.ask(ticks(passed) + PROBE)[: -len(SEEN)])
             self._since += passed
         return found
 
@@ -205,7 +207,7 @@ class Replay:
             found = self.program.ask(b"tick\n" + PROBE)
             if found != SEEN:
                 self._since += passed
-                return passed, self._kept(b"", found[:-len(SEEN)])
+                return passed, self._kept(b"", found[: -len(SEEN)])
         self._since += most
         return most, b""
 
@@ -219,7 +221,9 @@ class Replay:
         whole = min(CELLS, (most - 1) // cell)
         rest = most - 1 - whole * cell
         lengths = [cell] * whole + ([] if whole == CELLS else [rest, 1] if rest else [1])
-        parts = self.program.ask(b"".join(ticks(one) + PROBE for one in lengths), len(lengths)).split(SEEN)
+        parts = self.program.ask(
+            b"".join(ticks(one) + PROBE for one in lengths), len(lengths)
+        ).split(SEEN)
         quiet = next((place for place, part in enumerate(parts) if part), len(lengths))
         passed = sum(lengths[:quiet])
         if quiet == len(lengths):
@@ -254,6 +258,6 @@ class Replay:
         assert self.log is not None
         checksum = 0
         for piece in pieces(b"".join(self.log) + ticks(self._since)):
-            checksum = zlib.crc32(self.program.ask(piece + PROBE)[:-len(SEEN)], checksum)
+            checksum = zlib.crc32(self.program.ask(piece + PROBE)[: -len(SEEN)], checksum)
         if checksum != self.checksum:
             raise ProgramError(f"a second program prints otherwise: {self.path}")

@@ -12,11 +12,11 @@ from typing import Union
 from .foreign import without_additions
 from .vxi11.whole import whole
 
-__tracebackhide__ = True        # pytest shows the line that calls the package, and not these frames
+__tracebackhide__ = True  # pytest shows the line that calls the package, and not these frames
 CHANNELS = 128
-MOST_MICROVOLTS = 10 ** 9
-LONGEST_LINE = 65536        # bytes
-SHOWN_MOST = 40             # characters of a bad word that are shown
+MOST_MICROVOLTS = 10**9
+LONGEST_LINE = 65536  # bytes
+SHOWN_MOST = 40  # characters of a bad word that are shown
 DIGITS = re.compile(b"[0-9]{1,18}")
 CHANNEL = re.compile(b"[1-9][0-9]{0,2}")
 LEVEL = re.compile(b"-?[0-9]{1,18}")
@@ -51,7 +51,7 @@ def microvolts(volts: Volts) -> int:
     """
     try:
         plain = _plain(volts)
-        exact = decimal.Decimal(repr(plain) if isinstance(plain, float) else plain) * 10 ** 6
+        exact = decimal.Decimal(repr(plain) if isinstance(plain, float) else plain) * 10**6
         whole = exact.to_integral_value(decimal.ROUND_HALF_UP)
     except (decimal.InvalidOperation, TypeError, ValueError):
         raise ValueError(f"no voltage: {volts!r}") from None
@@ -68,7 +68,7 @@ def _plain(volts: Volts) -> decimal.Decimal | int | float | str:
         return volts
     if hasattr(volts, "__index__"):
         return operator.index(volts)
-    if not hasattr(volts, "__float__"):     # bytes, of which `float` would read a number
+    if not hasattr(volts, "__float__"):  # bytes, of which `float` would read a number
         raise TypeError
     return float(volts)
 
@@ -85,7 +85,9 @@ def read_scenario(name: Name) -> list[Entry]:
     """
     entries, bad = checked_scenario(name)
     if bad:
-        raise ValueError(f"bad line {bad[0].number} of the scenario {os.fspath(name)}: {bad[0].reason}")
+        raise ValueError(
+            f"bad line {bad[0].number} of the scenario {os.fspath(name)}: {bad[0].reason}"
+        )
     return entries
 
 
@@ -110,21 +112,29 @@ def entry_of(line: bytes, last: int = 0) -> Entry:
         raise ValueError(f"it has more than {LONGEST_LINE} bytes")
     clock, *words = line.split(b" ")
     if not DIGITS.fullmatch(clock):
-        raise ValueError(f"a time is a whole number of milliseconds, of 1 to 18 digits, and not {shown(clock)}")
+        raise ValueError(
+            f"a time is a whole number of milliseconds, of 1 to 18 digits, and not {shown(clock)}"
+        )
     if int(clock) < last:
         raise ValueError(f"a time may not be before that of the entry before, {last}: {int(clock)}")
     if words == [b"external"]:
         return Entry(int(clock), b"external\n")
     if len(words) != 3 or words[0] != b"input":
-        raise ValueError("after the time comes `external` or `input CHANNEL MICROVOLTS`, with one space "
-                         f"between two words, and not {shown(b' '.join(words))}")
+        raise ValueError(
+            "after the time comes `external` or `input CHANNEL MICROVOLTS`, with one space "
+            f"between two words, and not {shown(b' '.join(words))}"
+        )
     channel, level = words[1:]
     if not CHANNEL.fullmatch(channel) or int(channel) > CHANNELS:
         raise ValueError(f"a channel is a whole number, 1 to {CHANNELS}, and not {shown(channel)}")
     if not LEVEL.fullmatch(level) or abs(int(level)) > MOST_MICROVOLTS:
-        raise ValueError("a voltage is a whole number of microvolts, of at most 18 digits, "
-                         f"{-MOST_MICROVOLTS} to {MOST_MICROVOLTS}, and not {shown(level)}")
-    return Entry(int(clock), b"input %d %d\n" % (int(channel), int(level)), int(channel), int(level))
+        raise ValueError(
+            "a voltage is a whole number of microvolts, of at most 18 digits, "
+            f"{-MOST_MICROVOLTS} to {MOST_MICROVOLTS}, and not {shown(level)}"
+        )
+    return Entry(
+        int(clock), b"input %d %d\n" % (int(channel), int(level)), int(channel), int(level)
+    )
 
 
 def shown(word: bytes) -> str:

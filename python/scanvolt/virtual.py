@@ -44,17 +44,27 @@ if TYPE_CHECKING:
     from .explaining.explanation import Explanation
     from .interleaving import Controller
 
-__all__ = ["Connection", "Meter", "NeverEnds", "NoAnswer", "NotInStep", "OrderFails", "PATIENCE", "Pending", "Requests"]
-__tracebackhide__ = True        # pytest shows the line that calls the package, and not these frames
+__all__ = [
+    "Connection",
+    "Meter",
+    "NeverEnds",
+    "NoAnswer",
+    "NotInStep",
+    "OrderFails",
+    "PATIENCE",
+    "Pending",
+    "Requests",
+]
+__tracebackhide__ = True  # pytest shows the line that calls the package, and not these frames
 Value = TypeVar("Value")
-PLACES = 16             # connections that the instrument has room for
+PLACES = 16  # connections that the instrument has room for
 # those that there are, in their order
 METERS: weakref.WeakValueDictionary[int, Meter] = weakref.WeakValueDictionary()
-STARTED: list[Callable[[Meter], object]] = []      # what is told of each meter that is turned on
+STARTED: list[Callable[[Meter], object]] = []  # what is told of each meter that is turned on
 _numbers = itertools.count()
 Awaited = tuple[Pending[Any], Callable[[Optional[Exception]], None]]
-PATIENCE = 600000       # milliseconds of virtual time that a call may wait
-SHORT = 10000           # milliseconds of patience that take no longer to pass than to be explained
+PATIENCE = 600000  # milliseconds of virtual time that a call may wait
+SHORT = 10000  # milliseconds of patience that take no longer to pass than to be explained
 
 
 class Meter:
@@ -80,23 +90,28 @@ class Meter:
     patience = Milliseconds()
     call_time = Milliseconds()
 
-    def __init__(self, program: Name | None = None, scenario: Name | None = None,
-                 patience: int = PATIENCE, call_time: int = 0) -> None:
+    def __init__(
+        self,
+        program: Name | None = None,
+        scenario: Name | None = None,
+        patience: int = PATIENCE,
+        call_time: int = 0,
+    ) -> None:
         self.patience, self.call_time = patience, call_time
         entries = [] if scenario is None else read_scenario(scenario)
         self._ahead: collections.deque[Entry] = collections.deque(entries)
-        self.clock = 0                  # milliseconds since the instrument was turned on
-        self.dials = True               # whether the dialing of an interrupt channel succeeds
+        self.clock = 0  # milliseconds since the instrument was turned on
+        self.dials = True  # whether the dialing of an interrupt channel succeeds
         # calls that were sent, and service requests that were handed on
         self._sent = self._handed = 0
-        self.connections: dict[int, Connection] = {}        # those that are open, by number
+        self.connections: dict[int, Connection] = {}  # those that are open, by number
         self._deliveries: collections.deque[Callable[[], object]] = collections.deque()
-        self.faults = Faults(self)      # faults on order
-        self._awaited: dict[int, Awaited] = {}       # calls of tasks of asyncio
+        self.faults = Faults(self)  # faults on order
+        self._awaited: dict[int, Awaited] = {}  # calls of tasks of asyncio
         self._guard: contextlib.AbstractContextManager[object] = threading.RLock()
-        self._steps: LockStep | None = None       # the block of `threads` that there is
-        self._twins = Twins()                        # of the meter from which this one was forked
-        self._ended: Exception | None = None      # why the meter is off
+        self._steps: LockStep | None = None  # the block of `threads` that there is
+        self._twins = Twins()  # of the meter from which this one was forked
+        self._ended: Exception | None = None  # why the meter is off
         self._replay = Replay(find_program() if program is None else str(program))
         METERS[next(_numbers)] = self
         for tell in STARTED:
@@ -125,7 +140,11 @@ class Meter:
     def close(self) -> None:
         """Turns the instrument off: its connections and its program end."""
         with self._guard:
-            self._end(ConnectionError("the meter is closed: its `with` block ended, or `close` was called"))
+            self._end(
+                ConnectionError(
+                    "the meter is closed: its `with` block ended, or `close` was called"
+                )
+            )
 
     def connect(self, role: str = "core") -> Connection:
         """Opens a connection to the core channel (core), the abort channel (abort) or the port mapper (portmap).
@@ -196,7 +215,9 @@ class Meter:
                 self._pass_most(end - self.clock)
 
     @contextlib.contextmanager
-    def _awaiting(self, pending: Pending[Value], awake: Callable[[Exception | None], None]) -> Iterator[None]:
+    def _awaiting(
+        self, pending: Pending[Value], awake: Callable[[Exception | None], None]
+    ) -> Iterator[None]:
         """Within this block, `awake` is called when a call is answered, with None, or with NoAnswer if that can't be."""
         self._awaited[id(pending)] = pending, awake
         try:
@@ -216,7 +237,12 @@ class Meter:
         with self._guard:
             awaited, self._awaited = self._awaited, {}
             for pending, awake in awaited.values():
-                awake(NoAnswer(self._hopeless(pending) or f"{pending.call.name} waits for more than {self.patience} ms of virtual time"))
+                awake(
+                    NoAnswer(
+                        self._hopeless(pending)
+                        or f"{pending.call.name} waits for more than {self.patience} ms of virtual time"
+                    )
+                )
         return bool(awaited)
 
     def keeping_time(self) -> contextlib.AbstractContextManager[Meter]:
@@ -241,6 +267,7 @@ class Meter:
         become too long to be kept.
         """
         from .explaining.explanation import Explanation
+
         with self._guard:
             script = self._replay.script()
             faults = list(self.faults.told)
@@ -256,11 +283,19 @@ class Meter:
         waits raises NoAnswer. NotInStep is raised if a thread sleeps outside of the meter, still runs at the end of the
         block, or is one too many.
         """
-        return LockStep(self, whole(count, 1, PLACES, "threads wants a number of threads"),
-                        None if seed is None else seeded(seed))
+        return LockStep(
+            self,
+            whole(count, 1, PLACES, "threads wants a number of threads"),
+            None if seed is None else seeded(seed),
+        )
 
-    def interleavings(self, *controllers: Controller, count: int | None = None, seed: int = 0,
-                      order: str | None = None) -> int:
+    def interleavings(
+        self,
+        *controllers: Controller,
+        count: int | None = None,
+        seed: int = 0,
+        order: str | None = None,
+    ) -> int:
         """Runs two or more controllers in every order of their calls; with `count`, in so many orders at random by seed; with
         `order`, in that one. Each is a function that takes a meter, a fork of this one, and opens its own connections.
 
@@ -268,6 +303,7 @@ class Meter:
         in letters, A for the first controller: order="ABBA" repeats it. Raises RuntimeError after 10,000 orders.
         """
         from .interleaving import interleavings
+
         return interleavings(self, controllers, count, seed, order)
 
     def fork(self) -> Meter:
@@ -293,6 +329,7 @@ class Meter:
         if self.patience <= SHORT or first.call.wait <= self.patience:
             return None
         from .explaining import meters
+
         return meters.why_no_answer(self, pending)
 
     @property
@@ -360,7 +397,9 @@ class Meter:
     def _next_deadline(self, most: int) -> int:
         """How many milliseconds remain to the next timeout of a call that waits."""
         waiting = [one._pending[0] for one in self.connections.values() if one._pending]
-        ends = [one._turned + one.call.wait - self.clock for one in waiting if one._turned is not None]
+        ends = [
+            one._turned + one.call.wait - self.clock for one in waiting if one._turned is not None
+        ]
         return min((end for end in ends if end > 0), default=most)
 
     def _play(self) -> None:

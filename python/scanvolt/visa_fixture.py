@@ -17,11 +17,11 @@ from .virtual import Meter
 if TYPE_CHECKING:
     import pytest
 
-__tracebackhide__ = True        # pytest shows the line that calls the package, and not these frames
+__tracebackhide__ = True  # pytest shows the line that calls the package, and not these frames
 BACKENDS = ("virtual", "sockets")
 VIRTUAL, SOCKETS = "TCPIP::scanvolt::INSTR", "TCPIP::127.0.0.1::inst0::INSTR"
 END = "\n"
-TIMEOUT = 5000          # milliseconds of a resource
+TIMEOUT = 5000  # milliseconds of a resource
 
 
 class VisaMeter:
@@ -30,7 +30,13 @@ class VisaMeter:
     `backend` is virtual or sockets. `name` is the instrument's resource name: the first that the marker gives, or its own.
     """
 
-    def __init__(self, backend: str, options: dict[str, Any], monkeypatch: pytest.MonkeyPatch, folder: pathlib.Path) -> None:
+    def __init__(
+        self,
+        backend: str,
+        options: dict[str, Any],
+        monkeypatch: pytest.MonkeyPatch,
+        folder: pathlib.Path,
+    ) -> None:
         self.backend = backend
         self._names: dict[str, str] = dict(options.pop("names", None) or {})
         self._ends = contextlib.ExitStack()
@@ -57,24 +63,35 @@ class VisaMeter:
     def meter(self) -> Meter:
         """The instrument in virtual time. Raises AttributeError on sockets, where `server` is the Server."""
         if self._meter is None:
-            raise AttributeError("on sockets there is no Meter, but visa_meter.server; backend='virtual' has one")
+            raise AttributeError(
+                "on sockets there is no Meter, but visa_meter.server; backend='virtual' has one"
+            )
         return self._meter
 
     def open(self, name: str | None = None, **options: Any) -> Any:
         """Opens a further session, to this instrument unless another one's name is given. The options are those of
         open_resource; messages end with a new line, and the timeout is 5 s, unless they say otherwise.
         """
-        given: dict[str, Any] = {"read_termination": END, "write_termination": END, "timeout": TIMEOUT, **options}
+        given: dict[str, Any] = {
+            "read_termination": END,
+            "write_termination": END,
+            "timeout": TIMEOUT,
+            **options,
+        }
         return self.manager.open_resource(name or self.name, **given)
 
     def _manage(self) -> None:
         import pyvisa
+
         self.manager = pyvisa.ResourceManager()
         self._ends.callback(self.manager.close)
 
-    def _virtual(self, options: dict[str, Any], monkeypatch: pytest.MonkeyPatch, folder: pathlib.Path) -> str:
+    def _virtual(
+        self, options: dict[str, Any], monkeypatch: pytest.MonkeyPatch, folder: pathlib.Path
+    ) -> str:
         """An instrument in virtual time, whose settings are in a file. Returns its name."""
         from pyvisa_scanvolt.settings import written
+
         path = folder / "settings"
         path.write_text(written(self._names, **options), encoding="utf-8")
         monkeypatch.setenv("PYVISA_LIBRARY", f"{path}@scanvolt")
@@ -90,15 +107,21 @@ class VisaMeter:
         Returns its name.
         """
         import pyvisa
+
         rpc = importlib.import_module("pyvisa_py.protocols.rpc")
         from pyvisa_scanvolt.settings import Settings
+
         settings = Settings()
         if len({host.lower() for host in self._names.values()}) > 1:
             hosts = ", ".join(sorted(set(self._names.values())))
-            raise ValueError(f"on sockets there is one instrument, and the names are of several: {hosts}")
+            raise ValueError(
+                f"on sockets there is one instrument, and the names are of several: {hosts}"
+            )
         for name, host in {VIRTUAL: "scanvolt", **self._names}.items():
             settings.add(name, host)
-        self.server = self._ends.enter_context(Server(options.get("scenario"), record=True, control=True))
+        self.server = self._ends.enter_context(
+            Server(options.get("scenario"), record=True, control=True)
+        )
         monkeypatch.setattr(rpc, "PMAP_PORT", self.server.port_mapper)
         monkeypatch.setenv("PYVISA_LIBRARY", "@py")
         real = pyvisa.ResourceManager.open_resource

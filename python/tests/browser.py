@@ -14,9 +14,11 @@ from typing import Any
 
 CHROMIUM = shutil.which("chromium")
 KEYS = {"ArrowRight": 39, "Enter": 13}
-MIDDLE = ("(() => { const one = document.querySelector(%s); one.scrollIntoView({block: 'nearest'}); "
-          "const box = one.getBoundingClientRect(); return [box.left + box.width / 2, box.top + box.height / 2]; })()")
-PATIENCE = 60.0         # seconds that the browser may take to answer
+MIDDLE = (
+    "(() => { const one = document.querySelector(%s); one.scrollIntoView({block: 'nearest'}); "
+    "const box = one.getBoundingClientRect(); return [box.left + box.width / 2, box.top + box.height / 2]; })()"
+)
+PATIENCE = 60.0  # seconds that the browser may take to answer
 # The browser reads from descriptor 3 and writes to 4. A shell moves the pipes there.
 START = 'exec "$0" "$@" 3<&%d 4>&%d'
 
@@ -30,10 +32,25 @@ class Browser:
         theirs, self._to = os.pipe()
         self._from, back = os.pipe()
         self._process = subprocess.Popen(
-            ["/bin/sh", "-c", START % (theirs, back), CHROMIUM, "--headless", "--no-sandbox", "--disable-gpu",
-             "--disable-dev-shm-usage", "--hide-scrollbars", "--user-data-dir=" + self._folder, "--remote-debugging-pipe",
-             "about:blank"],
-            stdin=subprocess.DEVNULL, stdout=subprocess.DEVNULL, stderr=subprocess.DEVNULL, pass_fds=(theirs, back))
+            [
+                "/bin/sh",
+                "-c",
+                START % (theirs, back),
+                CHROMIUM,
+                "--headless",
+                "--no-sandbox",
+                "--disable-gpu",
+                "--disable-dev-shm-usage",
+                "--hide-scrollbars",
+                "--user-data-dir=" + self._folder,
+                "--remote-debugging-pipe",
+                "about:blank",
+            ],
+            stdin=subprocess.DEVNULL,
+            stdout=subprocess.DEVNULL,
+            stderr=subprocess.DEVNULL,
+            pass_fds=(theirs, back),
+        )
         os.close(theirs)
         os.close(back)
         self._rest, self._number = b"", 0
@@ -56,7 +73,9 @@ class Browser:
     def page(self, address: str, wide: int = 1400, high: int = 900, dark: bool = False) -> Page:
         """A new page at an address."""
         target = self.call("Target.createTarget", None, url="about:blank")["targetId"]
-        session = self.call("Target.attachToTarget", None, targetId=target, flatten=True)["sessionId"]
+        session = self.call("Target.attachToTarget", None, targetId=target, flatten=True)[
+            "sessionId"
+        ]
         return Page(self, target, session, address, (wide, high), dark)
 
     def call(self, method: str, session: str | None, **parameters: object) -> dict[str, Any]:
@@ -95,7 +114,9 @@ class Browser:
 class Page:
     """A page of a browser."""
 
-    def __init__(self, browser: Browser, target: str, session: str, address: str, size: Any, dark: bool) -> None:
+    def __init__(
+        self, browser: Browser, target: str, session: str, address: str, size: Any, dark: bool
+    ) -> None:
         self.browser, self.target, self.session = browser, target, session
         for domain in ("Page", "Runtime", "Log", "Network"):
             self._call(domain + ".enable")
@@ -109,7 +130,9 @@ class Page:
 
     def run(self, script: str) -> Any:
         """The value of an expression in the page. Promises are awaited."""
-        told = self._call("Runtime.evaluate", expression=script, returnByValue=True, awaitPromise=True)
+        told = self._call(
+            "Runtime.evaluate", expression=script, returnByValue=True, awaitPromise=True
+        )
         if "exceptionDetails" in told:
             why = told["exceptionDetails"].get("exception", {}).get("description")
             raise RuntimeError(f"{script}: {why}")
@@ -122,7 +145,7 @@ class Page:
             try:
                 if self.run(f"!!({condition})"):
                     return time.monotonic() - start
-            except RuntimeError:        # the page isn't there yet
+            except RuntimeError:  # the page isn't there yet
                 pass
             if time.monotonic() - start > seconds:
                 raise AssertionError(f"after {seconds:g} s it isn't so: {condition}")
@@ -139,7 +162,13 @@ class Page:
     def key(self, key: str) -> None:
         """Presses a key."""
         for kind in ("keyDown", "keyUp"):
-            self._call("Input.dispatchKeyEvent", type=kind, key=key, code=key, windowsVirtualKeyCode=KEYS.get(key, 0))
+            self._call(
+                "Input.dispatchKeyEvent",
+                type=kind,
+                key=key,
+                code=key,
+                windowsVirtualKeyCode=KEYS.get(key, 0),
+            )
 
     def type(self, text: str) -> None:
         """Types a text where the cursor is."""
@@ -154,11 +183,25 @@ class Page:
     def mouse(self, kind: str, x: float, y: float) -> None:
         """What the mouse does."""
         buttons = 0 if kind == "mouseReleased" else 1
-        self._call("Input.dispatchMouseEvent", type=kind, x=x, y=y, button="left", buttons=buttons, clickCount=1)
+        self._call(
+            "Input.dispatchMouseEvent",
+            type=kind,
+            x=x,
+            y=y,
+            button="left",
+            buttons=buttons,
+            clickCount=1,
+        )
 
     def size(self, wide: int, high: int) -> None:
         """Makes the window as wide and high, in pixels."""
-        self._call("Emulation.setDeviceMetricsOverride", width=wide, height=high, deviceScaleFactor=1, mobile=False)
+        self._call(
+            "Emulation.setDeviceMetricsOverride",
+            width=wide,
+            height=high,
+            deviceScaleFactor=1,
+            mobile=False,
+        )
 
     def png(self) -> bytes:
         """A screenshot."""
@@ -177,7 +220,9 @@ class Page:
             if one.get("sessionId") != self.session:
                 continue
             if one["method"] == "Runtime.exceptionThrown":
-                found.append(str(one["params"]["exceptionDetails"].get("exception", {}).get("description")))
+                found.append(
+                    str(one["params"]["exceptionDetails"].get("exception", {}).get("description"))
+                )
             elif one["method"] == "Log.entryAdded" and one["params"]["entry"]["level"] == "error":
                 entry = {"url": "", **one["params"]["entry"]}
                 found.append(f"{entry['text']} {entry['url']}")
@@ -186,5 +231,8 @@ class Page:
     def requests(self) -> list[str]:
         """The addresses that were asked for."""
         self.run("1")
-        return [one["params"]["request"]["url"] for one in self.browser.events
-                if one.get("sessionId") == self.session and one["method"] == "Network.requestWillBeSent"]
+        return [
+            one["params"]["request"]["url"]
+            for one in self.browser.events
+            if one.get("sessionId") == self.session and one["method"] == "Network.requestWillBeSent"
+        ]

@@ -20,9 +20,9 @@ from unittest import mock
 from scanvolt.capturing.command import main
 from scanvolt.vxi11 import calls, encode_reply, words
 
-START = 1_700_000_000_000       # when the server was ready, in milliseconds since 1970
+START = 1_700_000_000_000  # when the server was ready, in milliseconds since 1970
 SYN, ACK = 2, 16
-MAGIC = "\n\r\r\n"            # how a pcapng file begins
+MAGIC = "\n\r\r\n"  # how a pcapng file begins
 ENDS = (("127.0.0.1", 50000), ("127.0.0.1", 4096))
 
 TSHARK = """#!/bin/sh
@@ -68,13 +68,28 @@ class Capture:
         side = 0 if called else 1
         source, target = ENDS[side], ENDS[1 - side]
         number, size = len(self.lines) + 1, 66 + len(data)
-        fields = [number, f"{(START + time) / 1000:.6f}", 0, *source, *target, self.sent[side],
-                  self.sent[1 - side], hex(flags), len(data), size, size]
+        fields = [
+            number,
+            f"{(START + time) / 1000:.6f}",
+            0,
+            *source,
+            *target,
+            self.sent[side],
+            self.sent[1 - side],
+            hex(flags),
+            len(data),
+            size,
+            size,
+        ]
         self.lines.append("\t".join(map(str, fields)))
         self.sent[side] += len(data) + (1 if flags & SYN else 0)
         if data:
-            self.followed += [f"  - packet: {number}", f"    peer: {side}", "    data: !!binary |",
-                              "      " + base64.b64encode(data).decode()]
+            self.followed += [
+                f"  - packet: {number}",
+                f"    peer: {side}",
+                "    data: !!binary |",
+                "      " + base64.b64encode(data).decode(),
+            ]
 
     def asks(self, time: int, xid: int, result: bytes, taking: int = 1) -> None:
         """Adds a call, and its reply `taking` milliseconds later."""
@@ -105,18 +120,25 @@ class Folder:
         """Runs the command. Returns its status, and what it prints."""
         variables["PATH"] = f"{self.path}:{os.environ['PATH']}" if path is None else path
         printed = io.StringIO()
-        with mock.patch.dict(os.environ, variables), mock.patch("signal.signal"), \
-                contextlib.redirect_stdout(printed), contextlib.redirect_stderr(printed):
+        with mock.patch.dict(os.environ, variables), mock.patch(
+            "signal.signal"
+        ), contextlib.redirect_stdout(printed), contextlib.redirect_stderr(printed):
             return main(list(given)), printed.getvalue()
 
     def begin(self, *given: str, **variables: str) -> subprocess.Popen[bytes]:
         """Starts the command in a process of its own."""
         variables["PATH"] = f"{self.path}:{os.environ['PATH']}"
-        text = "import signal, sys; signal.signal(signal.SIGINT, signal.default_int_handler)\n" \
+        text = (
+            "import signal, sys; signal.signal(signal.SIGINT, signal.default_int_handler)\n"
             "from scanvolt.capturing.command import main; sys.exit(main())"
-        return subprocess.Popen([sys.executable, "-c", text, *given], env=dict(os.environ, **variables),
-                                cwd=pathlib.Path(__file__).resolve().parent.parent, stdout=subprocess.PIPE,
-                                stderr=subprocess.DEVNULL)
+        )
+        return subprocess.Popen(
+            [sys.executable, "-c", text, *given],
+            env=dict(os.environ, **variables),
+            cwd=pathlib.Path(__file__).resolve().parent.parent,
+            stdout=subprocess.PIPE,
+            stderr=subprocess.DEVNULL,
+        )
 
     def captured(self, capture: Capture) -> str:
         """Writes a capture, and what `tshark` prints for it. Returns its path."""
@@ -124,8 +146,14 @@ class Folder:
         self.write("captured.followed", "\n".join(capture.followed) + "\n")
         return self.write("captured", MAGIC)
 
-    def compare(self, capture: Capture, *given: str, program: str | None = None,
-                scenario: str | None = None, replies: Sequence[bytes] = ()) -> tuple[int, str]:
+    def compare(
+        self,
+        capture: Capture,
+        *given: str,
+        program: str | None = None,
+        scenario: str | None = None,
+        replies: Sequence[bytes] = (),
+    ) -> tuple[int, str]:
         """Compares. Returns the status, and the lines that are printed."""
         captured = self.captured(capture)
         stored = self.write("replies", "".join(one.hex() + "\n" for one in replies))

@@ -30,7 +30,12 @@ def session(meter: Meter) -> None:
     for channel, volts in ((1, "1.25"), (2, "-0.3"), (3, "7.5")):
         meter.set_input(channel, volts)
     link = meter.connect().create_link()
-    for message in "*RST;*CLS", "CONF:VOLT (@1:3);:CALC:LIM:UPP 5;STAT ON", "STAT:QUES:ENAB 512;*SRE 24", "READ?":
+    for message in (
+        "*RST;*CLS",
+        "CONF:VOLT (@1:3);:CALC:LIM:UPP 5;STAT ON",
+        "STAT:QUES:ENAB 512;*SRE 24",
+        "READ?",
+    ):
         link.write(message)
     link.readstb()
     meter.advance(3)
@@ -135,11 +140,31 @@ def scan(meter: Meter) -> None:
 
 # A message for each error that a unit causes, in the order of docs/INSTRUMENT.md.
 FAULTY = (
-    b"*CL\x80", b"1X", b"ABCDEFGHIJKLM", b"FOO", b"ROUT:SCAN (@1", b"ROUT:SCAN (@1),", b"*CLS 1", b"*ESE", b"ROUT:SCAN 5",
+    b"*CL\x80",
+    b"1X",
+    b"ABCDEFGHIJKLM",
+    b"FOO",
+    b"ROUT:SCAN (@1",
+    b"ROUT:SCAN (@1),",
+    b"*CLS 1",
+    b"*ESE",
+    b"ROUT:SCAN 5",
     b"CALC:LIM:UPP 1.2.3",
-    b"CALC:LIM:UPP 1A", b"*ESE 1V", b"*ESE " + b"9" * 256, b"*ESE 1E32001", b"TRIG:SOUR B-S", b"TRIG:SOUR FOO",
-    b"ROUT:SCAN (1)", b"*ESE 256",
-    b"ROUT:MON (@1,2)", b"*TRG", b"TRIG:SOUR EXT;:INIT;:ROUT:SCAN (@2)", b"INIT", b"ABOR;:TRIG:SOUR BUS;:READ?", b"FETC?")
+    b"CALC:LIM:UPP 1A",
+    b"*ESE 1V",
+    b"*ESE " + b"9" * 256,
+    b"*ESE 1E32001",
+    b"TRIG:SOUR B-S",
+    b"TRIG:SOUR FOO",
+    b"ROUT:SCAN (1)",
+    b"*ESE 256",
+    b"ROUT:MON (@1,2)",
+    b"*TRG",
+    b"TRIG:SOUR EXT;:INIT;:ROUT:SCAN (@2)",
+    b"INIT",
+    b"ABOR;:TRIG:SOUR BUS;:READ?",
+    b"FETC?",
+)
 
 
 def errors(meter: Meter) -> None:
@@ -148,19 +173,19 @@ def errors(meter: Meter) -> None:
     for message in FAULTY:
         start_write(link, message)
         link.query("SYST:ERR?")
-    start(link, link.calls.read())                      # -420
+    start(link, link.calls.read())  # -420
     link.write("*IDN?")
-    link.write("*ESE 1")                                # -410
+    link.write("*ESE 1")  # -410
     link.write("*CLS")
     link.write("TRIG:SOUR IMM;:CONF:VOLT (@1:128);:TRIG:COUN 16;:READ?")
     meter.advance(2048)
     link.read()
-    link.write("FETC?;:FETC?")                          # -430
+    link.write("FETC?;:FETC?")  # -430
     link.write("*CLS")
     start(link, link.calls.write(b" " * 4090, False))
-    start(link, link.calls.write(b"*ESE 1;*SRE 4"))     # -363
+    start(link, link.calls.write(b"*ESE 1;*SRE 4"))  # -363
     link.write(";".join(["FOO"] * 63))
-    link.write("*ESE 256")                              # -350, and the next one is lost
+    link.write("*ESE 256")  # -350, and the next one is lost
     link.query("SYST:ERR:COUN?")
 
 
@@ -169,17 +194,44 @@ def replies(meter: Meter) -> None:
     first, second = meter.connect(), meter.connect()
     link, other = first.create_link(), second.create_link()
     attempts: Sequence[Callable[[], object]] = (
-        lambda: first.create_link("inst1"), lambda: second.do(calls.device_readstb(1, 0)), lambda: start_write(link, b"x" * 4097),
-        link.unlock, link.lock, link.lock, other.lock, other.readstb, lambda: second.create_link(lock=True), link.unlock,
-        lambda: link.docmd(1, b""), link.remote, link.local, link.trigger, link.clear, link.read, lambda: link.query("*IDN?"),
-        lambda: link.write("*IDN?"), lambda: link.read_piece(4), lambda: link.read_piece(100, ord(",")), link.clear,
-        first.destroy_intr_chan, first.listen, first.listen, first.destroy_intr_chan,
-        lambda: second.do(calls.create_intr_chan(calls.LOOPBACK, 0)), lambda: second.do(calls.create_intr_chan(1, 1)),
-        lambda: second.do(calls.create_intr_chan(calls.LOOPBACK, 1, family=calls.BY_UDP)), lambda: link.enable_srq(b"A"),
-        link.disable_srq, lambda: first.do(calls.null()), lambda: first.do(calls.device_abort(1)),
-        lambda: meter.connect("abort").do(calls.device_abort(9)), other.destroy, other.readstb,
+        lambda: first.create_link("inst1"),
+        lambda: second.do(calls.device_readstb(1, 0)),
+        lambda: start_write(link, b"x" * 4097),
+        link.unlock,
+        link.lock,
+        link.lock,
+        other.lock,
+        other.readstb,
+        lambda: second.create_link(lock=True),
+        link.unlock,
+        lambda: link.docmd(1, b""),
+        link.remote,
+        link.local,
+        link.trigger,
+        link.clear,
+        link.read,
+        lambda: link.query("*IDN?"),
+        lambda: link.write("*IDN?"),
+        lambda: link.read_piece(4),
+        lambda: link.read_piece(100, ord(",")),
+        link.clear,
+        first.destroy_intr_chan,
+        first.listen,
+        first.listen,
+        first.destroy_intr_chan,
+        lambda: second.do(calls.create_intr_chan(calls.LOOPBACK, 0)),
+        lambda: second.do(calls.create_intr_chan(1, 1)),
+        lambda: second.do(calls.create_intr_chan(calls.LOOPBACK, 1, family=calls.BY_UDP)),
+        lambda: link.enable_srq(b"A"),
+        link.disable_srq,
+        lambda: first.do(calls.null()),
+        lambda: first.do(calls.device_abort(1)),
+        lambda: meter.connect("abort").do(calls.device_abort(9)),
+        other.destroy,
+        other.readstb,
         lambda: meter.connect("portmap").do(calls.getport(calls.CORE, 1)),
-        lambda: meter.connect("portmap").do(calls.set_port(calls.CORE, 1, 1)))
+        lambda: meter.connect("portmap").do(calls.set_port(calls.CORE, 1, 1)),
+    )
     for attempt in attempts:
         try:
             attempt()
@@ -187,10 +239,15 @@ def replies(meter: Meter) -> None:
             pass
     meter._replay.do(b"open 9 core\n")
     null = calls.null().encode(1)
-    for data, taken in ((calls.create_link().encode(1), "refuse"), (encode_call(2, calls.CORE, 2, calls.NULL), "turn"),
-                        (encode_call(3, calls.CORE, 1, 99), "turn"), (encode_call(4, 5, 1, 1), "turn"),
-                        (encode_call(5, calls.CORE, 1, calls.DEVICE_READSTB, b"abc"), "turn"),
-                        (null[:12] + words(3) + null[16:], "turn"), (record(b"no call"), "turn")):
+    for data, taken in (
+        (calls.create_link().encode(1), "refuse"),
+        (encode_call(2, calls.CORE, 2, calls.NULL), "turn"),
+        (encode_call(3, calls.CORE, 1, 99), "turn"),
+        (encode_call(4, 5, 1, 1), "turn"),
+        (encode_call(5, calls.CORE, 1, calls.DEVICE_READSTB, b"abc"), "turn"),
+        (null[:12] + words(3) + null[16:], "turn"),
+        (record(b"no call"), "turn"),
+    ):
         meter._replay.do(b"bytes 9 %s\n%s 9\n" % (data.hex().encode(), taken.encode()))
     meter.dials = False
     try:
@@ -203,8 +260,15 @@ def replies(meter: Meter) -> None:
 
 
 SESSIONS: dict[str, Callable[[Meter], None]] = {
-    "session": session, "hang": hang, "hung": hung, "lock": lock, "requests": requests, "scan": scan,
-    "errors": errors, "replies": replies}
+    "session": session,
+    "hang": hang,
+    "hung": hung,
+    "lock": lock,
+    "requests": requests,
+    "scan": scan,
+    "errors": errors,
+    "replies": replies,
+}
 
 
 @functools.lru_cache(None)

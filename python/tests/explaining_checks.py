@@ -12,17 +12,33 @@ from scanvolt.explaining.running import lines_of
 from scanvolt.explaining.story import Call, Story
 from scanvolt.explaining.why import Why
 
-FLAGS = ("poll", "esr", "oper.event", "ques.event", "lim.event", "oper.cond", "ques.cond", "lim.cond")
+FLAGS = (
+    "poll",
+    "esr",
+    "oper.event",
+    "ques.event",
+    "lim.event",
+    "oper.cond",
+    "ques.cond",
+    "lim.cond",
+)
 WEAK = "that was so for a moment"
 
 
 def status_byte(story: Story, number: int) -> int:
     """The status byte, as *STB? returns it, from the registers after a step."""
+
     def at(name: str) -> int:
         return story.lines.bits(name, number)
 
-    byte = 128 * bool(at("oper.event") & at("oper.enable")) + 32 * bool(at("esr") & at("ese")) + 16 * bool(at("response"))
-    byte += 8 * bool(at("ques.event") & at("ques.enable")) + 4 * bool(story.lines.at("errors", number))
+    byte = (
+        128 * bool(at("oper.event") & at("oper.enable"))
+        + 32 * bool(at("esr") & at("ese"))
+        + 16 * bool(at("response"))
+    )
+    byte += 8 * bool(at("ques.event") & at("ques.enable")) + 4 * bool(
+        story.lines.at("errors", number)
+    )
     return byte + 64 * bool(byte & at("sre"))
 
 
@@ -42,7 +58,9 @@ class Checks:
             if byte != told:
                 yield f"status byte {told} and not {byte} at {where(step)}"
             if self.lines.bits("ques.cond", step.number) >> 9 & 1 != bool(
-                    self.lines.bits("lim.event", step.number) & self.lines.bits("lim.enable", step.number)):
+                self.lines.bits("lim.event", step.number)
+                & self.lines.bits("lim.enable", step.number)
+            ):
                 yield f"summary of the limits at {where(step)}"
             if step.is_unit:
                 self.counts["units"] += 1
@@ -60,7 +78,10 @@ class Checks:
                 self.counts["polls"] += 1
                 taken = call.turned and call.turned.steps[0]
                 before = call.waits[-1].end if call.waits else taken
-                if before is None or self.lines.bits("poll", before.number - 1) != call.answer.value:
+                if (
+                    before is None
+                    or self.lines.bits("poll", before.number - 1) != call.answer.value
+                ):
                     yield f"a poll returned {call.answer.words} at {before and where(before)}"
             for wait in call.waits:
                 self.counts["waits"] += 1

@@ -27,7 +27,7 @@ class WithPanel(unittest.TestCase):
         self.addCleanup(self.watch.close)
         self.panel = Panel(self.watch)
         self.watch.start()
-        serving = threading.Thread(target=self.panel.serve_forever, args=(.05,))
+        serving = threading.Thread(target=self.panel.serve_forever, args=(0.05,))
         serving.start()
         self.addCleanup(self.panel.server_close)
         self.addCleanup(serving.join)
@@ -39,15 +39,26 @@ class WithPanel(unittest.TestCase):
         self.addCleanup(client.close)
         return client.create_link(**options)
 
-    def ask(self, method: str, path: str, body: Body = None, token: bool = False, **headers: str) -> Answer:
+    def ask(
+        self, method: str, path: str, body: Body = None, token: bool = False, **headers: str
+    ) -> Answer:
         """The answer to a request: its status, body and headers. `_` in the name of a header is `-`."""
         if token:
             path += "?token=" + self.panel.token
         connection = http.client.HTTPConnection("127.0.0.1", self.panel.port, timeout=30)
         try:
-            connection.request(method, path, body, {name.replace("_", "-"): value for name, value in headers.items()})
+            connection.request(
+                method,
+                path,
+                body,
+                {name.replace("_", "-"): value for name, value in headers.items()},
+            )
             answer = connection.getresponse()
-            return answer.status, answer.read().decode(), {name.lower(): value for name, value in answer.getheaders()}
+            return (
+                answer.status,
+                answer.read().decode(),
+                {name.lower(): value for name, value in answer.getheaders()},
+            )
         finally:
             connection.close()
 
@@ -58,8 +69,16 @@ class WithPanel(unittest.TestCase):
         found: dict[str, Any] = json.loads(text)
         return found
 
-    def refused(self, status: int, why: str, method: str, path: str, body: Body = None, token: bool = True,
-                **headers: str) -> None:
+    def refused(
+        self,
+        status: int,
+        why: str,
+        method: str,
+        path: str,
+        body: Body = None,
+        token: bool = True,
+        **headers: str,
+    ) -> None:
         """A request is answered by this status and a line that says why; and the instrument's inputs stay."""
         found, text, _ = self.ask(method, path, body, token, **headers)
         self.assertEqual(found, status, text)

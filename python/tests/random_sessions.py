@@ -9,14 +9,49 @@ from scanvolt.virtual import Connection, Meter
 from scanvolt.vxi11 import DeviceError, Link
 
 UNITS = (
-    "*CLS", "*ESR?", "*SRE 36", "*SRE 191", "*SRE 0", "*ESE 255", "*ESE 1", "*OPC", "*OPC?", "*WAI", "FOO", "SYST:ERR?",
-    "*STB?", "*RST", ":INIT",
-    ":ABOR", "READ?", "FETC?", "CONF:VOLT (@1:3)", ":TRIG:COUN 2", "TRIG:SOUR BUS", "TRIG:SOUR IMM", "TRIG:SOUR EXT",
-    "*TRG", "VOLT:RANG 1",
-    "CALC:LIM:UPP 1;STAT ON", "CALC:LIM:STAT OFF", "STAT:QUES:ENAB 513", "STAT:OPER:ENAB 304", "STAT:QUES?",
-    "STAT:QUES:LIM?", "STAT:OPER?",
-    "STAT:PRES", "STAT:QUES:NTR 512", "STAT:OPER:NTR 256", "MEAS:VOLT? (@1:2)", "*IDN?", "*ESE 256", "CALC:LIM:LOW 2",
-    "ROUT:MON (@2)", "\n", "A" * 13)
+    "*CLS",
+    "*ESR?",
+    "*SRE 36",
+    "*SRE 191",
+    "*SRE 0",
+    "*ESE 255",
+    "*ESE 1",
+    "*OPC",
+    "*OPC?",
+    "*WAI",
+    "FOO",
+    "SYST:ERR?",
+    "*STB?",
+    "*RST",
+    ":INIT",
+    ":ABOR",
+    "READ?",
+    "FETC?",
+    "CONF:VOLT (@1:3)",
+    ":TRIG:COUN 2",
+    "TRIG:SOUR BUS",
+    "TRIG:SOUR IMM",
+    "TRIG:SOUR EXT",
+    "*TRG",
+    "VOLT:RANG 1",
+    "CALC:LIM:UPP 1;STAT ON",
+    "CALC:LIM:STAT OFF",
+    "STAT:QUES:ENAB 513",
+    "STAT:OPER:ENAB 304",
+    "STAT:QUES?",
+    "STAT:QUES:LIM?",
+    "STAT:OPER?",
+    "STAT:PRES",
+    "STAT:QUES:NTR 512",
+    "STAT:OPER:NTR 256",
+    "MEAS:VOLT? (@1:2)",
+    "*IDN?",
+    "*ESE 256",
+    "CALC:LIM:LOW 2",
+    "ROUT:MON (@2)",
+    "\n",
+    "A" * 13,
+)
 
 
 class Session:
@@ -40,10 +75,20 @@ class Session:
     def act(self) -> None:
         """Does something. An error of the instrument is part of the session."""
         link = self.chance.choice(self.links)
-        if self.chance.random() < .15:
+        if self.chance.random() < 0.15:
             link.lock_timeout = self.chance.choice([0, 10])
-        acts: list[Callable[[Link], object]] = [self.write] * 6 + [Link.read] * 3 + [Link.readstb] * 2 + [
-            lambda one: one.lock(self.chance.choice([0, 15])), Link.unlock, self.rare, self.wait, self.stimulate]
+        acts: list[Callable[[Link], object]] = (
+            [self.write] * 6
+            + [Link.read] * 3
+            + [Link.readstb] * 2
+            + [
+                lambda one: one.lock(self.chance.choice([0, 15])),
+                Link.unlock,
+                self.rare,
+                self.wait,
+                self.stimulate,
+            ]
+        )
         try:
             self.chance.choice(acts)(link)
         except DeviceError:
@@ -53,9 +98,9 @@ class Session:
         units = ";".join(self.chance.choice(UNITS) for _ in range(self.chance.choice([1, 1, 2, 3])))
         carrier = link.carrier
         assert isinstance(carrier, Connection)
-        if self.chance.random() < .9:
+        if self.chance.random() < 0.9:
             link.write(units)
-        else:                           # a part of a message
+        else:  # a part of a message
             carrier.do(link.calls.write(units.encode(), False))
 
     def rare(self, link: Link) -> None:
@@ -65,15 +110,21 @@ class Session:
         self.meter.advance(self.chance.choice([1, 3, 17]))
 
     def stimulate(self, _link: Link) -> None:
-        if self.chance.random() < .5:
+        if self.chance.random() < 0.5:
             self.meter.external()
         else:
-            self.meter.set_input(self.chance.randrange(1, 4), self.chance.choice(["0.5", "2", "-20", "0"]))
+            self.meter.set_input(
+                self.chance.randrange(1, 4), self.chance.choice(["0.5", "2", "-20", "0"])
+            )
 
     def leave(self) -> None:
         """Leaves calls that wait, on some connections."""
-        for link in self.links[:self.chance.randrange(3)]:
+        for link in self.links[: self.chance.randrange(3)]:
             carrier = link.carrier
             assert isinstance(carrier, Connection)
-            link.io_timeout = link.lock_timeout = self.chance.choice([40, 300, 10 ** 6])
-            carrier.start(self.chance.choice([link.calls.read(1000), link.calls.write(b"*OPC?"), link.calls.readstb()]))
+            link.io_timeout = link.lock_timeout = self.chance.choice([40, 300, 10**6])
+            carrier.start(
+                self.chance.choice(
+                    [link.calls.read(1000), link.calls.write(b"*OPC?"), link.calls.readstb()]
+                )
+            )

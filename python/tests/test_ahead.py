@@ -10,9 +10,19 @@ from scanvolt import replay
 from scanvolt.virtual import Connection, Meter, NoAnswer, Pending
 from scanvolt.vxi11 import DeviceError, Link
 
-MESSAGES = ("READ?", "*IDN?", "INIT;*OPC?", "*SRE 255;:STAT:QUES:ENAB 512;:CALC:LIM:UPP 3;STAT ON", "*CLS",
-            "INIT", "FETC?;*OPC?", "MEAS:VOLT? (@1:5)", "TRIG:SOUR EXT", "ABOR;:STAT:OPER:ENAB 304;NTR 304",
-            "READ?;READ?")
+MESSAGES = (
+    "READ?",
+    "*IDN?",
+    "INIT;*OPC?",
+    "*SRE 255;:STAT:QUES:ENAB 512;:CALC:LIM:UPP 3;STAT ON",
+    "*CLS",
+    "INIT",
+    "FETC?;*OPC?",
+    "MEAS:VOLT? (@1:5)",
+    "TRIG:SOUR EXT",
+    "ABOR;:STAT:OPER:ENAB 304;NTR 304",
+    "READ?;READ?",
+)
 SESSIONS = 8
 
 
@@ -60,7 +70,9 @@ class Session:
         connection = link.carrier
         assert isinstance(connection, Connection)
         ahead = link.calls
-        call = self.chance.choice((ahead.read(100), ahead.lock(), ahead.unlock(), ahead.write(b"READ?")))
+        call = self.chance.choice(
+            (ahead.read(100), ahead.lock(), ahead.unlock(), ahead.write(b"READ?"))
+        )
         self.pending.append(connection.start(call))
 
     def run(self) -> list[object]:
@@ -86,8 +98,9 @@ class Ahead(unittest.TestCase):
 
     def test_sessions(self) -> None:
         begin_again = replay.Replay._begin_again
-        with mock.patch.object(replay.Replay, "_begin_again", autospec=True,
-                               side_effect=begin_again) as seconds:
+        with mock.patch.object(
+            replay.Replay, "_begin_again", autospec=True, side_effect=begin_again
+        ) as seconds:
             usual = [told(seed) for seed in range(SESSIONS)]
         self.assertGreater(seconds.call_count, 0)
         for seed, expected in enumerate(usual):

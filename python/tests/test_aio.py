@@ -18,7 +18,7 @@ from scanvolt.vxi11 import DeviceError
 from scanvolt.vxi11.calls import LOOPBACK
 from scanvolt.vxi11.core import Core
 
-LONG = 2 ** 32 - 1
+LONG = 2**32 - 1
 
 
 class Sockets(unittest.TestCase):
@@ -33,13 +33,17 @@ class Sockets(unittest.TestCase):
 
     def test_a_session(self) -> None:
         async def session() -> None:
-            async with aio.Client(port_mapper=self.server.port_mapper) as client, await client.create_link(lock=True) as link:
+            async with aio.Client(
+                port_mapper=self.server.port_mapper
+            ) as client, await client.create_link(lock=True) as link:
                 await link.clear()
                 self.assertEqual(await link.query("*RST;*CLS;*IDN?"), "SCANVOLT,SV32,0,1.0")
                 requests = await client.listen()
                 await link.enable_srq(b"meter 1")
                 await link.write("*SRE 4;UNKNOWN")
-                self.assertEqual(((await requests.wait(5000)).handle, await link.readstb()), (b"meter 1", 68))
+                self.assertEqual(
+                    ((await requests.wait(5000)).handle, await link.readstb()), (b"meter 1", 68)
+                )
                 await link.unlock()
                 with self.assertRaisesRegex(DeviceError, "no lock held by this link"):
                     await link.unlock()
@@ -48,15 +52,20 @@ class Sockets(unittest.TestCase):
 
     def test_two_tasks(self) -> None:
         """One waits for the lock while the other one has it; the loop is free meanwhile."""
+
         async def session() -> list[str]:
             told: list[str] = []
 
             async def waits() -> None:
-                async with aio.Client(port=self.server.core) as client, await client.create_link() as link:
+                async with aio.Client(
+                    port=self.server.core
+                ) as client, await client.create_link() as link:
                     await link.lock(5000)
                     told.append("locked")
 
-            async with aio.Client(port=self.server.core) as client, await client.create_link(lock=True) as link:
+            async with aio.Client(port=self.server.core) as client, await client.create_link(
+                lock=True
+            ) as link:
                 task = asyncio.create_task(waits())
                 await asyncio.sleep(0.1)
                 told.append("frees")
@@ -84,18 +93,25 @@ class Sockets(unittest.TestCase):
 
     def test_tasks_share_a_client(self) -> None:
         """Their calls go one after the other. One that is cancelled closes the client, since its reply would come later."""
+
         async def session() -> None:
-            async with aio.Client(port=self.server.core) as client, await client.create_link() as link:
+            async with aio.Client(
+                port=self.server.core
+            ) as client, await client.create_link() as link:
                 await link.clear()
                 await link.write("*RST;*CLS;*SRE 0")
-                self.assertEqual(await asyncio.gather(*(link.readstb() for _ in range(20))), [0] * 20)
+                self.assertEqual(
+                    await asyncio.gather(*(link.readstb() for _ in range(20))), [0] * 20
+                )
                 await link.write("TRIG:SOUR EXT;:INIT;*OPC?")
                 with self.assertRaises(asyncio.TimeoutError):
                     await asyncio.wait_for(link.read(), 0.1)
                 self.assertFalse(client.is_open)
                 with self.assertRaisesRegex(ConnectionError, "the connection is closed"):
                     await link.readstb()
-            async with aio.Client(port=self.server.core) as client, await client.create_link() as link:
+            async with aio.Client(
+                port=self.server.core
+            ) as client, await client.create_link() as link:
                 await link.clear()
                 await link.write("ABOR")
 
@@ -103,8 +119,11 @@ class Sockets(unittest.TestCase):
 
     def test_the_interrupt_channel_ends_quietly(self) -> None:
         """It ends with the client, and with a loop that leaves the client open: neither is reported as a fault."""
+
         async def session(is_closed: bool) -> None:
-            asyncio.get_running_loop().set_exception_handler(lambda _, context: faults.append(context))
+            asyncio.get_running_loop().set_exception_handler(
+                lambda _, context: faults.append(context)
+            )
             client = aio.Client(port=self.server.core)
             await client.open()
             link = await client.create_link()
@@ -115,7 +134,9 @@ class Sockets(unittest.TestCase):
             await link.write("*CLS;*SRE 0")
             if is_closed:
                 await client.close()
-                self.assertEqual((client._carriers, asyncio.all_tasks()), (set(), {asyncio.current_task()}))
+                self.assertEqual(
+                    (client._carriers, asyncio.all_tasks()), (set(), {asyncio.current_task()})
+                )
 
         faults: list[object] = []
         with warnings.catch_warnings():
@@ -135,7 +156,9 @@ class Sockets(unittest.TestCase):
                     link = await client.create_link(io_timeout=0)
                     client.patience = 0.2
                     relay.drop(36)
-                    with self.assertRaisesRegex(ConnectionError, "no reply to device_readstb within 0.2 s"):
+                    with self.assertRaisesRegex(
+                        ConnectionError, "no reply to device_readstb within 0.2 s"
+                    ):
                         await link.readstb()
                     with self.assertRaisesRegex(ConnectionError, "the connection is closed"):
                         await link.readstb()
@@ -162,8 +185,11 @@ class Virtual(unittest.TestCase):
 
         async def session() -> None:
             async with aio.Meter() as meter:
+
                 async def reads() -> None:
-                    async with meter.connect() as connection, await connection.create_link(io_timeout=LONG) as link:
+                    async with meter.connect() as connection, await connection.create_link(
+                        io_timeout=LONG
+                    ) as link:
                         await link.write("CONF:VOLT (@1:128);:TRIG:COUN 16;:READ?")
                         told.append(("reads", (await link.read()).count(b","), meter.clock))
 
@@ -177,7 +203,9 @@ class Virtual(unittest.TestCase):
                 await asyncio.gather(reads(), sleeps())
 
         self.run_with(session())
-        self.assertEqual(told, [("sleeps", 0, 1000), ("reads", 2047, 2048), ("sleeps", "again", 3601000)])
+        self.assertEqual(
+            told, [("sleeps", 0, 1000), ("reads", 2047, 2048), ("sleeps", "again", 3601000)]
+        )
 
     def test_a_lock_and_a_request(self) -> None:
         async def session() -> None:
@@ -198,6 +226,7 @@ class Virtual(unittest.TestCase):
 
     def test_what_never_comes(self) -> None:
         """A call that nothing can end raises NoAnswer; one with a timeout of asyncio ends at its millisecond."""
+
         async def session() -> None:
             async with aio.Meter() as meter:
                 link = await meter.connect().create_link(io_timeout=LONG)
@@ -205,7 +234,9 @@ class Virtual(unittest.TestCase):
                 with self.assertRaises(asyncio.TimeoutError):
                     await asyncio.wait_for(link.read(), 2)
                 self.assertEqual(meter.clock, 2000)
-                with self.assertRaisesRegex(NoAnswer, "isn't taken: it is behind device_read|can't be answered"):
+                with self.assertRaisesRegex(
+                    NoAnswer, "isn't taken: it is behind device_read|can't be answered"
+                ):
                     await link.read()
 
         self.run_with(session())

@@ -16,8 +16,12 @@ class Page(unittest.TestCase):
     """The tool that writes the page."""
 
     def test_it_is_up_to_date(self) -> None:
-        told = subprocess.run([sys.executable, "-B", str(TOOL), "--check"], stdout=subprocess.PIPE, stderr=subprocess.STDOUT,
-                              text=True)
+        told = subprocess.run(
+            [sys.executable, "-B", str(TOOL), "--check"],
+            stdout=subprocess.PIPE,
+            stderr=subprocess.STDOUT,
+            text=True,
+        )
         self.assertEqual((told.returncode, told.stdout), (0, ""))
 
 

@@ -21,11 +21,14 @@ from scanvolt.vxi11 import Client, Link, ServiceRequest, calls, words
 
 EXAMPLES = pathlib.Path(__file__).resolve().parents[2] / "examples"
 # The voltages of examples/bench.scenario, and external triggers 20 times a second.
-SCENARIO = "".join(f"0 input {channel} {micro}\n" for channel, micro in ((1, 1250000), (2, -300000), (3, 7500000), (4, 12000000)))
+SCENARIO = "".join(
+    f"0 input {channel} {micro}\n"
+    for channel, micro in ((1, 1250000), (2, -300000), (3, 7500000), (4, 12000000))
+)
 SCENARIO += "".join(f"{clock} external\n" for clock in range(50, 60000, 50))
-REQUEST = 64            # bit 6 of the status byte
-PATIENCE = 20000        # milliseconds
-ABORT_PORT = 4097       # in virtual time
+REQUEST = 64  # bit 6 of the status byte
+PATIENCE = 20000  # milliseconds
+ABORT_PORT = 4097  # in virtual time
 Carrier = Union[Client, Connection]
 Pause = Callable[[], None]
 
@@ -84,7 +87,9 @@ def service_request(carrier: Carrier, pause: Pause) -> list[str]:
     told += [query + " " + link.query(query + "\n") for query in ("*ESR?", "FETC?", "SYST:ERR?")]
     carrier.destroy_intr_chan()
     link.destroy()
-    assert isinstance(requests.queue, queue.Queue) and requests.queue.empty(), "a second service request"
+    assert (
+        isinstance(requests.queue, queue.Queue) and requests.queue.empty()
+    ), "a second service request"
     return told
 
 
@@ -98,7 +103,10 @@ def several_requests(carrier: Carrier, pause: Pause) -> list[str]:
     told = []
     for _ in range(3):
         links[1].write("*CLS;*SRE 4;UNKNOWN\n")
-        told += [f"{one.handle!r} {one.xid}" for one in (requests.wait(PATIENCE), requests.wait(PATIENCE))]
+        told += [
+            f"{one.handle!r} {one.xid}"
+            for one in (requests.wait(PATIENCE), requests.wait(PATIENCE))
+        ]
         told.append(f"{links[0].readstb()}")
     assert requests.queue.empty(), "one more service request"
     return told
@@ -114,7 +122,6 @@ def identify(carrier: Carrier, pause: Pause) -> list[str]:
 
 
 class BothWays(unittest.TestCase):
-
     def setUp(self) -> None:
         temporary = tempfile.TemporaryDirectory(prefix="both-ways-")
         self.addCleanup(temporary.cleanup)
@@ -142,6 +149,7 @@ class BothWays(unittest.TestCase):
 
     def session(self, session: Callable[[Carrier, Pause], list[str]]) -> list[str]:
         """What a session prints both ways. Its replies have to be the same."""
+
         def over_sockets() -> list[str]:
             with Server(self.scenario) as server, Client(port=server.core) as client:
                 return session(client, lambda: time.sleep(0.01))
@@ -169,8 +177,20 @@ class BothWays(unittest.TestCase):
         self.is_stored(identify)
 
     def test_several_requests(self) -> None:
-        self.assertEqual(self.session(several_requests), [
-            "b'link 0' 1", "b'link 1' 2", "68", "b'link 0' 3", "b'link 1' 4", "68", "b'link 0' 5", "b'link 1' 6", "68"])
+        self.assertEqual(
+            self.session(several_requests),
+            [
+                "b'link 0' 1",
+                "b'link 1' 2",
+                "68",
+                "b'link 0' 3",
+                "b'link 1' 4",
+                "68",
+                "b'link 0' 5",
+                "b'link 1' 6",
+                "68",
+            ],
+        )
 
 
 if __name__ == "__main__":

@@ -22,7 +22,6 @@ def told(start: int) -> tuple[str, str]:
 
 
 class Comparing(unittest.TestCase):
-
     def setUp(self) -> None:
         self.folder = Folder()
         self.addCleanup(self.folder.close)
@@ -46,7 +45,9 @@ class Comparing(unittest.TestCase):
             self.assertIn("ended early", text)
 
     def test_a_program_that_prints_less_ended_early(self) -> None:
-        shorter = self.folder.write("shorter", f"#!/bin/sh\n{self.folder.replay} replay | head -3\n", 0o755)
+        shorter = self.folder.write(
+            "shorter", f"#!/bin/sh\n{self.folder.replay} replay | head -3\n", 0o755
+        )
         status, text = self.folder.compare(self.several(), *told(0), program=shorter)
         self.assertEqual(status, 2, text)
         self.assertIn("ended early, after", text)
@@ -60,7 +61,9 @@ class Comparing(unittest.TestCase):
         self.assertIn("ended early", text)
 
     def test_a_reply_that_the_replay_lacks_is_a_difference(self) -> None:
-        marks = self.folder.write("marks", f"#!/bin/sh\n{self.folder.replay} replay | grep refused\n", 0o755)
+        marks = self.folder.write(
+            "marks", f"#!/bin/sh\n{self.folder.replay} replay | grep refused\n", 0o755
+        )
         status, text = self.folder.compare(self.several(), *told(0), "--slack", "0", program=marks)
         self.assertEqual(status, 1, text)
         self.assertIn("isn't sent by the replay", text)
@@ -75,8 +78,9 @@ class Comparing(unittest.TestCase):
         other = data[:300] + b"\xee" + data[301:]
         capture = Capture(10)
         capture.asks(20, 1, data)
-        status, text = self.folder.compare(capture, *told(0), "--slack", "0",
-                                           replies=[encode_reply(1, other)])
+        status, text = self.folder.compare(
+            capture, *told(0), "--slack", "0", replies=[encode_reply(1, other)]
+        )
         self.assertEqual(status, 1, text)
         at = len(encode_reply(1)) + 300
         row = at // 16 * 16
@@ -88,7 +92,9 @@ class Comparing(unittest.TestCase):
         self.assertNotIn(f"     {row - 48}  ", text)
 
     def test_the_text_stands_beside_the_bytes(self) -> None:
-        found, other = (words(0, calls.ENDED) + opaque(text) for text in (b"+1.250000\n", b"+1.260000\n"))
+        found, other = (
+            words(0, calls.ENDED) + opaque(text) for text in (b"+1.250000\n", b"+1.260000\n")
+        )
         capture = Capture(10)
         capture.packet(15, True, calls.device_write(7, b"MEAS:VOLT? (@1)\n", 0).encode(1))
         capture.packet(16, False, encode_reply(1, words(0, 16)))
@@ -96,8 +102,17 @@ class Comparing(unittest.TestCase):
         capture.packet(18, False, encode_reply(2, words(0, 15)))
         capture.packet(20, True, calls.device_read(7, 100, 0).encode(3))
         capture.packet(21, False, encode_reply(3, found))
-        status, text = self.folder.compare(capture, *told(0), "--slack", "0", replies=[
-            encode_reply(1, words(0, 16)), encode_reply(2, words(0, 15)), encode_reply(3, other)])
+        status, text = self.folder.compare(
+            capture,
+            *told(0),
+            "--slack",
+            "0",
+            replies=[
+                encode_reply(1, words(0, 16)),
+                encode_reply(2, words(0, 15)),
+                encode_reply(3, other),
+            ],
+        )
         self.assertEqual(status, 1, text)
         self.assertIn("reply 3 (device_read) of 127.0.0.1:50000 to 127.0.0.1:4096 differs", text)
         self.assertIn('  after the message: "MEAS:VOLT? (@1)\\n"\n', text)
@@ -132,16 +147,28 @@ class Telling(unittest.TestCase):
         """When the second replay begins, the first difference was printed."""
         capture = Capture(10)
         capture.asks(100, 1, words(7))
-        counted = self.folder.write("counted", """#!/bin/sh
+        counted = self.folder.write(
+            "counted",
+            """#!/bin/sh
 echo begun >> "$0.runs"
 [ $(wc -l < "$0.runs") -lt 2 ] || exec sleep 60
 exec %s replay
-""" % self.folder.replay, 0o755)
+"""
+            % self.folder.replay,
+            0o755,
+        )
         told_text = self.begin(capture, "--program", counted).decode()
-        self.assertRegex(told_text, "capture: at the times of the capture, the first difference is this:\nreply 1 [(]device_")
+        self.assertRegex(
+            told_text,
+            "capture: at the times of the capture, the first difference is this:\nreply 1 [(]device_",
+        )
         self.assertIn("byte ", told_text)
-        self.assertTrue(told_text.endswith(
-            "\ncapture: other ticks are tried, up to 3 milliseconds earlier or later, for at most 60 s\n"), told_text)
+        self.assertTrue(
+            told_text.endswith(
+                "\ncapture: other ticks are tried, up to 3 milliseconds earlier or later, for at most 60 s\n"
+            ),
+            told_text,
+        )
 
     def begin(self, capture: Capture, *given: str) -> bytes:
         """Starts a comparison. Returns what it prints up to the line about what is tried."""
@@ -192,7 +219,10 @@ exec %s replay
         capture.asks(1200, 2, words(9))
         status, text = self.folder.compare(capture, *told(0), scenario=self.SCENARIO)
         self.assertEqual(status, 1)
-        self.assertRegex(text, "(?s)first difference is this:\nreply 1 .*the difference that remains with other ticks:\nreply 2 ")
+        self.assertRegex(
+            text,
+            "(?s)first difference is this:\nreply 1 .*the difference that remains with other ticks:\nreply 2 ",
+        )
 
     def read(self, found: bytes, other: bytes, *given: str) -> str:
         """What is printed if the answer to a query is `found` in the capture, and `other` in the replay."""
@@ -202,16 +232,25 @@ exec %s replay
             replies.append(encode_reply(1, words(0, calls.ENDED) + opaque(answer)))
         capture.packet(20, True, calls.device_read(7, 100, 0).encode(1))
         capture.packet(21, False, replies[0])
-        status, text = self.folder.compare(capture, *told(0), "--slack", "0", *given, replies=replies[1:])
+        status, text = self.folder.compare(
+            capture, *told(0), "--slack", "0", *given, replies=replies[1:]
+        )
         self.assertEqual(status, 1, text)
         return text
 
     def test_voltages_without_a_scenario(self) -> None:
         hint = "capture: without --scenario all inputs are 0 V; give the scenario of the session\n"
-        for found, other in ((b"+1.250000\n", b"+0.000000\n"), (b"-0.300000\n", b"+0.000000\n"),
-                             (b"+0.000000,-10.000000\n", b"+0.000000,+0.000000\n")):
+        for found, other in (
+            (b"+1.250000\n", b"+0.000000\n"),
+            (b"-0.300000\n", b"+0.000000\n"),
+            (b"+0.000000,-10.000000\n", b"+0.000000,+0.000000\n"),
+        ):
             self.assertTrue(self.read(found, other).endswith(hint), found)
-        for found, other in ((b"+1.250000\n", b"+1.260000\n"), (b"SV31\n", b"SV32\n"), (b"+0.000000\n", b"+1.250000\n")):
+        for found, other in (
+            (b"+1.250000\n", b"+1.260000\n"),
+            (b"SV31\n", b"SV32\n"),
+            (b"+0.000000\n", b"+1.250000\n"),
+        ):
             self.assertNotIn(hint, self.read(found, other))
         scenario = self.folder.write("scenario", "0 external\n")
         self.assertNotIn(hint, self.read(b"+1.250000\n", b"+0.000000\n", "--scenario", scenario))
@@ -235,9 +274,13 @@ class Signals(unittest.TestCase):
         capture = Capture(10)
         capture.asks(100, 1, words(7))
         # A process that is killed within the moment in which it starts a program may leave that.
-        program = folder.write("busy", "#!/bin/sh\nsleep 0.5; echo $$ > $0.new; mv $0.new $0.pid\n" + text, 0o755)
+        program = folder.write(
+            "busy", "#!/bin/sh\nsleep 0.5; echo $$ > $0.new; mv $0.new $0.pid\n" + text, 0o755
+        )
         captured = folder.captured(capture)
-        process = folder.begin("compare", captured, *told(0), "--program", program, CAPTURE=captured)
+        process = folder.begin(
+            "compare", captured, *told(0), "--program", program, CAPTURE=captured
+        )
         end = time.monotonic() + 20
         while not (folder.path / "busy.pid").exists() and time.monotonic() < end:
             time.sleep(0.01)
@@ -265,37 +308,57 @@ class Starts(unittest.TestCase):
         return capture
 
     def test_a_start_that_is_told_59_ms_late_is_found(self) -> None:
-        status, text = self.folder.compare(self.asked(1030, 2), *told(59), "--other-starts",
-                                           scenario="0 input 1 1\n1000 input 1 2\n")
+        status, text = self.folder.compare(
+            self.asked(1030, 2),
+            *told(59),
+            "--other-starts",
+            scenario="0 input 1 1\n1000 input 1 2\n",
+        )
         self.assertEqual(status, 0, text)
         self.assertIn("earlier", text)
 
     def test_a_start_that_is_told_too_early_is_found(self) -> None:
-        status, text = self.folder.compare(self.asked(980, 1), *told(-59), "--other-starts",
-                                           scenario="0 input 1 1\n1000 input 1 2\n")
+        status, text = self.folder.compare(
+            self.asked(980, 1),
+            *told(-59),
+            "--other-starts",
+            scenario="0 input 1 1\n1000 input 1 2\n",
+        )
         self.assertEqual(status, 0, text)
         self.assertIn("later", text)
 
     def test_a_start_that_is_not_told_is_found(self) -> None:
-        status, text = self.folder.compare(self.asked(20030, 2),
-                                           scenario="0 input 1 1\n20000 input 1 2\n")
+        status, text = self.folder.compare(
+            self.asked(20030, 2), scenario="0 input 1 1\n20000 input 1 2\n"
+        )
         self.assertEqual(status, 0, text)
 
     def test_a_start_that_is_told_is_taken(self) -> None:
         """Another start would make the replies equal, but isn't tried."""
-        status, text = self.folder.compare(self.asked(1030, 2), *told(59), scenario="0 input 1 1\n1000 input 1 2\n")
+        status, text = self.folder.compare(
+            self.asked(1030, 2), *told(59), scenario="0 input 1 1\n1000 input 1 2\n"
+        )
         self.assertEqual(status, 1, text)
         self.assertNotIn("other starts of the server", text)
-        self.assertIn("--start may be wrong; `make serve` prints it. --other-starts tries others\n", text)
+        self.assertIn(
+            "--start may be wrong; `make serve` prints it. --other-starts tries others\n", text
+        )
 
     def test_a_start_far_from_the_session(self) -> None:
         """Both times are named."""
-        for start, how in (-61000, "61.010 s before"), (10 ** 8, "99999.990 s after"):
+        for start, how in (-61000, "61.010 s before"), (10**8, "99999.990 s after"):
             capture = self.asked(10, 0)
             status, text = self.folder.compare(capture, *told(start))
-            self.assertEqual((status, text), (2, (
-                f"scanvolt-capture: --start {(START + start) / 1000:.3f} is {how} the first packet of the session, "
-                "which came at 1700000000.010; --far-start takes it\n")))
+            self.assertEqual(
+                (status, text),
+                (
+                    2,
+                    (
+                        f"scanvolt-capture: --start {(START + start) / 1000:.3f} is {how} the first packet of the session, "
+                        "which came at 1700000000.010; --far-start takes it\n"
+                    ),
+                ),
+            )
             self.assertEqual(self.folder.compare(capture, *told(start), "--far-start")[0], 0)
         self.assertEqual(self.folder.compare(self.asked(10, 0), *told(-59000))[0], 0)
 
@@ -335,17 +398,30 @@ class Faults(unittest.TestCase):
 
     def test_tshark_is_missing(self) -> None:
         capture = self.folder.captured(self.capture)
-        self.is_fault("tshark is missing: it is Debian's package tshark$", "script", capture, path="/nonexistent")
+        self.is_fault(
+            "tshark is missing: it is Debian's package tshark$",
+            "script",
+            capture,
+            path="/nonexistent",
+        )
 
     def test_tshark_cannot_read_it(self) -> None:
-        self.folder.write("tshark", "#!/bin/sh\necho of no use >&2\necho it is cut short >&2\nexit 2\n", 0o755)
-        self.is_fault("tshark can't read it: it is cut short$", "script", self.folder.captured(self.capture))
+        self.folder.write(
+            "tshark", "#!/bin/sh\necho of no use >&2\necho it is cut short >&2\nexit 2\n", 0o755
+        )
+        self.is_fault(
+            "tshark can't read it: it is cut short$", "script", self.folder.captured(self.capture)
+        )
 
     def test_what_is_no_capture(self) -> None:
         """tshark reads a file of lines of text as packets, too."""
         for text in ("", "hello\n", "time,1\n0,1\n", "{}\n", "\n\r\r"):
             path = self.folder.write("other", text)
-            self.is_fault(f"{path} isn't a capture: it begins neither as a pcap file nor as a pcapng file$", "compare", path)
+            self.is_fault(
+                f"{path} isn't a capture: it begins neither as a pcap file nor as a pcapng file$",
+                "compare",
+                path,
+            )
 
     def test_a_packet_that_is_not_whole(self) -> None:
         self.capture.lines[-1] = self.capture.lines[-1].rpartition("\t")[0] + "\t60"
@@ -353,7 +429,9 @@ class Faults(unittest.TestCase):
 
     def test_bytes_that_the_capture_lacks(self) -> None:
         del self.capture.followed[-4:]
-        self.is_wrong("127.0.0.1:50000 to 127.0.0.1:4096: the capture lacks bytes from 0 on that the callee sent$")
+        self.is_wrong(
+            "127.0.0.1:50000 to 127.0.0.1:4096: the capture lacks bytes from 0 on that the callee sent$"
+        )
 
     def test_bytes_in_whose_place_tshark_says_so(self) -> None:
         place = base64.b64encode(b"[32 bytes missing in capture file]\0").decode()
@@ -377,7 +455,9 @@ class Faults(unittest.TestCase):
     def test_a_scenario_with_a_bad_line(self) -> None:
         status, text = self.folder.compare(self.capture, scenario="0 external\n1 input 1 1.5\n")
         self.assertEqual(status, 2)
-        self.assertRegex(text, "scanvolt-capture: bad line 2 of the scenario /.*/scenario: a voltage is")
+        self.assertRegex(
+            text, "scanvolt-capture: bad line 2 of the scenario /.*/scenario: a voltage is"
+        )
 
     def test_a_start_that_is_none(self) -> None:
         status, text = self.folder.compare(self.capture, "--start", "noon")
@@ -385,8 +465,10 @@ class Faults(unittest.TestCase):
 
     def test_a_program_that_cannot_be_run(self) -> None:
         status, text = self.folder.compare(self.capture, *told(0), program="/nonexistent")
-        self.assertEqual((status, text), (
-            2, "scanvolt-capture: /nonexistent doesn't run: No such file or directory\n"))
+        self.assertEqual(
+            (status, text),
+            (2, "scanvolt-capture: /nonexistent doesn't run: No such file or directory\n"),
+        )
 
 
 if __name__ == "__main__":

@@ -75,7 +75,7 @@ class Sessions(Served):
         link.write("CONF:VOLT (@1:3);:CALC:LIM:UPP 5;STAT ON\n")
         link.write("STAT:QUES:ENAB 512;*SRE 24\n")
         self.assertEqual(link.query("READ?\n"), "+1.250000,-0.300000,+7.500000")
-        self.assertEqual(link.readstb(), 64 + 8)    # bit 4 is 0: the response is no longer available
+        self.assertEqual(link.readstb(), 64 + 8)  # bit 4 is 0: the response is no longer available
         self.assertEqual(link.query("STAT:QUES?;QUES:LIM?\n"), "512;2")
         self.assertEqual(link.query("VOLT:RANG:AUTO ON;:SYST:ERR?\n"), '-113,"Undefined header"')
         self.assertEqual(link.query("SYST:ERR?\n"), '0,"No error"')
@@ -233,8 +233,10 @@ class Sessions(Served):
         self.assertRaises(ProgramUnavailable, call, calls.ABORT, 1)
         self.assertRaises(ProcedureUnavailable, call, CORE, 21)
         self.assertRaises(GarbageArguments, call, CORE, 11, b"\0\0\0\1")
-        self.assertEqual(self.link.readstb(), 0)        # the connection goes on
-        with Channel("127.0.0.1", self.server.port_mapper) as mapper, self.assertRaises(ProgramMismatch):
+        self.assertEqual(self.link.readstb(), 0)  # the connection goes on
+        with Channel("127.0.0.1", self.server.port_mapper) as mapper, self.assertRaises(
+            ProgramMismatch
+        ):
             mapper.do(OldVersion(calls.PORT_MAPPER, 0, b"", lambda _result: None))
 
 
@@ -278,7 +280,7 @@ class Peers(unittest.TestCase):
         link = self.link(b"", patience=0.1)
         with self.assertRaisesRegex(ConnectionError, "no reply to device_readstb within 0.1 s"):
             link.readstb()
-        with self.assertRaises(OSError):        # the connection isn't used again
+        with self.assertRaises(OSError):  # the connection isn't used again
             link.readstb()
 
     def test_another_reply(self) -> None:
@@ -286,7 +288,7 @@ class Peers(unittest.TestCase):
             self.link(record(words(9))).readstb()
 
     def test_a_reply_in_fragments(self) -> None:
-        body = encode_reply(2, words(0, 88))[len(mark(0)):]
+        body = encode_reply(2, words(0, 88))[len(mark(0)) :]
         link = self.link(mark(5, last=False) + body[:5] + mark(len(body) - 5) + body[5:])
         self.assertEqual(link.readstb(), 88)
 
@@ -296,7 +298,9 @@ class Peers(unittest.TestCase):
 
     def test_writes_that_take_less(self) -> None:
         """Bytes that weren't taken are written again. If none is taken, that is a fault."""
-        link = self.link(*(encode_reply(xid, words(0, size)) for xid, size in ((2, 2), (3, 4), (4, 0))))
+        link = self.link(
+            *(encode_reply(xid, words(0, size)) for xid, size in ((2, 2), (3, 4), (4, 0)))
+        )
         self.assertEqual(link.write("*IDN?\n"), 6)
         self.assertRaisesRegex(BadReply, "took no byte of 6", link.write, "*IDN?\n")
 

@@ -27,8 +27,14 @@ MESSAGES = (
     ("STAT:OPER?;ENAB?", ["STATus:OPERation[:EVENt]?", None]),
     ("STAT:OPER:EVEN?;ENAB?", ["STATus:OPERation[:EVENt]?", "STATus:OPERation:ENABle?"]),
     ("calc:limit:low -1;*OPC;upp 2", ["CALCulate:LIMit:LOWer", "*OPC", "CALCulate:LIMit:UPPer"]),
-    ("CALC:LIM:LOW -1;UNKNOWN:HEADER;UPP 2", ["CALCulate:LIMit:LOWer", None, "CALCulate:LIMit:UPPer"]),
-    ("VOLT:RANG 1;:SENS:VOLT:DC:RANG:UPP?", ["[SENSe:]VOLTage[:DC]:RANGe[:UPPer]", "[SENSe:]VOLTage[:DC]:RANGe[:UPPer]?"]),
+    (
+        "CALC:LIM:LOW -1;UNKNOWN:HEADER;UPP 2",
+        ["CALCulate:LIMit:LOWer", None, "CALCulate:LIMit:UPPer"],
+    ),
+    (
+        "VOLT:RANG 1;:SENS:VOLT:DC:RANG:UPP?",
+        ["[SENSe:]VOLTage[:DC]:RANGe[:UPPer]", "[SENSe:]VOLTage[:DC]:RANGe[:UPPer]?"],
+    ),
     ("INIT;:INIT:IMM;:ABOR", ["INITiate[:IMMediate]", "INITiate[:IMMediate]", "ABORt"]),
     ("FETC;:READ;:MEAS:VOLT", [None, None, None]),
     ("CALCUL:LIM:UPP 5", [None]),
@@ -42,8 +48,12 @@ class Lists(unittest.TestCase):
         tool = TOP / "tools/covering"
         if not tool.exists():
             self.skipTest("this is no checkout")
-        told = subprocess.run([sys.executable, str(tool), "--check"], stdout=subprocess.PIPE, stderr=subprocess.STDOUT,
-                              text=True)
+        told = subprocess.run(
+            [sys.executable, str(tool), "--check"],
+            stdout=subprocess.PIPE,
+            stderr=subprocess.STDOUT,
+            text=True,
+        )
         self.assertEqual((told.returncode, told.stdout), (0, ""))
 
     def test_how_many(self) -> None:
@@ -51,9 +61,14 @@ class Lists(unittest.TestCase):
         found = everything()
         self.assertEqual(len(found), len(set(found)))
         self.assertEqual(sum(name == counting.COMMANDS for name, _ in found), 64)
-        for entry in ((counting.FAULTS_OF, "device_read: 15, I/O timeout"), (counting.QUEUE, '-410 "Query INTERRUPTED"'),
-                      (counting.BITS_OF, "STB.MAV polled"), (counting.BITS_OF, "ESR.CME cleared"),
-                      (counting.SITUATIONS, "a wait for the lock is granted"), (counting.CALLS_OF, "device_abort")):
+        for entry in (
+            (counting.FAULTS_OF, "device_read: 15, I/O timeout"),
+            (counting.QUEUE, '-410 "Query INTERRUPTED"'),
+            (counting.BITS_OF, "STB.MAV polled"),
+            (counting.BITS_OF, "ESR.CME cleared"),
+            (counting.SITUATIONS, "a wait for the lock is granted"),
+            (counting.CALLS_OF, "device_abort"),
+        ):
             self.assertIn(entry, found)
 
     def test_headers(self) -> None:
@@ -68,7 +83,12 @@ class Lists(unittest.TestCase):
             link = meter.connect().create_link()
             for header in HEADERS:
                 long = header.replace("[", "").replace("]", "").upper()
-                for form in (long, "".join(one for one in header if not one.islower()).replace("[", "").replace("]", "")):
+                for form in (
+                    long,
+                    "".join(one for one in header if not one.islower())
+                    .replace("[", "")
+                    .replace("]", ""),
+                ):
                     link.write(f"*RST;*CLS;:{form}" if form[0] != "*" else form)
                     link.clear()
                     error = link.query("ABOR;:SYST:ERR?")
@@ -95,14 +115,30 @@ class Counted(unittest.TestCase):
         for words in ("*SRE", "CALCulate:LIMit:UPPer", "SYSTem:ERRor[:NEXT]?"):
             self.assertIn((counting.COMMANDS, words), found)
         self.assertNotIn((counting.COMMANDS, "CALCulate:LIMit:LOWer"), found)
-        self.assertEqual([words for name, words in found if name == counting.QUEUE], ['-113 "Undefined header"'])
-        bits = [words for name, words in found if name == counting.BITS_OF and words.startswith("STB.")]
-        self.assertEqual(bits, ["STB.EAV cleared", "STB.EAV polled", "STB.EAV set", "STB.MAV cleared", "STB.MAV set",
-                                "STB.RQS cleared", "STB.RQS polled", "STB.RQS set"])
+        self.assertEqual(
+            [words for name, words in found if name == counting.QUEUE], ['-113 "Undefined header"']
+        )
+        bits = [
+            words for name, words in found if name == counting.BITS_OF and words.startswith("STB.")
+        ]
+        self.assertEqual(
+            bits,
+            [
+                "STB.EAV cleared",
+                "STB.EAV polled",
+                "STB.EAV set",
+                "STB.MAV cleared",
+                "STB.MAV set",
+                "STB.RQS cleared",
+                "STB.RQS polled",
+                "STB.RQS set",
+            ],
+        )
         self.assertIn(counting.UNHEARD, found)
 
     def test_what_was_sent_and_not_executed(self) -> None:
         """A header in half a message, and in a message that is too long, isn't met."""
+
         def session(meter: Meter, link: Link) -> None:
             link.write("*TST?", end=False)
             link.clear()
@@ -129,10 +165,22 @@ class Counted(unittest.TestCase):
             self.assertRaises(DeviceError, aborted.result)
 
         met = self.met(session)
-        self.assertEqual([words for name, words in met if name == counting.SITUATIONS and words.startswith("a wait")], [
-            "a wait for a response is aborted", "a wait for the lock is granted", "a wait for the lock times out"])
-        self.assertEqual([words for name, words in met if name == counting.FAULTS_OF], [
-            "device_lock: 11, device locked by another link", "device_read: 23, abort"])
+        self.assertEqual(
+            [
+                words
+                for name, words in met
+                if name == counting.SITUATIONS and words.startswith("a wait")
+            ],
+            [
+                "a wait for a response is aborted",
+                "a wait for the lock is granted",
+                "a wait for the lock times out",
+            ],
+        )
+        self.assertEqual(
+            [words for name, words in met if name == counting.FAULTS_OF],
+            ["device_lock: 11, device locked by another link", "device_read: 23, abort"],
+        )
 
     def test_an_error_that_is_lost(self) -> None:
         def session(meter: Meter, link: Link) -> None:
@@ -155,10 +203,16 @@ class Counted(unittest.TestCase):
             link.write("TRIG:SOUR EXT;:INIT;:ABOR")
 
         found = [words for name, words in self.met(session) if name == counting.SITUATIONS]
-        for words in ("a read ends by REQCNT", "a read ends by CHR", "a read ends by END", "a query is interrupted",
-                      "a read ends by 8,192 bytes",
-                      "a service request is sent", "the scan goes from scanning to waiting by tick",
-                      "the scan goes from any to idle by ABORt, *RST"):
+        for words in (
+            "a read ends by REQCNT",
+            "a read ends by CHR",
+            "a read ends by END",
+            "a query is interrupted",
+            "a read ends by 8,192 bytes",
+            "a service request is sent",
+            "the scan goes from scanning to waiting by tick",
+            "the scan goes from any to idle by ABORt, *RST",
+        ):
             self.assertIn(words, found)
         self.assertNotIn("a service request with none listening", found)
 
@@ -169,9 +223,15 @@ class Reports(unittest.TestCase):
     def test_parts(self) -> None:
         report = Report({(counting.COMMANDS, "*RST"): 3, (counting.COMMANDS, "no such header"): 1})
         self.assertEqual(report.parts, (1, len(everything())))
-        self.assertRegex(report.summary(), r"^coverage of the instrument: 1 of \d+, 0 %: commands and queries 1 of 64, errors 0")
+        self.assertRegex(
+            report.summary(),
+            r"^coverage of the instrument: 1 of \d+, 0 %: commands and queries 1 of 64, errors 0",
+        )
         self.assertIn("       3  *RST", report.lines(True))
-        self.assertEqual((report.below(0), report.below(50)), ("", f"coverage of the instrument: {100 / len(everything()):.1f} % is below 50 %"))
+        self.assertEqual(
+            (report.below(0), report.below(50)),
+            ("", f"coverage of the instrument: {100 / len(everything()):.1f} % is below 50 %"),
+        )
 
     def run_with(self, *words: str) -> tuple[int, str]:
         with contextlib.redirect_stdout(io.StringIO()) as told, contextlib.redirect_stderr(told):
@@ -187,7 +247,9 @@ class Reports(unittest.TestCase):
             self.assertEqual((status, "       2  *RST\n" in text), (0, True))
             self.assertEqual(self.run_with(str(path), "--least", "90")[0], 1)
             self.assertEqual(self.run_with(str(bad))[0], 2)
-            self.assertRegex(self.run_with(str(path) + "x")[1], "^scanvolt-coverage: .*replayx: No such file")
+            self.assertRegex(
+                self.run_with(str(path) + "x")[1], "^scanvolt-coverage: .*replayx: No such file"
+            )
 
 
 if __name__ == "__main__":

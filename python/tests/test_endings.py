@@ -19,12 +19,13 @@ from scanvolt.vxi11 import Channel, Client, Link, calls, encode_reply, words
 from .processes import ctrl_c
 
 LINK = encode_reply(1, words(0, 1, 4097, 4096))
-WAITING = "TRIG:SOUR EXT;:INIT;*OPC?"      # the response never comes
+WAITING = "TRIG:SOUR EXT;:INIT;*OPC?"  # the response never comes
 
 
 @contextlib.contextmanager
 def peer(resets: bool = False) -> Iterator[int]:
     """A port where a peer makes a link, and then answers nothing; with `resets` it resets the connection."""
+
     def answer() -> None:
         with listener.accept()[0] as one:
             one.recv(1000)
@@ -47,18 +48,24 @@ class OverSockets(unittest.TestCase):
 
     def link(self, port: int, patience: float = 10) -> contextlib.AbstractContextManager[Link]:
         """`with Client(..) as client, client.create_link() as link:`"""
+
         @contextlib.contextmanager
         def both() -> Iterator[Link]:
             with Client(port=port, patience=patience) as client, client.create_link() as link:
                 yield link
+
         return both()
 
     def test_ctrl_c(self) -> None:
-        with Server() as server, ctrl_c(), self.assertRaises(KeyboardInterrupt), self.link(server.core) as link:
+        with Server() as server, ctrl_c(), self.assertRaises(KeyboardInterrupt), self.link(
+            server.core
+        ) as link:
             link.query(WAITING)
 
     def test_a_reset(self) -> None:
-        with peer(resets=True) as port, self.assertRaises(ConnectionResetError), self.link(port) as link:
+        with peer(resets=True) as port, self.assertRaises(ConnectionResetError), self.link(
+            port
+        ) as link:
             link.readstb()
 
     def test_a_server_that_is_killed(self) -> None:
@@ -69,7 +76,9 @@ class OverSockets(unittest.TestCase):
 
     def test_no_reply(self) -> None:
         text = "no reply to device_readstb within 0.1 s"
-        with peer() as port, self.assertRaisesRegex(ConnectionError, text), self.link(port, 0.1) as link:
+        with peer() as port, self.assertRaisesRegex(ConnectionError, text), self.link(
+            port, 0.1
+        ) as link:
             link.io_timeout = 0
             link.readstb()
 
@@ -87,10 +96,19 @@ class OverSockets(unittest.TestCase):
             channel = Channel("127.0.0.1", server.core)
             channel.close()
         uses: tuple[Callable[[], object], ...] = (
-            link.readstb, link.destroy, link.abort, client.create_link, client.listen,
-            client.destroy_intr_chan, lambda: client.do(calls.null()), lambda: channel.do(calls.null()))
+            link.readstb,
+            link.destroy,
+            link.abort,
+            client.create_link,
+            client.listen,
+            client.destroy_intr_chan,
+            lambda: client.do(calls.null()),
+            lambda: channel.do(calls.null()),
+        )
         for use in uses:
-            with self.subTest(use), self.assertRaisesRegex(ConnectionError, "the connection is closed"):
+            with self.subTest(use), self.assertRaisesRegex(
+                ConnectionError, "the connection is closed"
+            ):
                 use()
 
 
@@ -113,9 +131,9 @@ class InVirtualTime(unittest.TestCase):
         process.wait()
 
     def test_ctrl_c(self) -> None:
-        self.meter.patience = 2 ** 32 - 1
+        self.meter.patience = 2**32 - 1
         with ctrl_c(), self.assertRaises(KeyboardInterrupt), self.link() as link:
-            link.io_timeout = 2 ** 32 - 1
+            link.io_timeout = 2**32 - 1
             link.query(WAITING)
 
     def test_a_program_that_is_killed(self) -> None:
@@ -132,7 +150,7 @@ class InVirtualTime(unittest.TestCase):
         """Behind it, no call of the link is answered."""
         self.meter.patience = 100
         with self.assertRaisesRegex(NoAnswer, "device_read waits"), self.link() as link:
-            link.io_timeout = 2 ** 32 - 1
+            link.io_timeout = 2**32 - 1
             link.query(WAITING)
 
     def test_it_closes_quietly(self) -> None:
@@ -149,8 +167,11 @@ class InVirtualTime(unittest.TestCase):
 
     def test_each_closes_quietly(self) -> None:
         closings: tuple[Callable[[Connection], object], ...] = (
-            Connection.close, lambda one: one.requests.close(), lambda one: one.meter.drop(one),
-            lambda one: one.meter.close())
+            Connection.close,
+            lambda one: one.requests.close(),
+            lambda one: one.meter.drop(one),
+            lambda one: one.meter.close(),
+        )
         for close in closings:
             with self.subTest(close):
                 self.meter = Meter()
@@ -168,10 +189,18 @@ class InVirtualTime(unittest.TestCase):
         self.meter.drop(connection)
         self.assertTrue(other.is_open)
         uses: tuple[Callable[[], object], ...] = (
-            link.readstb, link.destroy, link.abort, connection.create_link, connection.listen,
-            lambda: connection.start(calls.null()), lambda: connection.do(calls.null()))
+            link.readstb,
+            link.destroy,
+            link.abort,
+            connection.create_link,
+            connection.listen,
+            lambda: connection.start(calls.null()),
+            lambda: connection.do(calls.null()),
+        )
         for use in uses:
-            with self.subTest(use), self.assertRaisesRegex(ConnectionError, "the connection is closed"):
+            with self.subTest(use), self.assertRaisesRegex(
+                ConnectionError, "the connection is closed"
+            ):
                 use()
 
 

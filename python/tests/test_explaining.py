@@ -43,17 +43,19 @@ ASKED = {
     "scan": ("RQS", "OPER", "ques.VOLT", "ques.cond.VOLT", "oper.cond.BUSY@2", "stb.3"),
 }
 # Values that are noise, or that go back to what they are at rest.
-LEFT_OUT = (r"^(stb|rqs|oper\.cond|oper\.event|answers|scan|place|readings|text|response|opc|c\d+\.(wait|role|output|faulted)"
-            r"|i\d+\.output|link\.\d+)$")
-SEEDS = 100             # random sessions
-TRIED = 10              # of so many, one has its ends tried again
-AT_ONCE = 4             # sessions that are checked at the same time
+LEFT_OUT = (
+    r"^(stb|rqs|oper\.cond|oper\.event|answers|scan|place|readings|text|response|opc|c\d+\.(wait|role|output|faulted)"
+    r"|i\d+\.output|link\.\d+)$"
+)
+SEEDS = 100  # random sessions
+TRIED = 10  # of so many, one has its ends tried again
+AT_ONCE = 4  # sessions that are checked at the same time
 
 
 def text_of(name: str) -> str:
     """What is printed about a session."""
     found = explained(name)
-    with mock.patch.object(tries, "LIMIT", 60):         # what is tried may take long on a busy machine
+    with mock.patch.object(tries, "LIMIT", 60):  # what is tried may take long on a busy machine
         parts = [found.text()] + [f"$ --why {one}\n{found.why(one)}" for one in ASKED.get(name, ())]
     return "\n".join(parts) + "\n"
 
@@ -75,7 +77,9 @@ class Texts(unittest.TestCase):
         self.assertEqual(sorted(SESSIONS), sorted(path.stem for path in FOLDER.glob("*.txt")))
         for name in SESSIONS:
             with self.subTest(name):
-                self.assertEqual(text_of(name), FOLDER.joinpath(name + ".txt").read_text(encoding="utf-8"))
+                self.assertEqual(
+                    text_of(name), FOLDER.joinpath(name + ".txt").read_text(encoding="utf-8")
+                )
 
     def test_each_error_and_each_reply(self) -> None:
         """The texts have each error of the queue, each error that a call may return, and each way to refuse a call."""
@@ -83,17 +87,25 @@ class Texts(unittest.TestCase):
         for number, words in ERRORS.items():
             self.assertTrue(f'error {number} "{words}"' in text, number)
         text = FOLDER.joinpath("replies.txt").read_text(encoding="utf-8")
-        for number in 3, 4, 5, 6, 8, 9, 11, 12, 15, 21, 23, 29:         # docs/INSTRUMENT.md
+        for number in 3, 4, 5, 6, 8, 9, 11, 12, 15, 21, 23, 29:  # docs/INSTRUMENT.md
             self.assertTrue(f"-> error {number}, " in text, number)
-        for words in "versions 1 to 1 of the program", "no such program", "no such procedure", "arguments can't be read",\
-                "versions 2 to 2 of RPC":
+        for words in (
+            "versions 1 to 1 of the program",
+            "no such program",
+            "no such procedure",
+            "arguments can't be read",
+            "versions 2 to 2 of RPC",
+        ):
             self.assertTrue(words in text, words)
         for names in calls.NAMES[calls.CORE].values():
             self.assertTrue(f" {names}" in text, names)
 
     def test_the_stored_session(self) -> None:
         """The one that docs/EXPLAIN.md shows."""
-        self.assertEqual(FOLDER.joinpath(STORED + ".replay").read_text(encoding="utf-8").splitlines(), list(script_of(STORED)))
+        self.assertEqual(
+            FOLDER.joinpath(STORED + ".replay").read_text(encoding="utf-8").splitlines(),
+            list(script_of(STORED)),
+        )
 
     @unittest.skipUnless(TABLES.exists(), "only in a checkout")
     def test_tables(self) -> None:
@@ -129,8 +141,11 @@ class Texts(unittest.TestCase):
             if block.times > 1:
                 self.assertTrue(block.kind == "reading" or block.kind == "call" and not block.rows)
         for kind in "call", "reading":
-            self.assertEqual(sum(one.times for one in plain if one.kind == kind and one.head != "bytes"),
-                             len([one for one in everything if one.kind == kind]), kind)
+            self.assertEqual(
+                sum(one.times for one in plain if one.kind == kind and one.head != "bytes"),
+                len([one for one in everything if one.kind == kind]),
+                kind,
+            )
         self.assertTrue(any(block.times > 1 for block in plain if block.kind == "call"))
 
     def test_the_last_lines(self) -> None:
@@ -144,7 +159,9 @@ class Limits(unittest.TestCase):
 
     def test_a_long_session(self) -> None:
         """With a timeout that is far off."""
-        with Meter() as meter, meter.connect() as connection, connection.create_link(io_timeout=500000) as link:
+        with Meter() as meter, meter.connect() as connection, connection.create_link(
+            io_timeout=500000
+        ) as link:
             for number in range(150):
                 link.write(f"*SRE {number % 32}")
                 link.readstb()
@@ -160,7 +177,9 @@ class Limits(unittest.TestCase):
 
     def test_nothing_is_left(self) -> None:
         """A try that takes too long ends with its program and its thread."""
-        with Meter() as meter, meter.connect() as connection, connection.create_link(io_timeout=500000) as link:
+        with Meter() as meter, meter.connect() as connection, connection.create_link(
+            io_timeout=500000
+        ) as link:
             link.write("TRIG:SOUR EXT;:INIT;*OPC?")
             connection.start(link.calls.read())
             found = meter.explain()
@@ -217,6 +236,8 @@ if __name__ == "__main__":
         FOLDER.mkdir(exist_ok=True)
         for one in SESSIONS:
             FOLDER.joinpath(one + ".txt").write_text(text_of(one), encoding="utf-8")
-        FOLDER.joinpath(STORED + ".replay").write_text("\n".join(script_of(STORED)) + "\n", encoding="utf-8")
+        FOLDER.joinpath(STORED + ".replay").write_text(
+            "\n".join(script_of(STORED)) + "\n", encoding="utf-8"
+        )
     else:
         unittest.main()

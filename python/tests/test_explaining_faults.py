@@ -33,7 +33,6 @@ def run(*words: str) -> tuple[int, str, str]:
 
 
 class Faults(unittest.TestCase):
-
     def setUp(self) -> None:
         temporary = tempfile.TemporaryDirectory()
         self.addCleanup(temporary.cleanup)
@@ -55,51 +54,87 @@ class Faults(unittest.TestCase):
     def test_a_program_without_explain(self) -> None:
         path = self.file("open 0 core\n")
         with script((OLD % find_program()).partition("\n")[2]) as program:
-            self.refused(f"{program} has no `explain`: it is an earlier release", path, "--program", program)
-            self.refused(f"{program} has no `explain`", path, "--program", program, "--html", str(self.folder / "page.html"))
+            self.refused(
+                f"{program} has no `explain`: it is an earlier release", path, "--program", program
+            )
+            self.refused(
+                f"{program} has no `explain`",
+                path,
+                "--program",
+                program,
+                "--html",
+                str(self.folder / "page.html"),
+            )
             with Meter(program) as meter:
                 self.assertRaisesRegex(ProgramError, "has no `explain`", meter.explain)
 
     def test_a_program_that_prints_otherwise(self) -> None:
         path = self.file("open 0 core\n")
-        for text, told in (("cat > /dev/null", "is cut off"),
-                           ("cat > /dev/null; echo '@ 1 0'; echo '- leap'; echo '@ end 0'", "isn't known: - leap"),
-                           ("cat > /dev/null; echo '@ 1 0'; echo '= esr 1'", "is cut off"), ("echo fault >&2; exit 3", "fault"),
-                           ("exit 9", "ended with status 9"),
-                           ("cat > /dev/null; echo '@ 7 0'; echo '@ end 0'", "isn't known: @ 7 0")):
+        for text, told in (
+            ("cat > /dev/null", "is cut off"),
+            ("cat > /dev/null; echo '@ 1 0'; echo '- leap'; echo '@ end 0'", "isn't known: - leap"),
+            ("cat > /dev/null; echo '@ 1 0'; echo '= esr 1'", "is cut off"),
+            ("echo fault >&2; exit 3", "fault"),
+            ("exit 9", "ended with status 9"),
+            ("cat > /dev/null; echo '@ 7 0'; echo '@ end 0'", "isn't known: @ 7 0"),
+        ):
             with self.subTest(text), script(text) as program:
                 self.refused(".*" + told, path, "--program", program)
 
     def test_a_script_that_is_cut_off(self) -> None:
-        self.refused("line 2 isn't one of a replay script .*: bytes 0 800", self.file("open 0 core\nbytes 0 800"))
+        self.refused(
+            "line 2 isn't one of a replay script .*: bytes 0 800",
+            self.file("open 0 core\nbytes 0 800"),
+        )
         self.refused("line 1 isn't one of a replay script .*: ope", self.file("ope"))
         # in the middle of a call, but whole lines
         status, out, _ = run(self.file("open 0 core\nbytes 0 8000"))
-        self.assertEqual((status, out.splitlines()[-1]), (0, "  c0        2 bytes of a call that isn't whole"))
+        self.assertEqual(
+            (status, out.splitlines()[-1]), (0, "  c0        2 bytes of a call that isn't whole")
+        )
 
     def test_a_line_that_is_unknown(self) -> None:
-        self.refused("line 2 isn't one of a replay script .*: nonsense", self.file("tick\nnonsense\ntick\n"))
-        self.refused("line 1 isn't one of a replay script", self.file(bytes(range(128, 256)) + b"\n"))
-        self.refused(r"line 1 isn't one of a replay script .*: tick 5\\r\\x1b\[2J", self.file(b"tick 5\r\x1b[2J\n"))
+        self.refused(
+            "line 2 isn't one of a replay script .*: nonsense", self.file("tick\nnonsense\ntick\n")
+        )
+        self.refused(
+            "line 1 isn't one of a replay script", self.file(bytes(range(128, 256)) + b"\n")
+        )
+        self.refused(
+            r"line 1 isn't one of a replay script .*: tick 5\\r\\x1b\[2J",
+            self.file(b"tick 5\r\x1b[2J\n"),
+        )
 
     def test_a_capture_that_is_cut_short(self) -> None:
         self.refused(".*capture.*|.*tshark.*", self.file(b"\x0a\x0d\x0d\x0a\x00", "session.pcapng"))
         err = io.StringIO()
         with contextlib.redirect_stderr(err):
-            self.assertEqual(capture(["explain", self.file(b"\x0a\x0d\x0d\x0a\x00", "session.pcapng")]), 2)
+            self.assertEqual(
+                capture(["explain", self.file(b"\x0a\x0d\x0d\x0a\x00", "session.pcapng")]), 2
+            )
         self.assertRegex(err.getvalue(), "^scanvolt-capture explain: ")
 
     def test_files(self) -> None:
         self.refused(".*: No such file or directory", str(self.folder / "none"))
-        self.refused(".*: No such file or directory", self.file("tick\n"), "--html", str(self.folder / "none" / "page.html"))
+        self.refused(
+            ".*: No such file or directory",
+            self.file("tick\n"),
+            "--html",
+            str(self.folder / "none" / "page.html"),
+        )
         self.assertEqual(run(self.file(""))[0], 0)
 
     def test_names(self) -> None:
         path = self.file("\n".join(script_of("hang")))
-        for name, told in (("foo", "no value is called `foo`"), ("esr.foo", "esr has no bit `foo`, only OPC, QYE"),
-                           ("bar.1", "no register is called `bar`"),
-                           ("RQS@soon", "a moment is a millisecond"), ("wait c9", "no call of c9 waited"),
-                           ("stb.8", "stb has no bit"), ("ques.16", "ques.event has no bit")):
+        for name, told in (
+            ("foo", "no value is called `foo`"),
+            ("esr.foo", "esr has no bit `foo`, only OPC, QYE"),
+            ("bar.1", "no register is called `bar`"),
+            ("RQS@soon", "a moment is a millisecond"),
+            ("wait c9", "no call of c9 waited"),
+            ("stb.8", "stb has no bit"),
+            ("ques.16", "ques.event has no bit"),
+        ):
             with self.subTest(name):
                 self.refused(told, path, "--why", name)
         self.assertRaises(Unknown, Explanation(script_of("hang"), find_program()).why, "foo")
@@ -115,11 +150,18 @@ class Faults(unittest.TestCase):
         command = [sys.executable, "-m", "scanvolt.explaining", "-", "--last", "3"]
         given = ("\n".join(script_of("hang")) + "\n").encode()
         environment = {**os.environ, "PYTHONPATH": TOP}
-        ran = subprocess.run(command, input=given, capture_output=True, env=environment, check=False)
+        ran = subprocess.run(
+            command, input=given, capture_output=True, env=environment, check=False
+        )
         self.assertEqual((ran.returncode, ran.stderr), (0, b""))
         self.assertIn(b"3 EXTernal triggers", ran.stdout)
-        with subprocess.Popen(command, stdin=subprocess.PIPE, stdout=subprocess.PIPE, stderr=subprocess.PIPE,
-                              env=environment) as process:
+        with subprocess.Popen(
+            command,
+            stdin=subprocess.PIPE,
+            stdout=subprocess.PIPE,
+            stderr=subprocess.PIPE,
+            env=environment,
+        ) as process:
             assert process.stdin and process.stdout and process.stderr
             process.stdout.close()
             process.stdin.write(given)
@@ -128,7 +170,9 @@ class Faults(unittest.TestCase):
 
     def test_the_page_is_written(self) -> None:
         target = self.folder / "page.html"
-        self.assertEqual(run(self.file("\n".join(script_of("hang"))), "--html", str(target)), (0, "", ""))
+        self.assertEqual(
+            run(self.file("\n".join(script_of("hang"))), "--html", str(target)), (0, "", "")
+        )
         self.assertTrue(target.read_text(encoding="utf-8").startswith("<!doctype html>"))
 
 

@@ -17,7 +17,7 @@ from scanvolt.vxi11 import DeviceError, Link
 
 from .random_sessions import Session
 
-LONG = 4294967295       # milliseconds, the longest timeout
+LONG = 4294967295  # milliseconds, the longest timeout
 
 
 def notes_of(fault: BaseException) -> list[str]:
@@ -26,7 +26,6 @@ def notes_of(fault: BaseException) -> list[str]:
 
 
 class WithMeter(unittest.TestCase):
-
     def setUp(self) -> None:
         patch = mock.patch.object(tries, "LIMIT", 60)
         patch.start()
@@ -42,7 +41,6 @@ class WithMeter(unittest.TestCase):
 
 
 class Explaining(WithMeter):
-
     def test_a_meter(self) -> None:
         self.link.write("*SRE 4;FOO")
         self.meter.advance(7)
@@ -55,7 +53,7 @@ class Explaining(WithMeter):
         self.assertIn("<title>mine", found.page("mine"))
         self.assertTrue(found._repr_html_().startswith("<iframe"))
         self.assertNotIn("<script", found._repr_html_())
-        self.assertEqual((self.meter.clock, self.link.readstb()), (7, 68))      # it isn't disturbed
+        self.assertEqual((self.meter.clock, self.link.readstb()), (7, 68))  # it isn't disturbed
 
     def test_its_script(self) -> None:
         """A script that repeats the session, with the time that passed after it."""
@@ -87,22 +85,29 @@ class AtOnce(WithMeter):
     def test_a_trigger_that_is_missing(self) -> None:
         self.hang()
         self.link.io_timeout = LONG
-        self.asked(self.link, r"(?s)device_read \(c0 link 1\) can't be answered.*EXTernal trigger \(scan 1 of 3\)"
-                   r".*3 EXTernal triggers, at 24 ms: \"1")
+        self.asked(
+            self.link,
+            r"(?s)device_read \(c0 link 1\) can't be answered.*EXTernal trigger \(scan 1 of 3\)"
+            r".*3 EXTernal triggers, at 24 ms: \"1",
+        )
 
     def test_behind_another(self) -> None:
         """The call in the way is named."""
         self.hang("BUS")
         self.link.io_timeout = LONG
         self.asked(self.link, "device_trigger")
-        with self.assertRaisesRegex(NoAnswer, r"device_readstb of c0 isn't taken: it is behind device_read \(c0 link 1\)"):
+        with self.assertRaisesRegex(
+            NoAnswer, r"device_readstb of c0 isn't taken: it is behind device_read \(c0 link 1\)"
+        ):
             self.link.readstb()
 
     def test_the_lock(self) -> None:
         self.link.lock()
         other = self.meter.connect().create_link(lock_timeout=LONG)
-        self.asked(other,
-                   r"(?s)device_read \(c1 link 2\) can't be answered.*link 1 \(c0\) holds the lock.*device_unlock of link 1")
+        self.asked(
+            other,
+            r"(?s)device_read \(c1 link 2\) can't be answered.*link 1 \(c0\) holds the lock.*device_unlock of link 1",
+        )
 
     def test_something_is_due(self) -> None:
         """Then the call is waited for: a scan, an entry of the scenario, or a timeout of another call."""
@@ -113,13 +118,15 @@ class AtOnce(WithMeter):
     def test_as_time_shows(self) -> None:
         """In random sessions: if it is said that nothing answers, then time alone answers nothing."""
         said = 0
-        for seed in 13, 15, 20, 25, 26, 33, 38, 40:         # some leave calls that wait for ever
+        for seed in 13, 15, 20, 25, 26, 33, 38, 40:  # some leave calls that wait for ever
             session = Session(seed, 20)
             with Meter() as meter:
                 meter._replay.do(("\n".join(session.script) + "\n").encode())
                 found = Explanation(session.script, meter._replay.path)
                 for call in found.story.waiting():
-                    hopeless = meters._hopeless(found, call.conn, call.message.xid, 1000) is not None
+                    hopeless = (
+                        meters._hopeless(found, call.conn, call.message.xid, 1000) is not None
+                    )
                     if hopeless:
                         printed = b"c%d " % call.conn in meter._replay.pass_time(1000)
                     else:
@@ -139,7 +146,7 @@ class Notes(WithMeter):
             self.link.read()
         self.meter.external()
         self.meter.advance(100)
-        first, second = notes_of(caught.exception)      # as of the moment of the error
+        first, second = notes_of(caught.exception)  # as of the moment of the error
         self.assertEqual(first, "c0 link 1: device_read waited since 0 ms for a response")
         self.assertIn("the scan waits for an EXTernal trigger (scan 1 of 3)", second)
 
@@ -175,8 +182,6 @@ class Notes(WithMeter):
             with self.assertRaises(DeviceError) as caught:
                 self.link.unlock()
             self.assertEqual(notes_of(caught.exception), [])
-
-
 
 
 if __name__ == "__main__":

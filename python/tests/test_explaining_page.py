@@ -85,9 +85,24 @@ def opened(page: pathlib.Path, *options: str, wide: int = 1400) -> subprocess.Co
     assert CHROMIUM is not None
     with tempfile.TemporaryDirectory() as profile:
         return subprocess.run(
-            [CHROMIUM, "--headless", "--no-sandbox", "--disable-gpu", "--disable-dev-shm-usage", "--user-data-dir=" + profile,
-             f"--window-size={wide},900", "--enable-logging=stderr", "--virtual-time-budget=4000", *options, page.as_uri()],
-            capture_output=True, text=True, timeout=120, check=False)
+            [
+                CHROMIUM,
+                "--headless",
+                "--no-sandbox",
+                "--disable-gpu",
+                "--disable-dev-shm-usage",
+                "--user-data-dir=" + profile,
+                f"--window-size={wide},900",
+                "--enable-logging=stderr",
+                "--virtual-time-budget=4000",
+                *options,
+                page.as_uri(),
+            ],
+            capture_output=True,
+            text=True,
+            timeout=120,
+            check=False,
+        )
 
 
 def used() -> float:
@@ -98,7 +113,11 @@ def used() -> float:
 
 def console(told: subprocess.CompletedProcess[str]) -> list[str]:
     """What came on the console, except of pages of the browser's own."""
-    return [line for line in told.stderr.splitlines() if "CONSOLE" in line and "source: chrome://" not in line]
+    return [
+        line
+        for line in told.stderr.splitlines()
+        if "CONSOLE" in line and "source: chrome://" not in line
+    ]
 
 
 @unittest.skipUnless(CHROMIUM, "chromium isn't there")
@@ -112,7 +131,10 @@ class Page(unittest.TestCase):
 
     def acted(self, text: str, wide: int = 1400) -> dict[str, Any]:
         """Writes a page whose policy allows one more script, which acts on it. Returns what that saw."""
-        script = 'window.faults = []; addEventListener("error", event => faults.push(event.message));\n' + ACTS
+        script = (
+            'window.faults = []; addEventListener("error", event => faults.push(event.message));\n'
+            + ACTS
+        )
         checksum = base64.b64encode(hashlib.sha256(script.encode()).digest()).decode()
         text = text.replace("script-src ", f"script-src 'sha256-{checksum}' ", 1)
         text = text.replace("<script type=", f"<script>{script}</script><script type=", 1)
@@ -141,13 +163,28 @@ class Page(unittest.TestCase):
             seen = self.acted(found.page("session"), wide)
             with self.subTest(wide):
                 self.assertEqual(seen["faults"], [])
-                for name in "picked", "zoomed", "stays", "dragged", "next", "whole", "registers", "focused", "wide", "opened", "inside", \
-                        "uncut", "of_link":
+                for name in (
+                    "picked",
+                    "zoomed",
+                    "stays",
+                    "dragged",
+                    "next",
+                    "whole",
+                    "registers",
+                    "focused",
+                    "wide",
+                    "opened",
+                    "inside",
+                    "uncut",
+                    "of_link",
+                ):
                     self.assertTrue(seen[name], name)
                 self.assertIn("RQS = 1", seen["tip"])
                 why = found.why(f"RQS@line {seen['line']}").splitlines()
                 self.assertEqual(seen["why"], [re.sub(r"^[ |`-]*", "", line) for line in why])
-                self.assertEqual(seen["numbers"], [str(one + 1) for one in range(len(seen["numbers"]))])
+                self.assertEqual(
+                    seen["numbers"], [str(one + 1) for one in range(len(seen["numbers"]))]
+                )
                 self.assertEqual(seen["circles"], len(seen["numbers"]))
                 self.assertGreater(seen["shaded"], 0)
                 self.assertIn("the last reading", seen["row"])
@@ -174,7 +211,9 @@ class Page(unittest.TestCase):
         path = self.folder / "page.html"
         path.write_text(explained("session").page("session"), encoding="utf-8")
         opened(path, f"--print-to-pdf={self.folder / 'page.pdf'}")
-        self.assertGreater(len(re.findall(rb"/Type\s*/Page\b", (self.folder / "page.pdf").read_bytes())), 2)
+        self.assertGreater(
+            len(re.findall(rb"/Type\s*/Page\b", (self.folder / "page.pdf").read_bytes())), 2
+        )
 
     def test_many_calls(self) -> None:
         """2,000 calls take few seconds of a processor more than 20 do. Of too many the last are shown, which is said."""

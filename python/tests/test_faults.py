@@ -34,7 +34,9 @@ class Missing(unittest.TestCase):
     def test_nothing_found(self) -> None:
         nowhere = mock.patch.dict(os.environ, {"SCANVOLT": "", "PATH": ""})
         with nowhere, mock.patch.object(program, "BUILT", ()):
-            self.assertRaisesRegex(ProgramError, "^scanvolt isn't found: set SCANVOLT .*BUILD=1`$", Meter)
+            self.assertRaisesRegex(
+                ProgramError, "^scanvolt isn't found: set SCANVOLT .*BUILD=1`$", Meter
+            )
 
     def test_the_path_and_a_checkout(self) -> None:
         with tempfile.TemporaryDirectory() as folder:
@@ -50,7 +52,9 @@ class Missing(unittest.TestCase):
 
     def test_the_wheel(self) -> None:
         """Its program comes after what SCANVOLT names, and before PATH and a checkout."""
-        with script("exit 0") as inside, script("exit 0") as named, mock.patch.object(program, "IN_WHEEL", inside):
+        with script("exit 0") as inside, script("exit 0") as named, mock.patch.object(
+            program, "IN_WHEEL", inside
+        ):
             with mock.patch.dict(os.environ, {"SCANVOLT": ""}):
                 self.assertEqual(program.found(), (inside, "the wheel"))
             with mock.patch.dict(os.environ, {"SCANVOLT": named}):
@@ -71,9 +75,12 @@ class Ends(unittest.TestCase):
     """Programs that end, or print something else than expected."""
 
     def test_other_programs(self) -> None:
-        for text, told in (("exit 0", "ended with status 0$"), ("echo fault >&2; exit 3", "status 3: fault$"),
-                           ("kill -9 $$", "ended by signal 9$"),
-                           ("exec >&-; exec sleep 60", "ended by signal 9$")):
+        for text, told in (
+            ("exit 0", "ended with status 0$"),
+            ("echo fault >&2; exit 3", "status 3: fault$"),
+            ("kill -9 $$", "ended by signal 9$"),
+            ("exec >&-; exec sleep 60", "ended by signal 9$"),
+        ):
             with self.subTest(text), script(text) as path:
                 self.assertRaisesRegex(ProgramError, told, Meter, path)
         with script("echo fault >&2; exit 3") as path:
@@ -81,7 +88,9 @@ class Ends(unittest.TestCase):
 
     def test_a_program_that_says_nothing(self) -> None:
         for text in "exec sleep 60", "exec cat":
-            with script(text) as path, mock.patch.object(replay, "PATIENCE", 0.2), mock.patch.object(replay, "check_fits"):
+            with script(text) as path, mock.patch.object(
+                replay, "PATIENCE", 0.2
+            ), mock.patch.object(replay, "check_fits"):
                 self.assertRaisesRegex(ProgramError, "says nothing for 0.2 s", Meter, path)
 
     def test_a_bad_line(self) -> None:
@@ -99,11 +108,11 @@ class Ends(unittest.TestCase):
             self.assertRaises(ProgramError, meter.connect)
 
     def test_killed_within_a_call(self) -> None:
-        with Meter(patience=10 ** 9) as meter, meter.connect() as connection:
-            link = connection.create_link(io_timeout=10 ** 9)
+        with Meter(patience=10**9) as meter, meter.connect() as connection:
+            link = connection.create_link(io_timeout=10**9)
             link.write("TRIG:SOUR EXT;:INIT;*OPC?")
             other = meter.connect()
-            reading = other.start(other.create_link(io_timeout=10 ** 9).calls.read())
+            reading = other.start(other.create_link(io_timeout=10**9).calls.read())
             killer = threading.Timer(0.3, lambda: meter._replay.program.process.kill())
             killer.start()
             self.addCleanup(killer.join)
@@ -165,12 +174,18 @@ class NothingLeft(unittest.TestCase):
 
     def leaves(self, how: signal.Signals | None, stopped: bool = False) -> None:
         # If these tests were started in the background, Ctrl-C may still be ignored.
-        text = ("import signal\nsignal.signal(signal.SIGINT, signal.default_int_handler)\n"
-                "from scanvolt.virtual import Meter\nmeter = Meter()\n"
-                "print(meter._replay.program.process.pid, flush=True)\n") + (
-                    "meter.connect()\nmeter.advance(2 ** 32 - 1)\n" if how else "")
-        child = subprocess.Popen([sys.executable, "-c", text], stdout=subprocess.PIPE,
-                                 stderr=subprocess.DEVNULL, cwd=TOP, text=True)
+        text = (
+            "import signal\nsignal.signal(signal.SIGINT, signal.default_int_handler)\n"
+            "from scanvolt.virtual import Meter\nmeter = Meter()\n"
+            "print(meter._replay.program.process.pid, flush=True)\n"
+        ) + ("meter.connect()\nmeter.advance(2 ** 32 - 1)\n" if how else "")
+        child = subprocess.Popen(
+            [sys.executable, "-c", text],
+            stdout=subprocess.PIPE,
+            stderr=subprocess.DEVNULL,
+            cwd=TOP,
+            text=True,
+        )
         assert child.stdout is not None
         number = int(child.stdout.readline())
         if how is not None:

@@ -10,8 +10,13 @@ from scanvolt.virtual import Meter, Pending
 from scanvolt.vxi11 import DeviceError, calls
 
 # What is ordered, which call it strikes, and what the trace says then: from VXI-11's table of errors.
-ERRORS = (("device_read", 17, "I/O error"), ("device_write", 15, "I/O timeout"), ("device_readstb", 11, "device locked"),
-          ("device_lock", 23, "abort"), ("device_trigger", 4, "invalid link identifier"))
+ERRORS = (
+    ("device_read", 17, "I/O error"),
+    ("device_write", 15, "I/O timeout"),
+    ("device_readstb", 11, "device locked"),
+    ("device_lock", 23, "abort"),
+    ("device_trigger", 4, "invalid link identifier"),
+)
 
 
 class Case(unittest.TestCase):
@@ -33,8 +38,12 @@ class Errors(Case):
         with self.assertRaises(DeviceError) as caught:
             self.link.read()
         self.assertEqual(caught.exception.number, 17)
-        self.assertEqual(caught.exception.__notes__, [
-            "device_read was answered with error 17, I/O error; the instrument wasn't asked: on order of meter.faults"])
+        self.assertEqual(
+            caught.exception.__notes__,
+            [
+                "device_read was answered with error 17, I/O error; the instrument wasn't asked: on order of meter.faults"
+            ],
+        )
         self.assertEqual(self.link.read(), b"SCANVOLT,SV32,0,1.0\n")
 
     def test_the_instrument_is_not_asked(self) -> None:
@@ -50,12 +59,18 @@ class Errors(Case):
             with self.subTest(name):
                 self.meter.faults.next(name, error=number)
                 make: dict[str, Callable[[], object]] = {
-                    "device_read": self.link.read, "device_write": lambda: self.link.write("*CLS"),
-                    "device_readstb": self.link.readstb, "device_lock": self.link.lock, "device_trigger": self.link.trigger}
+                    "device_read": self.link.read,
+                    "device_write": lambda: self.link.write("*CLS"),
+                    "device_readstb": self.link.readstb,
+                    "device_lock": self.link.lock,
+                    "device_trigger": self.link.trigger,
+                }
                 with self.assertRaises(DeviceError) as caught:
                     make[name]()
                 self.assertEqual(caught.exception.number, number)
-                self.assertIn(f"{name} was answered with error {number}, {words}", self.meter.explain().end())
+                self.assertIn(
+                    f"{name} was answered with error {number}, {words}", self.meter.explain().end()
+                )
 
     def test_one_connection(self) -> None:
         other = self.meter.connect().create_link()
@@ -77,9 +92,18 @@ class Errors(Case):
 
     def test_what_cannot_be_ordered(self) -> None:
         faults = self.meter.faults
-        self.assertRaisesRegex(ValueError, "no call of VXI-11: 'read'; there are create_intr_chan, ", faults.next, "read")
-        self.assertRaisesRegex(ValueError, "number of an error, a whole number from 1", faults.next, "device_read", 0)
-        self.assertRaisesRegex(TypeError, "drop_after wants a number of bytes", faults.drop_after, "3")
+        self.assertRaisesRegex(
+            ValueError,
+            "no call of VXI-11: 'read'; there are create_intr_chan, ",
+            faults.next,
+            "read",
+        )
+        self.assertRaisesRegex(
+            ValueError, "number of an error, a whole number from 1", faults.next, "device_read", 0
+        )
+        self.assertRaisesRegex(
+            TypeError, "drop_after wants a number of bytes", faults.drop_after, "3"
+        )
         self.assertRaisesRegex(ValueError, "delay wants milliseconds", faults.delay, -1)
         self.assertEqual(faults.ordered, [])
 
@@ -127,7 +151,9 @@ class Replies(Case):
         """The call was done, but its reply isn't whole: the connection ended, and its lock is free."""
         self.link.lock()
         self.meter.faults.drop_after(bytes=3, call="device_write")
-        with self.assertRaisesRegex(ConnectionError, "ended after 3 of 36 bytes of the reply to device_write: on order"):
+        with self.assertRaisesRegex(
+            ConnectionError, "ended after 3 of 36 bytes of the reply to device_write: on order"
+        ):
             self.link.write("CALC:LIM:UPP 5")
         self.assertRaisesRegex(ConnectionError, "is closed", self.link.readstb)
         other = self.meter.connect().create_link(lock=True)
@@ -148,7 +174,9 @@ class Replies(Case):
 
     def test_closed_before_the_call(self) -> None:
         self.meter.faults.close("device_write")
-        with self.assertRaisesRegex(ConnectionError, "ended before device_write came to the instrument: on order"):
+        with self.assertRaisesRegex(
+            ConnectionError, "ended before device_write came to the instrument: on order"
+        ):
             self.link.write("CALC:LIM:UPP 5")
         self.assertEqual(self.meter.connect().create_link().query("CALC:LIM:UPP?"), "+1000.000000")
 
@@ -173,7 +201,9 @@ class Traces(Case):
         self.meter.advance(5)
         self.connection.start(calls.null())
         lines = self.meter.explain().lines()
-        place = next(number for number, line in enumerate(lines) if "fault on order: device_readstb" in line)
+        place = next(
+            number for number, line in enumerate(lines) if "fault on order: device_readstb" in line
+        )
         self.assertEqual(lines[place].split()[:3], ["5", "c0", "link"])
         self.assertIn("create_link", lines[place - 1])
         self.assertIn("the null procedure", lines[place + 1])
@@ -181,14 +211,21 @@ class Traces(Case):
     def test_the_last_thing_that_happened(self) -> None:
         self.meter.faults.next("device_trigger")
         self.assertRaises(DeviceError, self.link.trigger)
-        self.assertIn("fault on order: device_trigger was answered with error 17", self.meter.explain().lines()[-1])
+        self.assertIn(
+            "fault on order: device_trigger was answered with error 17",
+            self.meter.explain().lines()[-1],
+        )
 
     def test_the_page_and_the_end(self) -> None:
         self.meter.faults.close("device_lock")
         self.assertRaises(ConnectionError, self.link.lock)
         found = self.meter.explain()
-        self.assertIn("on order  0 ms, c0 link 1: the connection ended before device_lock", found.end())
-        self.assertEqual(found.page().count("the connection ended before device_lock came to the instrument"), 2)
+        self.assertIn(
+            "on order  0 ms, c0 link 1: the connection ended before device_lock", found.end()
+        )
+        self.assertEqual(
+            found.page().count("the connection ended before device_lock came to the instrument"), 2
+        )
 
     def test_nothing_is_said_without_faults(self) -> None:
         self.assertNotIn("on order", self.meter.explain().text())

@@ -43,7 +43,10 @@ class Fork(unittest.TestCase):
         with self.meter.fork() as twin:
             link = twin.twin_of(self.link)
             link.write("CALC:LIM:UPP 7")
-            self.assertEqual((link.query("CALC:LIM:UPP?"), self.link.query("CALC:LIM:UPP?")), ("+7.000000", "+5.000000"))
+            self.assertEqual(
+                (link.query("CALC:LIM:UPP?"), self.link.query("CALC:LIM:UPP?")),
+                ("+7.000000", "+5.000000"),
+            )
             self.assertRaises(DeviceError, twin.connect().create_link().readstb)
             link.unlock()
         self.assertRaises(DeviceError, self.meter.connect().create_link().readstb)
@@ -56,8 +59,10 @@ class Fork(unittest.TestCase):
             link = third.twin_of(twin.twin_of(self.link))
             for one in self.link, link:
                 one.write("*OPC?")
-            self.assertEqual((link.query("FETC?;:SYST:ERR?"), third.clock),
-                             (self.link.query("FETC?;:SYST:ERR?"), self.meter.clock))
+            self.assertEqual(
+                (link.query("FETC?;:SYST:ERR?"), third.clock),
+                (self.link.query("FETC?;:SYST:ERR?"), self.meter.clock),
+            )
             self.assertEqual(third.explain().text(), self.meter.explain().text())
             self.assertEqual(third._replay.script(), self.meter._replay.script())
 
@@ -104,18 +109,25 @@ class Fork(unittest.TestCase):
         pending = self.connection.start(self.link.calls.readstb())
         self.meter.faults.next("device_clear", connection=self.connection)
         with self.meter.fork() as twin:
-            self.assertEqual((twin.twin_of(pending).result(), twin.clock, self.meter.clock), (0, 30, 0))
+            self.assertEqual(
+                (twin.twin_of(pending).result(), twin.clock, self.meter.clock), (0, 30, 0)
+            )
             self.assertRaises(DeviceError, twin.twin_of(self.link).clear)
         self.assertRaises(DeviceError, self.link.clear)
 
     def test_what_has_no_twin(self) -> None:
         with self.meter.fork() as twin:
-            self.assertRaisesRegex(ValueError, "wasn't open, or didn't wait, at the fork", twin.twin_of, self.meter.connect())
+            self.assertRaisesRegex(
+                ValueError,
+                "wasn't open, or didn't wait, at the fork",
+                twin.twin_of,
+                self.meter.connect(),
+            )
             self.assertRaisesRegex(ValueError, "at the fork", self.meter.twin_of, self.link)
 
     def test_a_closed_meter(self) -> None:
         self.meter.close()
-        with self.meter.fork() as twin:         # its history is still known
+        with self.meter.fork() as twin:  # its history is still known
             self.assertEqual((twin.clock, twin.connections), (0, {}))
 
 

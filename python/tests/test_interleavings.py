@@ -8,7 +8,7 @@ import unittest
 
 from scanvolt.virtual import Meter, NoAnswer, NotInStep, OrderFails
 
-LONG = 2 ** 32 - 1
+LONG = 2**32 - 1
 
 
 def locks(meter: Meter) -> None:
@@ -51,11 +51,14 @@ class Orders(unittest.TestCase):
 
     def test_another_sessions_response(self) -> None:
         """Neither has the lock: one reads what the other one asked for."""
+
         def other(meter: Meter) -> None:
             with meter.connect() as connection:
                 connection.create_link().write("CALC:LIM:UPP?")
 
-        with self.assertRaisesRegex(OrderFails, "AssertionError: read another session's response: [+]5.000000"):
+        with self.assertRaisesRegex(
+            OrderFails, "AssertionError: read another session's response: [+]5.000000"
+        ):
             self.meter.interleavings(forgets, other)
 
     def test_the_planted_fault(self) -> None:
@@ -65,12 +68,16 @@ class Orders(unittest.TestCase):
             self.meter.interleavings(locks, forgets)
         self.assertLess(time.monotonic() - began, 60)
         failed = caught.exception
-        self.assertRegex(str(failed), f"^in the order '{failed.order}' of their calls, the .* that was tried: ")
+        self.assertRegex(
+            str(failed), f"^in the order '{failed.order}' of their calls, the .* that was tried: "
+        )
         self.assertIn("What the instrument saw:\n", str(failed))
         self.assertLess(len(failed.order), 12)
         with self.assertRaises(OrderFails) as again:
             self.meter.interleavings(locks, forgets, order=failed.order)
-        self.assertEqual((again.exception.order, str(again.exception.fault)), (failed.order, str(failed.fault)))
+        self.assertEqual(
+            (again.exception.order, str(again.exception.fault)), (failed.order, str(failed.fault))
+        )
         self.assertEqual(self.meter.interleavings(locks, forgets, order="B" * 5), 1)
 
     def test_by_seed(self) -> None:
@@ -83,6 +90,7 @@ class Orders(unittest.TestCase):
 
     def test_a_deadlock_in_some_orders(self) -> None:
         """Each takes the lock and keeps it."""
+
         def keeps(meter: Meter) -> None:
             meter.connect().create_link(lock=True, lock_timeout=LONG)
             meter.advance(1)
@@ -90,7 +98,10 @@ class Orders(unittest.TestCase):
         with self.assertRaises(OrderFails) as caught:
             self.meter.interleavings(keeps, keeps)
         self.assertIsInstance(caught.exception.fault, NoAnswer)
-        self.assertRegex(str(caught.exception), "^in the order '' of their calls, each as far as it can go, A first, the 1st that ")
+        self.assertRegex(
+            str(caught.exception),
+            "^in the order '' of their calls, each as far as it can go, A first, the 1st that ",
+        )
 
     def test_a_controller_that_waits_elsewhere(self) -> None:
         """It is told, and nothing hangs."""
@@ -104,7 +115,10 @@ class Orders(unittest.TestCase):
         with outside, self.assertRaises(OrderFails) as caught:
             self.meter.interleavings(waits, polls)
         self.assertIsInstance(caught.exception.fault, NotInStep)
-        self.assertRegex(str(caught.exception.fault), r"thread A waits outside of the meter, at test_interleavings.py:\d+ in waits")
+        self.assertRegex(
+            str(caught.exception.fault),
+            r"thread A waits outside of the meter, at test_interleavings.py:\d+ in waits",
+        )
 
     def test_the_meter_itself_is_left_alone(self) -> None:
         before = list(self.meter._replay.script())
@@ -112,11 +126,22 @@ class Orders(unittest.TestCase):
         self.assertEqual((list(self.meter._replay.script()), self.meter.connections), (before, {}))
 
     def test_what_cannot_be(self) -> None:
-        self.assertRaisesRegex(ValueError, "2 to 16 controllers, and not 1", self.meter.interleavings, polls)
-        self.assertRaisesRegex(ValueError, "from A to B, and not 'C'", self.meter.interleavings, polls, polls, order="AC")
+        self.assertRaisesRegex(
+            ValueError, "2 to 16 controllers, and not 1", self.meter.interleavings, polls
+        )
+        self.assertRaisesRegex(
+            ValueError,
+            "from A to B, and not 'C'",
+            self.meter.interleavings,
+            polls,
+            polls,
+            order="AC",
+        )
         with self.assertRaises(OrderFails) as caught:
             self.meter.interleavings(polls, polls, order="AAAAAAAA")
-        self.assertRegex(str(caught.exception.fault), "A can't go on at turn 5 of this order, only B")
+        self.assertRegex(
+            str(caught.exception.fault), "A can't go on at turn 5 of this order, only B"
+        )
 
 
 if __name__ == "__main__":

@@ -23,15 +23,27 @@ from .processes import ctrl_c
 
 Value = TypeVar("Value")
 CLOCKS: tuple[Callable[[], float], ...] = (
-    lambda: time.time(), lambda: time.monotonic(), lambda: time.perf_counter(),
-    lambda: time.time_ns() / 1e9, lambda: time.monotonic_ns() / 1e9, lambda: time.perf_counter_ns() / 1e9)
-PATIENCE = 20           # seconds of real time within which each test ends
+    lambda: time.time(),
+    lambda: time.monotonic(),
+    lambda: time.perf_counter(),
+    lambda: time.time_ns() / 1e9,
+    lambda: time.monotonic_ns() / 1e9,
+    lambda: time.perf_counter_ns() / 1e9,
+)
+PATIENCE = 20  # seconds of real time within which each test ends
 
 
 def functions() -> dict[str, object]:
     """The functions that may be replaced."""
     found: dict[str, object] = dict(vars(time))
-    for where in (threading, queue, asyncio, threading.Condition, threading.Thread, selectors.DefaultSelector):
+    for where in (
+        threading,
+        queue,
+        asyncio,
+        threading.Condition,
+        threading.Thread,
+        selectors.DefaultSelector,
+    ):
         found.update({f"{where}.{name}": value for name, value in vars(where).items()})
     return found
 
@@ -80,6 +92,7 @@ class WithMeter(unittest.TestCase):
 
     def takes(self, milliseconds: int, body: Callable[[], Value]) -> Value:
         """What a body returns, which takes this much of the meter's time, and each clock says so."""
+
         def timed() -> Value:
             began, clocks = self.meter.clock, [clock() for clock in CLOCKS]
             found = body()
@@ -87,6 +100,7 @@ class WithMeter(unittest.TestCase):
             for clock, since in zip(CLOCKS, clocks):
                 self.assertAlmostEqual(clock() - since, milliseconds / 1000, 5)
             return found
+
         return self.within(timed)
 
 
@@ -129,7 +143,9 @@ class Waits(WithMeter):
         requests: queue.Queue[ServiceRequest] = queue.Queue()
         self.connection.listen(requests.put)
         self.link.write("INIT")
-        self.assertEqual(self.takes(3, lambda: requests.get(timeout=10)), ServiceRequest(b"handle", 1, 3))
+        self.assertEqual(
+            self.takes(3, lambda: requests.get(timeout=10)), ServiceRequest(b"handle", 1, 3)
+        )
         self.link.write("*CLS;:INIT")
         self.assertEqual(self.takes(3, requests.get), ServiceRequest(b"handle", 2, 6))
         full: queue.Queue[int] = queue.Queue(1)
@@ -139,7 +155,9 @@ class Waits(WithMeter):
     def test_the_meter_s_own_queue(self) -> None:
         requests = self.connection.listen()
         self.link.write("INIT")
-        self.assertEqual(self.takes(3, lambda: requests.queue.get(timeout=10)), ServiceRequest(b"handle", 1, 3))
+        self.assertEqual(
+            self.takes(3, lambda: requests.queue.get(timeout=10)), ServiceRequest(b"handle", 1, 3)
+        )
 
     def test_a_condition(self) -> None:
         condition = threading.Condition()
@@ -193,7 +211,6 @@ class Waits(WithMeter):
         self.takes(0, body)
         thread.join()
 
-
     def test_each_run_is_the_same(self) -> None:
         """A loop up to a deadline takes the same time, whatever the machine's clock is at its start."""
         found = set()
@@ -244,6 +261,7 @@ class Loops(WithMeter):
 
     def test_a_loop_that_wraps_its_selector(self) -> None:
         """As some do that serve a window's events, too."""
+
         class Wrapper:
             def __init__(self) -> None:
                 self.inner = selectors.DefaultSelector()
@@ -267,7 +285,7 @@ class Loops(WithMeter):
         self.addCleanup(second.cancel)
         second.start()
         with ctrl_c(), self.assertRaises(KeyboardInterrupt), self.meter.keeping_time():
-            asyncio.run(asyncio.sleep(10 ** 6))
+            asyncio.run(asyncio.sleep(10**6))
         self.assertFalse(second.finished.is_set())
 
     def test_a_block_within_a_coroutine(self) -> None:
@@ -291,13 +309,17 @@ class Loops(WithMeter):
 
     def test_an_executor(self) -> None:
         """Its threads have real time."""
+
         async def body() -> object:
-            return await asyncio.get_running_loop().run_in_executor(None, threading.Event().wait, 0.1)
+            return await asyncio.get_running_loop().run_in_executor(
+                None, threading.Event().wait, 0.1
+            )
 
         self.assertIs(self.takes(0, lambda: asyncio.run(body())), False)
 
     def test_the_end_of_an_executor(self) -> None:
         """A loop waits for its threads in real time: asyncio.run does so at its end, with a timeout."""
+
         async def body() -> bool:
             loop = asyncio.get_running_loop()
             loop.run_in_executor(None, time.sleep, 0.3)
@@ -312,10 +334,12 @@ class NoHang(WithMeter):
 
     def test_a_clock(self) -> None:
         for clock in CLOCKS:
+
             def loop() -> None:
                 end = clock() + 1
                 while clock() < end:
                     pass
+
             told = "read 10000 times at 0 ms .*time passes only in calls that wait.*time.sleep.*call_time=1"
             with self.subTest(clock), self.assertRaisesRegex(NeverEnds, told):
                 self.within(loop)
@@ -326,7 +350,9 @@ class NoHang(WithMeter):
             while time.monotonic() < end:
                 self.link.readstb()
 
-        with mock.patch.object(keeping_time, "POLLS_MOST", 300), mock.patch.object(keeping_time, "READS_MOST", 30):
+        with mock.patch.object(keeping_time, "POLLS_MOST", 300), mock.patch.object(
+            keeping_time, "READS_MOST", 30
+        ):
             self.assertRaisesRegex(NeverEnds, "read 300 times.*call_time=1", self.within, poll)
 
     def test_polls_that_take_time(self) -> None:
@@ -341,12 +367,15 @@ class NoHang(WithMeter):
             return polls
 
         self.assertEqual((self.within(poll, meter), meter.clock), (50, 100))
-        self.assertEqual((link.query("READ?"), meter.clock), ("+0.000000,+0.000000,+7.000000", 100 + 2 + 1 + 2))
+        self.assertEqual(
+            (link.query("READ?"), meter.clock), ("+0.000000,+0.000000,+7.000000", 100 + 2 + 1 + 2)
+        )
         meter.call_time = 0
         self.assertEqual((link.readstb(), meter.clock), (72, 105))
 
     def test_reads_between_calls(self) -> None:
         """Calls in between show that it isn't a loop that only waits."""
+
         def body() -> None:
             for _ in range(100):
                 time.monotonic()
@@ -370,10 +399,15 @@ class NoHang(WithMeter):
     def test_waits_without_a_timeout(self) -> None:
         """Where no interrupt channel is, they raise at once; else after the meter's patience."""
         waits: tuple[Callable[[], object], ...] = (
-            lambda: threading.Event().wait(), lambda: queue.Queue[int]().get(),
-            lambda: threading.Semaphore(0).acquire(), lambda: threading.Event().wait(threading.TIMEOUT_MAX))
+            lambda: threading.Event().wait(),
+            lambda: queue.Queue[int]().get(),
+            lambda: threading.Semaphore(0).acquire(),
+            lambda: threading.Event().wait(threading.TIMEOUT_MAX),
+        )
         for wait in waits:
-            with self.subTest(wait), self.assertRaisesRegex(NeverEnds, "at 0 ms.*Give it a timeout"):
+            with self.subTest(wait), self.assertRaisesRegex(
+                NeverEnds, "at 0 ms.*Give it a timeout"
+            ):
                 self.within(wait)
         self.connection.listen(print)
         self.meter.patience = 5000
@@ -385,7 +419,11 @@ class Unknown(WithMeter):
     """A Python whose modules lack what the block uses: it raises, and changes nothing."""
 
     def test_modules(self) -> None:
-        for where, name in ((threading, "_time"), (queue, "time"), (threading.Condition, "_is_owned")):
+        for where, name in (
+            (threading, "_time"),
+            (queue, "time"),
+            (threading.Condition, "_is_owned"),
+        ):
             with self.subTest(name), mock.patch.object(where, name):
                 delattr(where, name)
                 with self.assertRaisesRegex(RuntimeError, f"no {name}"), self.meter.keeping_time():
@@ -407,7 +445,9 @@ class PutBack(WithMeter):
         other = self.made()[0]
         with self.meter.keeping_time():
             began = time.monotonic()
-            with self.assertRaises(LookupError), other.keeping_time(), self.meter.keeping_time(), other.keeping_time():
+            with self.assertRaises(
+                LookupError
+            ), other.keeping_time(), self.meter.keeping_time(), other.keeping_time():
                 time.sleep(5)
                 raise LookupError
             self.assertEqual((self.meter.clock, other.clock), (0, 5000))

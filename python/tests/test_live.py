@@ -27,8 +27,14 @@ from .processes import TOP, kill
 
 def replayed(server: Server, script: list[str]) -> list[str]:
     """What a replay of a record prints, by the server's own ports."""
-    done = subprocess.run([server.program, "replay", "--core", str(server.core), "--abort", str(server.abort)],
-                          input="\n".join(script) + "\n", capture_output=True, text=True, check=True, timeout=60)
+    done = subprocess.run(
+        [server.program, "replay", "--core", str(server.core), "--abort", str(server.abort)],
+        input="\n".join(script) + "\n",
+        capture_output=True,
+        text=True,
+        check=True,
+        timeout=60,
+    )
     return done.stdout.splitlines()
 
 
@@ -66,7 +72,11 @@ class Inputs(unittest.TestCase):
 
     def test_the_next_reading(self) -> None:
         known: list[tuple[Volts, str]] = [
-            (2.5, "+2.500000"), ("-0.000001", "-0.000001"), (9, "+9.000000"), (0.1 + 0.2, "+0.300000")]
+            (2.5, "+2.500000"),
+            ("-0.000001", "-0.000001"),
+            (9, "+9.000000"),
+            (0.1 + 0.2, "+0.300000"),
+        ]
         for volts, read in known:
             self.server.set_input(3, volts)
             self.assertEqual(self.link.query("MEAS:VOLT? (@3)"), read)
@@ -77,9 +87,11 @@ class Inputs(unittest.TestCase):
         self.server.set_input(128, 7)
         for _ in range(16):
             self.server.external()
-            time.sleep(.15)
+            time.sleep(0.15)
         readings = self.link.query("FETC?").split(",")
-        self.assertEqual((len(readings), readings[127], readings[126]), (2048, "+7.000000", "+0.000000"))
+        self.assertEqual(
+            (len(readings), readings[127], readings[126]), (2048, "+7.000000", "+0.000000")
+        )
 
     def test_the_external_trigger(self) -> None:
         self.link.write("TRIG:SOUR EXT;:INIT")
@@ -87,17 +99,26 @@ class Inputs(unittest.TestCase):
         self.assertEqual(self.link.read(), b'-230,"Data corrupt or stale"\n')
         self.server.set_input(1, 1)
         self.server.external()
-        time.sleep(.02)
+        time.sleep(0.02)
         self.assertEqual(self.link.query("FETC?"), "+1.000000")
 
     def test_bad_arguments_send_nothing(self) -> None:
         bad: list[tuple[Any, Any, type[Exception]]] = [
-            (0, 1, ValueError), (129, 1, ValueError), ("3", 1, TypeError), (3, 1000.1, ValueError), (3, "much", ValueError),
-            (3, float("nan"), ValueError), (3, "0.0000001", ValueError), (3, None, ValueError)]
+            (0, 1, ValueError),
+            (129, 1, ValueError),
+            ("3", 1, TypeError),
+            (3, 1000.1, ValueError),
+            (3, "much", ValueError),
+            (3, float("nan"), ValueError),
+            (3, "0.0000001", ValueError),
+            (3, None, ValueError),
+        ]
         for channel, volts, fault in bad:
             with self.subTest(channel=channel, volts=volts), self.assertRaises(fault):
                 self.server.set_input(channel, volts)
-        self.assertEqual([line for line in self.server.explain().script if line.startswith("input")], [])
+        self.assertEqual(
+            [line for line in self.server.explain().script if line.startswith("input")], []
+        )
 
     def test_a_record_replays(self) -> None:
         self.server.set_input(3, 2.5)
@@ -119,10 +140,14 @@ class Inputs(unittest.TestCase):
         words = ["--core", str(self.server.core), "--abort", str(self.server.abort)]
         given: list[tuple[list[str], bool]] = [([], False), (words, True)]
         for more, ending in given:
-            with tempfile.NamedTemporaryFile("r") as page, \
-                    mock.patch("scanvolt.explaining.command.Explanation", wraps=Explanation) as made:
+            with tempfile.NamedTemporaryFile("r") as page, mock.patch(
+                "scanvolt.explaining.command.Explanation", wraps=Explanation
+            ) as made:
                 self.assertEqual(command.main([self.server.record, "--html", page.name, *more]), 0)
-                self.assertEqual(made.call_args[1]["ports"], (self.server.core, self.server.abort) if ending else None)
+                self.assertEqual(
+                    made.call_args[1]["ports"],
+                    (self.server.core, self.server.abort) if ending else None,
+                )
                 self.assertIn("create_link", page.read())
 
     def test_explain(self) -> None:
@@ -142,7 +167,7 @@ class Inputs(unittest.TestCase):
         self.assertEqual(len(self.link.read().split(b",")), 50)
         found = self.server.explain()
         self.assertIn("no call waits", found.end())
-        self.assertEqual(found.story.calls[-1].answer.words[:5], '"+0.0')      # type: ignore[union-attr]
+        self.assertEqual(found.story.calls[-1].answer.words[:5], '"+0.0')  # type: ignore[union-attr]
         self.link.io_timeout = 200
         self.link.write("TRIG:SOUR EXT;:INIT;*OPC?")
         with self.assertRaises(DeviceError):
@@ -152,7 +177,9 @@ class Inputs(unittest.TestCase):
     def test_each_answer_is_in_the_record_at_once(self) -> None:
         for count in range(1, 40):
             self.link.readstb()
-            calls = [one for one in self.server.explain().story.calls if one.name == "device_readstb"]
+            calls = [
+                one for one in self.server.explain().story.calls if one.name == "device_readstb"
+            ]
             self.assertEqual(len(calls), count)
             self.assertIsNotNone(calls[-1].ended)
 
@@ -160,22 +187,27 @@ class Inputs(unittest.TestCase):
         def work(channel: int) -> None:
             for volts in range(20):
                 self.server.set_input(channel, volts)
+
         workers = [threading.Thread(target=work, args=(channel,)) for channel in range(1, 9)]
         for one in workers:
             one.start()
         for one in workers:
             one.join()
         self.assertEqual(self.link.query("MEAS:VOLT? (@1:8)").split(",")[7], "+9.9E+37")
-        self.assertEqual(sum(line.startswith("input") for line in self.server.explain().script), 160)
+        self.assertEqual(
+            sum(line.startswith("input") for line in self.server.explain().script), 160
+        )
 
     def test_a_server_that_is_gone(self) -> None:
         self.server.set_input(1, 1)
-        self.assertIn("input 1 = 1 V", self.server.explain().text())        # so it is in the file
+        self.assertIn("input 1 = 1 V", self.server.explain().text())  # so it is in the file
         kill(self.server.process.pid)
         self.server.process.wait()
-        with self.assertRaisesRegex(ControlError, f"the control port {self.server.control} doesn't answer"):
+        with self.assertRaisesRegex(
+            ControlError, f"the control port {self.server.control} doesn't answer"
+        ):
             self.server.set_input(1, 1)
-        self.assertIn("input 1 = 1 V", self.server.explain().text())       # the record is still told
+        self.assertIn("input 1 = 1 V", self.server.explain().text())  # the record is still told
 
 
 class Options(unittest.TestCase):
@@ -194,10 +226,14 @@ class Options(unittest.TestCase):
     def test_a_record_that_stays(self) -> None:
         with tempfile.TemporaryDirectory() as folder:
             path = pathlib.Path(folder, "session.replay")
-            with Server(record=path) as server, Client(port=server.core) as client, client.create_link() as link:
+            with Server(record=path) as server, Client(
+                port=server.core
+            ) as client, client.create_link() as link:
                 link.query("*IDN?")
                 self.assertIn("SCANVOLT,SV32", server.explain().text())
-            self.assertTrue(path.read_text().startswith("tick ") or path.read_text().startswith("open "))
+            self.assertTrue(
+                path.read_text().startswith("tick ") or path.read_text().startswith("open ")
+            )
 
     def test_a_record_that_goes(self) -> None:
         with Server(record=True) as server:
@@ -214,7 +250,14 @@ class Options(unittest.TestCase):
             file.write(b"bad\n")
             file.flush()
             Server(file.name, record=True)
-        self.assertEqual([one for one in set(os.listdir(tempfile.gettempdir())) - before if one.startswith("scanvolt-")], [])
+        self.assertEqual(
+            [
+                one
+                for one in set(os.listdir(tempfile.gettempdir())) - before
+                if one.startswith("scanvolt-")
+            ],
+            [],
+        )
 
     def test_too_few_ports(self) -> None:
         for ports, control in ([4096, 4097], False), ([4096, 4097, 4111], True):
@@ -231,7 +274,9 @@ class Options(unittest.TestCase):
             self.assertGreater(server.control, 0)
         with Server(control=True, ports=ports) as server:
             self.assertEqual((server.core, server.abort, server.port_mapper, server.control), ports)
-            with self.assertRaisesRegex(ProgramError, f"^port {server.core} is in use by process {server.process.pid}, "):
+            with self.assertRaisesRegex(
+                ProgramError, f"^port {server.core} is in use by process {server.process.pid}, "
+            ):
                 Server(control=True, ports=(server.core, 0, 0, 0))
 
 
@@ -241,7 +286,7 @@ class Answers(unittest.TestCase):
     def refused(self, wanted: str, answer: bytes) -> None:
         relay = Relay(answer)
         with self.assertRaisesRegex(ControlError, wanted):
-            Control(relay.port, .2).external()
+            Control(relay.port, 0.2).external()
         relay.thread.join()
 
     def test_other_answers(self) -> None:
@@ -258,10 +303,10 @@ class Answers(unittest.TestCase):
             for one in others:
                 one.pass_by()
             fifth = Control(server.control)
-            with self.assertRaises(ControlError):       # four are served
+            with self.assertRaises(ControlError):  # four are served
                 fifth.pass_by()
             others[0].close()
-            time.sleep(.05)
+            time.sleep(0.05)
             fifth.pass_by()
             for one in (control, *others, fifth):
                 one.close()
@@ -281,7 +326,11 @@ class Document(unittest.TestCase):
 
     def test_the_steps(self) -> None:
         text = pathlib.Path(TOP, "..", "docs", "PANEL.md").read_text(encoding="utf-8")
-        steps = re.findall(r"^\| (send|receive)(?: (\d+) bytes)?[^|]*\| `(.*?)` \| ([0-9a-f ]+) \|$", text, re.MULTILINE)
+        steps = re.findall(
+            r"^\| (send|receive)(?: (\d+) bytes)?[^|]*\| `(.*?)` \| ([0-9a-f ]+) \|$",
+            text,
+            re.MULTILINE,
+        )
         self.assertEqual([what for what, *_ in steps], ["send", "receive"] * 3)
         with Server(control=True, record=True) as server:
             assert server.control is not None

@@ -17,7 +17,7 @@ from scanvolt.vxi11 import DeviceError, Link, ServiceRequest
 
 from .limits import within
 
-LONG = 2 ** 32 - 1
+LONG = 2**32 - 1
 Told = list[tuple[str, object, int]]
 
 
@@ -67,6 +67,7 @@ class Waits(Case):
 
     def test_time_passes_only_while_all_wait(self) -> None:
         """A thread that sleeps 30 ms of the meter sees what another one did after 10 ms, and not later."""
+
         def waits() -> None:
             link = self.link()
             link.write("TRIG:SOUR EXT;:INIT;*OPC?")
@@ -80,7 +81,9 @@ class Waits(Case):
             self.tell("acts", "ends")
 
         run(self.meter, waits, acts)
-        self.assertEqual(self.told, [("acts", "triggers", 10), ("waits", b"1\n", 11), ("acts", "ends", 30)])
+        self.assertEqual(
+            self.told, [("acts", "triggers", 10), ("waits", b"1\n", 11), ("acts", "ends", 30)]
+        )
 
     def test_a_service_request(self) -> None:
         def waits() -> None:
@@ -99,12 +102,14 @@ class Waits(Case):
 
     def test_turns(self) -> None:
         """Each makes one call, in the order in which they were started."""
+
         def controller(name: str) -> Callable[[], None]:
             def control() -> None:
                 link = self.link()
                 for _ in range(3):
                     link.readstb()
                     self.tell(name, "polls")
+
             return control
 
         run(self.meter, *map(controller, "abc"))
@@ -112,6 +117,7 @@ class Waits(Case):
 
     def test_the_thread_of_the_block(self) -> None:
         """It takes part if it uses the meter and a thread fewer was started; it may join the others."""
+
         def other() -> None:
             link = self.link()
             link.lock()
@@ -151,13 +157,16 @@ class Waits(Case):
 
     def test_an_executor_in_keeping_time(self) -> None:
         """The thread of the block takes no part, and waits in real time for those that do."""
-        with self.meter.keeping_time(), self.meter.threads(2), concurrent.futures.ThreadPoolExecutor(2) as executor:
+        with self.meter.keeping_time(), self.meter.threads(
+            2
+        ), concurrent.futures.ThreadPoolExecutor(2) as executor:
             found = [executor.submit(lambda: self.meter.advance(30)) for _ in range(2)]
             self.assertEqual([one.result() for one in found], [None, None])
         self.assertEqual(self.meter.clock, 30)
 
     def test_keeping_time(self) -> None:
         """Python's sleep is the meter's, so both threads sleep at the same time."""
+
         def sleeps() -> None:
             with self.meter.keeping_time():
                 time.sleep(2)
@@ -182,6 +191,7 @@ class Alike(Case):
                         link.lock()
                         self.told.append((name, number, self.meter.clock - start))
                         link.unlock()
+
             return control
 
         run(self.meter, controller("a"), controller("b"), seed=seed)
@@ -221,6 +231,7 @@ class Ends(Case):
     def deadlock(self) -> float:
         """A deadlock on purpose. Returns after how many seconds it is told."""
         with Meter() as meter, Meter() as other:
+
             def control(first: Meter, second: Meter) -> None:
                 with first.connect() as one, second.connect() as two:
                     one.create_link(lock=True)
@@ -228,10 +239,16 @@ class Ends(Case):
                     two.create_link(lock=True, lock_timeout=LONG)
 
             here = threading.Barrier(2)
-            threads = [threading.Thread(target=control, args=pair) for pair in ((meter, other), (other, meter))]
+            threads = [
+                threading.Thread(target=control, args=pair)
+                for pair in ((meter, other), (other, meter))
+            ]
             began = time.monotonic()
-            with self.assertRaisesRegex(NoAnswer, "no thread can go on:\nthread .*can't be answered(.|\n)*holds the lock(.|\n)*"
-                                        r"thread .* waits in another meter, at test_lockstep.py:\d+ in control"):
+            with self.assertRaisesRegex(
+                NoAnswer,
+                "no thread can go on:\nthread .*can't be answered(.|\n)*holds the lock(.|\n)*"
+                r"thread .* waits in another meter, at test_lockstep.py:\d+ in control",
+            ):
                 with meter.threads(2), other.threads(2):
                     for thread in threads:
                         thread.start()
@@ -251,6 +268,7 @@ class Ends(Case):
 
     def test_a_wait_after_one_that_nothing_ends(self) -> None:
         """A call that can't be answered still waits on its connection; another wait of its thread has an end of its own."""
+
         def holds() -> None:
             self.link().lock()
 
@@ -284,8 +302,11 @@ class Ends(Case):
             self.link().readstb()
             self.link().readstb()
 
-        with outside, self.assertRaisesRegex(NotInStep, r"thread sleeps waits outside of the meter, at test_lockstep.py:\d+ in "
-                                             "sleeps, for 0.5 s, and the others can't go on"):
+        with outside, self.assertRaisesRegex(
+            NotInStep,
+            r"thread sleeps waits outside of the meter, at test_lockstep.py:\d+ in "
+            "sleeps, for 0.5 s, and the others can't go on",
+        ):
             threads = [threading.Thread(target=one, name=one.__name__) for one in (sleeps, waits)]
             with self.meter.threads(2):
                 for thread in threads:
@@ -305,9 +326,14 @@ class Ends(Case):
                 if second.acquire(timeout=3):
                     second.release()
 
-        threads = [threading.Thread(target=crosses, args=pair) for pair in ((one, other), (other, one))]
+        threads = [
+            threading.Thread(target=crosses, args=pair) for pair in ((one, other), (other, one))
+        ]
         with mock.patch("scanvolt.lockstep.STUCK", 0.5):
-            with self.assertRaisesRegex(NotInStep, "^no thread goes on: thread .* waits outside of the meter, .*; thread .* waits"):
+            with self.assertRaisesRegex(
+                NotInStep,
+                "^no thread goes on: thread .* waits outside of the meter, .*; thread .* waits",
+            ):
                 with self.meter.threads(2):
                     for thread in threads:
                         thread.start()
@@ -331,8 +357,13 @@ class Ends(Case):
             threads = [threading.Thread(target=one, name=one.__name__) for one in (waits, ends)]
             with mock.patch("scanvolt.lockstep.STUCK", 0.5), contextlib.ExitStack() as stack:
                 if is_endless:
-                    stack.enter_context(self.assertRaisesRegex(NotInStep, "^no thread goes on: thread waits waits outside of the "
-                                                              r"meter, at test_lockstep.py:\d+ in waits,$"))
+                    stack.enter_context(
+                        self.assertRaisesRegex(
+                            NotInStep,
+                            "^no thread goes on: thread waits waits outside of the "
+                            r"meter, at test_lockstep.py:\d+ in waits,$",
+                        )
+                    )
                 with self.meter.threads(2):
                     for thread in threads:
                         thread.start()
@@ -342,6 +373,7 @@ class Ends(Case):
 
     def test_two_that_raise(self) -> None:
         """The block raises what came first; the rest is shown as Python does, with the thread's name."""
+
         def one() -> None:
             self.link()
             raise ValueError("the first")
@@ -351,7 +383,9 @@ class Ends(Case):
             self.meter.advance(1)
             raise KeyError("the second")
 
-        with contextlib.redirect_stderr(io.StringIO()) as told, self.assertRaisesRegex(ValueError, "the first"):
+        with contextlib.redirect_stderr(io.StringIO()) as told, self.assertRaisesRegex(
+            ValueError, "the first"
+        ):
             run(self.meter, one, other)
         self.assertRegex(told.getvalue(), "Exception in thread other:(.|\n)*KeyError: 'the second'")
 
@@ -371,6 +405,7 @@ class Ends(Case):
 
     def test_a_callback_that_waits(self) -> None:
         """It is called while its thread waits, and waits itself; then the thread goes on waiting, until its own time."""
+
         def came(request: ServiceRequest) -> None:
             self.meter.advance(5)
             self.tell("callback", request.clock)
@@ -391,7 +426,9 @@ class Ends(Case):
         def polls() -> None:
             self.link().readstb()
 
-        with self.assertRaisesRegex(NotInStep, r"threads\(2\): thread polls uses the meter, but polls and polls take part"):
+        with self.assertRaisesRegex(
+            NotInStep, r"threads\(2\): thread polls uses the meter, but polls and polls take part"
+        ):
             with self.meter.threads(2):
                 threads = [threading.Thread(target=polls, name="polls") for _ in range(3)]
                 for thread in threads:
@@ -415,7 +452,10 @@ class Ends(Case):
             stop.wait()
 
         thread = threading.Thread(target=runs, name="runs")
-        with self.assertRaisesRegex(NotInStep, "still run at the end of the block, join them there: thread runs waits outside"):
+        with self.assertRaisesRegex(
+            NotInStep,
+            "still run at the end of the block, join them there: thread runs waits outside",
+        ):
             with self.meter.threads(1):
                 thread.start()
                 is_ready.wait(20)
@@ -424,12 +464,16 @@ class Ends(Case):
         self.assertEqual(self.link().readstb(), 0)
 
     def test_a_block_within_a_block(self) -> None:
-        with self.meter.threads(1), self.assertRaisesRegex(RuntimeError, "in a block of `threads` already"):
+        with self.meter.threads(1), self.assertRaisesRegex(
+            RuntimeError, "in a block of `threads` already"
+        ):
             with self.meter.threads(1):
                 pass
 
     def test_what_cannot_be_a_number(self) -> None:
-        self.assertRaisesRegex(ValueError, "threads wants a number of threads", self.meter.threads, 0)
+        self.assertRaisesRegex(
+            ValueError, "threads wants a number of threads", self.meter.threads, 0
+        )
 
 
 if __name__ == "__main__":

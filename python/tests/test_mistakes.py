@@ -40,24 +40,73 @@ meter.close()
 def of_link(link: Any) -> dict[str, Mistake]:
     """Wrong arguments of a link's methods."""
     return {
-        "a number as a message": (lambda: link.write(5), TypeError, "a message is text or bytes, and not 5"),
-        "no message": (lambda: link.query(None), TypeError, "a message is text or bytes, and not None"),
-        "a list": (lambda: link.write([42]), TypeError, r"a message is text or bytes, and not \[42\]"),
-        "a size in words": (lambda: link.read("5"), TypeError, "a read wants a number of bytes, .* and not '5'"),
-        "a size below 0": (lambda: link.read(-1), ValueError, "a read wants a number of bytes, .* and not -1"),
-        "a piece below 0": (lambda: link.read_piece(-1), ValueError, "a read wants a number of bytes, .* and not -1"),
-        "a terminator in words": (lambda: link.read(5, "5"), TypeError,
-                                  "a read wants a termination character, .* from 0 to 255, and not '5'"),
-        "a great terminator": (lambda: link.read(5, 256), ValueError, "termination character, .* and not 256"),
-        "a handle in words": (lambda: link.enable_srq("5"), TypeError, "a handle is bytes, .* and not '5'")}
+        "a number as a message": (
+            lambda: link.write(5),
+            TypeError,
+            "a message is text or bytes, and not 5",
+        ),
+        "no message": (
+            lambda: link.query(None),
+            TypeError,
+            "a message is text or bytes, and not None",
+        ),
+        "a list": (
+            lambda: link.write([42]),
+            TypeError,
+            r"a message is text or bytes, and not \[42\]",
+        ),
+        "a size in words": (
+            lambda: link.read("5"),
+            TypeError,
+            "a read wants a number of bytes, .* and not '5'",
+        ),
+        "a size below 0": (
+            lambda: link.read(-1),
+            ValueError,
+            "a read wants a number of bytes, .* and not -1",
+        ),
+        "a piece below 0": (
+            lambda: link.read_piece(-1),
+            ValueError,
+            "a read wants a number of bytes, .* and not -1",
+        ),
+        "a terminator in words": (
+            lambda: link.read(5, "5"),
+            TypeError,
+            "a read wants a termination character, .* from 0 to 255, and not '5'",
+        ),
+        "a great terminator": (
+            lambda: link.read(5, 256),
+            ValueError,
+            "termination character, .* and not 256",
+        ),
+        "a handle in words": (
+            lambda: link.enable_srq("5"),
+            TypeError,
+            "a handle is bytes, .* and not '5'",
+        ),
+    }
 
 
 def of_core(core: Any) -> dict[str, Mistake]:
     """Wrong arguments of a connection's methods."""
     return {
-        "a device in bytes": (lambda: core.create_link(b"inst0"), TypeError, "a device is text, .* and not b'inst0'"),
-        "a device's number": (lambda: core.create_link(0), TypeError, "a device is text, .* and not 0"),
-        "no function": (lambda: core.listen("print"), TypeError, "callback of .* is a function, and not 'print'")}
+        "a device in bytes": (
+            lambda: core.create_link(b"inst0"),
+            TypeError,
+            "a device is text, .* and not b'inst0'",
+        ),
+        "a device's number": (
+            lambda: core.create_link(0),
+            TypeError,
+            "a device is text, .* and not 0",
+        ),
+        "no function": (
+            lambda: core.listen("print"),
+            TypeError,
+            "callback of .* is a function, and not 'print'",
+        ),
+    }
 
 
 class Mistakes(unittest.TestCase):
@@ -72,26 +121,45 @@ class Mistakes(unittest.TestCase):
         word: Any = "*IDN?"
         with Meter() as meter, meter.connect() as connection, connection.create_link() as link:
             self.told({**of_link(link), **of_core(connection)})
-            self.told({"no call": (lambda: connection.start(word), TypeError, "start wants a call, .* not '.IDN.'")})
-            self.assertEqual((link.query("*IDN?"), link.query(bytearray(b"SYST:ERR?"))), (IDENTITY, '0,"No error"'))
+            self.told(
+                {
+                    "no call": (
+                        lambda: connection.start(word),
+                        TypeError,
+                        "start wants a call, .* not '.IDN.'",
+                    )
+                }
+            )
+            self.assertEqual(
+                (link.query("*IDN?"), link.query(bytearray(b"SYST:ERR?"))),
+                (IDENTITY, '0,"No error"'),
+            )
             self.assertFalse(connection.has_channel)
             self.assertEqual(meter.clock, 0)
 
     def test_sockets(self) -> None:
         with Server() as server, Client(port=server.core) as client, client.create_link() as link:
             self.told({**of_link(link), **of_core(client)})
-            self.assertEqual((link.query("*IDN?"), link.query("SYST:ERR?")), (IDENTITY, '0,"No error"'))
+            self.assertEqual(
+                (link.query("*IDN?"), link.query("SYST:ERR?")), (IDENTITY, '0,"No error"')
+            )
 
     def test_ports(self) -> None:
         """A port that can't be one, and that of another channel."""
         word: Any = "4096"
         for port, kind in ((word, TypeError), (99999, ValueError), (0, ValueError)):
-            with self.subTest(port=port), self.assertRaisesRegex(kind, f"a connection wants a port, .* not {port!r}"):
+            with self.subTest(port=port), self.assertRaisesRegex(
+                kind, f"a connection wants a port, .* not {port!r}"
+            ):
                 Client(port=port)
         with Server() as server, Client(port=server.abort) as client:
-            with self.assertRaisesRegex(ProgramUnavailable, "create_link: .*Is it that of the core channel"):
+            with self.assertRaisesRegex(
+                ProgramUnavailable, "create_link: .*Is it that of the core channel"
+            ):
                 client.create_link()
-            with self.assertRaisesRegex(ProgramUnavailable, "GETPORT: .*Is it that of the port mapper"):
+            with self.assertRaisesRegex(
+                ProgramUnavailable, "GETPORT: .*Is it that of the port mapper"
+            ):
                 Client(port_mapper=server.core)
 
 
@@ -110,6 +178,7 @@ class Inputs(unittest.TestCase):
 
     def test_numbers_of_numpy(self) -> None:
         """They aren't written as Python's numbers, or aren't floats."""
+
         class Double(float):
             def __repr__(self) -> str:
                 return f"np.float64({float(self)!r})"
@@ -123,8 +192,12 @@ class Inputs(unittest.TestCase):
                 return 5
 
         number: Any
-        for number, found in ((Double(1.25), 1250000), (Single(), 1250000), (Whole(), 5000000),
-                              (fractions.Fraction(1, 3), 333333)):
+        for number, found in (
+            (Double(1.25), 1250000),
+            (Single(), 1250000),
+            (Whole(), 5000000),
+            (fractions.Fraction(1, 3), 333333),
+        ):
             self.assertEqual(microvolts(number), found)
 
     def test_what_is_no_voltage(self) -> None:
@@ -142,9 +215,15 @@ class Off(unittest.TestCase):
         with Meter() as meter:
             connection = meter.connect()
         uses: tuple[Callable[[], object], ...] = (
-            meter.connect, meter.external, lambda: meter.advance(1), lambda: meter.set_input(1, 1))
+            meter.connect,
+            meter.external,
+            lambda: meter.advance(1),
+            lambda: meter.set_input(1, 1),
+        )
         for use in uses:
-            with self.subTest(use), self.assertRaisesRegex(ConnectionError, "is closed: its `with` block ended"):
+            with self.subTest(use), self.assertRaisesRegex(
+                ConnectionError, "is closed: its `with` block ended"
+            ):
                 use()
         with self.assertRaisesRegex(ConnectionError, "the meter is closed"), meter:
             meter.connect()
@@ -155,14 +234,25 @@ class Off(unittest.TestCase):
         with Meter() as meter:
             meter._replay.program.process.kill()
             self.assertRaisesRegex(ProgramError, "^the program ended by signal 9", meter.connect)
-        self.assertRaisesRegex(ProgramError, "ended before: the program ended by signal 9", meter.connect)
+        self.assertRaisesRegex(
+            ProgramError, "ended before: the program ended by signal 9", meter.connect
+        )
 
     def test_a_fork(self) -> None:
         """It is told at once, warns of nothing, and leaves the meter to the process that made it."""
-        done = subprocess.run([sys.executable, "-W", "always", "-c", FORKS], cwd=TOP, stdout=subprocess.PIPE,
-                              stderr=subprocess.STDOUT, text=True, timeout=60)
-        self.assertRegex(done.stdout, "^ProgramError: this process was forked from .*; make a meter in each process "
-                                      f"that uses one\n5 {IDENTITY}\n$")
+        done = subprocess.run(
+            [sys.executable, "-W", "always", "-c", FORKS],
+            cwd=TOP,
+            stdout=subprocess.PIPE,
+            stderr=subprocess.STDOUT,
+            text=True,
+            timeout=60,
+        )
+        self.assertRegex(
+            done.stdout,
+            "^ProgramError: this process was forked from .*; make a meter in each process "
+            f"that uses one\n5 {IDENTITY}\n$",
+        )
 
 
 if __name__ == "__main__":

@@ -45,7 +45,14 @@ class InABrowser(WithPanel):
         """Nothing came on the console, and nothing was asked for elsewhere."""
         # what a test asked for in vain
         self.assertEqual([one for one in page.faults() if "status of 40" not in one], [])
-        self.assertEqual([one for one in page.requests() if not one.startswith(f"http://127.0.0.1:{self.panel.port}/")], [])
+        self.assertEqual(
+            [
+                one
+                for one in page.requests()
+                if not one.startswith(f"http://127.0.0.1:{self.panel.port}/")
+            ],
+            [],
+        )
 
     # knobs
     def test_a_voltage_is_the_next_reading(self) -> None:
@@ -61,26 +68,32 @@ class InABrowser(WithPanel):
         page.wait("tiles[2].querySelector('.v').textContent == '+2.5000'")
         page.run("document.getElementById('volts').value = '1000.1'")
         page.click("#set")
-        page.wait("document.getElementById('said').textContent.startsWith('a voltage is a number of volts')")
+        page.wait(
+            "document.getElementById('said').textContent.startsWith('a voltage is a number of volts')"
+        )
         self.assertEqual(link.query("MEAS:VOLT? (@3)"), "+2.500000")
 
     def test_a_slider_that_is_moved(self) -> None:
         page, link = self.page(), self.link()
         page.click("#tiles .tile:nth-child(17)")
-        left, top, wide, high = page.run("(() => { const r = document.getElementById('slider').getBoundingClientRect(); "
-                                         "return [r.left, r.top, r.width, r.height]; })()")
+        left, top, wide, high = page.run(
+            "(() => { const r = document.getElementById('slider').getBoundingClientRect(); "
+            "return [r.left, r.top, r.width, r.height]; })()"
+        )
         page.mouse("mousePressed", left + wide / 2, top + high / 2)
-        for part in (.55, .6, .65, .7, .75):
+        for part in (0.55, 0.6, 0.65, 0.7, 0.75):
             page.mouse("mouseMoved", left + wide * part, top + high / 2)
-        page.mouse("mouseReleased", left + wide * .75, top + high / 2)
-        page.wait("!sending && document.getElementById('said').textContent.startsWith('channel 17')")
+        page.mouse("mouseReleased", left + wide * 0.75, top + high / 2)
+        page.wait(
+            "!sending && document.getElementById('said').textContent.startsWith('channel 17')"
+        )
         wanted = float(page.run("document.getElementById('slider').value"))
         self.assertGreater(wanted, 4)
         page.wait(f"channelOf(17).input == {wanted!r}")
         self.assertEqual(float(link.query("MEAS:VOLT? (@17)")), wanted)
         page.key("ArrowRight")
         page.wait(f"!sending && channelOf(17).input > {wanted!r}")
-        self.assertAlmostEqual(float(link.query("MEAS:VOLT? (@17)")), wanted + .01)
+        self.assertAlmostEqual(float(link.query("MEAS:VOLT? (@17)")), wanted + 0.01)
 
     def test_the_external_trigger(self) -> None:
         page, link = self.page(), self.link()
@@ -93,7 +106,9 @@ class InABrowser(WithPanel):
 
     def test_without_a_token(self) -> None:
         page = self.page(token=False)
-        page.wait("document.getElementById('alarm').textContent.startsWith('This address has no token')")
+        page.wait(
+            "document.getElementById('alarm').textContent.startsWith('This address has no token')"
+        )
         for name in ("set", "slider", "external", "volts", "zero"):
             self.assertTrue(page.run(f"document.getElementById('{name}').disabled"), name)
         self.assertEqual(page.run("send('/inputs/3', '1')"), False)
@@ -108,7 +123,7 @@ class InABrowser(WithPanel):
             page.run(f"fetch('{inputs}', {{method: 'POST', body: '1'{how}}}).catch(() => 0)")
             page.run(f"fetch('{external}', {{method: 'POST'{how}}}).catch(() => 0)")
         page.run(f"document.body.innerHTML = '<iframe src=\"{address}\"></iframe>'")
-        time.sleep(.5)
+        time.sleep(0.5)
         self.assertEqual(self.state()["happened"], 0)
 
     # what is shown
@@ -120,14 +135,20 @@ class InABrowser(WithPanel):
             took.append(page.wait(LIT % ("STB", "RQS")))
             link.write("*CLS")
             took.append(page.wait("!" + LIT % ("STB", "RQS")))
-        self.assertLess(sorted(took)[len(took) // 2], within(.2), took)
-        self.assertTrue(page.run("document.querySelector('[data-lamp=STB][data-bit=RQS]').ariaLabel.endsWith('off')"))
+        self.assertLess(sorted(took)[len(took) // 2], within(0.2), took)
+        self.assertTrue(
+            page.run(
+                "document.querySelector('[data-lamp=STB][data-bit=RQS]').ariaLabel.endsWith('off')"
+            )
+        )
 
     def test_a_bit_that_is_gone_at_once_flashes(self) -> None:
         page, link = self.page(), self.link()
-        page.run("window.flashes = 0; "
-                 "new MutationObserver(all => all.forEach(one => { if (one.target.classList.contains('flash')) flashes++; }))"
-                 ".observe(document.querySelector('[data-lamp=STB][data-bit=MAV]'), {attributeFilter: ['class']})")
+        page.run(
+            "window.flashes = 0; "
+            "new MutationObserver(all => all.forEach(one => { if (one.target.classList.contains('flash')) flashes++; }))"
+            ".observe(document.querySelector('[data-lamp=STB][data-bit=MAV]'), {attributeFilter: ['class']})"
+        )
         link.query("*IDN?")
         page.wait("flashes > 0 || " + LIT % ("STB", "MAV"))
 
@@ -137,9 +158,15 @@ class InABrowser(WithPanel):
         other.lock_timeout = 60000
         waiting = threading.Thread(target=other.lock)
         waiting.start()
-        page.wait("document.getElementById('waits').textContent.includes('c1 link 2 lock waits for the lock')")
-        page.wait("document.getElementById('waits').textContent.includes('link 1 (c0) holds it since')")
-        page.wait("document.getElementById('links-now').textContent.includes('link 1holds the lock')")
+        page.wait(
+            "document.getElementById('waits').textContent.includes('c1 link 2 lock waits for the lock')"
+        )
+        page.wait(
+            "document.getElementById('waits').textContent.includes('link 1 (c0) holds it since')"
+        )
+        page.wait(
+            "document.getElementById('links-now').textContent.includes('link 1holds the lock')"
+        )
         page.wait("document.querySelector('[data-mark=LOCK]').classList.contains('on')")
         one.unlock()
         waiting.join()
@@ -155,12 +182,22 @@ class InABrowser(WithPanel):
         self.assertEqual(out, [False, True, True, True, False])
         marks = page.run("tiles.slice(1, 4).map(one => one.querySelector('b').textContent)")
         self.assertEqual(marks, ["\u25b2", "\u25bc", "OVL"])
-        self.assertEqual(page.run("document.getElementById('limits').textContent"), "\u22125 V to 5 V")
-        self.assertEqual(page.run("tiles.slice(0, 5).map(one => one.classList.contains('listed'))"), [True] * 4 + [False])
+        self.assertEqual(
+            page.run("document.getElementById('limits').textContent"), "\u22125 V to 5 V"
+        )
+        self.assertEqual(
+            page.run("tiles.slice(0, 5).map(one => one.classList.contains('listed'))"),
+            [True] * 4 + [False],
+        )
 
     def test_hostile_bytes(self) -> None:
         page, link = self.page(), self.link()
-        for text in ("<img src=x onerror=alert(1)>", "</script><script>alert(1)</script>", "<!--<script>", "{{DATA}}"):
+        for text in (
+            "<img src=x onerror=alert(1)>",
+            "</script><script>alert(1)</script>",
+            "<!--<script>",
+            "{{DATA}}",
+        ):
             link.write(text)
         page.wait("document.getElementById('log').textContent.includes('{{DATA}}')")
         page.click("[data-tab=session]")
@@ -194,11 +231,13 @@ class InABrowser(WithPanel):
         link.write("FOO")
         page.wait(LIT % ("ESR", "CME"))
         kill(self.watch.server.process.pid)
-        page.wait("document.getElementById('alarm').textContent == 'The server was ended by signal 9.'", 3)
+        page.wait(
+            "document.getElementById('alarm').textContent == 'The server was ended by signal 9.'", 3
+        )
         self.assertTrue(page.run("document.getElementById('set').disabled"))
-        self.assertTrue(page.run(LIT % ("ESR", "CME")))     # what was last is still shown
+        self.assertTrue(page.run(LIT % ("ESR", "CME")))  # what was last is still shown
         first = page.run("document.getElementById('clock').textContent")
-        time.sleep(.3)
+        time.sleep(0.3)
         self.assertEqual(page.run("document.getElementById('clock').textContent"), first)
         page.reload()
         page.wait("state && document.getElementById('life').textContent == 'ended'", 20)
@@ -206,7 +245,9 @@ class InABrowser(WithPanel):
     def test_a_server_that_is_stopped_is_said(self) -> None:
         page = self.page()
         stop(self.watch.server.process.pid)
-        page.wait("document.getElementById('alarm').textContent == \"The server doesn't answer.\"", 5)
+        page.wait(
+            "document.getElementById('alarm').textContent == \"The server doesn't answer.\"", 5
+        )
         os.kill(self.watch.server.process.pid, signal.SIGCONT)
         page.wait("document.getElementById('alarm').hidden", 5)
 
@@ -214,7 +255,8 @@ class InABrowser(WithPanel):
         page = self.page()
         shown, passed = page.run(
             "(async () => { const at = () => [+$('clock').textContent.replace(/,/g, ''), performance.now()], first = at(); "
-            "await new Promise(done => setTimeout(done, 1500)); const last = at(); return last.map((one, k) => one - first[k]); })()")
+            "await new Promise(done => setTimeout(done, 1500)); const last = at(); return last.map((one, k) => one - first[k]); })()"
+        )
         self.assertAlmostEqual(shown, passed, delta=300)
 
     # the session
@@ -229,14 +271,22 @@ class InABrowser(WithPanel):
         self.followed(page, link)
         link.write("*CLS")
         page.wait("document.getElementById('table').textContent.includes('*CLS')", 5)
-        self.assertTrue(page.run("selected == N - 1 && document.querySelectorAll('#svg rect').length > 20"))
-        self.assertTrue(page.run("(t => t.scrollTop + t.clientHeight >= t.scrollHeight - 2)(document.getElementById('table'))"))
+        self.assertTrue(
+            page.run("selected == N - 1 && document.querySelectorAll('#svg rect').length > 20")
+        )
+        self.assertTrue(
+            page.run(
+                "(t => t.scrollTop + t.clientHeight >= t.scrollHeight - 2)(document.getElementById('table'))"
+            )
+        )
 
     def test_stopped_it_says_what_would_end_a_wait(self) -> None:
         page, link = self.page(), self.link()
         link.write("TRIG:SOUR EXT;:INIT;*OPC?")
         page.click("[data-tab=session]")
-        page.wait("document.getElementById('ending').textContent.includes('every device_write and device_read will wait')")
+        page.wait(
+            "document.getElementById('ending').textContent.includes('every device_write and device_read will wait')"
+        )
         self.assertNotIn("would end it", page.run("document.getElementById('ending').textContent"))
         # while it asks
         page.run("(asking = true, $('follow').click(), asking = false, wholeNext && ask(true))")
@@ -249,17 +299,21 @@ class InABrowser(WithPanel):
         page.click("#follow")
         page.wait("document.getElementById('follow').textContent == 'stopped' && !asking")
         link.write("*ESE 8")
-        time.sleep(.8)
-        self.assertFalse(page.run("document.getElementById('table').textContent.includes('*ESE 8')"))
+        time.sleep(0.8)
+        self.assertFalse(
+            page.run("document.getElementById('table').textContent.includes('*ESE 8')")
+        )
         page.click("#find")
         page.type("*sre")
         shown = "[...$('table').children].filter(one => one.style.display != 'none').map(one => one.textContent)"
         self.assertEqual(len(page.run(shown)), 1)
-        page.run("pick(lanes.find(one => one.id == 'poll.6').H.slice(-1)[0][0], lanes.find(one => one.id == 'poll.6'))")
+        page.run(
+            "pick(lanes.find(one => one.id == 'poll.6').H.slice(-1)[0][0], lanes.find(one => one.id == 'poll.6'))"
+        )
         self.assertIn("error -113", page.run("document.getElementById('chain').textContent"))
         page.click("#follow")
         page.wait("document.getElementById('table').textContent.includes('*ESE 8')", 5)
-        self.assertEqual(len(page.run(shown)), 1)       # the filter stays
+        self.assertEqual(len(page.run(shown)), 1)  # the filter stays
 
     def test_it_fits(self) -> None:
         for wide in (1000, 1400):
@@ -267,8 +321,12 @@ class InABrowser(WithPanel):
             self.followed(page, link)
             for tab in ("session", "front"):
                 page.click(f"[data-tab={tab}]")
-                self.assertTrue(page.run("document.documentElement.scrollWidth <= innerWidth"), (wide, tab))
-            values = page.run("[...document.querySelectorAll('.tile .v')].map(one => [one.scrollWidth, one.clientWidth])")
+                self.assertTrue(
+                    page.run("document.documentElement.scrollWidth <= innerWidth"), (wide, tab)
+                )
+            values = page.run(
+                "[...document.querySelectorAll('.tile .v')].map(one => [one.scrollWidth, one.clientWidth])"
+            )
             self.assertEqual([one for one in values if one[0] > one[1] + 1], [])
 
 

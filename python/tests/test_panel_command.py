@@ -23,7 +23,10 @@ PANEL = [sys.executable, "-m", "scanvolt.panel"]
 
 def children_of(number: int) -> list[int]:
     """The processes that a process started."""
-    return [int(one) for one in pathlib.Path(f"/proc/{number}/task/{number}/children").read_text().split()]
+    return [
+        int(one)
+        for one in pathlib.Path(f"/proc/{number}/task/{number}/children").read_text().split()
+    ]
 
 
 class Command(unittest.TestCase):
@@ -36,7 +39,9 @@ class Command(unittest.TestCase):
 
     def start(self, *words: str) -> subprocess.Popen[str]:
         """Starts a panel."""
-        found = subprocess.Popen([*PANEL, *words], cwd=TOP, stdout=subprocess.PIPE, stderr=subprocess.PIPE, text=True)
+        found = subprocess.Popen(
+            [*PANEL, *words], cwd=TOP, stdout=subprocess.PIPE, stderr=subprocess.PIPE, text=True
+        )
         self.addCleanup(found.communicate)
         self.addCleanup(kill, found.pid)
         return found
@@ -82,23 +87,46 @@ class Command(unittest.TestCase):
         scenario, record = self.folder / "stand.scenario", self.folder / "session.replay"
         scenario.write_text("0 input 3 2500000\n20 external\n")
         port, core, abort = free_ports(3)
-        panel = self.start("--port", str(port), "--core", str(core), "--abort", str(abort), "--scenario", str(scenario),
-                           "--record", str(record))
+        panel = self.start(
+            "--port",
+            str(port),
+            "--core",
+            str(core),
+            "--abort",
+            str(abort),
+            "--scenario",
+            str(scenario),
+            "--record",
+            str(record),
+        )
         address, ports = self.told(panel)
-        self.assertEqual((ports[:2], address.partition("/?")[0]), ([core, abort], f"http://127.0.0.1:{port}"))
+        self.assertEqual(
+            (ports[:2], address.partition("/?")[0]), ([core, abort], f"http://127.0.0.1:{port}")
+        )
         control = Control(ports[3])
         control.set_input(4, 1)
         control.close()
-        time.sleep(.3)
+        time.sleep(0.3)
         panel.send_signal(signal.SIGTERM)
         self.assertEqual(panel.wait(10), 0)
         text = re.sub("tick [0-9]+\n", "", record.read_text())
-        self.assertEqual(sorted(text.splitlines()), ["external", "input 3 2500000", "input 4 1000000"])
+        self.assertEqual(
+            sorted(text.splitlines()), ["external", "input 3 2500000", "input 4 1000000"]
+        )
 
     def test_bad_words(self) -> None:
-        for words in (["--port", "65536"], ["--core", "x"], ["--abort", "-1"], ["--control", "\u0662"], ["--portmap", "4.0"]):
+        for words in (
+            ["--port", "65536"],
+            ["--core", "x"],
+            ["--abort", "-1"],
+            ["--control", "\u0662"],
+            ["--portmap", "4.0"],
+        ):
             told = self.fault(*words).replace("\\u0662", "\u0662")
-            self.assertEqual(told, f"python3 -m scanvolt.panel: not a port, 1 to 65535, or 0 for a free one: {words[1]}")
+            self.assertEqual(
+                told,
+                f"python3 -m scanvolt.panel: not a port, 1 to 65535, or 0 for a free one: {words[1]}",
+            )
         self.assertIn("neither an option nor CHANNELS=SHAPE: file", self.fault("file"))
         self.assertIn("and not from both", self.fault("1=1", "--scenario", "x"))
 
@@ -108,26 +136,50 @@ class Command(unittest.TestCase):
         ports = self.told(self.start("1=1.25", "2:3=-0.5", "--port", "0"))[1]
         with Client(port=ports[0]) as client, client.create_link() as link:
             self.assertEqual(link.query("MEAS:VOLT? (@1:3)"), "+1.250000,-0.500000,-0.500000")
-        self.assertEqual(set(pathlib.Path(tempfile.gettempdir()).glob("scanvolt-*.scenario")) - before, set())
+        self.assertEqual(
+            set(pathlib.Path(tempfile.gettempdir()).glob("scanvolt-*.scenario")) - before, set()
+        )
 
     def test_what_can_not_be_done(self) -> None:
         bad = self.folder / "bad.scenario"
         bad.write_text("0 input 1 1.5\n")
-        self.assertRegex(self.fault("--scenario", str(bad)), "^python3 -m scanvolt.panel: bad line 1 of the scenario")
-        self.assertEqual(self.fault("--scenario", "none"), "python3 -m scanvolt.panel: none: No such file or directory")
-        self.assertEqual(self.fault("--record", "/no/file"), "python3 -m scanvolt.panel: /no/file: No such file or directory")
+        self.assertRegex(
+            self.fault("--scenario", str(bad)),
+            "^python3 -m scanvolt.panel: bad line 1 of the scenario",
+        )
+        self.assertEqual(
+            self.fault("--scenario", "none"),
+            "python3 -m scanvolt.panel: none: No such file or directory",
+        )
+        self.assertEqual(
+            self.fault("--record", "/no/file"),
+            "python3 -m scanvolt.panel: /no/file: No such file or directory",
+        )
         self.assertRegex(self.fault("--program", "/bin/false"), "/bin/false isn't scanvolt")
         panel = self.start()
         address, ports = self.told(panel)
         told = self.fault("--core", str(ports[0]))
-        self.assertRegex(told, f"^python3 -m scanvolt.panel: port {ports[0]} is in use by process [0-9]+, ")
-        self.assertRegex(self.fault("--port", re.findall(":([0-9]+)/", address)[0]), "port [0-9]+: Address already in use$")
+        self.assertRegex(
+            told, f"^python3 -m scanvolt.panel: port {ports[0]} is in use by process [0-9]+, "
+        )
+        self.assertRegex(
+            self.fault("--port", re.findall(":([0-9]+)/", address)[0]),
+            "port [0-9]+: Address already in use$",
+        )
         self.assertTrue(is_there(panel.pid))
 
     def test_help(self) -> None:
-        done = subprocess.run([*PANEL, "--help"], cwd=TOP, capture_output=True, text=True, timeout=60)
+        done = subprocess.run(
+            [*PANEL, "--help"], cwd=TOP, capture_output=True, text=True, timeout=60
+        )
         self.assertEqual(done.returncode, 0)
-        for word in ("--record FILE", "GET /state", "POST /inputs/3", "POST /external", "Status: 0; or 2"):
+        for word in (
+            "--record FILE",
+            "GET /state",
+            "POST /inputs/3",
+            "POST /external",
+            "Status: 0; or 2",
+        ):
             self.assertIn(word, done.stdout)
 
 

@@ -28,8 +28,14 @@ class Telling:
         self.front.settle(self._all())
 
     def _all(self) -> int:
-        done = subprocess.run([find_program(), "explain"], input="\n".join(self.script) + "\n", capture_output=True, text=True,
-                              check=True, timeout=60)
+        done = subprocess.run(
+            [find_program(), "explain"],
+            input="\n".join(self.script) + "\n",
+            capture_output=True,
+            text=True,
+            check=True,
+            timeout=60,
+        )
         for line in done.stdout.splitlines():
             if line.startswith("@ end"):
                 return int(line.split()[2])
@@ -53,35 +59,93 @@ class Same(unittest.TestCase):
         for label, name in BYTES:
             self.assertEqual(found["registers"][label]["value"], value(name), label)
         for register in ("oper", "ques", "lim"):
-            for part, word in (("cond", "condition"), ("event", "event"), ("enable", "enable"), ("ptr", "ptr"), ("ntr", "ntr")):
-                self.assertEqual(found["registers"][register.upper()][word]["value"], value(f"{register}.{part}"))
+            for part, word in (
+                ("cond", "condition"),
+                ("event", "event"),
+                ("enable", "enable"),
+                ("ptr", "ptr"),
+                ("ntr", "ntr"),
+            ):
+                self.assertEqual(
+                    found["registers"][register.upper()][word]["value"], value(f"{register}.{part}")
+                )
         errors = value("errors")
-        self.assertEqual([one["number"] for one in found["errors"]], list(errors if isinstance(errors, tuple) else ()))
+        self.assertEqual(
+            [one["number"] for one in found["errors"]],
+            list(errors if isinstance(errors, tuple) else ()),
+        )
         self.assertEqual(found["scan"]["state"], value("state"))
         self.assertEqual(found["scan"]["readings"], value("readings"))
         self.assertEqual(found["lost"], value("lost"))
         self.assertEqual(found["lock"]["link"] if found["lock"] else "none", value("lock"))
-        self.assertEqual([(one["connection"], one["link"], one["call"], one["since"], one["until"]) for one in found["waits"]],
-                         sorted(((call.conn, call.waits[-1].link, call.words, call.waits[-1].begin.moment.clock,
-                                  call.waits[-1].deadline) for call in story.waiting()), key=lambda one: (one[3], one[0])))
-        links = {int(name[5:]): int(str(change[-1].new)[1:]) for name, change in story.lines.history.items()
-                 if name.startswith("link.") and change[-1].new != "none"}
+        self.assertEqual(
+            [
+                (one["connection"], one["link"], one["call"], one["since"], one["until"])
+                for one in found["waits"]
+            ],
+            sorted(
+                (
+                    (
+                        call.conn,
+                        call.waits[-1].link,
+                        call.words,
+                        call.waits[-1].begin.moment.clock,
+                        call.waits[-1].deadline,
+                    )
+                    for call in story.waiting()
+                ),
+                key=lambda one: (one[3], one[0]),
+            ),
+        )
+        links = {
+            int(name[5:]): int(str(change[-1].new)[1:])
+            for name, change in story.lines.history.items()
+            if name.startswith("link.") and change[-1].new != "none"
+        }
         self.assertEqual({one["link"]: one["connection"] for one in found["links"]}, links)
         if story.lines.steps and value("held") != "none":
             held = story.held_at(story.lines.steps[-1])
         else:
             held = None
         self.assertEqual(found["message"]["held"], None if held is None else held.text.decode())
-        for name in ("poll", "esr", "oper.event", "ques.event", "lim.event", "oper.cond", "ques.cond", "lim.cond"):
+        for name in (
+            "poll",
+            "esr",
+            "oper.event",
+            "ques.event",
+            "lim.event",
+            "oper.cond",
+            "ques.cond",
+            "lim.cond",
+        ):
             where, _, part = name.partition(".")
             told_of = found["registers"][{"poll": "STB"}.get(where, where.upper())]
             told_of = told_of[{"cond": "condition"}.get(part, part)] if part else told_of
-            rises = {bit: sum(1 for change in story.lines.history.get(name, ())
-                              if as_number(change.new) & ~as_number(change.old) & 1 << bit) for bit in range(16)}
-            self.assertEqual(sorted(told_of["rises"].values()), sorted(count for bit, count in rises.items() if count), name)
-            self.assertEqual(len(told_of["bits"]), bin(known(name, as_number(value(name)))).count("1"))
-        self.assertEqual(found["happened"], sum(1 for one in story.calls if one.ended) + sum(
-            1 for one in story.moments if one.kind in ("input", "external") and one.refused is None))
+            rises = {
+                bit: sum(
+                    1
+                    for change in story.lines.history.get(name, ())
+                    if as_number(change.new) & ~as_number(change.old) & 1 << bit
+                )
+                for bit in range(16)
+            }
+            self.assertEqual(
+                sorted(told_of["rises"].values()),
+                sorted(count for bit, count in rises.items() if count),
+                name,
+            )
+            self.assertEqual(
+                len(told_of["bits"]), bin(known(name, as_number(value(name)))).count("1")
+            )
+        self.assertEqual(
+            found["happened"],
+            sum(1 for one in story.calls if one.ended)
+            + sum(
+                1
+                for one in story.moments
+                if one.kind in ("input", "external") and one.refused is None
+            ),
+        )
         return found
 
     def test_random_sessions(self) -> None:
@@ -99,8 +163,13 @@ class Same(unittest.TestCase):
     def test_why_it_waits(self) -> None:
         found = self.same(explained("hang").script)
         self.assertEqual([one["for"] for one in found["waits"]], ["a response"])
-        self.assertEqual(found["waits"][0]["because"], [
-            "unit `*OPC?` of c0 waits until the scan is idle, since 0 ms", "the scan waits for an EXTernal trigger, scan 2 of 4"])
+        self.assertEqual(
+            found["waits"][0]["because"],
+            [
+                "unit `*OPC?` of c0 waits until the scan is idle, since 0 ms",
+                "the scan waits for an EXTernal trigger, scan 2 of 4",
+            ],
+        )
 
     def test_who_holds_the_lock(self) -> None:
         with Meter() as meter:
@@ -111,9 +180,18 @@ class Same(unittest.TestCase):
             start(other, other.calls.write(b"*IDN?"))
             script = meter._replay.script()
         wait = self.same(script)["waits"][0]
-        self.assertEqual(wait, {
-            "connection": 1, "link": 2, "call": 'device_write "*IDN?"', "for": "the lock", "since": 5, "until": 105,
-            "because": ["link 1 (c0) holds it since 5 ms"]})
+        self.assertEqual(
+            wait,
+            {
+                "connection": 1,
+                "link": 2,
+                "call": 'device_write "*IDN?"',
+                "for": "the lock",
+                "since": 5,
+                "until": 105,
+                "because": ["link 1 (c0) holds it since 5 ms"],
+            },
+        )
 
 
 class Shown(unittest.TestCase):
@@ -133,9 +211,15 @@ class Shown(unittest.TestCase):
             script: list[str] = [*meter._replay.script(), "input 129 5", "input 5 1000000001"]
         found = {one["channel"]: one for one in self.state(script)["channels"]}
         keys = ("input", "reading", "is", "listed", "clock")
-        self.assertEqual([(number, *(one[key] for key in keys)) for number, one in found.items()], [
-            (1, 1.25, 1.25, "inside", True, 1), (2, 1, -7.5, "below", True, 2), (3, 12, "+over", "overload", True, 3),
-            (4, -0.000001, -0.000001, "inside", True, 4)])
+        self.assertEqual(
+            [(number, *(one[key] for key in keys)) for number, one in found.items()],
+            [
+                (1, 1.25, 1.25, "inside", True, 1),
+                (2, 1, -7.5, "below", True, 2),
+                (3, 12, "+over", "overload", True, 3),
+                (4, -0.000001, -0.000001, "inside", True, 4),
+            ],
+        )
 
     def test_what_happened(self) -> None:
         with Meter() as meter:
@@ -147,10 +231,16 @@ class Shown(unittest.TestCase):
             meter.external()
             script = meter._replay.script()
         log = self.state(script)["log"]
-        self.assertEqual([(one["who"], one["what"], one["reply"], one["times"]) for one in log], [
-            ("input", "EXTernal trigger", "", 1), ("input", "input 7 = -0.25 V", "", 1),
-            ("c0 link 1", 'device_write "FOO"', "3 bytes", 1), ("c0 link 1", "device_readstb", "0", 5),
-            ("c0", 'create_link "inst0"', "link 1", 1)])
+        self.assertEqual(
+            [(one["who"], one["what"], one["reply"], one["times"]) for one in log],
+            [
+                ("input", "EXTernal trigger", "", 1),
+                ("input", "input 7 = -0.25 V", "", 1),
+                ("c0 link 1", 'device_write "FOO"', "3 bytes", 1),
+                ("c0 link 1", "device_readstb", "0", 5),
+                ("c0", 'create_link "inst0"', "link 1", 1),
+            ],
+        )
 
     def test_a_session_of_any_length(self) -> None:
         with Meter() as meter:
@@ -169,12 +259,13 @@ class Shown(unittest.TestCase):
                     link.write(message)
                 meter.advance(milliseconds)
                 return Telling(meter._replay.script()).front.is_due()
+
         self.assertFalse(is_due("*IDN?"))
         self.assertTrue(is_due("CONF:VOLT (@1:3);:INIT"))
         self.assertTrue(is_due("CONF:VOLT (@1:3);:INIT", milliseconds=2))
         self.assertFalse(is_due("CONF:VOLT (@1:3);:INIT", milliseconds=3))
         self.assertFalse(is_due("TRIG:SOUR EXT;:INIT"))
-        self.assertTrue(Telling(explained("hang").script).front.is_due())      # the read's timeout
+        self.assertTrue(Telling(explained("hang").script).front.is_due())  # the read's timeout
 
 
 if __name__ == "__main__":

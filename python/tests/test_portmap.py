@@ -18,7 +18,7 @@ from scanvolt.vxi11 import Reader, Records, calls, encode_reply, read_call, word
 
 PACKAGE = pathlib.Path(portmap.__file__).resolve().parents[1]
 ENVIRONMENT = dict(os.environ, PYTHONPATH=str(PACKAGE), PYTHONDONTWRITEBYTECODE="1")
-PATIENCE = 20       # seconds
+PATIENCE = 20  # seconds
 # If these tests were started in the background, signals may still be ignored.
 COMMAND = """import signal, sys
 from scanvolt import portmap
@@ -57,12 +57,18 @@ class Mapper(threading.Thread):
             for record in records.push(data):
                 call = read_call(record.body)
                 reader = Reader(call.arguments)
-                peer.sendall(encode_reply(call.xid, words(self.answer(call.procedure, *(
-                    reader.word() for _ in range(4))))))
+                peer.sendall(
+                    encode_reply(
+                        call.xid,
+                        words(self.answer(call.procedure, *(reader.word() for _ in range(4)))),
+                    )
+                )
 
     def answer(self, procedure: int, program: int, version: int, protocol: int, port: int) -> int:
         """The result of a call, by RFC 1833, section 3.2."""
-        self.asked.append((calls.name_of(calls.PORT_MAPPER, procedure), str(version), str(protocol)))
+        self.asked.append(
+            (calls.name_of(calls.PORT_MAPPER, procedure), str(version), str(protocol))
+        )
         if procedure == calls.GETPORT:
             return self.programs.get(program, 0)
         if procedure == calls.UNSET:
@@ -90,8 +96,9 @@ class Registering(unittest.TestCase):
     def running(self, port: int, *given: str) -> Iterator[subprocess.Popen[str]]:
         """Runs the command during a `with` block, and ends it then."""
         command = [sys.executable, "-c", COMMAND, "--port", str(port), *given]
-        with subprocess.Popen(command, env=ENVIRONMENT, stdout=subprocess.PIPE, stderr=subprocess.PIPE,
-                              text=True) as process:
+        with subprocess.Popen(
+            command, env=ENVIRONMENT, stdout=subprocess.PIPE, stderr=subprocess.PIPE, text=True
+        ) as process:
             try:
                 yield process
             finally:
@@ -109,8 +116,12 @@ class Registering(unittest.TestCase):
             mapper = self.mapper()
             with self.running(mapper.port, "--core", "5096", "--interrupt", "5098") as process:
                 assert process.stdout is not None
-                self.assertEqual(process.stdout.readline(), "ready: core 5096, abort 4097, interrupt 5098\n")
-                self.assertEqual(mapper.programs, {calls.CORE: 5096, calls.ABORT: 4097, calls.INTERRUPT: 5098})
+                self.assertEqual(
+                    process.stdout.readline(), "ready: core 5096, abort 4097, interrupt 5098\n"
+                )
+                self.assertEqual(
+                    mapper.programs, {calls.CORE: 5096, calls.ABORT: 4097, calls.INTERRUPT: 5098}
+                )
                 self.assertIn(("SET", "1", str(calls.TCP)), mapper.asked)
                 process.send_signal(number)
                 self.assertEqual((process.wait(PATIENCE), process.communicate()), (0, ("", "")))
@@ -120,14 +131,22 @@ class Registering(unittest.TestCase):
         mapper = self.mapper(ABORT=7)
         status, reason = self.status(mapper.port)
         self.assertEqual((status, mapper.programs), (1, {calls.ABORT: 7}))
-        self.assertRegex(reason, f"^scanvolt-portmap: somebody else has registered the abort program, {calls.ABORT}, at port 7; "
-                         f"whoever did can unregister it by `rpcinfo -d {calls.ABORT} 1`")
+        self.assertRegex(
+            reason,
+            f"^scanvolt-portmap: somebody else has registered the abort program, {calls.ABORT}, at port 7; "
+            f"whoever did can unregister it by `rpcinfo -d {calls.ABORT} 1`",
+        )
 
     def test_a_port_mapper_that_refuses(self) -> None:
         mapper = self.mapper()
         mapper.refuses = [calls.ABORT]
-        self.assertEqual(self.status(mapper.port), (
-            2, "scanvolt-portmap: the port mapper refuses port 4097 of the abort program: run this as root"))
+        self.assertEqual(
+            self.status(mapper.port),
+            (
+                2,
+                "scanvolt-portmap: the port mapper refuses port 4097 of the abort program: run this as root",
+            ),
+        )
         self.assertEqual(mapper.programs, {})
 
     def test_no_port_mapper(self) -> None:
@@ -136,14 +155,19 @@ class Registering(unittest.TestCase):
         status, reason = self.status(port)
         self.assertEqual(status, 2)
         self.assertIn("no port mapper answers", reason)
-        self.assertIn(f"port {port} of 127.0.0.1 (Connection refused): is rpcbind there, and does it run?", reason)
+        self.assertIn(
+            f"port {port} of 127.0.0.1 (Connection refused): is rpcbind there, and does it run?",
+            reason,
+        )
 
     def test_something_else_listens_there(self) -> None:
         with socket.create_server(("127.0.0.1", 0)) as listener:
+
             def hang_up() -> None:
                 for _ in range(2):
                     with contextlib.suppress(OSError):
                         listener.accept()[0].close()
+
             threading.Thread(target=hang_up, daemon=True).start()
             status, reason = self.status(listener.getsockname()[1])
         self.assertEqual(status, 2)

@@ -62,8 +62,13 @@ class NothingLeft(unittest.TestCase):
 
     def leaves(self, how: signal.Signals | None, stopped: bool = False, text: str = "") -> None:
         """Ends a process that has started a server in a thread that has ended, by a signal or by its own end."""
-        child = subprocess.Popen([sys.executable, "-c", STARTS % (text if how else "sys.exit()")], cwd=TOP,
-                                 stdout=subprocess.PIPE, stderr=subprocess.DEVNULL, text=True)
+        child = subprocess.Popen(
+            [sys.executable, "-c", STARTS % (text if how else "sys.exit()")],
+            cwd=TOP,
+            stdout=subprocess.PIPE,
+            stderr=subprocess.DEVNULL,
+            text=True,
+        )
         assert child.stdout is not None
         number = int(child.stdout.readline())
         try:
@@ -103,8 +108,10 @@ class NothingLeft(unittest.TestCase):
         with script(OTHERWISE % (find_program(), WAITS % find_program())) as path:
             server = Server(program=path)
             noted, end = pathlib.Path(path + ".pid"), time.monotonic() + 10
-            while not (noted.exists() and noted.read_text().endswith("\n")) and time.monotonic() < end:
-                time.sleep(0.01)        # the program may be ready before the script notes its number
+            while (
+                not (noted.exists() and noted.read_text().endswith("\n")) and time.monotonic() < end
+            ):
+                time.sleep(0.01)  # the program may be ready before the script notes its number
             number = int(noted.read_text())
             self.assertTrue(is_there(number))
             try:
@@ -149,19 +156,27 @@ class NotReady(unittest.TestCase):
         return faults[0]
 
     def test_a_program_that_prints_nothing(self) -> None:
-        self.assertRegex(self.told("exec sleep 60"), "doesn't serve: it didn't print `ready` within 1 s$")
-        self.assertRegex(self.told("echo a bad day >&2\nexec sleep 60"),
-                         "doesn't serve: it didn't print `ready` within 1 s, but: a bad day$")
+        self.assertRegex(
+            self.told("exec sleep 60"), "doesn't serve: it didn't print `ready` within 1 s$"
+        )
+        self.assertRegex(
+            self.told("echo a bad day >&2\nexec sleep 60"),
+            "doesn't serve: it didn't print `ready` within 1 s, but: a bad day$",
+        )
         self.assertRegex(self.told("printf 'read'\nexec sleep 60"), "within 1 s, but: read$")
 
     def test_a_program_that_prints_something_else(self) -> None:
-        self.assertRegex(self.told("echo welcome\nexec sleep 60"), "doesn't serve: it printed: welcome$")
+        self.assertRegex(
+            self.told("echo welcome\nexec sleep 60"), "doesn't serve: it printed: welcome$"
+        )
 
     def test_a_program_that_ends(self) -> None:
         self.assertRegex(self.told("echo fault >&2; exit 3"), "doesn't serve: fault$")
         self.assertRegex(self.told("exit 3"), "doesn't serve: it ended with status 3$")
-        self.assertRegex(self.told("echo scanvolt: bad words >&2; exit 2"),
-                         "doesn't serve: scanvolt: bad words; `man scanvolt` has the words that it takes$")
+        self.assertRegex(
+            self.told("echo scanvolt: bad words >&2; exit 2"),
+            "doesn't serve: scanvolt: bad words; `man scanvolt` has the words that it takes$",
+        )
         self.assertRegex(self.told("kill -9 $$"), "doesn't serve: it ended by signal 9$")
 
 
@@ -182,7 +197,9 @@ class Scenarios(unittest.TestCase):
             self.assertIsNone(caught.exception.__context__)
             faults.append(str(caught.exception))
         self.assertEqual(faults[0], faults[1])
-        self.assertRegex(faults[1], f"^bad line 2 of the scenario {self.path}: a voltage is .*`1.5`$")
+        self.assertRegex(
+            faults[1], f"^bad line 2 of the scenario {self.path}: a voltage is .*`1.5`$"
+        )
 
     def test_one_that_cannot_be_read(self) -> None:
         for kind in Meter, Server:
@@ -193,7 +210,9 @@ class Scenarios(unittest.TestCase):
         """What the program says is told, if the package finds nothing wrong."""
         self.path.write_text("0 external\n")
         with script(OTHERWISE % (find_program(), "echo scanvolt: bad line 1 >&2; exit 2")) as path:
-            self.assertRaisesRegex(ProgramError, "doesn't serve: scanvolt: bad line 1$", Server, self.path, path)
+            self.assertRaisesRegex(
+                ProgramError, "doesn't serve: scanvolt: bad line 1$", Server, self.path, path
+            )
 
 
 if __name__ == "__main__":

@@ -17,8 +17,15 @@ from scanvolt.vxi11 import Client, DeviceError
 TEXT = pathlib.Path(__file__).resolve().parent.parent.joinpath("README.md").read_text()
 PIECES = re.findall(r"```python\n(.*?)```", TEXT, re.DOTALL)
 # What each piece has, in their order.
-TYPED = ("meter.clock == 2048", "import pyvisa", "import pytest", "meter.faults.next", "meter.threads(2)", "with Client(\"127",
-         "with Server(")
+TYPED = (
+    "meter.clock == 2048",
+    "import pyvisa",
+    "import pytest",
+    "meter.faults.next",
+    "meter.threads(2)",
+    'with Client("127',
+    "with Server(",
+)
 
 
 class Readme(unittest.TestCase):
@@ -30,7 +37,9 @@ class Readme(unittest.TestCase):
         for piece, words in zip(PIECES, TYPED):
             self.assertIn(words, piece)
         fenced = re.findall(r"^[ >]*```(.*?)\n(.*?)```", TEXT, re.DOTALL | re.MULTILINE)
-        self.assertEqual([mark for mark, piece in fenced if mark or "import" in piece], ["python"] * len(TYPED))
+        self.assertEqual(
+            [mark for mark, piece in fenced if mark or "import" in piece], ["python"] * len(TYPED)
+        )
 
     def test_virtual_time(self) -> None:
         exec(compile(PIECES[0], "README.md", "exec"), {})
@@ -75,7 +84,7 @@ class Readme(unittest.TestCase):
         with Server() as server:
             with Client(port=server.core) as died:
                 died.create_link().write("TRIG:SOUR EXT;:INIT;*OPC?")
-            piece = self.piece("with Client(\"127").replace("4111", str(server.port_mapper))
+            piece = self.piece('with Client("127').replace("4111", str(server.port_mapper))
             self.assertEqual(self.printed(piece), [(b"meter 1", 68)])
 
     def test_a_server_whose_inputs_change(self) -> None:

@@ -44,7 +44,10 @@ class Relayed(unittest.TestCase):
         self.relay.cut(after=3)
         with self.assertRaisesRegex(ConnectionError, "the connection ended within device_readstb"):
             link.readstb()
-        self.assertRegex(self.relay.told[0], "connection 0, towards the client: the relay ends the connection; 33 bytes")
+        self.assertRegex(
+            self.relay.told[0],
+            "connection 0, towards the client: the relay ends the connection; 33 bytes",
+        )
         with self.client() as again, again.create_link() as other:
             self.assertEqual(other.query("*IDN?"), IDN)
 
@@ -82,7 +85,9 @@ class Relayed(unittest.TestCase):
         link = client.create_link(io_timeout=0)
         client.patience = 0.3
         self.relay.drop(2, after=34)
-        self.assertRaisesRegex(ConnectionError, "no reply to device_readstb within 0.3 s", link.readstb)
+        self.assertRaisesRegex(
+            ConnectionError, "no reply to device_readstb within 0.3 s", link.readstb
+        )
         self.assertRegex(self.relay.told[0], "drops 2 bytes: [0-9a-f]{4}$")
 
     def test_drop_of_several_replies(self) -> None:
@@ -93,7 +98,10 @@ class Relayed(unittest.TestCase):
         self.relay.drop(40)
         self.assertRaises(ConnectionError, link.readstb)
         self.assertRaises(ConnectionError, self.client(0.3).create_link)
-        self.assertEqual([line.split("relay ")[1].split(":")[0] for line in self.relay.told], ["drops 36 bytes", "drops 4 bytes"])
+        self.assertEqual(
+            [line.split("relay ")[1].split(":")[0] for line in self.relay.told],
+            ["drops 36 bytes", "drops 4 bytes"],
+        )
 
     def test_orders_are_done_in_their_order(self) -> None:
         link = self.client().create_link()
@@ -101,14 +109,24 @@ class Relayed(unittest.TestCase):
         self.relay.cut(after=36)
         link.readstb()
         self.assertRaises(ConnectionError, link.readstb)
-        self.assertEqual([line.split("relay ")[1].split()[0] for line in self.relay.told], ["waits", "ends"])
+        self.assertEqual(
+            [line.split("relay ")[1].split()[0] for line in self.relay.told], ["waits", "ends"]
+        )
 
     def test_no_server(self) -> None:
-        with Relay(free_ports(1)[0]) as relay, socket.create_connection(("127.0.0.1", relay.port), 5) as one:
+        with Relay(free_ports(1)[0]) as relay, socket.create_connection(
+            ("127.0.0.1", relay.port), 5
+        ) as one:
             self.assertEqual(one.recv(1), b"")
 
     def test_what_cannot_be_ordered(self) -> None:
-        self.assertRaisesRegex(ValueError, "towards the client or the server, and not 'both'", self.relay.cut, 0, "both")
+        self.assertRaisesRegex(
+            ValueError,
+            "towards the client or the server, and not 'both'",
+            self.relay.cut,
+            0,
+            "both",
+        )
         self.assertRaisesRegex(ValueError, "drop wants a number of bytes", self.relay.drop, 0)
         self.assertRaisesRegex(TypeError, "delay wants milliseconds", self.relay.delay, 1.5)
         self.assertRaisesRegex(ValueError, "wants the port of a server", Relay, 0)

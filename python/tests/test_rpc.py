@@ -75,11 +75,16 @@ class Marks(unittest.TestCase):
         stream = data("00000002 6162 80000001 63", "80000000", "00000000 80000004 64656667")
         for size in range(1, len(stream) + 1):
             records = Records()
-            found = [one for start in range(0, len(stream), size)
-                     for one in records.push(stream[start:start + size])]
+            found = [
+                one
+                for start in range(0, len(stream), size)
+                for one in records.push(stream[start : start + size])
+            ]
             with self.subTest(size=size):
                 self.assertEqual([one.body for one in found], [b"abc", b"", b"defg"])
-                self.assertEqual([(one.start, one.end) for one in found], [(0, 11), (11, 15), (15, 27)])
+                self.assertEqual(
+                    [(one.start, one.end) for one in found], [(0, 11), (11, 15), (15, 27)]
+                )
 
     def test_an_unfinished_record(self) -> None:
         records = Records()
@@ -91,23 +96,38 @@ class Marks(unittest.TestCase):
 class Messages(unittest.TestCase):
     """RFC 5531, section 9."""
 
-    CALL = data("80000028", "12345678 00000000 00000002", "000607af 00000001 0000000a",
-                "00000000 00000000", "00000000 00000000")
+    CALL = data(
+        "80000028",
+        "12345678 00000000 00000002",
+        "000607af 00000001 0000000a",
+        "00000000 00000000",
+        "00000000 00000000",
+    )
     SUCCESS = "00000007 00000001 00000000 00000000 00000000 00000000"
 
     def test_a_call(self) -> None:
         self.assertEqual(encode_call(0x12345678, calls.CORE, 1, calls.CREATE_LINK), self.CALL)
-        self.assertEqual(encode_call(0x12345678, calls.CORE, 1, calls.CREATE_LINK, b"\0\0\0\1"),
-                         data("8000002c") + self.CALL[4:] + data("00000001"))
+        self.assertEqual(
+            encode_call(0x12345678, calls.CORE, 1, calls.CREATE_LINK, b"\0\0\0\1"),
+            data("8000002c") + self.CALL[4:] + data("00000001"),
+        )
 
     def test_a_call_that_came(self) -> None:
         found = read_call(self.CALL[4:] + b"\0\0\0\5")
-        self.assertEqual((found.xid, found.program, found.version, found.procedure, found.arguments),
-                         (0x12345678, calls.CORE, 1, calls.CREATE_LINK, b"\0\0\0\5"))
+        self.assertEqual(
+            (found.xid, found.program, found.version, found.procedure, found.arguments),
+            (0x12345678, calls.CORE, 1, calls.CREATE_LINK, b"\0\0\0\5"),
+        )
 
     def test_a_call_with_a_credential(self) -> None:
-        found = read_call(data("00000001 00000000 00000002 000607b1 00000001 0000001e",
-                               "00000001 00000005 6162636465 000000", "00000000 00000000", "aabbccdd"))
+        found = read_call(
+            data(
+                "00000001 00000000 00000002 000607b1 00000001 0000001e",
+                "00000001 00000005 6162636465 000000",
+                "00000000 00000000",
+                "aabbccdd",
+            )
+        )
         self.assertEqual(found.arguments, data("aabbccdd"))
 
     def test_what_is_no_call(self) -> None:
@@ -116,7 +136,9 @@ class Messages(unittest.TestCase):
                 read_call(body)
 
     def test_a_result(self) -> None:
-        self.assertEqual(read_reply(data(self.SUCCESS, "00000000 0000000f"), 7), data("00000000 0000000f"))
+        self.assertEqual(
+            read_reply(data(self.SUCCESS, "00000000 0000000f"), 7), data("00000000 0000000f")
+        )
 
     def test_a_reply(self) -> None:
         self.assertEqual(encode_reply(7, b"abcd"), data("8000001c", self.SUCCESS, "61626364"))
@@ -128,14 +150,21 @@ class Messages(unittest.TestCase):
 
     def test_refusals(self) -> None:
         accepted = "00000007 00000001 00000000 00000000 00000000"
-        for status, kind in ((1, ProgramUnavailable), (3, ProcedureUnavailable), (4, GarbageArguments),
-                             (5, SystemFault), (6, BadReply)):
+        for status, kind in (
+            (1, ProgramUnavailable),
+            (3, ProcedureUnavailable),
+            (4, GarbageArguments),
+            (5, SystemFault),
+            (6, BadReply),
+        ):
             with self.subTest(status), self.assertRaises(kind):
                 read_reply(data(accepted) + words(status), 7)
 
     def test_versions(self) -> None:
         with self.assertRaises(ProgramMismatch) as caught:
-            read_reply(data("00000007 00000001 00000000 00000000 00000000 00000002 00000001 00000003"), 7)
+            read_reply(
+                data("00000007 00000001 00000000 00000000 00000000 00000002 00000001 00000003"), 7
+            )
         self.assertEqual((caught.exception.low, caught.exception.high), (1, 3))
         with self.assertRaises(RpcMismatch) as denied:
             read_reply(data("00000007 00000001 00000001 00000000 00000002 00000002"), 7)
@@ -145,14 +174,26 @@ class Messages(unittest.TestCase):
         self.assertEqual(refused.exception.number, 5)
 
     def test_replies_that_refuse(self) -> None:
-        self.assertEqual(encode_refusal(7, rpc.PROG_MISMATCH, 1, 3), data(
-            "80000020", "00000007 00000001 00000000 00000000 00000000 00000002 00000001 00000003"))
-        self.assertEqual(encode_denial(7, rpc.RPC_MISMATCH, 2, 2), data(
-            "80000018", "00000007 00000001 00000001 00000000 00000002 00000002"))
+        self.assertEqual(
+            encode_refusal(7, rpc.PROG_MISMATCH, 1, 3),
+            data(
+                "80000020",
+                "00000007 00000001 00000000 00000000 00000000 00000002 00000001 00000003",
+            ),
+        )
+        self.assertEqual(
+            encode_denial(7, rpc.RPC_MISMATCH, 2, 2),
+            data("80000018", "00000007 00000001 00000001 00000000 00000002 00000002"),
+        )
 
     def test_what_is_no_reply(self) -> None:
-        for body in (b"", data(self.SUCCESS)[:23], self.CALL[4:], data("00000008") + data(self.SUCCESS)[4:],
-                     data("00000007 00000001 00000002")):
+        for body in (
+            b"",
+            data(self.SUCCESS)[:23],
+            self.CALL[4:],
+            data("00000008") + data(self.SUCCESS)[4:],
+            data("00000007 00000001 00000002"),
+        ):
             with self.subTest(body.hex()), self.assertRaises(BadReply):
                 read_reply(body, 7)
 

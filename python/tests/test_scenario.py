@@ -20,13 +20,38 @@ from scanvolt.virtual import Meter
 
 from .processes import TOP
 
-BAD = ("0 input 1 1.5", "0 input 1 1e3", "0 input 1 +5", "0 input 1 -", "0 input 1 ", "0 input 1",
-       "0 input 1 1000000001", "0 input 1 -1000000001", "0 input 1 0000000000000000005",
-       "0 input 01 5", "0 input 0 5", "0 input 129 5", "0 input 1 5 6", "0 external ",
-       "0  external", " 0 external", "0 external\r", "0 external\v0 external", "-1 external",
-       "1000000000000000000 external", "5 external\n4 external", "0 external" + 65536 * " ")
-GOOD = ("0 input 1 -1000000000", "0 input 128 1000000000", "0 input 1 000000000000000005",
-        "000000000000000007 external", "999999999999999999 external", "5 external\n\n5 external")
+BAD = (
+    "0 input 1 1.5",
+    "0 input 1 1e3",
+    "0 input 1 +5",
+    "0 input 1 -",
+    "0 input 1 ",
+    "0 input 1",
+    "0 input 1 1000000001",
+    "0 input 1 -1000000001",
+    "0 input 1 0000000000000000005",
+    "0 input 01 5",
+    "0 input 0 5",
+    "0 input 129 5",
+    "0 input 1 5 6",
+    "0 external ",
+    "0  external",
+    " 0 external",
+    "0 external\r",
+    "0 external\v0 external",
+    "-1 external",
+    "1000000000000000000 external",
+    "5 external\n4 external",
+    "0 external" + 65536 * " ",
+)
+GOOD = (
+    "0 input 1 -1000000000",
+    "0 input 128 1000000000",
+    "0 input 1 000000000000000005",
+    "000000000000000007 external",
+    "999999999999999999 external",
+    "5 external\n\n5 external",
+)
 
 
 class Commands(unittest.TestCase):
@@ -35,7 +60,9 @@ class Commands(unittest.TestCase):
     def run_words(self, *words: str) -> tuple[int, str, str]:
         """The status, the output and the messages for these arguments."""
         told, faults = io.StringIO(), io.StringIO()
-        with mock.patch("signal.signal"), contextlib.redirect_stdout(told), contextlib.redirect_stderr(faults):
+        with mock.patch("signal.signal"), contextlib.redirect_stdout(
+            told
+        ), contextlib.redirect_stderr(faults):
             status = main(list(words))
         return status, told.getvalue(), faults.getvalue()
 
@@ -60,16 +87,27 @@ class Scenarios(Commands):
                 source, target = os.pipe()
                 os.close(source)
                 with self.subTest(words), open(target, "wb") as output:
-                    done = subprocess.run([sys.executable, "-m", "scanvolt.scenario", *words], cwd=TOP, stdout=output,
-                                          stderr=subprocess.PIPE, text=True)
+                    done = subprocess.run(
+                        [sys.executable, "-m", "scanvolt.scenario", *words],
+                        cwd=TOP,
+                        stdout=output,
+                        stderr=subprocess.PIPE,
+                        text=True,
+                    )
                     self.assertEqual((done.returncode, done.stderr), (-signal.SIGPIPE, ""))
 
     def test_lines_of_one_moment_have_a_picture(self) -> None:
         status, text, faults = self.run_on("0 input 1 1250000\n0 input 2 -300000\n", "--picture")
         self.assertEqual((status, faults), (0, ""))
-        self.assertEqual(text.splitlines()[:4], [
-            "channel 1, volts", "   +1.250000 |" + 58 * "*",
-            "channel 2, volts", "   -0.300000 |" + 58 * "*"])
+        self.assertEqual(
+            text.splitlines()[:4],
+            [
+                "channel 1, volts",
+                "   +1.250000 |" + 58 * "*",
+                "channel 2, volts",
+                "   -0.300000 |" + 58 * "*",
+            ],
+        )
 
     def test_a_moment_each_has_a_picture(self) -> None:
         for length in range(1, 70):
@@ -91,10 +129,17 @@ class Scenarios(Commands):
             self.assertEqual((status, faults), (0, ""), line)
 
     def test_faults_of_a_table_have_their_lines(self) -> None:
-        for number, text in ((2, "time,1\nx,5\n"), (3, "time,1\n0,5\n1,volts\n"),
-                             (3, "time,1\n2,5\n1,5\n"), (4, "time,1\n\n0,1\n1,1,1\n"),
-                             (3, "time,1\n0,1\n1,2000\n"), (1, "time,200\n0,1\n"),
-                             (1, "1,2\n0,1\n"), (1, "time,1,1\n0,1,1\n"), (4, 'time,1\n"0\n",1\n1,v\n')):
+        for number, text in (
+            (2, "time,1\nx,5\n"),
+            (3, "time,1\n0,5\n1,volts\n"),
+            (3, "time,1\n2,5\n1,5\n"),
+            (4, "time,1\n\n0,1\n1,1,1\n"),
+            (3, "time,1\n0,1\n1,2000\n"),
+            (1, "time,200\n0,1\n"),
+            (1, "1,2\n0,1\n"),
+            (1, "time,1,1\n0,1,1\n"),
+            (4, 'time,1\n"0\n",1\n1,v\n'),
+        ):
             status, _, faults = self.run_on(text, option="--csv")
             self.assertEqual(status, 2, text)
             self.assertTrue(faults.startswith(f"scanvolt-scenario: FILE, line {number}: "), faults)
@@ -108,11 +153,17 @@ class Scenarios(Commands):
 class Checks(Commands):
     """--check prints each bad line, and why it is bad."""
 
-    REASONS = (("x external", "a time is a whole number"), ("4 external", "a time may not be before .*, 5: 4$"),
-               ("5 trigger", "after the time comes"), ("5  external", "after the time comes"),
-               ("5 input 0 1", "a channel is .* not `0`$"), ("5 input 129 1", "a channel is .* not `129`$"),
-               ("5 input 1 1.5", "a voltage is .* not `1.5`$"), ("5 input 1 1000000001", "a voltage is "),
-               ("5 external" + 65536 * " ", "it has more than 65536 bytes$"))
+    REASONS = (
+        ("x external", "a time is a whole number"),
+        ("4 external", "a time may not be before .*, 5: 4$"),
+        ("5 trigger", "after the time comes"),
+        ("5  external", "after the time comes"),
+        ("5 input 0 1", "a channel is .* not `0`$"),
+        ("5 input 129 1", "a channel is .* not `129`$"),
+        ("5 input 1 1.5", "a voltage is .* not `1.5`$"),
+        ("5 input 1 1000000001", "a voltage is "),
+        ("5 external" + 65536 * " ", "it has more than 65536 bytes$"),
+    )
 
     def test_the_reason_of_each_bad_line(self) -> None:
         for line, reason in self.REASONS:
@@ -125,22 +176,28 @@ class Checks(Commands):
         lines = ["5 external"] + [line for line, _ in self.REASONS] + ["6 external"]
         status, told, _ = self.run_on("\n".join(lines) + "\n", option="--check")
         self.assertEqual(status, 1)
-        self.assertEqual([line.split(":")[0] for line in told.splitlines()],
-                         [f"FILE, line {number}" for number in range(2, 2 + len(self.REASONS))])
+        self.assertEqual(
+            [line.split(":")[0] for line in told.splitlines()],
+            [f"FILE, line {number}" for number in range(2, 2 + len(self.REASONS))],
+        )
 
     def test_what_serve_takes_and_refuses(self) -> None:
         for bad, texts in (0, GOOD), (1, BAD):
             for text in texts:
                 status, told, faults = self.run_on(text + "\n", option="--check")
                 self.assertEqual((status, faults), (bad, ""), text)
-        self.assertEqual(self.run_on("0 external\n1500 input 1 2\n", option="--check")[1],
-                         "FILE: 2 entries, up to 1.500 s, no bad line\n")
+        self.assertEqual(
+            self.run_on("0 external\n1500 input 1 2\n", option="--check")[1],
+            "FILE: 2 entries, up to 1.500 s, no bad line\n",
+        )
 
     def test_what_cannot_be_read(self) -> None:
         for option in ("--check", "--of", "--csv"):
             status, told, faults = self.run_words(option, "/nonexistent")
             self.assertEqual((status, told), (2, ""))
-            self.assertRegex(faults, "^scanvolt-scenario: /nonexistent can't be read: .*No such file")
+            self.assertRegex(
+                faults, "^scanvolt-scenario: /nonexistent can't be read: .*No such file"
+            )
 
 
 class OtherEditors(Commands):
@@ -168,23 +225,34 @@ class OtherEditors(Commands):
         return found
 
     def test_line_ends_of_windows(self) -> None:
-        self.assertEqual(self.told(b"0 external\r\n\r\n5 external\r\n"), [
-            "FILE, line 1: `0 external\\r`: " + self.LINES % ", and so do 2 lines after it"])
-        self.assertEqual(self.told(b"0 external\n5 external\r\n"), [
-            "FILE, line 2: `5 external\\r`: " + self.LINES % ""])
+        self.assertEqual(
+            self.told(b"0 external\r\n\r\n5 external\r\n"),
+            ["FILE, line 1: `0 external\\r`: " + self.LINES % ", and so do 2 lines after it"],
+        )
+        self.assertEqual(
+            self.told(b"0 external\n5 external\r\n"),
+            ["FILE, line 2: `5 external\\r`: " + self.LINES % ""],
+        )
 
     def test_other_faults_are_told_too(self) -> None:
         found = self.told(b"0 external\r\n5 input 1 1.5\r\n6 trigger\n")
-        self.assertEqual(found[0], "FILE, line 1: `0 external\\r`: " + self.LINES % ", and so does a line after it")
+        self.assertEqual(
+            found[0],
+            "FILE, line 1: `0 external\\r`: " + self.LINES % ", and so does a line after it",
+        )
         self.assertRegex(found[1], "^FILE, line 2: `5 input 1 1.5`: a voltage is .* not `1.5`$")
         self.assertRegex(found[2], "^FILE, line 3: `6 trigger`: after the time comes ")
 
     def test_a_byte_order_mark(self) -> None:
-        self.assertEqual(self.told(b"\xef\xbb\xbf0 external\n5 external\n"), [
-            "FILE, line 1: `\\xef\\xbb\\xbf0 external`: " + self.MARK])
+        self.assertEqual(
+            self.told(b"\xef\xbb\xbf0 external\n5 external\n"),
+            ["FILE, line 1: `\\xef\\xbb\\xbf0 external`: " + self.MARK],
+        )
         found = self.told(b"\xef\xbb\xbf0 external\r\n5 external\r\n")
-        self.assertEqual([line.partition(": ")[2].partition(": ")[2] for line in found], [
-            self.MARK, self.LINES % ", and so does a line after it"])
+        self.assertEqual(
+            [line.partition(": ")[2].partition(": ")[2] for line in found],
+            [self.MARK, self.LINES % ", and so does a line after it"],
+        )
 
     def test_wide_text(self) -> None:
         for name in "utf-16-le", "utf-16-be":
@@ -204,21 +272,37 @@ class Ranges(Commands):
         wanted = [f"0 input {channel} 1500000" for channel in range(1, 129)]
         self.assertEqual(self.lines("1:128=1.5"), wanted)
         self.assertEqual(self.lines("3:3=1.5"), wanted[2:3])
-        self.assertEqual(self.lines("2:3=steps:1@0,2@0.5", "1=0"), [
-            "0 input 1 0", "0 input 2 1000000", "0 input 3 1000000", "500 input 2 2000000", "500 input 3 2000000"])
+        self.assertEqual(
+            self.lines("2:3=steps:1@0,2@0.5", "1=0"),
+            [
+                "0 input 1 0",
+                "0 input 2 1000000",
+                "0 input 3 1000000",
+                "500 input 2 2000000",
+                "500 input 3 2000000",
+            ],
+        )
 
     def test_each_channel_has_noise_of_its_own(self) -> None:
         both = self.lines("1:2=noise:0:1:5")
-        self.assertEqual([line for line in both if " input 1 " in line], self.lines("1=noise:0:1:5"))
-        self.assertEqual([line for line in both if " input 2 " in line], self.lines("2=noise:0:1:6"))
+        self.assertEqual(
+            [line for line in both if " input 1 " in line], self.lines("1=noise:0:1:5")
+        )
+        self.assertEqual(
+            [line for line in both if " input 2 " in line], self.lines("2=noise:0:1:6")
+        )
 
     def test_what_is_no_range(self) -> None:
-        for word, reason in (("5:1=0", "a range of channels ends before it begins: 5:1"),
-                             ("1:129=0", "a channel isn't a whole number from 1 to 128: 129"),
-                             ("0:2=0", "a channel isn't a whole number from 1 to 128: 0"),
-                             ("1:=0", "a channel isn't a whole number from 1 to 128: ")):
+        for word, reason in (
+            ("5:1=0", "a range of channels ends before it begins: 5:1"),
+            ("1:129=0", "a channel isn't a whole number from 1 to 128: 129"),
+            ("0:2=0", "a channel isn't a whole number from 1 to 128: 0"),
+            ("1:=0", "a channel isn't a whole number from 1 to 128: "),
+        ):
             self.assertEqual(self.run_words(word), (2, "", f"scanvolt-scenario: {reason}\n"))
-        self.assertEqual(self.run_words("1:4=0", "3=1"), (2, "", "scanvolt-scenario: channel 3 is there twice\n"))
+        self.assertEqual(
+            self.run_words("1:4=0", "3=1"), (2, "", "scanvolt-scenario: channel 3 is there twice\n")
+        )
 
 
 if __name__ == "__main__":

@@ -27,7 +27,13 @@ class Serving(unittest.TestCase):
     """Each test starts the command."""
 
     def start(self, *words: str) -> subprocess.Popen[str]:
-        started = subprocess.Popen(COMMAND + list(words), cwd=TOP, stdout=subprocess.PIPE, stderr=subprocess.PIPE, text=True)
+        started = subprocess.Popen(
+            COMMAND + list(words),
+            cwd=TOP,
+            stdout=subprocess.PIPE,
+            stderr=subprocess.PIPE,
+            text=True,
+        )
         self.addCleanup(self.end, started)
         return started
 
@@ -45,8 +51,9 @@ class Serving(unittest.TestCase):
         return [int(one) for one in line.split()[1:]]
 
     def refused(self, *words: str) -> tuple[int, str]:
-        done = subprocess.run(COMMAND + list(words), cwd=TOP, capture_output=True, text=True,
-                              timeout=60)
+        done = subprocess.run(
+            COMMAND + list(words), cwd=TOP, capture_output=True, text=True, timeout=60
+        )
         return done.returncode, done.stderr
 
     def test_without_any_option(self) -> None:
@@ -67,21 +74,27 @@ class Serving(unittest.TestCase):
         with Client(port=core) as client, client.create_link() as link:
             self.assertEqual(link.query("MEAS:VOLT? (@1)"), "+1.250000")
             self.assertNotEqual(link.query("MEAS:VOLT? (@2)"), "+1.250000")
-        self.assertEqual(set(pathlib.Path(tempfile.gettempdir()).glob("scanvolt-*.scenario")) - before, set())
+        self.assertEqual(
+            set(pathlib.Path(tempfile.gettempdir()).glob("scanvolt-*.scenario")) - before, set()
+        )
 
     def test_a_port_that_is_in_use(self) -> None:
         with socket.create_server(("127.0.0.1", 0)) as taken:
             number = taken.getsockname()[1]
             status, told = self.refused("--core", str(number))
         name = pathlib.Path("/proc/self/comm").read_text().strip()
-        self.assertEqual((status, told), (
-            2, f"scanvolt-serve: port {number} is in use by process {os.getpid()}, {name}\n"))
+        self.assertEqual(
+            (status, told),
+            (2, f"scanvolt-serve: port {number} is in use by process {os.getpid()}, {name}\n"),
+        )
 
     def test_a_port_that_is_given_twice(self) -> None:
         with socket.create_server(("127.0.0.1", 0)) as free:
             number = free.getsockname()[1]
-        self.assertEqual(self.refused("--core", str(number), "--abort", str(number)), (
-            2, f"scanvolt-serve: port {number} is given twice\n"))
+        self.assertEqual(
+            self.refused("--core", str(number), "--abort", str(number)),
+            (2, f"scanvolt-serve: port {number} is given twice\n"),
+        )
 
     def test_a_named_port(self) -> None:
         with socket.create_server(("127.0.0.1", 0)) as free:
@@ -94,24 +107,41 @@ class Serving(unittest.TestCase):
             path = os.path.join(folder, "session.replay")
             started = self.start("--control", "0", "--record", path)
             core, abort, _, control = self.ports(started)
-            with socket.create_connection(("127.0.0.1", control), 20) as one, one.makefile("rb") as answers:
+            with socket.create_connection(("127.0.0.1", control), 20) as one, one.makefile(
+                "rb"
+            ) as answers:
                 one.sendall(b"input 3 2500000\n")
                 self.assertEqual(answers.readline(), b"ok\n")
             with Client(port=core) as client, client.create_link() as link:
                 self.assertEqual(link.query("MEAS:VOLT? (@3)"), "+2.500000")
             started.terminate()
             told = started.communicate(timeout=20)[1]
-            self.assertIn(f"scanvolt-serve: port {control} of 127.0.0.1 sets inputs, by lines such as", told)
-            self.assertIn(f"scanvolt-serve: record: scanvolt-explain {path} --core {core} --abort {abort}\n", told)
+            self.assertIn(
+                f"scanvolt-serve: port {control} of 127.0.0.1 sets inputs, by lines such as", told
+            )
+            self.assertIn(
+                f"scanvolt-serve: record: scanvolt-explain {path} --core {core} --abort {abort}\n",
+                told,
+            )
             self.assertIn("input 3 2500000\n", pathlib.Path(path).read_text())
-            self.assertIn("MEAS:VOLT", "".join(Explanation(pathlib.Path(path).read_text().splitlines(), find_program()).lines()))
+            self.assertIn(
+                "MEAS:VOLT",
+                "".join(
+                    Explanation(pathlib.Path(path).read_text().splitlines(), find_program()).lines()
+                ),
+            )
 
     def test_it_ends_with_who_started_it(self) -> None:
         """A shell starts it and is killed; with --stay it goes on."""
         for more, stays in ((), False), (("--stay",), True):
             with self.subTest(more):
-                shell = subprocess.Popen(["sh", "-c", '"$@" & echo $!; wait', "sh", *COMMAND, *more], cwd=TOP,
-                                         stdout=subprocess.PIPE, stderr=subprocess.DEVNULL, text=True)
+                shell = subprocess.Popen(
+                    ["sh", "-c", '"$@" & echo $!; wait', "sh", *COMMAND, *more],
+                    cwd=TOP,
+                    stdout=subprocess.PIPE,
+                    stderr=subprocess.DEVNULL,
+                    text=True,
+                )
                 assert shell.stdout is not None
                 number = int(shell.stdout.readline())
                 self.assertRegex(shell.stdout.readline(), "^ready ")
@@ -125,10 +155,14 @@ class Serving(unittest.TestCase):
                 shell.stdout.close()
 
     def test_what_cannot_be_taken(self) -> None:
-        for given, told in ((("--core", "70000"), "not a port, 1 to 65535, or 0 for a free one: 70000"),
-                            (("--control", "x"), "not a port, 1 to 65535, or 0 for a free one: x"),
-                            (("1=x",), "is no number, or too large a one: x"), (("nonsense",), "neither an option nor"),
-                            (("--seconds", "5"), "--seconds is for shapes"), (("1=1", "--scenario", "x"), "and not from both")):
+        for given, told in (
+            (("--core", "70000"), "not a port, 1 to 65535, or 0 for a free one: 70000"),
+            (("--control", "x"), "not a port, 1 to 65535, or 0 for a free one: x"),
+            (("1=x",), "is no number, or too large a one: x"),
+            (("nonsense",), "neither an option nor"),
+            (("--seconds", "5"), "--seconds is for shapes"),
+            (("1=1", "--scenario", "x"), "and not from both"),
+        ):
             with self.subTest(given):
                 status, text = self.refused(*given)
                 self.assertEqual(status, 2)
@@ -142,8 +176,12 @@ class Serving(unittest.TestCase):
         self.assertIn("doesn't fit this package", told)
         status, told = self.refused("--sweeps", "none")
         self.assertEqual(status, 2)
-        self.assertTrue(told.endswith("scanvolt: bad words\nscanvolt-serve: `man scanvolt`, in a checkout `man docs/scanvolt.1`, "
-                                      "has the words that the program takes\n"))
+        self.assertTrue(
+            told.endswith(
+                "scanvolt: bad words\nscanvolt-serve: `man scanvolt`, in a checkout `man docs/scanvolt.1`, "
+                "has the words that the program takes\n"
+            )
+        )
         self.assertEqual(self.refused("--sweeps", "10")[0], 0)
         self.assertEqual(self.refused("--scenario", "/nonexistent")[0], 3)
 
@@ -152,9 +190,13 @@ class Serving(unittest.TestCase):
         before = set(pathlib.Path(tempfile.gettempdir()).glob("scanvolt-*.scenario"))
         told = "scanvolt-serve: /no/file: No such file or directory\n"
         self.assertEqual(self.refused("--record", "/no/file", "1=1"), (3, told))
-        self.assertEqual(set(pathlib.Path(tempfile.gettempdir()).glob("scanvolt-*.scenario")) - before, set())
+        self.assertEqual(
+            set(pathlib.Path(tempfile.gettempdir()).glob("scanvolt-*.scenario")) - before, set()
+        )
         with tempfile.TemporaryDirectory() as folder:
-            self.assertEqual(self.refused("--record", os.path.join(folder, "session.replay"), "1=x")[0], 2)
+            self.assertEqual(
+                self.refused("--record", os.path.join(folder, "session.replay"), "1=x")[0], 2
+            )
             self.assertEqual(os.listdir(folder), [])
 
 

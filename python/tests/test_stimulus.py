@@ -27,18 +27,37 @@ class Scenarios(unittest.TestCase):
 
     def test_entries(self) -> None:
         self.path.write_bytes(b"0 input 1 1250000\n\n0000 input 128 -1000000000\n5000 external")
-        self.assertEqual(read_scenario(self.path), [
-            Entry(0, b"input 1 1250000\n", 1, 1250000),
-            Entry(0, b"input 128 -1000000000\n", 128, -1000000000), Entry(5000, b"external\n")])
+        self.assertEqual(
+            read_scenario(self.path),
+            [
+                Entry(0, b"input 1 1250000\n", 1, 1250000),
+                Entry(0, b"input 128 -1000000000\n", 128, -1000000000),
+                Entry(5000, b"external\n"),
+            ],
+        )
 
     def test_bad_lines(self) -> None:
-        for line in ("input 1 0", "0 input 0 0", "0 input 129 0", "0 input 01 0", "0 input 1 1000000001",
-                     "0  external", "0 external ", "0 trigger", "-1 external", "0 input 1 1.5",
-                     "0 input 1 +5", "0\texternal", "1000000000000000000 external",
-                     "0 input 1 0000000000000000000",
-                     "4 external"):
+        for line in (
+            "input 1 0",
+            "0 input 0 0",
+            "0 input 129 0",
+            "0 input 01 0",
+            "0 input 1 1000000001",
+            "0  external",
+            "0 external ",
+            "0 trigger",
+            "-1 external",
+            "0 input 1 1.5",
+            "0 input 1 +5",
+            "0\texternal",
+            "1000000000000000000 external",
+            "0 input 1 0000000000000000000",
+            "4 external",
+        ):
             self.path.write_text("5 external\n" + line + "\n")
-            with self.subTest(line), self.assertRaisesRegex(ValueError, "bad line 2 of the scenario /"):
+            with self.subTest(line), self.assertRaisesRegex(
+                ValueError, "bad line 2 of the scenario /"
+            ):
                 Meter(scenario=self.path)
         self.assertRaises(OSError, Meter, scenario="/nonexistent")
 

@@ -28,8 +28,8 @@ from scanvolt.vxi11 import (
 )
 
 Value = TypeVar("Value")
-REAL_TIME = 0.05        # seconds that a measurement of 2,048 ms may take, by the proved program
-TRIES = 20              # tries of which one has to take less
+REAL_TIME = 0.05  # seconds that a measurement of 2,048 ms may take, by the proved program
+TRIES = 20  # tries of which one has to take less
 
 
 class WithMeter(unittest.TestCase):
@@ -111,8 +111,10 @@ class Sessions(WithMeter):
 
     def test_the_port_mapper(self) -> None:
         mapper = self.meter.connect("portmap")
-        self.assertEqual([mapper.do(calls.getport(program, 1)) for program in (CORE, calls.ABORT, 1)],
-                         [4096, 4097, 0])
+        self.assertEqual(
+            [mapper.do(calls.getport(program, 1)) for program in (CORE, calls.ABORT, 1)],
+            [4096, 4097, 0],
+        )
 
     def test_the_external_trigger(self) -> None:
         self.link.write("CONF:VOLT (@3);:TRIG:SOUR EXT;:INIT")
@@ -169,7 +171,9 @@ class Moments(WithMeter):
         other.lock()
         self.error(11, lambda: self.takes(0, self.link.lock))
         self.error(11, lambda: self.takes(700, lambda: self.link.lock(700)))
-        self.error(11, lambda: self.takes(30, lambda: self.connection.create_link("inst0", True, 30)))
+        self.error(
+            11, lambda: self.takes(30, lambda: self.connection.create_link("inst0", True, 30))
+        )
         self.link.lock_timeout = 300
         self.error(11, lambda: self.takes(300, self.link.readstb))
 
@@ -186,7 +190,16 @@ class Moments(WithMeter):
 
     def test_measurements(self) -> None:
         """They take as many milliseconds as readings, wherever their end lies in the time that is tried ahead."""
-        for channels, count in ((1, 1), (7, 9), (8, 8), (5, 13), (100, 1), (127, 8), (64, 17 - 1), (128, 9)):
+        for channels, count in (
+            (1, 1),
+            (7, 9),
+            (8, 8),
+            (5, 13),
+            (100, 1),
+            (127, 8),
+            (64, 17 - 1),
+            (128, 9),
+        ):
             with self.subTest(channels=channels, count=count):
                 self.link.write(f"CONF:VOLT (@1:{channels});:TRIG:COUN {count}")
                 answer = self.takes(channels * count, lambda: self.link.query("READ?"))
@@ -229,8 +242,8 @@ class Moments(WithMeter):
         self.assertEqual(self.link.query("READ?")[:20], "+2.000000,-0.300000,")
 
     def test_long_times(self) -> None:
-        self.meter.advance(10 ** 5)
-        self.assertEqual(self.meter.clock, 10 ** 5)
+        self.meter.advance(10**5)
+        self.assertEqual(self.meter.clock, 10**5)
         self.assertRaises(ValueError, self.meter.advance, -1)
 
     def test_python_s_clock(self) -> None:
@@ -240,7 +253,11 @@ class Moments(WithMeter):
             time.sleep(20)
             time.sleep(0.035)
             time.sleep(0.0001)
-            passed = time.monotonic() - began[0], time.time() - began[1], time.perf_counter() - began[2]
+            passed = (
+                time.monotonic() - began[0],
+                time.time() - began[1],
+                time.perf_counter() - began[2],
+            )
         self.assertEqual(self.meter.clock, 20036)
         for seconds in passed:
             self.assertAlmostEqual(seconds, 20.036, 5)
@@ -356,8 +373,10 @@ class InFlight(WithMeter):
         with Meter() as other, other.connect().create_link() as link:
             other.advance(50)
             other.set_input(1, 3)
-            self.assertEqual((link.query("MEAS:VOLT? (@1)"), self.link.query("MEAS:VOLT? (@1)")),
-                             ("+3.000000", "+1.250000"))
+            self.assertEqual(
+                (link.query("MEAS:VOLT? (@1)"), self.link.query("MEAS:VOLT? (@1)")),
+                ("+3.000000", "+1.250000"),
+            )
             self.assertEqual((other.clock, self.meter.clock), (51, 1))
 
 
@@ -423,7 +442,9 @@ class ServiceRequests(WithMeter):
 
     def test_channels_that_cannot_be(self) -> None:
         self.error(21, lambda: self.connection.create_intr_chan(0x08080808, 4000))
-        self.error(8, lambda: self.connection.create_intr_chan(calls.LOOPBACK, 4000, family=calls.BY_UDP))
+        self.error(
+            8, lambda: self.connection.create_intr_chan(calls.LOOPBACK, 4000, family=calls.BY_UDP)
+        )
         self.meter.dials = False
         self.error(6, self.connection.listen)
 
@@ -433,17 +454,32 @@ class Inputs(WithMeter):
 
     def test_kinds_of_numbers(self) -> None:
         kinds: tuple[tuple[Volts, str], ...] = (
-            (1, "+1.000000"), (0.1 + 0.2, "+0.300000"), ("-0.000001", "-0.000001"),
-            (decimal.Decimal("9.999999"), "+9.999999"), (10, "+10.000000"), ("10.000001", "+9.9E+37"),
-            (-1000, "-9.9E+37"), ("1e-3", "+0.001000"))
+            (1, "+1.000000"),
+            (0.1 + 0.2, "+0.300000"),
+            ("-0.000001", "-0.000001"),
+            (decimal.Decimal("9.999999"), "+9.999999"),
+            (10, "+10.000000"),
+            ("10.000001", "+9.9E+37"),
+            (-1000, "-9.9E+37"),
+            ("1e-3", "+0.001000"),
+        )
         for volts, reading in kinds:
             with self.subTest(volts):
                 self.meter.set_input(128, volts)
                 self.assertEqual(self.link.query("MEAS:VOLT? (@128)"), reading)
 
     def test_what_is_no_voltage(self) -> None:
-        wrong: tuple[Volts, ...] = ("0.0000001", decimal.Decimal("1.0000005"), 1000.1, "1000.000001", -1001,
-                                    "volts", "nan", float("inf"), "")
+        wrong: tuple[Volts, ...] = (
+            "0.0000001",
+            decimal.Decimal("1.0000005"),
+            1000.1,
+            "1000.000001",
+            -1001,
+            "volts",
+            "nan",
+            float("inf"),
+            "",
+        )
         for volts in wrong:
             with self.subTest(volts):
                 self.assertRaises(ValueError, self.meter.set_input, 1, volts)

@@ -14,7 +14,7 @@ from ..vxi11.rpc import Records
 from ..vxi11.whole import whole
 from .link import Core, Link, Requests
 
-__tracebackhide__ = True        # pytest shows the line that calls the package, and not these frames
+__tracebackhide__ = True  # pytest shows the line that calls the package, and not these frames
 Value = TypeVar("Value")
 Itself = TypeVar("Itself", bound="Client")
 Streams = tuple[asyncio.StreamReader, asyncio.StreamWriter]
@@ -28,16 +28,21 @@ class Client(Core):
     late reply would be taken for the reply to the next call. Tasks may share a client: calls go one after the other.
     """
 
-    def __init__(self, host: str = "127.0.0.1", port: int | None = None, patience: float = PATIENCE,
-                 port_mapper: int = 111) -> None:
+    def __init__(
+        self,
+        host: str = "127.0.0.1",
+        port: int | None = None,
+        patience: float = PATIENCE,
+        port_mapper: int = 111,
+    ) -> None:
         self.host, self.port, self.patience, self.port_mapper = host, port, patience, port_mapper
         self.is_open = False
         self._xid = 0
         self._records = Records()
         self._streams: Streams | None = None
-        self._turn: asyncio.Lock             # of the loop in which it is opened
+        self._turn: asyncio.Lock  # of the loop in which it is opened
         self._listeners: list[asyncio.AbstractServer] = []
-        self._carriers: set[asyncio.Task[None]] = set()        # tasks that read the interrupt channels
+        self._carriers: set[asyncio.Task[None]] = set()  # tasks that read the interrupt channels
 
     def __repr__(self) -> str:
         closed = "" if self.is_open else ", closed"
@@ -59,7 +64,9 @@ class Client(Core):
             self.port = await self._found()
         port = whole(self.port, 1, 65535, "a connection wants a port")
         try:
-            self._streams = await asyncio.wait_for(asyncio.open_connection(self.host, port), self.patience)
+            self._streams = await asyncio.wait_for(
+                asyncio.open_connection(self.host, port), self.patience
+            )
         except asyncio.TimeoutError:
             raise TimeoutError(f"no connection within {self.patience:g} s: {self}") from None
         except OSError as fault:
@@ -74,7 +81,9 @@ class Client(Core):
         except ConnectionRefusedError as fault:
             raise ConnectionRefusedError(fault.errno, f"{fault.strerror}; {ELSEWHERE}") from None
         if found == 0:
-            raise ConnectionError(f"the port mapper knows no port of program {calls.CORE:#x}: {self.host}:{self.port_mapper}")
+            raise ConnectionError(
+                f"the port mapper knows no port of program {calls.CORE:#x}: {self.host}:{self.port_mapper}"
+            )
         return found
 
     def _check_open(self) -> Streams:
@@ -104,19 +113,23 @@ class Client(Core):
         self._check_open()
         async with self._turn:
             streams = self._check_open()
-            self._xid = (self._xid + 1) % 2 ** 32
+            self._xid = (self._xid + 1) % 2**32
             patience = self.patience + call.wait / 1000
             try:
                 body = await asyncio.wait_for(self._reply(call, *streams), patience)
             except asyncio.TimeoutError:
                 await self.close()
-                raise ConnectionError(f"no reply to {call.name} within {patience:g} s: {self}") from None
+                raise ConnectionError(
+                    f"no reply to {call.name} within {patience:g} s: {self}"
+                ) from None
             except BaseException:
                 await self.close()
                 raise
             return call.answer(body, self._xid)
 
-    async def _reply(self, call: Call[Value], reader: asyncio.StreamReader, writer: asyncio.StreamWriter) -> bytes:
+    async def _reply(
+        self, call: Call[Value], reader: asyncio.StreamReader, writer: asyncio.StreamWriter
+    ) -> bytes:
         """Sends a call. Returns the record of its reply."""
         writer.write(call.encode(self._xid))
         await writer.drain()

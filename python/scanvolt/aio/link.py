@@ -14,7 +14,7 @@ from ..vxi11.timeouts import Milliseconds
 from ..vxi11.timeouts import milliseconds as checked
 from ..vxi11.whole import WORD, whole
 
-__tracebackhide__ = True        # pytest shows the line that calls the package, and not these frames
+__tracebackhide__ = True  # pytest shows the line that calls the package, and not these frames
 Value = TypeVar("Value")
 Itself = TypeVar("Itself", bound="Link")
 
@@ -55,14 +55,30 @@ class Core:
         """Aborts the call that waits on a link, over an abort channel of its own."""
         raise NotImplementedError
 
-    async def create_link(self, device: str = "inst0", lock: bool = False, lock_timeout: int = 0,
-                          io_timeout: int = IO_TIMEOUT) -> Link:
+    async def create_link(
+        self,
+        device: str = "inst0",
+        lock: bool = False,
+        lock_timeout: int = 0,
+        io_timeout: int = IO_TIMEOUT,
+    ) -> Link:
         """Makes a link; with `lock` the link has the lock. The link keeps these timeouts, in milliseconds."""
         io_timeout = checked(io_timeout, "io_timeout")
-        return Link(self, await self.do(calls.create_link(device, lock, lock_timeout)), io_timeout, lock_timeout)
+        return Link(
+            self,
+            await self.do(calls.create_link(device, lock, lock_timeout)),
+            io_timeout,
+            lock_timeout,
+        )
 
-    async def create_intr_chan(self, address: int, port: int, program: int = calls.INTERRUPT, version: int = 1,
-                               family: int = calls.BY_TCP) -> None:
+    async def create_intr_chan(
+        self,
+        address: int,
+        port: int,
+        program: int = calls.INTERRUPT,
+        version: int = 1,
+        family: int = calls.BY_TCP,
+    ) -> None:
         """Has the instrument connect to a port of an address, which is given as a number."""
         await self.do(calls.create_intr_chan(address, port, program, version, family))
 
@@ -80,7 +96,9 @@ class Link:
     io_timeout = Milliseconds()
     lock_timeout = Milliseconds()
 
-    def __init__(self, carrier: Core, made: Made, io_timeout: int = IO_TIMEOUT, lock_timeout: int = 0) -> None:
+    def __init__(
+        self, carrier: Core, made: Made, io_timeout: int = IO_TIMEOUT, lock_timeout: int = 0
+    ) -> None:
         self.carrier = carrier
         self.number, self.abort_port, self.most = made.link, made.abort_port, made.most
         self.io_timeout, self.lock_timeout = io_timeout, lock_timeout
@@ -95,7 +113,7 @@ class Link:
         try:
             if self.carrier.is_open:
                 await self.destroy()
-        except Exception as fault:                      # it doesn't hide what was raised in the block
+        except Exception as fault:  # it doesn't hide what was raised in the block
             ended = isinstance(fault, DeviceError) and fault.number == INVALID_LINK
             if kind is None and self.carrier.is_open and not ended:
                 raise
@@ -112,8 +130,10 @@ class Link:
         data = message_bytes(message)
         place = 0
         while True:
-            piece = data[place:place + self.most]
-            taken = await self.carrier.do(self.calls.write(piece, end and place + len(piece) == len(data)))
+            piece = data[place : place + self.most]
+            taken = await self.carrier.do(
+                self.calls.write(piece, end and place + len(piece) == len(data))
+            )
             place += taken
             if place >= len(data):
                 return place

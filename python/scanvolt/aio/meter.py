@@ -15,7 +15,7 @@ from ..vxi11.requests import Callback
 from ..vxi11.timeouts import milliseconds as checked
 from .link import Core, Link, Requests
 
-__tracebackhide__ = True        # pytest shows the line that calls the package, and not these frames
+__tracebackhide__ = True  # pytest shows the line that calls the package, and not these frames
 Value = TypeVar("Value")
 Itself = TypeVar("Itself", bound="Meter")
 OneConnection = TypeVar("OneConnection", bound="Connection")
@@ -31,7 +31,7 @@ class Connection(Core):
         return str(self._connection)
 
     @property
-    def is_open(self) -> bool:      # type: ignore[override]
+    def is_open(self) -> bool:  # type: ignore[override]
         """Whether it is open."""
         return self._connection.is_open
 
@@ -91,8 +91,13 @@ class Meter:
     It takes what virtual.Meter takes; `virtual` is that meter.
     """
 
-    def __init__(self, program: Name | None = None, scenario: Name | None = None,
-                 patience: int = virtual.PATIENCE, call_time: int = 0) -> None:
+    def __init__(
+        self,
+        program: Name | None = None,
+        scenario: Name | None = None,
+        patience: int = virtual.PATIENCE,
+        call_time: int = 0,
+    ) -> None:
         self.virtual = virtual.Meter(program, scenario, patience, call_time)
         self._keeping = contextlib.ExitStack()
 

@@ -60,29 +60,57 @@ from .told import lacks_voltages, moves, start_of, summary
 from .virtually import Again
 
 NAME = "scanvolt-capture"
-FAR = 60 * 10 ** 9      # nanoseconds between the start and the first packet that are probably wrong
+FAR = 60 * 10**9  # nanoseconds between the start and the first packet that are probably wrong
 
 
 def words(given: list[str] | None) -> argparse.Namespace:
     """The arguments of the command line."""
     parser = argparse.ArgumentParser(
-        prog=NAME, description=__doc__, formatter_class=argparse.RawDescriptionHelpFormatter)
+        prog=NAME, description=__doc__, formatter_class=argparse.RawDescriptionHelpFormatter
+    )
     parser.add_argument("mode", choices=("script", "compare", "virtual", "recorded", "explain"))
     parser.add_argument("capture", metavar="CAPTURE")
-    parser.add_argument("--program", help="the scanvolt that replays. Without it, `compare` and `virtual` take the one "
-                        "that SCANVOLT, PATH or the checkout has, and `script` moves no ticks; with it, `script` "
-                        "compares too, and writes the ticks that it moved")
+    parser.add_argument(
+        "--program",
+        help="the scanvolt that replays. Without it, `compare` and `virtual` take the one "
+        "that SCANVOLT, PATH or the checkout has, and `script` moves no ticks; with it, `script` "
+        "compares too, and writes the ticks that it moved",
+    )
     parser.add_argument("--scenario", help="the scenario of the session")
-    parser.add_argument("--record", metavar="FILE", help="of `recorded`: what the server wrote by its own --record")
-    parser.add_argument("--start", help="when the server was ready, in seconds since 1970; "
-                        "without it, the time of the first packet")
-    parser.add_argument("--other-starts", action="store_true", help="tries other starts too, near and far, if --start is given")
-    parser.add_argument("--far-start", action="store_true", help="takes --start also if it is more than a minute from the "
-                        "first packet, as of a server that no client asked for so long")
-    parser.add_argument("--slack", type=int, default=3, help="how many milliseconds ticks may be moved; 3 without it")
-    parser.add_argument("--core", type=int, default=4096, help="the port of the core channel; 4096 without it")
-    parser.add_argument("--abort", type=int, default=4097, help="the port of the abort channel; 4097 without it")
-    parser.add_argument("--portmap", type=int, help=f"the port of the port mapper; {PORT} or 4111 without it")
+    parser.add_argument(
+        "--record", metavar="FILE", help="of `recorded`: what the server wrote by its own --record"
+    )
+    parser.add_argument(
+        "--start",
+        help="when the server was ready, in seconds since 1970; "
+        "without it, the time of the first packet",
+    )
+    parser.add_argument(
+        "--other-starts",
+        action="store_true",
+        help="tries other starts too, near and far, if --start is given",
+    )
+    parser.add_argument(
+        "--far-start",
+        action="store_true",
+        help="takes --start also if it is more than a minute from the "
+        "first packet, as of a server that no client asked for so long",
+    )
+    parser.add_argument(
+        "--slack",
+        type=int,
+        default=3,
+        help="how many milliseconds ticks may be moved; 3 without it",
+    )
+    parser.add_argument(
+        "--core", type=int, default=4096, help="the port of the core channel; 4096 without it"
+    )
+    parser.add_argument(
+        "--abort", type=int, default=4097, help="the port of the abort channel; 4097 without it"
+    )
+    parser.add_argument(
+        "--portmap", type=int, help=f"the port of the port mapper; {PORT} or 4111 without it"
+    )
     found = parser.parse_args(given)
     if (found.mode == "recorded") != (found.record is not None):
         parser.error("`recorded` needs --record FILE, and only that does")
@@ -97,14 +125,20 @@ def session_of(given: argparse.Namespace) -> Session:
     server = {port for found in ports.values() for port in found}
     found = packets(given.capture)
     end = max((packet.time for packet in found), default=0)
-    session = Session(streams(given.capture, found, server), ports, end, start, given.mode == "recorded")
+    session = Session(
+        streams(given.capture, found, server), ports, end, start, given.mode == "recorded"
+    )
     if not session.connections:
-        raise Fault(f"the capture has no connection to the ports {', '.join(map(str, sorted(server)))}")
+        raise Fault(
+            f"the capture has no connection to the ports {', '.join(map(str, sorted(server)))}"
+        )
     gap = session.points[0].time
     if abs(gap) > FAR and not given.far_start:
         side, first = "before" if gap > 0 else "after", moment(session.start + gap)
-        raise Fault(f"--start {given.start} is {moment(abs(gap))} s {side} the first packet of the session, "
-                    f"which came at {first}; --far-start takes it")
+        raise Fault(
+            f"--start {given.start} is {moment(abs(gap))} s {side} the first packet of the session, "
+            f"which came at {first}; --far-start takes it"
+        )
     return session
 
 
@@ -135,9 +169,16 @@ def again(session: Session, ticks: list[int], given: argparse.Namespace) -> int:
 
 def record(session: Session, given: argparse.Namespace) -> int:
     """Compares the capture with the server's record, and prints the outcome. Returns the status."""
-    found = recorded.replayed(given.program or find_program(), recorded.read(given.record), (given.core, given.abort))
+    found = recorded.replayed(
+        given.program or find_program(), recorded.read(given.record), (given.core, given.abort)
+    )
     differ = list(recorded.differences(session, found))
-    say([("" if line.startswith(" ") else "capture: ") + line for line in differ or [recorded.summary(session)]])
+    say(
+        [
+            ("" if line.startswith(" ") else "capture: ") + line
+            for line in differ or [recorded.summary(session)]
+        ]
+    )
     return 1 if differ else 0
 
 
@@ -146,6 +187,7 @@ def main(given_words: list[str] | None = None) -> int:
     own = sys.argv[1:] if given_words is None else given_words
     if own[:1] == ["explain"]:
         from ..explaining.command import main as explain
+
         return explain(own[1:], NAME + " explain")
     given = words(given_words)
     try:

@@ -15,11 +15,11 @@ from .packets import Fault
 from .script import MARKED, Scheduled, script
 from .session import Session
 
-NEAR = 100              # starts up to this many milliseconds off are tried
-STARTS = 150            # starts farther off: this many are tried for each kind of entry of the scenario
+NEAR = 100  # starts up to this many milliseconds off are tried
+STARTS = 150  # starts farther off: this many are tried for each kind of entry of the scenario
 BEFORE, BEHIND = 16, 2  # milliseconds by which an entry may come before a reply, or after it
-PATIENCE = 60           # seconds for which other ticks and starts are tried, for one difference
-ENDING = 50_000_000     # nanoseconds before the capture's end: replies in them may be missing
+PATIENCE = 60  # seconds for which other ticks and starts are tried, for one difference
+ENDING = 50_000_000  # nanoseconds before the capture's end: replies in them may be missing
 LINE = re.compile(r"refused \d+|[ci]\d+ (?:[0-9a-f]{2})+")
 
 
@@ -36,7 +36,9 @@ class Difference:
     found: bytes = b""
 
 
-def replies(program: str, lines: list[str], count: int, options: Sequence[str] = ()) -> list[list[list[str]]]:
+def replies(
+    program: str, lines: list[str], count: int, options: Sequence[str] = ()
+) -> list[list[list[str]]]:
     """What the replay prints after each point. `count` is how many points there are."""
     text = "".join(line + "\n" for line in lines).encode()
     try:
@@ -56,7 +58,9 @@ def replies(program: str, lines: list[str], count: int, options: Sequence[str] =
         else:
             raise Fault(f"{program} replay prints what no replay does: {line[:60]}")
     if len(blocks) <= count:
-        raise Fault(f"{program} replay ended early, after {len(blocks) - 1} of {count} events, with status 0")
+        raise Fault(
+            f"{program} replay ended early, after {len(blocks) - 1} of {count} events, with status 0"
+        )
     return blocks[:-1]
 
 
@@ -75,22 +79,24 @@ class Comparison:
     `others` says so.
     """
 
-    def __init__(self, session: Session, entries: list[Scheduled], program: str, others: bool = False) -> None:
+    def __init__(
+        self, session: Session, entries: list[Scheduled], program: str, others: bool = False
+    ) -> None:
         self.points = session.points
-        self.told = session.told    # whether --start was given
+        self.told = session.told  # whether --start was given
         self.others = others or not self.told
-        self.late = False           # whether the time for the last difference was over before all was tried
+        self.late = False  # whether the time for the last difference was over before all was tried
         self._ending = session.end - session.start - ENDING
         self._entries = entries
         self._program = program
         self._found: dict[int, bytearray] = {}
-        self.early = 0          # by how many milliseconds the start is taken earlier than the session says
-        self.swapped = 0        # how many calls are taken later than the capture suggests
-        self.farthest = 0       # the start tried that is farthest off, in milliseconds
+        self.early = 0  # by how many milliseconds the start is taken earlier than the session says
+        self.swapped = 0  # how many calls are taken later than the capture suggests
+        self.farthest = 0  # the start tried that is farthest off, in milliseconds
 
     def _first(self, ticks: list[int], last: int | None = None) -> Difference | None:
         """The first difference up to the point `last`. `ticks` says how many ticks pass before each point."""
-        points = self.points if last is None else self.points[:last + 1]
+        points = self.points if last is None else self.points[: last + 1]
         lines = script(points, ticks, self._entries, mark=True)
         blocks = replies(self._program, lines, len(points))
         self._found = {}
@@ -120,7 +126,7 @@ class Comparison:
         found = self._found.setdefault(id(flow), bytearray())
         begun = len(found)
         found += data
-        if flow.wanted[begun:len(found)] == data:
+        if flow.wanted[begun : len(found)] == data:
             return None
         for place in range(begun, min(len(found), len(flow.wanted))):
             if found[place] != flow.wanted[place]:
@@ -146,7 +152,9 @@ class Comparison:
                 return difference, ticks
             ticks = trial
 
-    def _better(self, ticks: list[int], difference: Difference, slack: int, watch: Watch) -> list[int] | None:
+    def _better(
+        self, ticks: list[int], difference: Difference, slack: int, watch: Watch
+    ) -> list[int] | None:
         """Ticks with which there is no difference up to the point of `difference`, if some are found: one
         point is moved, or the start.
         """
@@ -226,13 +234,18 @@ class Comparison:
                         yield trial
 
     def _is_near(self, ticks: list[int], slack: int) -> bool:
-        return all(abs(count - max(0, point.ticks + self.early)) <= slack
-                   for count, point in zip(ticks, self.points))
+        return all(
+            abs(count - max(0, point.ticks + self.early)) <= slack
+            for count, point in zip(ticks, self.points)
+        )
 
     def _moved(self, ticks: list[int], place: int, step: int) -> list[int] | None:
         """The ticks with `step` more or fewer at a point. Points before and after it are moved if order wants it."""
         count = ticks[place] + step
         if count < 0:
             return None
-        return ([min(one, count) for one in ticks[:place]] + [count] +
-                [max(one, count) for one in ticks[place + 1:]])
+        return (
+            [min(one, count) for one in ticks[:place]]
+            + [count]
+            + [max(one, count) for one in ticks[place + 1 :]]
+        )

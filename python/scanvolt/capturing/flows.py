@@ -7,8 +7,8 @@ from dataclasses import dataclass, field
 from ..vxi11 import CallMessage, Record, Records, XdrError, name_of, read_call
 from .streams import Stream
 
-ROOM = 16384        # bytes of a connection that the server has room for
-LONGEST = 8192      # bytes of a record
+ROOM = 16384  # bytes of a connection that the server has room for
+LONGEST = 8192  # bytes of a record
 
 
 @dataclass
@@ -44,7 +44,7 @@ class Flow:
 
     def __init__(self, name: str, loose: bool = False) -> None:
         self.name = name
-        self.wanted = bytearray()               # all bytes that were sent
+        self.wanted = bytearray()  # all bytes that were sent
         self._records = Records()
         self.replies: list[Reply] = []
         # Bytes after these aren't compared: the capture doesn't have the stream, or the peer closed it.
@@ -64,21 +64,21 @@ class Connection:
         self.stream = stream
         self.number = number
         self.role = role
-        self.flow = Flow(stream.name())         # what the server sends on it
+        self.flow = Flow(stream.name())  # what the server sends on it
         self._asks = Records()
-        self._backlog = b""      # bytes that the server has no room for yet
-        self.records: list[Record] = []         # those that came
+        self._backlog = b""  # bytes that the server has no room for yet
+        self.records: list[Record] = []  # those that came
         self.calls: list[CallMessage] = []
-        self.turns: list[int] = []              # the point of each turn
-        self.channel: Flow | None = None     # the flow of its interrupt channel
-        self.channels: list[Flow] = []          # of all that it had, in their order
+        self.turns: list[int] = []  # the point of each turn
+        self.channel: Flow | None = None  # the flow of its interrupt channel
+        self.channels: list[Flow] = []  # of all that it had, in their order
 
     def _room(self) -> int:
         """How many more bytes of the connection the server takes (docs/RULES.md says how: sv_rpc RecordBuf)."""
         left = self._asks.left
         if left is not None and len(self._asks.body) + left > LONGEST:
             return 0
-        unanswered = self.records[len(self.flow.replies):]
+        unanswered = self.records[len(self.flow.replies) :]
         kept = sum(4 + len(record.body) for record in unanswered)
         return max(0, ROOM - kept - self._asks.held())
 
@@ -86,7 +86,7 @@ class Connection:
         """Gives the server as many bytes as it has room for; the others follow later."""
         self._backlog += data
         while self._backlog and self._room():
-            piece, self._backlog = self._backlog[:self._room()], self._backlog[self._room():]
+            piece, self._backlog = self._backlog[: self._room()], self._backlog[self._room() :]
             lines.append(f"bytes {self.number} {piece.hex()}")
             found = self._asks.push(piece)
             self.records += found

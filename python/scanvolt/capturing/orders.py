@@ -10,19 +10,27 @@ from collections.abc import Iterator
 
 from .flows import Flow, Point, Reply, reply_at
 
-NEAR = 3_000_000        # such calls came at most this many nanoseconds apart
+NEAR = 3_000_000  # such calls came at most this many nanoseconds apart
 
 
 def turn_of(points: list[Point], flow: Flow, place: int) -> str | None:
     """The line that takes the call of a reply, if the flow is that of a connection."""
-    return next(("turn " + name[1:] for name, one in points[place].owners.items()
-                 if one is flow and name[0] == "c"), None)
+    return next(
+        (
+            "turn " + name[1:]
+            for name, one in points[place].owners.items()
+            if one is flow and name[0] == "c"
+        ),
+        None,
+    )
 
 
-def ahead(points: list[Point], found: dict[int, bytearray], place: int, own: Flow) -> Iterator[tuple[Flow, Reply]]:
+def ahead(
+    points: list[Point], found: dict[int, bytearray], place: int, own: Flow
+) -> Iterator[tuple[Flow, Reply]]:
     """Replies that the replay sent before this point and that come later in the capture."""
     due: dict[int, int] = {}
-    for point in points[:place + 1]:
+    for point in points[: place + 1]:
         for flow, count in point.due:
             due[id(flow)] = count
     flows = {id(one): one for one in points[place].owners.values()}
@@ -33,8 +41,9 @@ def ahead(points: list[Point], found: dict[int, bytearray], place: int, own: Flo
                 yield flow, reply
 
 
-def later(points: list[Point], found: dict[int, bytearray], place: int, own: Flow,
-          reply: Reply | None) -> Iterator[None]:
+def later(
+    points: list[Point], found: dict[int, bytearray], place: int, own: Flow, reply: Reply | None
+) -> Iterator[None]:
     """Moves a call that the replay answered too early after the call of `own` whose reply differs at this
     point. Yields one trial after the other; each is undone before the next.
     """

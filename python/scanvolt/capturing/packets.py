@@ -7,16 +7,52 @@ import subprocess
 from collections.abc import Sequence
 from dataclasses import dataclass
 
-FIELDS = ("frame.number", "frame.time_epoch", "tcp.stream", "ip.src", "tcp.srcport", "ip.dst", "tcp.dstport",
-          "tcp.seq", "tcp.ack", "tcp.flags", "tcp.len", "frame.len", "frame.cap_len")
+FIELDS = (
+    "frame.number",
+    "frame.time_epoch",
+    "tcp.stream",
+    "ip.src",
+    "tcp.srcport",
+    "ip.dst",
+    "tcp.dstport",
+    "tcp.seq",
+    "tcp.ack",
+    "tcp.flags",
+    "tcp.len",
+    "frame.len",
+    "frame.cap_len",
+)
 # TCP alone. Sequence numbers begin with 0.
-PLAIN = ("-o", "tcp.desegment_tcp_streams:FALSE", "-o", "tcp.relative_sequence_numbers:TRUE",
-         "-o", "tcp.analyze_sequence_numbers:TRUE", "--disable-protocol", "rpc")
+PLAIN = (
+    "-o",
+    "tcp.desegment_tcp_streams:FALSE",
+    "-o",
+    "tcp.relative_sequence_numbers:TRUE",
+    "-o",
+    "tcp.analyze_sequence_numbers:TRUE",
+    "--disable-protocol",
+    "rpc",
+)
 FIN, SYN, RST, ACK = 1, 2, 4, 16
 # How a capture begins: pcap in both orders of bytes, with times in micro- or nanoseconds, and pcapng. tshark also reads
 # them compressed, by gzip, zstd or lz4. It would read any lines of text as packets, too.
-BEGINNINGS = tuple(map(bytes.fromhex, ("a1b2c3d4", "d4c3b2a1", "a1b23c4d", "4d3cb2a1", "a1b2cd34", "34cdb2a1", "0a0d0d0a",
-                                       "1f8b", "28b52ffd", "04224d18")))
+BEGINNINGS = tuple(
+    map(
+        bytes.fromhex,
+        (
+            "a1b2c3d4",
+            "d4c3b2a1",
+            "a1b23c4d",
+            "4d3cb2a1",
+            "a1b2cd34",
+            "34cdb2a1",
+            "0a0d0d0a",
+            "1f8b",
+            "28b52ffd",
+            "04224d18",
+        ),
+    )
+)
 End = tuple[str, int]
 
 
@@ -57,7 +93,7 @@ def nanoseconds(text: str) -> int:
     whole, _, part = text.partition(".")
     if not (whole + part).isascii() or not (whole + part).isdigit():
         raise Fault(f"not a time in seconds: {text!r}")
-    return int(whole or "0") * 10 ** 9 + int(part[:9].ljust(9, "0"))
+    return int(whole or "0") * 10**9 + int(part[:9].ljust(9, "0"))
 
 
 def must_be_capture(path: str) -> None:
@@ -70,15 +106,22 @@ def must_be_capture(path: str) -> None:
     except OSError as fault:
         raise Fault(f"{path} can't be read: {fault.strerror}") from None
     if not begin.startswith(BEGINNINGS):
-        raise Fault(f"{path} isn't a capture: it begins neither as a pcap file nor as a pcapng file")
+        raise Fault(
+            f"{path} isn't a capture: it begins neither as a pcap file nor as a pcapng file"
+        )
 
 
 def tshark(path: str, words: Sequence[str]) -> list[str]:
     """The lines that tshark prints for a capture."""
     must_be_capture(path)
     try:
-        told = subprocess.run(["tshark", "-n", "-r", path, *PLAIN, *words], stdin=subprocess.DEVNULL,
-                              capture_output=True, text=True, check=False)
+        told = subprocess.run(
+            ["tshark", "-n", "-r", path, *PLAIN, *words],
+            stdin=subprocess.DEVNULL,
+            capture_output=True,
+            text=True,
+            check=False,
+        )
     except FileNotFoundError:
         raise Fault("tshark is missing: it is Debian's package tshark") from None
     if told.returncode != 0:
@@ -93,8 +136,17 @@ def packet(line: str) -> Packet:
     source, from_port, target, to_port = ends
     if kept != length:
         raise Fault(f"packet {number} has {kept} of its {length} bytes: capture whole packets")
-    return Packet(int(number), nanoseconds(time), int(stream), (source, int(from_port)), (target, int(to_port)),
-                  int(seq), int(ack or "0"), int(flags, 16), int(size))
+    return Packet(
+        int(number),
+        nanoseconds(time),
+        int(stream),
+        (source, int(from_port)),
+        (target, int(to_port)),
+        int(seq),
+        int(ack or "0"),
+        int(flags, 16),
+        int(size),
+    )
 
 
 def packets(path: str) -> list[Packet]:

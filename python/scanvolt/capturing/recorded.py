@@ -34,18 +34,22 @@ def read(path: str) -> list[str]:
             text = file.read()
     except OSError as fault:
         raise Fault(f"{path} can't be read: {fault.strerror}") from None
-    return text[:text.rfind(b"\n") + 1].decode("latin-1").splitlines()
+    return text[: text.rfind(b"\n") + 1].decode("latin-1").splitlines()
 
 
 def replayed(program: str, record: list[str], ports: tuple[int, int]) -> list[_Sent]:
     """The connections of a record in the order in which they opened, with what a replay by these ports sends."""
     marked = [one for line in record for one in (line, MARK)]
-    blocks = replies(program, marked, len(record), ["--core", str(ports[0]), "--abort", str(ports[1])])
+    blocks = replies(
+        program, marked, len(record), ["--core", str(ports[0]), "--abort", str(ports[1])]
+    )
     found: list[_Sent] = []
-    now: dict[str, _Sent] = {}       # by the names that the replay prints
+    now: dict[str, _Sent] = {}  # by the names that the replay prints
     for number, (line, block) in enumerate(zip(record, blocks), 1):
         if len(blocks) > len(record) or ["refused"] in [words[:1] for words in block]:
-            raise Fault(f"the replay refuses an event of the record, line {number} or one before: {in_a_line(line.encode())}")
+            raise Fault(
+                f"the replay refuses an event of the record, line {number} or one before: {in_a_line(line.encode())}"
+            )
         begin(line.split(" "), now, found)
         for name, sent in block:
             now[name].sent += bytes.fromhex(sent)
@@ -95,7 +99,10 @@ def of_flow(flow: Flow, one: _Sent, is_short: bool) -> Iterator[str]:
     taken, sent = bytes(flow.wanted), bytes(one.sent)
     if taken == sent or is_short and sent.startswith(taken):
         return
-    place = next((number for number, pair in enumerate(zip(taken, sent)) if pair[0] != pair[1]), min(len(taken), len(sent)))
+    place = next(
+        (number for number, pair in enumerate(zip(taken, sent)) if pair[0] != pair[1]),
+        min(len(taken), len(sent)),
+    )
     yield f"{flow.name}: the socket took {len(taken)} bytes, the record's replay sends {len(sent)}; they differ from byte {place} on"
     yield from shown("the capture", taken, place)
     yield from shown("the replay", sent, place)
@@ -105,6 +112,9 @@ def summary(session: Session) -> str:
     """What was compared."""
     flows = [flow for one in session.connections for flow in (one.flow, *one.channels)]
     channels = len(flows) - len(session.connections)
-    said = (counted(len(session.connections), "connection"), counted(channels, "interrupt channel"),
-            counted(sum(len(flow.wanted) for flow in flows), "byte"))
+    said = (
+        counted(len(session.connections), "connection"),
+        counted(channels, "interrupt channel"),
+        counted(sum(len(flow.wanted) for flow in flows), "byte"),
+    )
     return "the record's replay sends what the sockets took: " + ", ".join(said)

@@ -6,7 +6,7 @@ from ..stimulus import read_scenario
 from .flows import Point
 from .packets import Fault
 
-MOST = 1_000_000        # ticks of one line
+MOST = 1_000_000  # ticks of one line
 # A line that is refused and changes nothing: its output shows how far the replay is.
 MARK, MARKED = "input 0 0", "refused 8"
 Scheduled = tuple[int, str]
@@ -47,7 +47,9 @@ class _Clock:
             self._due(lines)
 
 
-def script(points: list[Point], ticks: list[int], entries: list[Scheduled], mark: bool = False) -> list[str]:
+def script(
+    points: list[Point], ticks: list[int], entries: list[Scheduled], mark: bool = False
+) -> list[str]:
     """The lines of these points. `ticks` says how many ticks pass before each."""
     clock = _Clock(entries)
     lines: list[str] = []

@@ -15,12 +15,12 @@ from .flows import Connection, Flow, Point, Reply, name
 from .packets import address
 from .streams import Happening, Stream
 
-MILLISECOND = 10 ** 6
-WRITING = 100_000       # from the beginning of a sweep to its write
-READING = 50_000        # from a write to the next sweep's reads
-TOGETHER = 500_000      # what comes within this many nanoseconds may be handled in one sweep
+MILLISECOND = 10**6
+WRITING = 100_000  # from the beginning of a sweep to its write
+READING = 50_000  # from a write to the next sweep's reads
+TOGETHER = 500_000  # what comes within this many nanoseconds may be handled in one sweep
 CONNECTIONS = 16
-TOLD = {"core": 4096, "abort": 4097}     # the ports that the replaying server puts into replies
+TOLD = {"core": 4096, "abort": 4097}  # the ports that the replaying server puts into replies
 # Where a port begins in a result of create_link, and in one of GETPORT.
 LINK_PORT, ASKED_PORT = len(words(0, 0)), 0
 
@@ -28,27 +28,33 @@ LINK_PORT, ASKED_PORT = len(words(0, 0)), 0
 class Session:
     """What happened, point by point."""
 
-    def __init__(self, streams: list[Stream], ports: dict[str, set[int]], end: int,
-                 start: int | None = None, as_told: bool = False) -> None:
+    def __init__(
+        self,
+        streams: list[Stream],
+        ports: dict[str, set[int]],
+        end: int,
+        start: int | None = None,
+        as_told: bool = False,
+    ) -> None:
         self._ports = ports
-        self._as_told = as_told      # whether replies keep the ports that they tell
+        self._as_told = as_told  # whether replies keep the ports that they tell
         self.points: list[Point] = []
-        self._numbers: dict[int, Connection] = {}        # the connections that are open, by number
-        self.connections: list[Connection] = []     # all that there were, in their order
-        self.dropped = 0        # connections that the server dropped: it has room for sixteen
+        self._numbers: dict[int, Connection] = {}  # the connections that are open, by number
+        self.connections: list[Connection] = []  # all that there were, in their order
+        self.dropped = 0  # connections that the server dropped: it has room for sixteen
         self._by_stream: dict[int, Connection] = {}
-        self.channels: dict[int, Flow] = {}             # the flows of interrupt channels, by their streams
-        self.unseen = 0         # interrupt channels that the capture doesn't have
+        self.channels: dict[int, Flow] = {}  # the flows of interrupt channels, by their streams
+        self.unseen = 0  # interrupt channels that the capture doesn't have
         roles = {port: role for role, found in ports.items() for port in found}
         self._roles = {id(one): roles.get(one.callee[1]) for one in streams}
         self._others = [one for one in streams if one.callee[1] not in roles]
         happenings = [what for one in streams for what in one.happenings]
         happenings.sort(key=lambda what: what.number)
         of_server = [what.time for what in happenings if self._roles[id(what.stream)]]
-        self.told = start is not None               # whether --start was given
+        self.told = start is not None  # whether --start was given
         # the time of the server's start
         self.start = start if start is not None else min(of_server, default=0)
-        self.end = end          # the time of the last packet
+        self.end = end  # the time of the last packet
         self._swept = self.start
         self._play(happenings)
 
@@ -77,7 +83,7 @@ class Session:
                     burst = []
                 burst.append(what)
             elif server or id(what.stream) in self.channels:
-                self._bring(burst, answers(happenings[place:place + 2 * CONNECTIONS]))
+                self._bring(burst, answers(happenings[place : place + 2 * CONNECTIONS]))
                 burst = []
                 self._one(what, server)
         self._bring(burst, [])
@@ -181,11 +187,13 @@ class Session:
             return
         for role, port in TOLD.items():
             for told in map(words, self._ports[role]):
-                if flow.wanted[place:place + len(told)] == told:
-                    flow.wanted[place:place + len(told)] = words(port)
+                if flow.wanted[place : place + len(told)] == told:
+                    flow.wanted[place : place + len(told)] = words(port)
                     return
 
-    def _on_dial(self, connection: Connection, call: CallMessage, error: int | None, point: Point) -> None:
+    def _on_dial(
+        self, connection: Connection, call: CallMessage, error: int | None, point: Point
+    ) -> None:
         """What became of an interrupt channel, as the reply to a call about it says."""
         number = connection.number
         turn = self.points[connection.turns[len(connection.flow.replies) - 1]]
@@ -222,8 +230,9 @@ class Session:
         if what.kind == "sent":
             point = self._point(what.time - WRITING)
             for record in flow.push(what.data, point):
-                flow.replies.append(Reply(record.start, record.end, "device_intr_srq",
-                                          self._here(), self._here()))
+                flow.replies.append(
+                    Reply(record.start, record.end, "device_intr_srq", self._here(), self._here())
+                )
         elif what.kind == "closed":
             flow.loose = True
 

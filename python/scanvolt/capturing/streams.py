@@ -11,7 +11,7 @@ from dataclasses import dataclass, field
 
 from .packets import ACK, FIN, RST, SYN, End, Fault, Packet, address, tshark
 
-AT_ONCE = 200           # streams that one run of tshark follows
+AT_ONCE = 200  # streams that one run of tshark follows
 # What tshark writes in place of bytes that it doesn't have.
 LACKS = re.compile(rb"\[[0-9]+ bytes missing in capture file\]\0?")
 
@@ -58,7 +58,7 @@ def followed(path: str, packets: dict[int, Packet], numbers: list[int]) -> dict[
     found: dict[int, list[_Piece]] = defaultdict(list)
     for start in range(0, len(numbers), AT_ONCE):
         words = ["-q"]
-        for number in numbers[start:start + AT_ONCE]:
+        for number in numbers[start : start + AT_ONCE]:
             words += ["-z", f"follow,tcp,yaml,{number}"]
         for one in pieces(tshark(path, words), packets):
             found[one.packet.stream].append(one)
@@ -99,9 +99,9 @@ class _Direction:
     """One direction of a stream: how much of it the capture has, and how much the other side acknowledged."""
 
     def __init__(self) -> None:
-        self._reached = 0        # the end of the farthest packet, in bytes
-        self._known = 0          # the bytes that the other side acknowledged
-        self.end: Packet | None = None       # the packet that ended the direction
+        self._reached = 0  # the end of the farthest packet, in bytes
+        self._known = 0  # the bytes that the other side acknowledged
+        self.end: Packet | None = None  # the packet that ended the direction
 
     def take(self, packet: Packet) -> None:
         """Takes a packet of this side. Its bytes are counted from 1: 0 is the beginning of the stream."""
@@ -170,7 +170,9 @@ class _Following:
 
     def _tell(self, packet: Packet, kind: str, data: bytes = b"") -> None:
         """Adds something that happened with this packet."""
-        self.stream.happenings.append(Happening(packet.time, packet.number, kind, self.stream, data))
+        self.stream.happenings.append(
+            Happening(packet.time, packet.number, kind, self.stream, data)
+        )
 
     def whole(self) -> None:
         """Raises Fault if bytes are missing that a packet of the capture had or that the other side acknowledged."""
@@ -183,7 +185,9 @@ class _Following:
                     count += len(one.data)
             if count < side.size():
                 side_name = "caller" if called else "callee"
-                raise Fault(f"{self.stream.name()}: the capture lacks bytes from {count} on that the {side_name} sent")
+                raise Fault(
+                    f"{self.stream.name()}: the capture lacks bytes from {count} on that the {side_name} sent"
+                )
 
 
 def later(first: Packet, second: Packet) -> Packet:
@@ -201,7 +205,9 @@ def streams(path: str, packets: list[Packet], ports: set[int]) -> list[Stream]:
             if packet.flags & (SYN | ACK) != SYN:
                 if packet.target[1] in ports or packet.source[1] in ports:
                     source, target = address(packet.source), address(packet.target)
-                    raise Fault(f"packet {packet.number}: the connection {source} to {target} began before the capture")
+                    raise Fault(
+                        f"packet {packet.number}: the connection {source} to {target} began before the capture"
+                    )
                 continue
             begun[packet.stream] = _Following(packet)
         begun[packet.stream].take(packet)

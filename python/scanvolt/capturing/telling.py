@@ -47,7 +47,11 @@ class Telling(Watch):
             self._show("at the times of the capture, the first difference is this:", difference)
             if self._slack:
                 slack = counted(self._slack, "millisecond")
-                say([f"capture: other ticks are tried, up to {slack} earlier or later, for at most {compare.PATIENCE:g} s"])
+                say(
+                    [
+                        f"capture: other ticks are tried, up to {slack} earlier or later, for at most {compare.PATIENCE:g} s"
+                    ]
+                )
 
     def starts(self, difference: Difference) -> None:
         """Prints the difference that other ticks don't settle, and that other starts are tried."""
@@ -59,5 +63,9 @@ class Telling(Watch):
         if difference != self._shown:
             self._show("the difference that remains with other ticks:", difference)
         elif self._slack:
-            tried = f"what could be tried in {compare.PATIENCE:g} s" if comparison.late else "all that was tried"
+            tried = (
+                f"what could be tried in {compare.PATIENCE:g} s"
+                if comparison.late
+                else "all that was tried"
+            )
             say([f"capture: the difference remains with {tried}"])

@@ -9,9 +9,9 @@ from .compare import Comparison, Difference
 from .flows import Connection, Flow, Point, Reply, reply_at
 from .session import Session
 
-ROW = 16        # bytes of a row
-AROUND = 2      # rows that are shown before the one that differs, and after it
-TEXT_MOST = 100         # characters of a message that are shown
+ROW = 16  # bytes of a row
+AROUND = 2  # rows that are shown before the one that differs, and after it
+TEXT_MOST = 100  # characters of a message that are shown
 READING, NO_VOLTS = re.compile(rb"[+-][0-9]+[.][0-9]{6}"), b"+0.000000"
 
 
@@ -24,9 +24,12 @@ def summary(session: Session) -> str:
     """How many connections, calls, replies and bytes the capture has."""
     flows = session.flows()
     count = sum(len(one.calls) for one in session.connections)
-    told = [counted(len(session.connections), "connection"), counted(count, "call"),
-            counted(sum(len(flow.replies) for flow in flows), "reply", "replies"),
-            counted(sum(len(flow.wanted) for flow in flows), "byte") + " of them"]
+    told = [
+        counted(len(session.connections), "connection"),
+        counted(count, "call"),
+        counted(sum(len(flow.replies) for flow in flows), "reply", "replies"),
+        counted(sum(len(flow.wanted) for flow in flows), "byte") + " of them",
+    ]
     if session.channels:
         told.insert(1, counted(len(session.channels), "interrupt channel"))
     if session.dropped:
@@ -49,7 +52,9 @@ def moves(comparison: Comparison, ticks: list[int]) -> str:
         start += f", {counted(comparison.swapped, 'call')} taken after another connection's"
     if not count:
         return "at the ticks of the capture's times" + start
-    return f"with the ticks of {count} of {len(points)} events moved by at most {max(found)} ms{start}"
+    return (
+        f"with the ticks of {count} of {len(points)} events moved by at most {max(found)} ms{start}"
+    )
 
 
 def seconds(points: list[Point], place: int) -> str:
@@ -61,8 +66,10 @@ def told(session: Session, difference: Difference) -> list[str]:
     points, flow = session.points, difference.flow
     when = seconds(points, difference.point)
     if flow is None:
-        return [f"the replay refuses an event {when}: refused {difference.found.decode()}",
-                "  of: " + "; ".join(shown_line(line) for line in points[difference.point].lines)]
+        return [
+            f"the replay refuses an event {when}: refused {difference.found.decode()}",
+            "  of: " + "; ".join(shown_line(line) for line in points[difference.point].lines),
+        ]
     reply = reply_at(flow, difference.place)
     if reply is None:
         number, name = len(flow.replies) + 1, "no whole reply in the capture"
@@ -70,14 +77,19 @@ def told(session: Session, difference: Difference) -> list[str]:
     else:
         number, name = flow.replies.index(reply) + 1, reply.name
         begin, end = reply.start, reply.end
-    what = {"differs": "differs", "missing": "isn't sent by the replay until then",
-            "more": "isn't in the capture"}[difference.kind]
+    what = {
+        "differs": "differs",
+        "missing": "isn't sent by the replay until then",
+        "more": "isn't in the capture",
+    }[difference.kind]
     lines = [f"reply {number} ({name}) of {flow.name} {what}, {when}"]
     lines += messages(session, flow, reply)
     place = difference.place - begin
     if difference.kind == "differs":
         wanted, found = flow.wanted[difference.place], difference.found[difference.place]
-        lines.append(f"  byte {place} of the reply: {wanted:02x} in the capture, {found:02x} in the replay")
+        lines.append(
+            f"  byte {place} of the reply: {wanted:02x} in the capture, {found:02x} in the replay"
+        )
     if end > begin:
         lines += shown("the capture", bytes(flow.wanted[begin:end]), place)
     if difference.found:
@@ -92,7 +104,7 @@ def shown(where: str, data: bytes, place: int) -> list[str]:
     starts = range(max(0, row - AROUND) * ROW, min(len(data), (row + AROUND + 1) * ROW), ROW)
     lines = [f"  {len(data)} bytes in {where}:"]
     for start in starts:
-        piece = data[start:start + ROW]
+        piece = data[start : start + ROW]
         mark, text = ">" if start == row * ROW else " ", "".join(map(shown_byte, piece))
         lines.append(f"  {mark} {start:6d}  {piece.hex(' ', -4):<35}  {text}")
     return lines
@@ -115,7 +127,7 @@ def messages(session: Session, flow: Flow, reply: Reply | None) -> list[str]:
 def written(connection: Connection, call: CallMessage) -> bytes:
     """The bytes of the last device_write on the same link: of this call, or of one before it."""
     place = next(number for number, one in enumerate(connection.calls) if one is call)
-    for one in reversed(connection.calls[:place + 1]):
+    for one in reversed(connection.calls[: place + 1]):
         if (one.program, one.procedure) == (calls.CORE, calls.DEVICE_WRITE):
             try:
                 reader = Reader(one.arguments)
@@ -128,7 +140,11 @@ def written(connection: Connection, call: CallMessage) -> bytes:
 
 
 # Calls of the core channel whose arguments begin with a link.
-ON_A_LINK = set(calls.NAMES[calls.CORE]) - {calls.CREATE_LINK, calls.CREATE_INTR_CHAN, calls.DESTROY_INTR_CHAN}
+ON_A_LINK = set(calls.NAMES[calls.CORE]) - {
+    calls.CREATE_LINK,
+    calls.CREATE_INTR_CHAN,
+    calls.DESTROY_INTR_CHAN,
+}
 
 
 def quoted(text: bytes) -> str:
@@ -156,7 +172,10 @@ def lacks_voltages(difference: Difference) -> bool:
     reply = reply_at(flow, difference.place) if flow else None
     if flow is None or reply is None or difference.kind != "differs":
         return False
-    both = zip(READING.findall(flow.wanted[reply.start:reply.end]), READING.findall(difference.found[reply.start:]))
+    both = zip(
+        READING.findall(flow.wanted[reply.start : reply.end]),
+        READING.findall(difference.found[reply.start :]),
+    )
     return next((found for wanted, found in both if wanted != found), None) == NO_VOLTS
 
 

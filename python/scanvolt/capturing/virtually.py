@@ -17,7 +17,7 @@ from .packets import Fault
 from .session import Session, error_of
 from .told import counted
 
-Requested = tuple[int, str]         # its xid and its handle
+Requested = tuple[int, str]  # its xid and its handle
 
 
 @dataclass(frozen=True)
@@ -33,13 +33,15 @@ class _Sent(Call[None]):
 class Again:
     """A captured session, made again in virtual time."""
 
-    def __init__(self, session: Session, ticks: list[int], program: Name | None, scenario: Name | None) -> None:
+    def __init__(
+        self, session: Session, ticks: list[int], program: Name | None, scenario: Name | None
+    ) -> None:
         self._session = session
         self._ticks = ticks
         self._open: dict[int, Connection] = {}
         self._left: dict[int, deque[tuple[CallMessage, bytes, bool]]] = {}
-        self._done: list[list[Pending[None]]] = []       # the calls of each connection, open or ended
-        self._place: dict[int, int] = {}                 # for each open connection, its place in `done`
+        self._done: list[list[Pending[None]]] = []  # the calls of each connection, open or ended
+        self._place: dict[int, int] = {}  # for each open connection, its place in `done`
         self._requests: list[Requested] = []
         self._captured = iter(session.connections)
         with Meter(program, scenario) as meter:
@@ -65,7 +67,9 @@ class Again:
         connection = self._meter.connect(role)
         if connection.number != number:
             raise Fault(f"in virtual time connection {number} is {connection.number}")
-        connection.on_service_request(lambda one: self._requests.append((one.xid, one.handle.decode("latin-1"))))
+        connection.on_service_request(
+            lambda one: self._requests.append((one.xid, one.handle.decode("latin-1")))
+        )
         captured = next(self._captured)
         self._open[number], self._left[number] = connection, deque(sent(captured))
         self._place[number] = len(self._done)
@@ -84,7 +88,7 @@ class Again:
         for captured, done in zip(self._session.connections, self._done):
             flow = captured.flow
             for place, reply in enumerate(flow.replies):
-                wanted = bytes(flow.wanted[reply.start:reply.end])
+                wanted = bytes(flow.wanted[reply.start : reply.end])
                 if place < len(done) and done[place]._body:
                     found = record(done[place]._body)
                 else:
@@ -92,9 +96,13 @@ class Again:
                 late = place < len(done) and (done[place].clock or 0) > self._ticks[reply.due]
                 if found != wanted or late:
                     said = f"{found.hex() or 'none'} in virtual time" + " later" * late
-                    told.append(f"reply {place + 1} ({reply.name}) of {flow.name}: {wanted.hex()} in the capture, {said}")
+                    told.append(
+                        f"reply {place + 1} ({reply.name}) of {flow.name}: {wanted.hex()} in the capture, {said}"
+                    )
         if self._requests != requested(self._session):
-            told.append(f"service requests {requested(self._session)} in the capture, {self._requests} in virtual time")
+            told.append(
+                f"service requests {requested(self._session)} in the capture, {self._requests} in virtual time"
+            )
         return told
 
     def summary(self) -> str:
@@ -111,9 +119,12 @@ def sent(captured: Captured) -> list[tuple[CallMessage, bytes, bool]]:
     found = []
     for place, one in enumerate(captured.records):
         call, dials = call_of(one.body), True
-        if place < len(captured.flow.replies) and name(call) == calls.NAMES[calls.CORE][calls.CREATE_INTR_CHAN]:
+        if (
+            place < len(captured.flow.replies)
+            and name(call) == calls.NAMES[calls.CORE][calls.CREATE_INTR_CHAN]
+        ):
             reply = captured.flow.replies[place]
-            body = bytes(captured.flow.wanted[reply.start:reply.end])[len(record(b"")):]
+            body = bytes(captured.flow.wanted[reply.start : reply.end])[len(record(b"")) :]
             dials = error_of(body, call.xid) != NOT_ESTABLISHED
         found.append((call, record(one.body), dials))
     return found
@@ -125,6 +136,6 @@ def requested(session: Session) -> list[Requested]:
     for flow in session.channels.values():
         stream = RequestStream()
         for reply in flow.replies:
-            for one in stream.push(bytes(flow.wanted[reply.start:reply.end])):
+            for one in stream.push(bytes(flow.wanted[reply.start : reply.end])):
                 found.append((reply.due, (one.xid, one.handle.decode("latin-1"))))
     return [one for _, one in sorted(found, key=lambda pair: pair[0])]

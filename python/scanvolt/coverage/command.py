@@ -28,9 +28,18 @@ NAME = "scanvolt-coverage"
 
 def words(given: list[str] | None) -> argparse.Namespace:
     """The arguments of the command line."""
-    parser = argparse.ArgumentParser(prog=NAME, description=__doc__, formatter_class=argparse.RawDescriptionHelpFormatter)
-    parser.add_argument("scripts", metavar="SCRIPT", nargs="+", help="a script of a session, or - for standard input")
-    parser.add_argument("--least", type=float, default=0, metavar="PERCENT", help="status 1 if less was met")
+    parser = argparse.ArgumentParser(
+        prog=NAME, description=__doc__, formatter_class=argparse.RawDescriptionHelpFormatter
+    )
+    parser.add_argument(
+        "scripts",
+        metavar="SCRIPT",
+        nargs="+",
+        help="a script of a session, or - for standard input",
+    )
+    parser.add_argument(
+        "--least", type=float, default=0, metavar="PERCENT", help="status 1 if less was met"
+    )
     parser.add_argument("--all", action="store_true", help="prints how often each entry was met")
     parser.add_argument("--program", help="the scanvolt that explains")
     return parser.parse_args(given)
@@ -44,12 +53,21 @@ def main(given_words: list[str] | None = None) -> int:
         program = given.program or find_program()
         for path in given.scripts:
             text = read(path).decode("latin-1")
-            found += count(Story(lines_of(text.split("\n")[:-1] if text.endswith("\n") else text.split("\n"), program)))
+            found += count(
+                Story(
+                    lines_of(
+                        text.split("\n")[:-1] if text.endswith("\n") else text.split("\n"), program
+                    )
+                )
+            )
         report = Report(found)
         below = report.below(given.least)
-        print("\n".join([*report.lines(given.all), report.summary()] + ([below] if below else [])), flush=True)
+        print(
+            "\n".join([*report.lines(given.all), report.summary()] + ([below] if below else [])),
+            flush=True,
+        )
         return 1 if below else 0
-    except BrokenPipeError:             # whoever reads has seen enough
+    except BrokenPipeError:  # whoever reads has seen enough
         os.dup2(os.open(os.devnull, os.O_WRONLY), sys.stdout.fileno())
         return 0
     except (OSError, ProgramError) as fault:

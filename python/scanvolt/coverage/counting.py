@@ -20,9 +20,14 @@ BITS_OF = "status bits"
 CALLS_OF = "VXI-11 calls"
 FAULTS_OF = "errors of calls"
 SITUATIONS = "situations"
-AWAITED = {"lock": "the lock", "input": "input", "response": "a response", "dial": "the interrupt channel"}
+AWAITED = {
+    "lock": "the lock",
+    "input": "input",
+    "response": "a response",
+    "dial": "the interrupt channel",
+}
 REGISTER = "poll", "esr"
-Item = tuple[str, str]          # a list, and an entry of it
+Item = tuple[str, str]  # a list, and an entry of it
 RQS = 64
 
 
@@ -65,14 +70,23 @@ def registers() -> Iterator[tuple[str, int]]:
 
 def everything() -> list[Item]:
     """All that can be met, in the order of the tables."""
-    found: list[Item] = [(COMMANDS, header) for header in HEADERS] + [_error(number) for number in ERRORS]
+    found: list[Item] = [(COMMANDS, header) for header in HEADERS] + [
+        _error(number) for number in ERRORS
+    ]
     for name, bit in registers():
-        found += [_bit(name, bit, how) for how in ("set", "cleared") + (("polled",) if name == "poll" else ())]
+        found += [
+            _bit(name, bit, how)
+            for how in ("set", "cleared") + (("polled",) if name == "poll" else ())
+        ]
     found += [(CALLS_OF, call) for call in CALLS]
     found += [_fault(call, number) for call, errors in CALLS.items() for number in errors]
     for what, (late, aborted) in WAITS.items():
         found.append(_wait(what, "is granted"))
-        found += [_wait(what, how) for number, how in ((late, "times out"), (aborted, "is aborted")) if number]
+        found += [
+            _wait(what, how)
+            for number, how in ((late, "times out"), (aborted, "is aborted"))
+            if number
+        ]
     found += [_read(reason) for reason in READS] + [_state(*one) for one in STATES]
     return found + [INTERRUPT, OVERRUN, SENT, UNHEARD, LOST]
 
@@ -100,7 +114,10 @@ class _Counting:
         for moment in story.moments:
             if story.requests.get(moment.number):
                 self.found[SENT] += 1
-            elif any(one.name == "poll" and as_number(one.new) & ~as_number(one.old) & RQS for one in moment.changes()):
+            elif any(
+                one.name == "poll" and as_number(one.new) & ~as_number(one.old) & RQS
+                for one in moment.changes()
+            ):
                 self.found[UNHEARD] += 1
 
     def _step(self, step: Step) -> None:
@@ -113,7 +130,7 @@ class _Counting:
             if change.name == "errors":
                 before, after = numbers(change.old), numbers(change.new)
                 if after != before[1:] or not before:
-                    for number in after[len(before):] or after[-1:]:
+                    for number in after[len(before) :] or after[-1:]:
                         self.found[_error(number)] += 1
             elif change.name == "lost" and new > old:
                 self.found[LOST] += new - old
@@ -122,7 +139,9 @@ class _Counting:
             elif change.name in NAMED:
                 for bit in NAMED[change.name]:
                     if (old ^ new) >> bit & 1:
-                        self.found[_bit(change.name, bit, "set" if new >> bit & 1 else "cleared")] += 1
+                        self.found[
+                            _bit(change.name, bit, "set" if new >> bit & 1 else "cleared")
+                        ] += 1
 
     def _unit(self, step: Step) -> None:
         """The header of a unit, if the instrument knows it."""
@@ -142,7 +161,9 @@ class _Counting:
         """The scan goes from a state to another one."""
         is_tick = step.kind == "event" and step.moment.kind == "tick"
         for one, by, other in STATES:
-            if other == to and (one == start and is_tick == (by == "tick") or one == "any" and not is_tick):
+            if other == to and (
+                one == start and is_tick == (by == "tick") or one == "any" and not is_tick
+            ):
                 self.found[_state(one, by, other)] += 1
 
     def _call(self, call: Call) -> None:

@@ -21,7 +21,9 @@ def _forms(header: str) -> list[Path]:
     return found
 
 
-TABLE: dict[tuple[Path, bool], str] = {(form, header.endswith("?")): header for header in HEADERS for form in _forms(header)}
+TABLE: dict[tuple[Path, bool], str] = {
+    (form, header.endswith("?")): header for header in HEADERS for form in _forms(header)
+}
 
 
 class Headers:

@@ -56,7 +56,9 @@ class Coverage:
         self._count(True)
         output: dict[str, Any] | None = getattr(self._config, "workeroutput", None)
         if output is not None:
-            output[OUTPUT] = [[name, words, number] for (name, words), number in self._found.items()], self._faults
+            output[OUTPUT] = [
+                [name, words, number] for (name, words), number in self._found.items()
+            ], self._faults
         elif session.exitstatus == 0 and Report(self._found).below(self._least):
             session.exitstatus = pytest.ExitCode.TESTS_FAILED
 

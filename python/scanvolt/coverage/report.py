@@ -8,7 +8,7 @@ from collections.abc import Mapping
 from ..explaining.text import wrapped
 from .counting import Item, everything
 
-WIDTH, INDENT = 120, 4      # columns
+WIDTH, INDENT = 120, 4  # columns
 
 
 class Report:
@@ -35,7 +35,9 @@ class Report:
 
     def summary(self) -> str:
         """The summary in one line."""
-        parts = [f"{name} {self._met(items)} of {len(items)}" for name, items in self._lists.items()]
+        parts = [
+            f"{name} {self._met(items)} of {len(items)}" for name, items in self._lists.items()
+        ]
         met, count = self.parts
         return f"coverage of the instrument: {met} of {count}, {self._percent:.0f} %: {', '.join(parts)}"
 
@@ -49,7 +51,9 @@ class Report:
             if everything_met:
                 found += [f"{self._counts[item]:8d}  {item[1]}" for item in items]
             elif missing:
-                found.append(" " * INDENT + wrapped("not met: " + "; ".join(missing), WIDTH - INDENT, INDENT))
+                found.append(
+                    " " * INDENT + wrapped("not met: " + "; ".join(missing), WIDTH - INDENT, INDENT)
+                )
         return found
 
     def below(self, least: float) -> str:

@@ -10,9 +10,24 @@ from .words import NAMES, PARTS
 
 PLAIN = ("error", "lock", "held", "trigger", "response", "source", "opc", "reading", "wait cN")
 OTHER = {"error": "errors", "trigger": "state", "scan": "state", "stb": "poll"}
-BYTES = ("poll", "stb", "sre", "esr", "ese")       # registers of eight bits; all others have sixteen
-WORDS = ("errors", "lock", "held", "state", "response", "source", "opc", "reading", "count", "list", "range", "monitor", "upper",
-         "lower", "limits")
+BYTES = ("poll", "stb", "sre", "esr", "ese")  # registers of eight bits; all others have sixteen
+WORDS = (
+    "errors",
+    "lock",
+    "held",
+    "state",
+    "response",
+    "source",
+    "opc",
+    "reading",
+    "count",
+    "list",
+    "range",
+    "monitor",
+    "upper",
+    "lower",
+    "limits",
+)
 
 
 class Unknown(ValueError):
@@ -57,8 +72,10 @@ def _value(name: str, low: str) -> tuple[str, int | None]:
             for bit, word in NAMES[register].items():
                 if low == word.lower():
                     return register, bit
-        raise Unknown(f"no value is called `{name}`: name a bit (RQS, ESR.CME, stb.5, ques.event.LIM), a register (ESR, ques.cond), "
-                      f"or one of {', '.join(PLAIN)}")
+        raise Unknown(
+            f"no value is called `{name}`: name a bit (RQS, ESR.CME, stb.5, ques.event.LIM), a register (ESR, ques.cond), "
+            f"or one of {', '.join(PLAIN)}"
+        )
     head = OTHER.get(head, head)
     if head in REGISTERS:
         if tail in dict(PARTS):
@@ -67,10 +84,14 @@ def _value(name: str, low: str) -> tuple[str, int | None]:
     head = head.replace(".condition", ".cond")
     if head not in NAMES:
         registers, parts = ", ".join(REGISTERS), ", ".join(part for part, _ in PARTS)
-        raise Unknown(f"no register is called `{head}`: stb, sre, esr, ese, or {registers} with {parts}")
+        raise Unknown(
+            f"no register is called `{head}`: stb, sre, esr, ese, or {registers} with {parts}"
+        )
     for bit, word in NAMES[head].items():
         if tail == word.lower():
             return head, bit
     if tail.isdigit() and int(tail) < (8 if head in BYTES else 16):
         return head, int(tail)
-    raise Unknown(f"{head.replace('poll', 'stb')} has no bit `{tail}`, only {', '.join(NAMES[head].values())}")
+    raise Unknown(
+        f"{head.replace('poll', 'stb')} has no bit `{tail}`, only {', '.join(NAMES[head].values())}"
+    )

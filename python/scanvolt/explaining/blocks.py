@@ -71,8 +71,11 @@ class _Ordered:
 
     def _blocks(self, count: int) -> list[Block]:
         taken, self._left = self._left[:count], self._left[count:]
-        return [Block(replace(self._last, clock=one.clock), one.who, str(one), "fault", is_fault=True)
-                for one in taken if self._last is not None]
+        return [
+            Block(replace(self._last, clock=one.clock), one.who, str(one), "fault", is_fault=True)
+            for one in taken
+            if self._last is not None
+        ]
 
 
 class Blocks:
@@ -112,7 +115,16 @@ class Blocks:
         if kind == "bytes" and not self._everything:
             yield from self._queued(moment, rows)
         elif kind == "dialed" and call and call in replied and not self._everything:
-            yield Block(moment, call.who, call.words, "call", call.reply.words, call.reply.is_fault, rows, call)
+            yield Block(
+                moment,
+                call.who,
+                call.words,
+                "call",
+                call.reply.words,
+                call.reply.is_fault,
+                rows,
+                call,
+            )
             return
         elif kind in ("turn", "refuse") and call:
             if self._dials_at_once(call, moment):
@@ -127,7 +139,16 @@ class Blocks:
         for one in replied:
             if one is not call or kind not in ("turn", "refuse"):
                 waited = f"   after {millis(moment.clock - one.turned.clock)}" if one.turned else ""
-                yield Block(moment, one.who, one.words, "answer", one.reply.words + waited, one.reply.is_fault, [], one)
+                yield Block(
+                    moment,
+                    one.who,
+                    one.words,
+                    "answer",
+                    one.reply.words + waited,
+                    one.reply.is_fault,
+                    [],
+                    one,
+                )
 
     def _rows(self, moment: Moment) -> list[Row]:
         """What the steps of an event changed, and the service requests that it sends."""
@@ -145,27 +166,55 @@ class Blocks:
     def _refused(self, moment: Moment, rows: list[Row]) -> Block:
         assert moment.refused is not None
         reply = f"refused {moment.refused}: {REFUSED.get(moment.refused, 'unknown')}"
-        return Block(moment, "script", " ".join(moment.words)[:40], "refused", reply, True, rows if self._everything else [])
+        return Block(
+            moment,
+            "script",
+            " ".join(moment.words)[:40],
+            "refused",
+            reply,
+            True,
+            rows if self._everything else [],
+        )
 
     def _queued(self, moment: Moment, rows: list[Row]) -> Iterator[Block]:
         """Calls that come and aren't taken with the next event."""
         for one in self._story.came.get(moment.number, ()):
             if one.turned is None or one.turned.number > moment.number + 1:
-                yield Block(moment, one.who, one.words, "queued", "comes, and isn't taken yet", False, [], one)
+                yield Block(
+                    moment,
+                    one.who,
+                    one.words,
+                    "queued",
+                    "comes, and isn't taken yet",
+                    False,
+                    [],
+                    one,
+                )
         if rows:
             yield Block(moment, "c" + moment.words[1], "bytes", "event", "", False, rows)
 
     def _dials_at_once(self, call: Call, moment: Moment) -> bool:
         """Whether a create_intr_chan is connected in the same millisecond: then that is told and not the wait."""
-        return bool(not self._everything and call.waits and call.waits[0].what == "dial" and call.ended
-                    and call.ended is not moment and call.ended.clock == moment.clock)
+        return bool(
+            not self._everything
+            and call.waits
+            and call.waits[0].what == "dial"
+            and call.ended
+            and call.ended is not moment
+            and call.ended.clock == moment.clock
+        )
 
     def _turn(self, moment: Moment, call: Call, ended: bool, rows: list[Row]) -> Block:
         """A call that is taken: its reply, or what it waits for."""
         block = Block(moment, call.who, call.words, "call", "", False, rows, call)
         if ended:
             block.reply, block.is_fault = call.reply.words, call.reply.is_fault
-            if len(rows) == 1 and rows[0].kind == "unit" and not rows[0].words and not self._everything:
+            if (
+                len(rows) == 1
+                and rows[0].kind == "unit"
+                and not rows[0].words
+                and not self._everything
+            ):
                 block.rows = []
         elif call.waits and rows and rows[0].kind == "event":
             wait = call.waits[0]
@@ -184,8 +233,13 @@ class Blocks:
             kind = "time"
         shown = [row for row in rows if row.kind != "timeout" or row.words or self._everything]
         head = self._brings(moment)
-        if kind == "time" and not self._everything and shown and shown[0].words.startswith(head + "; "):
-            shown[0].words = shown[0].words[len(head) + 2:]
+        if (
+            kind == "time"
+            and not self._everything
+            and shown
+            and shown[0].words.startswith(head + "; ")
+        ):
+            shown[0].words = shown[0].words[len(head) + 2 :]
         return Block(moment, "time", head, kind, "", False, shown)
 
     def _brings(self, moment: Moment) -> str:
@@ -197,7 +251,9 @@ class Blocks:
         if state is not None and state.new == "waiting":
             return "a scan is done, the next one waits"
         if late:
-            return "timeout of " + " and ".join(self._doers.label(step).replace(" times out", "") for step in late)
+            return "timeout of " + " and ".join(
+                self._doers.label(step).replace(" times out", "") for step in late
+            )
         return self._doers.event(moment)
 
     def _event(self, moment: Moment, rows: list[Row]) -> Block:

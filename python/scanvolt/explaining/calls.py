@@ -9,7 +9,7 @@ from ..vxi11 import CallMessage, Reader, RpcError, XdrError, calls, read_reply
 from ..vxi11.errors import NAMES as ERRORS
 from .words import quoted, shown_bits
 
-SMALL = 64      # bytes of a read that are worth a word, if they are fewer
+SMALL = 64  # bytes of a read that are worth a word, if they are fewer
 REASONS = ((calls.TERMINATOR, "CHR"), (calls.REQUEST_COUNT, "REQCNT"))
 
 
@@ -70,14 +70,28 @@ def _getport(found: Arguments, reader: Reader) -> None:
 
 
 HOW: dict[tuple[int, int], Callable[[Arguments, Reader], None]] = {
-    (calls.CORE, calls.CREATE_LINK): _create_link, (calls.CORE, calls.DEVICE_WRITE): _write,
-    (calls.CORE, calls.DEVICE_READ): _read, (calls.CORE, calls.DEVICE_ENABLE_SRQ): _enable_srq,
-    (calls.CORE, calls.CREATE_INTR_CHAN): _create_intr_chan, (calls.ABORT, calls.DEVICE_ABORT): _on_link,
+    (calls.CORE, calls.CREATE_LINK): _create_link,
+    (calls.CORE, calls.DEVICE_WRITE): _write,
+    (calls.CORE, calls.DEVICE_READ): _read,
+    (calls.CORE, calls.DEVICE_ENABLE_SRQ): _enable_srq,
+    (calls.CORE, calls.CREATE_INTR_CHAN): _create_intr_chan,
+    (calls.ABORT, calls.DEVICE_ABORT): _on_link,
     (calls.PORT_MAPPER, calls.GETPORT): _getport,
 }
-HOW.update(((calls.CORE, one), _on_link) for one in (
-    calls.DEVICE_READSTB, calls.DEVICE_TRIGGER, calls.DEVICE_CLEAR, calls.DEVICE_REMOTE, calls.DEVICE_LOCAL,
-    calls.DEVICE_LOCK, calls.DEVICE_UNLOCK, calls.DEVICE_DOCMD, calls.DESTROY_LINK))
+HOW.update(
+    ((calls.CORE, one), _on_link)
+    for one in (
+        calls.DEVICE_READSTB,
+        calls.DEVICE_TRIGGER,
+        calls.DEVICE_CLEAR,
+        calls.DEVICE_REMOTE,
+        calls.DEVICE_LOCAL,
+        calls.DEVICE_LOCK,
+        calls.DEVICE_UNLOCK,
+        calls.DEVICE_DOCMD,
+        calls.DESTROY_LINK,
+    )
+)
 
 
 def arguments(message: CallMessage) -> Arguments:

@@ -37,21 +37,48 @@ NAME = "scanvolt-explain"
 
 def words(given: list[str] | None, name: str) -> argparse.Namespace:
     """The arguments of the command line."""
-    parser = argparse.ArgumentParser(prog=name, description=__doc__, formatter_class=argparse.RawDescriptionHelpFormatter)
-    parser.add_argument("file", metavar="FILE", help="a script, a capture, or - for a script on standard input")
-    parser.add_argument("--why", metavar="NAME[@MS]", action="append", help="prints why a value is what it is")
-    parser.add_argument("--html", metavar="FILE", help="writes a page instead, which needs no other file")
-    parser.add_argument("--all", action="store_true", help="leaves no change out, and folds nothing")
-    parser.add_argument("--last", type=int, metavar="N", help="prints only the last N lines of the timeline, and the end")
-    parser.add_argument("--colour", choices=("auto", "always", "never"), default="auto",
-                        help="auto: on a terminal, unless NO_COLOR is set")
-    parser.add_argument("--program",
-                        help="the scanvolt that explains; without it, the one that SCANVOLT, PATH or the checkout has")
+    parser = argparse.ArgumentParser(
+        prog=name, description=__doc__, formatter_class=argparse.RawDescriptionHelpFormatter
+    )
+    parser.add_argument(
+        "file", metavar="FILE", help="a script, a capture, or - for a script on standard input"
+    )
+    parser.add_argument(
+        "--why", metavar="NAME[@MS]", action="append", help="prints why a value is what it is"
+    )
+    parser.add_argument(
+        "--html", metavar="FILE", help="writes a page instead, which needs no other file"
+    )
+    parser.add_argument(
+        "--all", action="store_true", help="leaves no change out, and folds nothing"
+    )
+    parser.add_argument(
+        "--last",
+        type=int,
+        metavar="N",
+        help="prints only the last N lines of the timeline, and the end",
+    )
+    parser.add_argument(
+        "--colour",
+        choices=("auto", "always", "never"),
+        default="auto",
+        help="auto: on a terminal, unless NO_COLOR is set",
+    )
+    parser.add_argument(
+        "--program",
+        help="the scanvolt that explains; without it, the one that SCANVOLT, PATH or the checkout has",
+    )
     parser.add_argument("--scenario", help="of a capture: the scenario of the session")
-    parser.add_argument("--start", help="of a capture: when the server was ready, in seconds since 1970")
+    parser.add_argument(
+        "--start", help="of a capture: when the server was ready, in seconds since 1970"
+    )
     for port in ROLES:
-        parser.add_argument("--" + port, type=int, help="of a capture: the port of this channel" + (
-            "" if port == "portmap" else "; of a record: that of its server"))
+        parser.add_argument(
+            "--" + port,
+            type=int,
+            help="of a capture: the port of this channel"
+            + ("" if port == "portmap" else "; of a record: that of its server"),
+        )
     found = parser.parse_args(given)
     if found.last is not None and found.last < 0:
         parser.error(f"--last wants a number of lines, and not {found.last}")
@@ -60,7 +87,12 @@ def words(given: list[str] | None, name: str) -> argparse.Namespace:
 
 def is_coloured(given: argparse.Namespace) -> bool:
     """Whether the timeline is printed in colours."""
-    return given.colour == "always" or given.colour == "auto" and sys.stdout.isatty() and not os.environ.get("NO_COLOR")
+    return (
+        given.colour == "always"
+        or given.colour == "auto"
+        and sys.stdout.isatty()
+        and not os.environ.get("NO_COLOR")
+    )
 
 
 def told(given: argparse.Namespace, name: str) -> list[str]:
@@ -85,7 +117,7 @@ def main(given_words: list[str] | None = None, name: str = NAME) -> int:
         if lines:
             print("\n".join(lines), flush=True)
         return 0
-    except BrokenPipeError:             # whoever reads has seen enough
+    except BrokenPipeError:  # whoever reads has seen enough
         os.dup2(os.open(os.devnull, os.O_WRONLY), sys.stdout.fileno())
         return 0
     except (OSError, Fault, ProgramError, Unknown) as fault:

@@ -8,7 +8,7 @@ from .telling import Telling
 from .words import millis, reading, unit, volts
 
 STEPS = {"finish": "message ends", "fire": "trigger IMM", "overrun": "message too long"}
-UNIT_MOST, EVENT_MOST = 40, 40      # characters of a unit and of an event that are shown
+UNIT_MOST, EVENT_MOST = 40, 40  # characters of a unit and of an event that are shown
 
 
 class Doers:

@@ -12,7 +12,7 @@ from .telling import numbers
 from .tries import TIME, Tried
 from .words import counted, long, millis, shown_bits, unit
 
-LEFT = 14       # columns of a label
+LEFT = 14  # columns of a label
 
 
 class Ending:
@@ -25,7 +25,7 @@ class Ending:
     def text(self) -> list[str]:
         """The end, in lines."""
         found = [f"at the end, {millis(self._story.clock)}:"]
-        in_line: list[Call] = []        # that wait for the lock
+        in_line: list[Call] = []  # that wait for the lock
         for call in self._story.waiting():
             if call.waits[-1].what == "lock":
                 in_line.append(call)
@@ -64,7 +64,9 @@ class Ending:
         wait, behind = call.waits[-1], self._story.behind(call)
         found = [f"  {call.who}  {self._reasons.headline(call, wait)}"]
         reasons = self._reasons.why(wait, self._story.end)
-        found += self._labelled("because", ["  " * depth + why for depth, why in enumerate(reasons)])
+        found += self._labelled(
+            "because", ["  " * depth + why for depth, why in enumerate(reasons)]
+        )
         if self._tried is not None:
             found += self._labelled("would end it", self._ends(call))
             others = [one.what for one in self._tried.of(call) if not one.is_end]
@@ -73,13 +75,19 @@ class Ending:
             found += self._labelled("not tried", [", ".join(left)] if left else [])
         found += self._labelled("due", [self._due(call)])
         if behind:
-            found += self._labelled("behind it", [f"{call_list(behind)}: not taken before it is answered"])
+            found += self._labelled(
+                "behind it", [f"{call_list(behind)}: not taken before it is answered"]
+            )
         return found
 
     def _ends(self, call: Call) -> list[str]:
         """What ended the wait when it was tried: when, and with which reply."""
         assert self._tried is not None
-        rows = [(one.what, f"at {millis(one.clock)}: {one.words}") for one in self._tried.of(call) if one.is_end]
+        rows = [
+            (one.what, f"at {millis(one.clock)}: {one.words}")
+            for one in self._tried.of(call)
+            if one.is_end
+        ]
         wide = max((len(what) for what, _ in rows), default=0)
         return [f"{what:<{wide}}  {seen}" for what, seen in rows]
 
@@ -91,7 +99,9 @@ class Ending:
         if wait.what in ("input", "response") and scan is not None:
             found.append(f"this scan, in {millis(scan)}")
         if wait.deadline is not None:
-            found.append(f"its timeout at {millis(wait.deadline)}, in {long(wait.deadline - clock)}")
+            found.append(
+                f"its timeout at {millis(wait.deadline)}, in {long(wait.deadline - clock)}"
+            )
         return "; ".join(found) or "nothing: however much time passes, it waits"
 
     def _held(self) -> list[str]:
@@ -100,11 +110,15 @@ class Ending:
             held = self._story.held_at(self._lines.steps[-1])
         else:
             held = None
-        if held is None or any(call.waits[-1].what in ("input", "response") for call in self._story.waiting()):
+        if held is None or any(
+            call.waits[-1].what in ("input", "response") for call in self._story.waiting()
+        ):
             return []
         since = f"unit `{unit(held.text)}` since {millis(held.moment.clock)}"
-        found = [since + ": every device_write and device_read will wait",
-                 self._reasons.scan(self._story.end)]
+        found = [
+            since + ": every device_write and device_read will wait",
+            self._reasons.scan(self._story.end),
+        ]
         if self._tried is None:
             ends = []
         else:
@@ -126,15 +140,26 @@ class Ending:
         if value("lock") != "none" and taken is not None:
             link = self._telling.link(int(str(value("lock"))))
             held = f"{link}, since {self._reasons.doers.by(taken.step)}"
-        registers: list[tuple[str, str]] = [("STB", "poll"), ("SRE", "sre"), ("ESR", "esr"), ("ESE", "ese")]
+        registers: list[tuple[str, str]] = [
+            ("STB", "poll"),
+            ("SRE", "sre"),
+            ("ESR", "esr"),
+            ("ESE", "ese"),
+        ]
         shown = [f"{label} {shown_bits(name, as_number(value(name)))}" for label, name in registers]
-        found = ["  errors    " + (folded(errors) or "none"), "  lock      " + held, "  status    " + "; ".join(shown)]
+        found = [
+            "  errors    " + (folded(errors) or "none"),
+            "  lock      " + held,
+            "  status    " + "; ".join(shown),
+        ]
         if value("response"):
             found.append(f"  response  {value('response')} bytes unread")
         if as_number(value("text")):
             found.append(f"  text      {value('text')} bytes of a message that hasn't ended")
-        return found + [f"  c{conn:<9d}{counted(count, 'byte')} of a call that isn't whole"
-                        for conn, count in self._story.unfinished()]
+        return found + [
+            f"  c{conn:<9d}{counted(count, 'byte')} of a call that isn't whole"
+            for conn, count in self._story.unfinished()
+        ]
 
 
 def folded(errors: Sequence[int]) -> str:

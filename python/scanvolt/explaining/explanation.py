@@ -29,8 +29,14 @@ class Explanation:
     script doesn't have them, since the instrument doesn't see them. Raises ProgramError if the program can't explain the script.
     """
 
-    def __init__(self, script: Sequence[str], program: str, patience: float | None = None,
-                 ports: Ports | None = None, faults: Sequence[Told] = ()) -> None:
+    def __init__(
+        self,
+        script: Sequence[str],
+        program: str,
+        patience: float | None = None,
+        ports: Ports | None = None,
+        faults: Sequence[Told] = (),
+    ) -> None:
         self.script, self.program = script, program
         # the session, for other views
         self.story = Story(lines_of(script, program, patience, ports))
@@ -52,7 +58,9 @@ class Explanation:
         """What would end each wait at the end. It is tried once, when it is needed."""
         return tried(self.story, self.program)
 
-    def lines(self, last: int | None = None, everything: bool = False, colour: bool = False) -> list[str]:
+    def lines(
+        self, last: int | None = None, everything: bool = False, colour: bool = False
+    ) -> list[str]:
         """The lines of the timeline; only the last ones if `last` is given, with all noise if `everything`."""
         reasons = Reasons(Doers(Telling(self.story, everything))) if everything else self.reasons
         found = text.timeline(Blocks(reasons), colour)
@@ -78,4 +86,5 @@ class Explanation:
     def page(self, title: str = "session") -> str:
         """A page of HTML that needs nothing else."""
         from .page import page
+
         return page(self, title)

@@ -14,12 +14,18 @@ from .telling import numbers
 from .why import Why
 from .words import NAMES, SOURCES, bits, stands, unit
 
-CHAINS = 250            # chains of causes of one lane
-ALWAYS = (6, 4, 2)      # bits of the status byte that are always shown: RQS, MAV, EAV
-REGISTERS = (("poll", "status byte", (6, 5, 4, 2, 3, 7)), ("esr", "standard events", (7, 5, 4, 3, 2, 0)),
-             ("oper.event", "oper event", (4, 5, 8)), ("ques.event", "ques event", (0, 9)), ("lim.event", "lim event", (0, 1, 2)),
-             ("oper.cond", "oper condition", (4, 5, 8)), ("ques.cond", "ques condition", (0, 9)),
-             ("lim.cond", "lim condition", (0, 1, 2)))
+CHAINS = 250  # chains of causes of one lane
+ALWAYS = (6, 4, 2)  # bits of the status byte that are always shown: RQS, MAV, EAV
+REGISTERS = (
+    ("poll", "status byte", (6, 5, 4, 2, 3, 7)),
+    ("esr", "standard events", (7, 5, 4, 3, 2, 0)),
+    ("oper.event", "oper event", (4, 5, 8)),
+    ("ques.event", "ques event", (0, 9)),
+    ("lim.event", "lim event", (0, 1, 2)),
+    ("oper.cond", "oper condition", (4, 5, 8)),
+    ("ques.cond", "ques condition", (0, 9)),
+    ("lim.cond", "lim condition", (0, 1, 2)),
+)
 Row = list[Any]
 
 
@@ -40,7 +46,11 @@ class Lanes:
 
     def calls(self) -> list[Call]:
         """The calls that are on the page."""
-        return [one for one in self._story.calls if one.arrived.number >= self._slots.first and (one.turned or one.gone is None)]
+        return [
+            one
+            for one in self._story.calls
+            if one.arrived.number >= self._slots.first and (one.turned or one.gone is None)
+        ]
 
     def _place(self, call: Call) -> tuple[int, int]:
         """The lane of a call. Calls of no link are on the first of their connection."""
@@ -49,7 +59,13 @@ class Lanes:
     def call(self, call: Call) -> dict[str, Any]:
         """A call: its lane, its name and words, where it was taken and ended, its reply and its waits."""
         slots, (conn, link) = self._slots, self._place(call)
-        found: dict[str, Any] = {"c": conn, "l": link, "n": call.name.replace("device_", ""), "w": call.words, "t": _short(call)}
+        found: dict[str, Any] = {
+            "c": conn,
+            "l": link,
+            "n": call.name.replace("device_", ""),
+            "w": call.words,
+            "t": _short(call),
+        }
         if call.turned:
             found["s"] = slots.at(call.turned.steps[0])
         if call.turned is None or call.turned.number > call.arrived.number + 1:
@@ -70,7 +86,14 @@ class Lanes:
         assert call.ended is not None
         steps = call.ended.steps
         own = next((place for place, step in enumerate(steps) if step.conn == call.conn), 0)
-        other = next((place for place in range(own + 1, len(steps)) if steps[place].conn not in (None, call.conn)), len(steps))
+        other = next(
+            (
+                place
+                for place in range(own + 1, len(steps))
+                if steps[place].conn not in (None, call.conn)
+            ),
+            len(steps),
+        )
         return steps[other - 1]
 
     def _wait(self, wait: Wait) -> Row | None:
@@ -98,32 +121,65 @@ class Lanes:
                 bad = change is not None and len(numbers(change.new)) > len(numbers(change.old))
                 until = held.get(step.number)
                 done = None if step.number not in held else self._slots.at(until) if until else -1
-                found.append([self._slots.at(step), unit(step.text, 60), call.conn if call else -1, int(bad), done])
+                found.append(
+                    [
+                        self._slots.at(step),
+                        unit(step.text, 60),
+                        call.conn if call else -1,
+                        int(bad),
+                        done,
+                    ]
+                )
         return found
 
     def signals(self) -> list[dict[str, Any]]:
         """The lanes below: each has an id, a group, a kind, a name, its history and its chains of causes."""
-        found = [self._plain("lock", "owner", self._owner), self._plain("state", "state", lambda one: one.new),
-                 self._plain("errors", "count", self._count)]
+        found = [
+            self._plain("lock", "owner", self._owner),
+            self._plain("state", "state", lambda one: one.new),
+            self._plain("errors", "count", self._count),
+        ]
         found[1].update(n="scan", r=self._history("readings", as_number))
         for change, row in zip(self._slots.kept("state"), found[1]["H"]):
             row.append(SOURCES[str(self._lines.at("source", change.step.number))])
         for register, group, wanted in REGISTERS:
-            found += [self._bit(register, bit, group) for bit in wanted
-                      if self._flips(register, bit) or register == "poll" and bit in ALWAYS]
+            found += [
+                self._bit(register, bit, group)
+                for bit in wanted
+                if self._flips(register, bit) or register == "poll" and bit in ALWAYS
+            ]
         for name in ("sre", "ese"):
             if self._slots.kept(name):
                 history = self._history(name, functools.partial(_word, name))
-                found.append({"id": name, "g": "enables", "k": "word", "n": name.upper(), "H": history})
+                found.append(
+                    {"id": name, "g": "enables", "k": "word", "n": name.upper(), "H": history}
+                )
         return found
 
     def _plain(self, name: str, kind: str, value: Callable[[Change], object]) -> dict[str, Any]:
         """The lane of a value that isn't a register."""
         changes = self._slots.kept(name)
-        chains = [[self._slots.at(one.step), self._slots.tree(self._why.errors(one.step.number) if name == "errors" else
-                                                            self._why.plain(name, one.step.number))] for one in changes[-CHAINS:]]
+        chains = [
+            [
+                self._slots.at(one.step),
+                self._slots.tree(
+                    self._why.errors(one.step.number)
+                    if name == "errors"
+                    else self._why.plain(name, one.step.number)
+                ),
+            ]
+            for one in changes[-CHAINS:]
+        ]
         history = [[self._slots.at(one.step), value(one)] for one in changes]
-        return {"id": name, "g": "instrument", "k": kind, "n": name, "H": history, "y": chains, "f": self._before(name)}
+        return {
+            "id": name,
+            "g": "instrument",
+            "k": kind,
+            "n": name,
+            "H": history,
+            "y": chains,
+            "f": self._before(name),
+        }
 
     def _before(self, name: str) -> object:
         """What a value was before the first step of the page, if that isn't power on."""
@@ -156,7 +212,11 @@ class Lanes:
         return found
 
     def _flips(self, register: str, bit: int) -> list[Change]:
-        return [one for one in self._slots.kept(register) if (as_number(one.old) ^ as_number(one.new)) >> bit & 1]
+        return [
+            one
+            for one in self._slots.kept(register)
+            if (as_number(one.old) ^ as_number(one.new)) >> bit & 1
+        ]
 
     def _bit(self, register: str, bit: int, group: str) -> dict[str, Any]:
         """The lane of a bit."""
@@ -165,11 +225,23 @@ class Lanes:
             first = as_number(flips[0].old) >> bit & 1
         else:
             first = as_number(start_of(register)) >> bit & 1
-        chains = [[self._slots.at(one.step), self._slots.tree(self._why.bit(register, bit, one.step.number, False))]
-                  for one in flips[-CHAINS:]]
-        return {"id": f"{register}.{bit}", "g": group, "k": "bit", "n": NAMES[register][bit], "f": first,
-                "d": stands(register, bit),
-                "H": [[self._slots.at(one.step), as_number(one.new) >> bit & 1] for one in flips], "y": chains}
+        chains = [
+            [
+                self._slots.at(one.step),
+                self._slots.tree(self._why.bit(register, bit, one.step.number, False)),
+            ]
+            for one in flips[-CHAINS:]
+        ]
+        return {
+            "id": f"{register}.{bit}",
+            "g": group,
+            "k": "bit",
+            "n": NAMES[register][bit],
+            "f": first,
+            "d": stands(register, bit),
+            "H": [[self._slots.at(one.step), as_number(one.new) >> bit & 1] for one in flips],
+            "y": chains,
+        }
 
     def requests(self) -> list[Row]:
         """Service requests: place, connection, handle, and the link whose lane shows it."""
@@ -177,8 +249,15 @@ class Lanes:
         for number, sent in self._story.requests.items():
             moment = self._story.moments[number]
             if moment.number >= self._slots.first:
-                found += [[self._slots.last(moment), conn, handle.decode("latin-1"), self._of_connection(conn)]
-                          for conn, handle in sent]
+                found += [
+                    [
+                        self._slots.last(moment),
+                        conn,
+                        handle.decode("latin-1"),
+                        self._of_connection(conn),
+                    ]
+                    for conn, handle in sent
+                ]
         return found
 
     def _of_connection(self, conn: int) -> int:
@@ -191,7 +270,9 @@ def _short(call: Call) -> str:
         return call.arguments.data.decode("latin-1").strip()
     if call.answer is not None and call.answer.data is not None:
         return call.answer.data.decode("latin-1").strip()
-    is_poll = call.name == "device_readstb" and call.answer is not None and call.answer.value is not None
+    is_poll = (
+        call.name == "device_readstb" and call.answer is not None and call.answer.value is not None
+    )
     return str(call.reply.value) if is_poll else ""
 
 

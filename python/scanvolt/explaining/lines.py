@@ -12,10 +12,18 @@ from .tables import START
 Value = Union[int, str, tuple[int, ...]]
 REGISTERS = ("oper", "ques", "lim")
 # What words are at the start. All other values that START doesn't have are 0.
-WORDS: dict[str, Value] = {"errors": (), "lock": "none", "held": "none", "state": "idle", "scan": "none", "place": "none",
-                           "reading": "none", "list": (1,)}
+WORDS: dict[str, Value] = {
+    "errors": (),
+    "lock": "none",
+    "held": "none",
+    "state": "idle",
+    "scan": "none",
+    "place": "none",
+    "reading": "none",
+    "list": (1,),
+}
 TAILS: dict[str, Value] = {"role": "closed", "wait": "none"}
-LISTS = ("errors", "list")      # values that are numbers in a row
+LISTS = ("errors", "list")  # values that are numbers in a row
 
 
 class Unreadable(ValueError):
@@ -104,10 +112,10 @@ class Lines:
         self.script = script
         self.moments: list[Moment] = []
         self.steps: list[Step] = []
-        self.now: dict[str, Value] = {}             # the newest value of each name
+        self.now: dict[str, Value] = {}  # the newest value of each name
         self.history: dict[str, list[Change]] = {}
-        self._places: dict[str, list[int]] = {}      # the steps of those changes
-        self.clock: int | None = None            # the time of `@ end`; None before that
+        self._places: dict[str, list[int]] = {}  # the steps of those changes
+        self.clock: int | None = None  # the time of `@ end`; None before that
 
     def read(self, told: str) -> Lines:
         """Takes all that the program printed. Raises Unreadable if it isn't whole."""
@@ -135,7 +143,7 @@ class Lines:
             self.moments[-1].refused = int(said)
         elif kind[:1] in ("c", "i") and kind[1:].isdigit():
             self.moments[-1].output[kind] = bytes.fromhex(said)
-            self.now[kind + ".output"] = 0      # these bytes count as sent, which no line tells
+            self.now[kind + ".output"] = 0  # these bytes count as sent, which no line tells
         else:
             raise ValueError(kind)
 
@@ -151,7 +159,9 @@ class Lines:
         if kind == "call":
             self.moments[-1].taken = bytes.fromhex(rest[1])
         elif kind in ("unit", "interrupt"):
-            self._begin(kind, place=int(rest[0]), text=bytes.fromhex(rest[1] if len(rest) > 1 else ""))
+            self._begin(
+                kind, place=int(rest[0]), text=bytes.fromhex(rest[1] if len(rest) > 1 else "")
+            )
         elif kind in ("resume", "timeout"):
             self._begin(kind, conn=int(rest[0][1:]))
         elif kind in ("fire", "release", "overrun", "finish"):
@@ -170,7 +180,7 @@ class Lines:
         if old == new:
             return
         here = step.of(name)
-        if here is not None:            # of `poll`, which is made of two lines
+        if here is not None:  # of `poll`, which is made of two lines
             here.new = new
         else:
             here = Change(name, old, new, step)
@@ -201,10 +211,19 @@ class Lines:
         """A number after the step of this number."""
         return as_number(self.at(name, number))
 
-    def last(self, name: str, number: int, wanted: Callable[[Change], bool] = lambda change: True) -> Change | None:
+    def last(
+        self, name: str, number: int, wanted: Callable[[Change], bool] = lambda change: True
+    ) -> Change | None:
         """The newest change of a value in a step of at most this number."""
         place = bisect.bisect_right(self._places.get(name, ()), number)
-        return next((self.history[name][one] for one in range(place - 1, -1, -1) if wanted(self.history[name][one])), None)
+        return next(
+            (
+                self.history[name][one]
+                for one in range(place - 1, -1, -1)
+                if wanted(self.history[name][one])
+            ),
+            None,
+        )
 
 
 def as_number(value: Value) -> int:

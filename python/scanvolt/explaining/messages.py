@@ -20,7 +20,7 @@ class Text:
     """The bytes that came and whose messages haven't ended."""
 
     def __init__(self) -> None:
-        self.pieces: list[tuple[bytes, Call]] = []       # each with the call that wrote it
+        self.pieces: list[tuple[bytes, Call]] = []  # each with the call that wrote it
 
     def add(self, call: Call) -> None:
         """A write was taken."""
@@ -38,7 +38,7 @@ class Text:
             data, call = self.pieces[0]
             place = data.find(NL)
             if place >= 0:
-                self.pieces[0] = (data[place + 1:], call)
+                self.pieces[0] = (data[place + 1 :], call)
                 return
             self.pieces.pop(0)
             if call.arguments.flags & calls.END:
@@ -47,7 +47,7 @@ class Text:
     def writer(self, place: int, unit: bytes) -> Call | None:
         """The call that brought the first byte of a unit; None if the bytes at its place are others."""
         whole = b"".join(data for data, _ in self.pieces)
-        if whole[place:place + len(unit)] != unit:
+        if whole[place : place + len(unit)] != unit:
             return None
         for data, call in self.pieces:
             if place < len(data) or not data and call is self.pieces[-1][1]:

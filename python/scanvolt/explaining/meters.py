@@ -13,9 +13,9 @@ if TYPE_CHECKING:
     from ..replay import Moment
     from ..virtual import Meter, Pending
 
-PATIENCE = 5.0          # seconds that an explanation may take while a call or a traceback waits for it
-MOST = 500000           # bytes of a session's lines that are explained without being asked
-LEFT = 12               # columns of a label
+PATIENCE = 5.0  # seconds that an explanation may take while a call or a traceback waits for it
+MOST = 500000  # bytes of a session's lines that are explained without being asked
+LEFT = 12  # columns of a label
 
 
 def of_meter(meter: Meter, moment: Moment | None = None) -> Explanation | None:
@@ -48,7 +48,11 @@ def _hopeless(found: Explanation, conn: int, xid: int, patience: int) -> str | N
     waiting = story.waiting()
     first = next((one for one in waiting if one.conn == conn), None)
     until = story.clock + patience
-    due = [one for one in waiting if one.waits[-1].deadline is not None and one.waits[-1].deadline <= until]
+    due = [
+        one
+        for one in waiting
+        if one.waits[-1].deadline is not None and one.waits[-1].deadline <= until
+    ]
     if first is None or due or story.value("state") == "scanning":
         return None
     own = _call(found, conn, xid)
@@ -77,8 +81,14 @@ def note(found: Explanation, conn: int, xid: int) -> list[str]:
         return Ending(found.reasons).first_lines()
     wait = call.waits[-1]
     number = wait.end.number - 1 if wait.end is not None else found.story.end
-    return [f"{call.who}: {found.reasons.headline(call, wait, True)}", "because " + found.reasons.brief(wait, number)]
+    return [
+        f"{call.who}: {found.reasons.headline(call, wait, True)}",
+        "because " + found.reasons.brief(wait, number),
+    ]
 
 
 def _call(found: Explanation, conn: int, xid: int) -> Call | None:
-    return next((one for one in reversed(found.story.calls) if one.conn == conn and one.message.xid == xid), None)
+    return next(
+        (one for one in reversed(found.story.calls) if one.conn == conn and one.message.xid == xid),
+        None,
+    )

@@ -15,8 +15,8 @@ from .tables import CLASSES, SUMS
 from .telling import numbers
 from .words import LABELS, SOURCES, a, bit_name, counted, error, reading, stands, unit, volts
 
-DEPTH = 8               # causes of causes that are told
-RQS, MAV, QUEUE, OPC = 6, 4, 2, 0       # bits of the status byte, and of the standard events
+DEPTH = 8  # causes of causes that are told
+RQS, MAV, QUEUE, OPC = 6, 4, 2, 0  # bits of the status byte, and of the standard events
 MASTER = 1 << RQS
 SET_BY_COMMANDS = ("sre", "ese", ".enable", ".ptr", ".ntr")
 
@@ -45,8 +45,12 @@ class Model:
 
     def flip(self, name: str, bit: int, number: int, new: int | None = None) -> Change | None:
         """The newest change of a bit, at most at the step of this number; to this value if one is given."""
-        return self._lines.last(name, number, lambda one: (as_number(one.old) ^ as_number(one.new)) >> bit & 1 == 1
-                               and (new is None or as_number(one.new) >> bit & 1 == new))
+        return self._lines.last(
+            name,
+            number,
+            lambda one: (as_number(one.old) ^ as_number(one.new)) >> bit & 1 == 1
+            and (new is None or as_number(one.new) >> bit & 1 == new),
+        )
 
     def bit(self, name: str, bit: int, number: int, depth: int = 0) -> Node:
         """Why a bit is what it is after a step."""
@@ -54,7 +58,9 @@ class Model:
         word = "set" if value else "clear"
         if change is None:
             return Node(f"{self.title(name, bit)} is {word}, and was so at power on")
-        node = Node(f"{self.title(name, bit)} is {word} since {self._doers.by(change.step)}", change.step)
+        node = Node(
+            f"{self.title(name, bit)} is {word} since {self._doers.by(change.step)}", change.step
+        )
         if depth < DEPTH:
             node.children = self.causes(name, bit, value, change, depth + 1)
         return node
@@ -65,17 +71,21 @@ class Model:
         if name.endswith(SET_BY_COMMANDS):
             return []
         found = self._found(name, bit, value, step, depth)
-        return found or [Node(f"that was so for a moment within this step, {self._doers.what(step)}", step)]
+        return found or [
+            Node(f"that was so for a moment within this step, {self._doers.what(step)}", step)
+        ]
 
     def _found(self, name: str, bit: int, value: int, step: Step, depth: int) -> list[Node]:
         if (name, bit) in SUMS:
             return self._sum(SUMS[name, bit], value, step, depth)
         if name == "poll":
-            return {RQS: self._request, MAV: self._response, QUEUE: self._queue}[bit](value, step, depth)
+            return {RQS: self._request, MAV: self._response, QUEUE: self._queue}[bit](
+                value, step, depth
+            )
         if name == "esr":
             return self._standard(bit, value, step)
         if name.endswith(".event"):
-            return self._event(name[:-len(".event")], bit, value, step, depth)
+            return self._event(name[: -len(".event")], bit, value, step, depth)
         if name == "oper.cond":
             return self._scan(step)
         return self._measured(name, bit, value, step)
@@ -104,7 +114,10 @@ class Model:
         found: list[Node] = []
         for bit in range(16):
             if value and rose >> bit & 1:
-                found += [self._newer(event, bit, step, depth), self._newer(enable, bit, step, depth)]
+                found += [
+                    self._newer(event, bit, step, depth),
+                    self._newer(enable, bit, step, depth),
+                ]
             elif not value and fell >> bit & 1:
                 gone = event if not self._lines.bits(event, step.number) >> bit & 1 else enable
                 found.append(self.bit(gone, bit, step.number, depth))
@@ -118,34 +131,60 @@ class Model:
         if value:
             for bit in range(8):
                 if (rose & ~MASTER) >> bit & 1:
-                    found += [self._newer("poll", bit, step, depth), self._newer("sre", bit, step, depth)]
+                    found += [
+                        self._newer("poll", bit, step, depth),
+                        self._newer("sre", bit, step, depth),
+                    ]
             return found
         if call is not None and call.name == "device_readstb" and not fell & ~MASTER:
             return [Node("a poll clears RQS; the other bits stay")]
-        if not self._lines.bits("stb", step.number) & self._lines.bits("sre", step.number) & ~MASTER:
+        if (
+            not self._lines.bits("stb", step.number)
+            & self._lines.bits("sre", step.number)
+            & ~MASTER
+        ):
             found.append(Node("no bit is left that *SRE enables"))
-        return found + [self.bit("poll" if not self._lines.bits("poll", step.number) >> bit & 1 else "sre", bit, step.number,
-                                 depth)
-                        for bit in range(8) if (fell & ~MASTER) >> bit & 1]
+        return found + [
+            self.bit(
+                "poll" if not self._lines.bits("poll", step.number) >> bit & 1 else "sre",
+                bit,
+                step.number,
+                depth,
+            )
+            for bit in range(8)
+            if (fell & ~MASTER) >> bit & 1
+        ]
 
     def _response(self, value: int, step: Step, _depth: int) -> list[Node]:
         """MAV: the response, and the queries that it answers."""
         if not value:
             call = self._story.call_of(step)
             last = call.name if call is not None and step.kind in ("event", "resume") else ""
-            return [Node({"device_read": "the response was read to its end",
-                          "device_clear": "device_clear dropped the response"}.get(
-                last, "a message came before the response was read to its end"), step)]
+            return [
+                Node(
+                    {
+                        "device_read": "the response was read to its end",
+                        "device_clear": "device_clear dropped the response",
+                    }.get(last, "a message came before the response was read to its end"),
+                    step,
+                )
+            ]
         size = counted(self._lines.bits("response", step.number), "byte")
         found = [Node(f"response of {size}", step)]
-        return found + [Node(f"to the query at {self._doers.by(one)}", one) for one in self._queries(step)]
+        return found + [
+            Node(f"to the query at {self._doers.by(one)}", one) for one in self._queries(step)
+        ]
 
     def _queries(self, step: Step) -> list[Step]:
         """The units whose answers became a response, the first first."""
         found: list[Step] = []
-        for one in reversed(self._lines.steps[:step.number]):
+        for one in reversed(self._lines.steps[: step.number]):
             answers = one.of("answers")
-            if one.kind == "finish" and one.of("text") is not None or one.of("response") is not None:
+            if (
+                one.kind == "finish"
+                and one.of("text") is not None
+                or one.of("response") is not None
+            ):
                 break
             if answers is not None and as_number(answers.new) > as_number(answers.old):
                 found.insert(0, self._story.held_at(one) or one if one.kind == "release" else one)
@@ -171,10 +210,14 @@ class Model:
             return found + [Node("the scan is idle", step)]
         change = step.of("errors")
         low = -100 * CLASSES[bit] - 99
-        added = [one for one in numbers(change.new if change else ()) if low <= one < low + 100][-1:]
+        added = [one for one in numbers(change.new if change else ()) if low <= one < low + 100][
+            -1:
+        ]
         if added and change is not None and change.new != numbers(change.old)[1:]:
             return [Node(f"error {error(added[0])}", step)]
-        return [Node(f"an error of class -{CLASSES[bit]}xx, which is lost: the queue is full", step)]
+        return [
+            Node(f"an error of class -{CLASSES[bit]}xx, which is lost: the queue is full", step)
+        ]
 
     def _event(self, register: str, bit: int, value: int, step: Step, depth: int) -> list[Node]:
         """An event of a register: its condition rose with PTR, or fell with NTR."""
@@ -184,7 +227,12 @@ class Model:
         name = register + ".cond"
         change = step.of(name)
         if change is None or not (as_number(change.old) ^ as_number(change.new)) >> bit & 1:
-            return [Node(f"{self.title(name, bit)} was there for a moment within this step, {self._doers.what(step)}", step)]
+            return [
+                Node(
+                    f"{self.title(name, bit)} was there for a moment within this step, {self._doers.what(step)}",
+                    step,
+                )
+            ]
         rises = as_number(change.new) >> bit & 1
         moved = "rose, with PTR" if rises else "fell, with NTR"
         child = Node(f"{self.title(name, bit)} {moved}", step)
@@ -213,7 +261,12 @@ class Model:
         limits = f"{volts(as_number(at('lower')))} to {volts(as_number(at('upper')))}"
         if name == "lim.cond" and bit == 2:
             inside = "is outside the limits" if value else "is inside the limits"
-            return [Node(f"the monitored input, channel {at('monitor')}, {inside}, {limits}: {self._doers.what(step)}", step)]
+            return [
+                Node(
+                    f"the monitored input, channel {at('monitor')}, {inside}, {limits}: {self._doers.what(step)}",
+                    step,
+                )
+            ]
         said = reading(newest) + (f"; limits {limits}" if name == "lim.cond" else "")
         if newest == "none":
             return [Node(f"there is no reading: {self._doers.what(step)}", step)]

@@ -24,7 +24,7 @@ if TYPE_CHECKING:
     from .explanation import Explanation
 
 HERE = pathlib.Path(__file__).resolve().parent
-LEAST = 8               # characters of a millisecond in the table, for which there is room
+LEAST = 8  # characters of a millisecond in the table, for which there is room
 SCRIPTS = ("axis.js", "drawing.js", "looking.js")
 POLICY = "default-src 'none'; style-src 'unsafe-inline'; script-src 'sha256-%s'; base-uri 'none'; form-action 'none'"
 
@@ -35,10 +35,16 @@ def page(found: Explanation, title: str) -> str:
     script = "\n".join(part(name) for name in SCRIPTS)
     checksum = base64.b64encode(hashlib.sha256(script.encode()).digest()).decode()
     values: dict[str, str] = {
-        "TITLE": html.escape(title), "POLICY": POLICY % checksum, "FACTS": html.escape(facts(found, slots)),
-        "CLOCK": str(wide(found)), "TABLE": table(Blocks(found.reasons), slots),
-        "END": ending(found.end_lines()), "DATA": data(found, slots),
-        "CSS": part("page.css"), "JS": script}
+        "TITLE": html.escape(title),
+        "POLICY": POLICY % checksum,
+        "FACTS": html.escape(facts(found, slots)),
+        "CLOCK": str(wide(found)),
+        "TABLE": table(Blocks(found.reasons), slots),
+        "END": ending(found.end_lines()),
+        "DATA": data(found, slots),
+        "CSS": part("page.css"),
+        "JS": script,
+    }
     return filled(part("page.html"), values)
 
 
@@ -68,12 +74,23 @@ def data(found: Explanation, slots: Slots) -> str:
         else:
             label = doers.label(step)
         rows.append([step.moment.clock, step.moment.line, step.kind, label])
-    folded = [[moment.clock, change.new] for moment in found.story.moments if moment.number in slots.folded
-              and moment.number >= slots.first
-              for change in [moment.steps[0].of("readings")] if change is not None]
-    drawn = {"clock": found.story.clock, "slots": rows, "calls": [lanes.call(one) for one in lanes.calls()],
-            "links": lanes.places(),
-            "signals": lanes.signals(), "units": lanes.units(), "requests": lanes.requests(), "folded": folded}
+    folded = [
+        [moment.clock, change.new]
+        for moment in found.story.moments
+        if moment.number in slots.folded and moment.number >= slots.first
+        for change in [moment.steps[0].of("readings")]
+        if change is not None
+    ]
+    drawn = {
+        "clock": found.story.clock,
+        "slots": rows,
+        "calls": [lanes.call(one) for one in lanes.calls()],
+        "links": lanes.places(),
+        "signals": lanes.signals(),
+        "units": lanes.units(),
+        "requests": lanes.requests(),
+        "folded": folded,
+    }
     return json.dumps(drawn, separators=(",", ":")).replace("<", "\\u003c")
 
 
@@ -81,7 +98,10 @@ def facts(found: Explanation, slots: Slots) -> str:
     """A few numbers about the session."""
     story = found.story
     errors = sum(1 for one in story.calls if one.answer and one.answer.is_fault)
-    queued = sum(max(0, len(numbers(one.new)) - len(numbers(one.old))) for one in story.lines.history.get("errors", ()))
+    queued = sum(
+        max(0, len(numbers(one.new)) - len(numbers(one.old)))
+        for one in story.lines.history.get("errors", ())
+    )
     said = [millis(story.clock), counted(len(story.calls), "call")]
     if slots.first:
         shown = sum(1 for one in story.calls if one.arrived.number >= slots.first)

@@ -26,7 +26,9 @@ class Reasons:
         if state == "waiting":
             return f"the scan waits for {a(SOURCES[source])} trigger (scan {scan + 1} of {scans})"
         if state == "scanning":
-            return f"scanning: {place} of {counted(length, 'channel')} read (scan {scan} of {scans})"
+            return (
+                f"scanning: {place} of {counted(length, 'channel')} read (scan {scan} of {scans})"
+            )
         return "the scan is idle"
 
     def due(self, number: int) -> int | None:
@@ -45,7 +47,11 @@ class Reasons:
     def brief(self, wait: Wait, number: int) -> str:
         """Why a call waits, in one line: the held unit and the scan, or else the first reason."""
         held = self.story.held_at(self.lines.steps[number])
-        if wait.what in ("input", "response") and held is not None and self.lines.at("held", number) != "none":
+        if (
+            wait.what in ("input", "response")
+            and held is not None
+            and self.lines.at("held", number) != "none"
+        ):
             return f"unit `{unit(held.text)}` waits until the scan is idle: {self.scan(number)}"
         return "".join(self.why(wait, number)[:1])
 
@@ -58,15 +64,26 @@ class Reasons:
         holder, taken = str(self.lines.at("lock", number)), self.lines.last("lock", number)
         if holder == "none" or taken is None:
             return []
-        found = [f"{self.telling.link(int(holder))} holds the lock since {self.doers.by(taken.step)}"]
-        ahead = [one for one in self.story.calls for other in one.waits
-                 if other.what == "lock" and other is not wait and other.is_on(number) and other.begin.number < wait.begin.number]
+        found = [
+            f"{self.telling.link(int(holder))} holds the lock since {self.doers.by(taken.step)}"
+        ]
+        ahead = [
+            one
+            for one in self.story.calls
+            for other in one.waits
+            if other.what == "lock"
+            and other is not wait
+            and other.is_on(number)
+            and other.begin.number < wait.begin.number
+        ]
         if ahead:
             found.append(f"before it in line: {call_list(ahead)}")
         own = next((one for one in self.story.calls if wait in one.waits), None)
         if own is not None and self.story.owners.get(int(holder)) == own.conn:
-            found.append(f"c{own.conn} is the holder's own connection: what comes behind this call, as device_unlock, isn't taken before "
-                         "it is answered")
+            found.append(
+                f"c{own.conn} is the holder's own connection: what comes behind this call, as device_unlock, isn't taken before "
+                "it is answered"
+            )
         return found
 
     def _message(self, number: int) -> list[str]:
@@ -74,9 +91,11 @@ class Reasons:
         held = self.story.held_at(self.lines.steps[number])
         if self.lines.at("held", number) == "none" or held is None:
             return []
-        found = [f"a message is under way{of(self.story.call_of(held))}",
-                 f"its unit `{unit(held.text)}` waits until the scan is idle, since {millis(held.moment.clock)}",
-                 self.scan(number)]
+        found = [
+            f"a message is under way{of(self.story.call_of(held))}",
+            f"its unit `{unit(held.text)}` waits until the scan is idle, since {millis(held.moment.clock)}",
+            self.scan(number),
+        ]
         source = self.lines.last("source", number)
         if self.lines.at("state", number) == "waiting" and source is not None:
             found.append(f"source {SOURCES[str(source.new)]} since {self.doers.by(source.step)}")
@@ -85,4 +104,6 @@ class Reasons:
     def headline(self, call: Call, wait: Wait, over: bool = False) -> str:
         """That a call waits, since when, and for what."""
         verb = "waited" if over else "waits"
-        return f"{call.words} {verb} since {millis(wait.begin.moment.clock)} for {AWAITED[wait.what]}"
+        return (
+            f"{call.words} {verb} since {millis(wait.begin.moment.clock)} for {AWAITED[wait.what]}"
+        )

@@ -11,9 +11,9 @@ from ..program import Server
 from .explanation import Explanation
 from .given import script
 
-LINES = 20              # of the timeline that are shown
+LINES = 20  # of the timeline that are shown
 HINT = "(--scanvolt-trace=DIR keeps all of it, as a script, a text and a page)"
-FLUSHED = 1.0           # seconds after which a packet is in the file that tshark writes
+FLUSHED = 1.0  # seconds after which a packet is in the file that tshark writes
 
 
 def section(found: Explanation, name: str, folder: str | None) -> str:
@@ -28,7 +28,11 @@ def section(found: Explanation, name: str, folder: str | None) -> str:
 
 def kept(found: Explanation, lines: list[str], name: str, folder: str) -> str:
     """Writes script, text and page of a test into a folder. Returns their path without the ending."""
-    texts = ((".replay", "\n".join(found.script)), (".txt", "\n".join(lines)), (".html", found.page(name)))
+    texts = (
+        (".replay", "\n".join(found.script)),
+        (".txt", "\n".join(lines)),
+        (".html", found.page(name)),
+    )
     os.makedirs(folder, exist_ok=True)
     path = os.path.join(folder, re.sub(r"[^\w.-]+", "_", name))
     for ending, text in texts:
@@ -44,6 +48,12 @@ def captured(server: Server, start: float, capture: str) -> tuple[Explanation, l
     time.sleep(FLUSHED)
     warnings: list[str] = []
     given = argparse.Namespace(
-        file=capture, program=server.program, start=f"{start:.6f}", core=server.core, abort=server.abort,
-        portmap=server.port_mapper, scenario=None if server.scenario == os.devnull else server.scenario)
+        file=capture,
+        program=server.program,
+        start=f"{start:.6f}",
+        core=server.core,
+        abort=server.abort,
+        portmap=server.port_mapper,
+        scenario=None if server.scenario == os.devnull else server.scenario,
+    )
     return Explanation(script(given, warnings.append), server.program), warnings

@@ -7,7 +7,7 @@ from .lines import Change, Moment, Step
 from .model import Node
 from .story import Story
 
-FOLD = 3                # readings in a row that are drawn as one stretch
+FOLD = 3  # readings in a row that are drawn as one stretch
 QUIET = ("role", "output")
 UNSEEN = ("stb", "rqs", "answers")
 # calls that a page shows; if a session has more, only so many of the last ones
@@ -21,11 +21,15 @@ class Slots:
         self._story = story
         most, kept = most or MOST, kept or KEPT
         self.first = story.calls[-kept].arrived.number if len(story.calls) > most else 0
-        self.found: list[Step] = []         # the step of each place
+        self.found: list[Step] = []  # the step of each place
         self._of: list[int] = []
-        self.folded = self._runs()          # moments that take one of many readings in a row
+        self.folded = self._runs()  # moments that take one of many readings in a row
         for step in story.lines.steps:
-            if step.moment.number >= self.first and step.moment.number not in self.folded and self._shown(step):
+            if (
+                step.moment.number >= self.first
+                and step.moment.number not in self.folded
+                and self._shown(step)
+            ):
                 self.found.append(step)
             self._of.append(max(0, len(self.found) - 1))
 
@@ -52,8 +56,14 @@ class Slots:
 
     def _runs(self) -> set[int]:
         """The moments that only take one of several readings in a row."""
-        only = [moment.number for moment in self._story.moments if moment.kind == "tick" and len(moment.steps) == 1
-                and {one.name for one in moment.changes()} <= READING and moment.steps[0].of("reading") is not None]
+        only = [
+            moment.number
+            for moment in self._story.moments
+            if moment.kind == "tick"
+            and len(moment.steps) == 1
+            and {one.name for one in moment.changes()} <= READING
+            and moment.steps[0].of("reading") is not None
+        ]
         runs: dict[int, list[int]] = {}
         start = -1
         for place, number in enumerate(only):
@@ -65,12 +75,18 @@ class Slots:
     def _shown(self, step: Step) -> bool:
         """Whether a step is worth a place."""
         moment = step.moment
-        told = [one for one in step.changes if one.name.rpartition(".")[2] not in QUIET and one.name not in UNSEEN]
+        told = [
+            one
+            for one in step.changes
+            if one.name.rpartition(".")[2] not in QUIET and one.name not in UNSEEN
+        ]
         if step.kind == "finish":
             return any(one.name != "text" for one in told)
         if step.kind != "event":
             return True
         if moment.kind == "bytes":
-            return any(one.turned is None or one.turned.number > moment.number + 1
-                       for one in self._story.came.get(moment.number, ()))
+            return any(
+                one.turned is None or one.turned.number > moment.number + 1
+                for one in self._story.came.get(moment.number, ())
+            )
         return moment.kind != "tick" or bool(told) or moment.number in self._story.replied

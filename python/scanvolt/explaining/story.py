@@ -92,18 +92,18 @@ class Story:
     def __init__(self, lines: Lines) -> None:
         # what the program printed, and the script
         self.lines, self.moments, self.script = lines, lines.moments, lines.script
-        self.clock = lines.clock or 0               # the millisecond of the end
-        self.calls: list[Call] = []                 # all of them, in the order in which they came
-        self.held: list[Held] = []                  # all held units
-        self.owners: dict[int, int] = {}            # the connection of each link that ever was
-        self.of_moment: dict[int, Call] = {}        # the call that a moment's event takes or ends
+        self.clock = lines.clock or 0  # the millisecond of the end
+        self.calls: list[Call] = []  # all of them, in the order in which they came
+        self.held: list[Held] = []  # all held units
+        self.owners: dict[int, int] = {}  # the connection of each link that ever was
+        self.of_moment: dict[int, Call] = {}  # the call that a moment's event takes or ends
         self._of_step: dict[int, Call | None] = {}
-        self.replied: dict[int, list[Call]] = {}    # the calls that were answered in a moment
-        self.came: dict[int, list[Call]] = {}       # the calls whose last byte came in a moment
+        self.replied: dict[int, list[Call]] = {}  # the calls that were answered in a moment
+        self.came: dict[int, list[Call]] = {}  # the calls whose last byte came in a moment
         # service requests: connection, handle
         self.requests: dict[int, list[tuple[int, bytes]]] = {}
-        self.faults: Sequence[Told] = ()            # on order, in their order
-        self._strays: list[Step] = []                # units whose bytes aren't in what was written
+        self.faults: Sequence[Told] = ()  # on order, in their order
+        self._strays: list[Step] = []  # units whose bytes aren't in what was written
         # whose text is executed when a wait begins, by the step of that
         self.executed: dict[int, Call] = {}
         self._ports: dict[int, _Port] = {}
@@ -111,7 +111,7 @@ class Story:
         for moment in self.moments:
             self._events(moment)
         self._text = Text()
-        self._running: Call | None = None        # the call that wrote the newest unit
+        self._running: Call | None = None  # the call that wrote the newest unit
         for moment in self.moments:
             for step in moment.steps:
                 self._look(moment, step)
@@ -126,11 +126,15 @@ class Story:
             elif words[0] == "bytes":
                 self._bytes(moment, int(words[1]), bytes.fromhex("".join(words[2:])))
             elif moment.taken is not None or words[0] == "refuse":
-                call = next((one for one in self._ports[int(words[1])].queue if one.turned is None), None)
+                call = next(
+                    (one for one in self._ports[int(words[1])].queue if one.turned is None), None
+                )
                 if call is not None:
                     self.of_moment[moment.number], call.turned = call, moment
             elif words[0] == "dialed":
-                self.of_moment.update((moment.number, call) for call in self._ports[int(words[1])].queue[:1])
+                self.of_moment.update(
+                    (moment.number, call) for call in self._ports[int(words[1])].queue[:1]
+                )
         for port, data in moment.output.items():
             self._printed(moment, port[0], int(port[1:]), data)
         for change in moment.changes():
@@ -150,7 +154,9 @@ class Story:
     def _printed(self, moment: Moment, kind: str, conn: int, data: bytes) -> None:
         port = self._ports[conn]
         if kind == "i":
-            self.requests.setdefault(moment.number, []).extend((conn, one.handle) for one in port.channel.push(data))
+            self.requests.setdefault(moment.number, []).extend(
+                (conn, one.handle) for one in port.channel.push(data)
+            )
             return
         for record in port.replies.push(data):
             call = port.queue.pop(0)
@@ -215,8 +221,16 @@ class Story:
 
     def _current(self, conn: int, moment: Moment) -> Call | None:
         """The call of a connection that waits before or in this moment."""
-        return next((one for one in reversed(self._of_conn.get(conn, ())) if one.turned and one.turned.number <= moment.number
-                     and (one.ended is None or one.ended.number >= moment.number)), None)
+        return next(
+            (
+                one
+                for one in reversed(self._of_conn.get(conn, ()))
+                if one.turned
+                and one.turned.number <= moment.number
+                and (one.ended is None or one.ended.number >= moment.number)
+            ),
+            None,
+        )
 
     def _wait(self, change: Change, conn: int, moment: Moment) -> None:
         call = self._current(conn, moment)
@@ -226,8 +240,14 @@ class Story:
             call.waits[-1].end = change.step
         if change.new != "none":
             what, link, deadline = str(change.new).split()
-            call.waits.append(Wait(what, None if link == "none" else int(link), None if deadline == "never" else int(deadline),
-                                   change.step))
+            call.waits.append(
+                Wait(
+                    what,
+                    None if link == "none" else int(link),
+                    None if deadline == "never" else int(deadline),
+                    change.step,
+                )
+            )
             if self._text.pieces:
                 self.executed[change.step.number] = self._text.pieces[-1][1]
 
@@ -247,22 +267,41 @@ class Story:
 
     def held_at(self, step: Step) -> Step | None:
         """The unit that is held after a step, or that this step releases."""
-        return next((one.unit for one in reversed(self.held)
-                     if one.unit.number <= step.number and (one.until is None or one.until.number >= step.number)), None)
+        return next(
+            (
+                one.unit
+                for one in reversed(self.held)
+                if one.unit.number <= step.number
+                and (one.until is None or one.until.number >= step.number)
+            ),
+            None,
+        )
 
     def waiting(self) -> list[Call]:
         """The calls that still wait, in the order in which they were taken."""
-        found = [one for one in self.calls if one.is_open and one.waits and one.waits[-1].end is None]
+        found = [
+            one for one in self.calls if one.is_open and one.waits and one.waits[-1].end is None
+        ]
         return sorted(found, key=lambda one: one.waits[0].begin.number)
 
     def unfinished(self) -> list[tuple[int, int]]:
         """The open connections on which a call came that isn't whole, and how many bytes of it."""
-        found = [(conn, port.asks.count - port.asks.start) for conn, port in sorted(self._ports.items())]
-        return [(conn, count) for conn, count in found if count and self.value(f"c{conn}.role") != "closed"]
+        found = [
+            (conn, port.asks.count - port.asks.start) for conn, port in sorted(self._ports.items())
+        ]
+        return [
+            (conn, count)
+            for conn, count in found
+            if count and self.value(f"c{conn}.role") != "closed"
+        ]
 
     def behind(self, call: Call) -> list[Call]:
         """The calls that came after it on its connection and aren't answered."""
-        return [one for one in self._of_conn.get(call.conn, ()) if one.number > call.number and one.is_open]
+        return [
+            one
+            for one in self._of_conn.get(call.conn, ())
+            if one.number > call.number and one.is_open
+        ]
 
 
 def _message(body: bytes) -> CallMessage:

@@ -10,11 +10,26 @@ from .slots import Slots
 from .text import readings
 from .words import millis
 
-LABELS = ("because", "would end it", "would not", "not tried", "due", "behind it", "errors", "lock", "status", "response",
-          "text", "held", "on order")
-BLOCK = ('<div class="b %s%s" data-s="%d" data-l="%s"><span class="t%s">%s</span><span class="w %s">%s</span>'
-         '<div class="x">%s%s%s</div></div>')
-COLOURS = 6         # of connections
+LABELS = (
+    "because",
+    "would end it",
+    "would not",
+    "not tried",
+    "due",
+    "behind it",
+    "errors",
+    "lock",
+    "status",
+    "response",
+    "text",
+    "held",
+    "on order",
+)
+BLOCK = (
+    '<div class="b %s%s" data-s="%d" data-l="%s"><span class="t%s">%s</span><span class="w %s">%s</span>'
+    '<div class="x">%s%s%s</div></div>'
+)
+COLOURS = 6  # of connections
 
 
 def table(blocks: Blocks, slots: Slots) -> str:
@@ -38,8 +53,18 @@ def _block(block: Block, slots: Slots, is_new: bool) -> str:
         rows = "".join(_row(row, slots, place) for row in block.rows if row.label or row.words)
     who, colour = block.who.replace("link ", "L"), f"c{call.conn % COLOURS}" if call else "c9"
     return BLOCK % (
-        block.kind, " err" if block.is_fault else "", place, call.link or "" if call else "", " new" if is_new else "",
-        millis(block.clock)[:-3], colour, html.escape(who), _head(block), _reply(block), rows)
+        block.kind,
+        " err" if block.is_fault else "",
+        place,
+        call.link or "" if call else "",
+        " new" if is_new else "",
+        millis(block.clock)[:-3],
+        colour,
+        html.escape(who),
+        _head(block),
+        _reply(block),
+        rows,
+    )
 
 
 def _head(block: Block) -> str:
@@ -94,13 +119,22 @@ def ending(lines: list[str]) -> str:
         label, words, deep = _labelled(line)
         who = not label and len(line) - len(line.lstrip()) == 2
         kind, said = "e who" if who else "e", html.escape(re.sub(" {2,}", ", ", words))
-        found.append(f'<div class="{kind}"><span>{label}</span><div class="d{deep}">{said}</div></div>')
+        found.append(
+            f'<div class="{kind}"><span>{label}</span><div class="d{deep}">{said}</div></div>'
+        )
     return "".join(found)
 
 
 def _labelled(line: str) -> tuple[str, str, int]:
     """The label of a line, its words, and how deep they are."""
     words = line.strip()
-    label = next((one for one in LABELS if words.startswith(one + " ") and len(line) - len(line.lstrip()) <= 4), "")
+    label = next(
+        (
+            one
+            for one in LABELS
+            if words.startswith(one + " ") and len(line) - len(line.lstrip()) <= 4
+        ),
+        "",
+    )
     deep = 0 if label else min(4, max(0, len(line) - len(line.lstrip()) - 18) // 2)
-    return label, words[len(label):].strip(), deep
+    return label, words[len(label) :].strip(), deep

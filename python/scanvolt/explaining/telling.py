@@ -26,9 +26,13 @@ from .words import (
 NOISE = ("stb", "rqs", "oper.cond", "answers", "scan", "place", "readings")
 # whose numbers say less than their bits
 FLAGS = ("esr", "oper.event", "ques.event", "lim.event", "ques.cond", "lim.cond")
-LONG = 60       # characters of moved bits that are too many to be told
-AWAITED = {"lock": "the lock", "input": "the message under way to end", "response": "a response",
-           "dial": "the interrupt channel to be connected"}
+LONG = 60  # characters of moved bits that are too many to be told
+AWAITED = {
+    "lock": "the lock",
+    "input": "the message under way to end",
+    "response": "a response",
+    "dial": "the interrupt channel to be connected",
+}
 
 
 class Telling:
@@ -38,21 +42,34 @@ class Telling:
         # the session, for what takes its telling from here, and whether noise is told too
         self.story, self.lines, self.everything = story, story.lines, everything
         self._by_name: dict[str, Callable[[Change], str | None]] = {
-            "poll": self._poll, "errors": self._errors, "lost": self._lost, "lock": self._lock, "held": self._held,
+            "poll": self._poll,
+            "errors": self._errors,
+            "lost": self._lost,
+            "lock": self._lock,
+            "held": self._held,
             "state": self._state,
-            "source": lambda one: f"trigger source {SOURCES[str(one.new)]}", "reading": self._reading, "text": self._text,
-            "response": self._response, "opc": lambda one: "*OPC pending" if one.new else None,
-            "count": lambda one: f"count of scans {one.new}", "list": lambda one: f"scan list {channels(one.new)}",
-            "range": lambda one: f"range {volts(as_number(one.new))}", "monitor": lambda one: f"monitored channel {one.new}",
+            "source": lambda one: f"trigger source {SOURCES[str(one.new)]}",
+            "reading": self._reading,
+            "text": self._text,
+            "response": self._response,
+            "opc": lambda one: "*OPC pending" if one.new else None,
+            "count": lambda one: f"count of scans {one.new}",
+            "list": lambda one: f"scan list {channels(one.new)}",
+            "range": lambda one: f"range {volts(as_number(one.new))}",
+            "monitor": lambda one: f"monitored channel {one.new}",
             "upper": lambda one: f"upper limit {volts(as_number(one.new))}",
             "lower": lambda one: f"lower limit {volts(as_number(one.new))}",
             "limits": lambda one: "limits on" if one.new else "limits off",
         }
-        self._by_tail: dict[str, Callable[[Change], str | None]] = {"wait": self._wait, "open": self._open,
-                                                                      "faulted": self._faulted}
+        self._by_tail: dict[str, Callable[[Change], str | None]] = {
+            "wait": self._wait,
+            "open": self._open,
+            "faulted": self._faulted,
+        }
         self._by_head: dict[str, Callable[[Change], str | None]] = {
             "link": lambda one: f"link {one.name[5:]} ended" if one.new == "none" else None,
-            "srq": lambda one: f"service requests of link {one.name[4:]} {one.new}"}
+            "srq": lambda one: f"service requests of link {one.name[4:]} {one.new}",
+        }
 
     def change(self, change: Change) -> str | None:
         """A change in words; None if it is noise."""
@@ -85,7 +102,9 @@ class Telling:
 
     def _bits(self, change: Change) -> str | None:
         name, old, new = change.name, as_number(change.old), as_number(change.new)
-        if name == "oper.event" and not (old ^ new) & self.lines.bits("oper.enable", change.step.number):
+        if name == "oper.event" and not (old ^ new) & self.lines.bits(
+            "oper.enable", change.step.number
+        ):
             return None
         if name in FLAGS:
             return f"{LABELS[name]} {moved(name, old, new)}"
@@ -101,8 +120,12 @@ class Telling:
             return f"error queue cleared ({len(old)})"
         if new == old[1:]:
             return f"error {error(old[0])} taken, {len(new)} left"
-        added = new[len(old):] if new[:len(old)] == old else new[-1:]
-        return "error " + ", ".join(map(error, added)) + ("" if len(new) == len(added) else f" ({len(new)} in the queue)")
+        added = new[len(old) :] if new[: len(old)] == old else new[-1:]
+        return (
+            "error "
+            + ", ".join(map(error, added))
+            + ("" if len(new) == len(added) else f" ({len(new)} in the queue)")
+        )
 
     def _lost(self, change: Change) -> str | None:
         count = as_number(change.new) - as_number(change.old)
@@ -133,7 +156,11 @@ class Telling:
 
     def _text(self, change: Change) -> str | None:
         if change.new in (0, "ended"):
-            dropped = change.new == 0 and isinstance(change.old, int) and change.step.kind in ("event", "resume")
+            dropped = (
+                change.new == 0
+                and isinstance(change.old, int)
+                and change.step.kind in ("event", "resume")
+            )
             if dropped:
                 return f"unfinished message of {counted(as_number(change.old), 'byte')} dropped"
             return None
@@ -145,7 +172,12 @@ class Telling:
         call = self.story.call_of(change.step)
         if new > old:
             return f"response of {counted(new, 'byte')} ready"
-        if new == 0 and call is not None and call.name == "device_read" and change.step.kind != "interrupt":
+        if (
+            new == 0
+            and call is not None
+            and call.name == "device_read"
+            and change.step.kind != "interrupt"
+        ):
             return None
         if new == 0:
             return f"response dropped, {counted(old, 'byte')}"

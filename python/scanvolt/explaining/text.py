@@ -14,7 +14,7 @@ GREEN = "\x1b[32m"
 YELLOW = "\x1b[33m"
 BLUE = "\x1b[34m"
 RESET = "\x1b[0m"
-WIDTH, INDENT, LABEL = 120, 24, 26      # columns of a line, before what changed, and of a step's name
+WIDTH, INDENT, LABEL = 120, 24, 26  # columns of a line, before what changed, and of a step's name
 Paint = Callable[[str, str], str]
 
 

@@ -11,11 +11,11 @@ from .calls import answer
 from .lines import Value
 from .story import Story
 
-INPUT_REFUSED = 8       # what the probe prints (replay.py); lines of the script may print it too
-BATCH = 64              # single milliseconds that are asked for at once
-PLACES = 16             # connections that the instrument has room for
-MESSAGE = ("input", "response")     # what calls wait for while a message is under way
-Seen = tuple[int, str, str]         # when a call was answered, its reply, and what was being done
+INPUT_REFUSED = 8  # what the probe prints (replay.py); lines of the script may print it too
+BATCH = 64  # single milliseconds that are asked for at once
+PLACES = 16  # connections that the instrument has room for
+MESSAGE = ("input", "response")  # what calls wait for while a message is under way
+Seen = tuple[int, str, str]  # when a call was answered, its reply, and what was being done
 
 
 class Trial:
@@ -24,15 +24,15 @@ class Trial:
     def __init__(self, story: Story, path: str) -> None:
         self.story, self.clock, self.doing = story, story.clock, ""
         self.ended: dict[int, Seen] = {}
-        self._told: list[tuple[CallMessage, bytes]] = []     # replies to calls of this trial
+        self._told: list[tuple[CallMessage, bytes]] = []  # replies to calls of this trial
         self._queues: dict[int, list[tuple[int | None, CallMessage]]] = {}
         self._records: dict[int, Records] = {}
         self._xid = WORD - PLACES * PLACES
         for call in story.calls:
             if call.is_open:
                 self._queues.setdefault(call.conn, []).append((call.number, call.message))
-        self.log: list[str] = []        # the lines that were added to the session
-        self._late: list[int] = []       # connections whose next call is to be taken
+        self.log: list[str] = []  # the lines that were added to the session
+        self._late: list[int] = []  # connections whose next call is to be taken
         self.program = Program(path)
 
     def begin(self) -> None:
@@ -44,13 +44,15 @@ class Trial:
         start, lines = 1, "".join(line + "\n" for line in self.story.script).encode("latin-1")
         for piece in pieces(lines):
             count = piece.count(b"\n")
-            self.program.ask(piece + PROBE, 1 + sum(refused.get(one, 0) for one in range(start, start + count)))
+            self.program.ask(
+                piece + PROBE, 1 + sum(refused.get(one, 0) for one in range(start, start + count))
+            )
             start += count
 
     def do(self, lines: str) -> None:
         """Lets events happen, and then what calls do next that come behind answered ones."""
         self.log += lines.splitlines()
-        self._take(self.program.ask(lines.encode() + PROBE)[:-len(SEEN)])
+        self._take(self.program.ask(lines.encode() + PROBE)[: -len(SEEN)])
 
     def pass_time(self, milliseconds: int) -> None:
         """Lets time pass, millisecond by millisecond."""
@@ -91,7 +93,14 @@ class Trial:
 
     def fresh(self, role: str = "core") -> int:
         """Opens a connection that nobody has. Raises ValueError if all are taken."""
-        number = next((one for one in range(PLACES) if one not in self._queues and self.value(f"c{one}.role") == "closed"), None)
+        number = next(
+            (
+                one
+                for one in range(PLACES)
+                if one not in self._queues and self.value(f"c{one}.role") == "closed"
+            ),
+            None,
+        )
         if number is None:
             raise ValueError("all connections are taken")
         self._queues[number] = []
@@ -109,9 +118,14 @@ class Trial:
 
     def is_over(self) -> bool:
         """Whether no call that waited for a message waits any more."""
-        return not any(self.story.calls[number].waits and self.story.calls[number].waits[-1].what in MESSAGE
-                       if number >= 0 else True
-                       for queue in self._queues.values() for number, _ in queue[:1] if number is not None)
+        return not any(
+            self.story.calls[number].waits and self.story.calls[number].waits[-1].what in MESSAGE
+            if number >= 0
+            else True
+            for queue in self._queues.values()
+            for number, _ in queue[:1]
+            if number is not None
+        )
 
     def value(self, name: str) -> Value:
         """A value at the end of the session."""
@@ -124,7 +138,9 @@ class Trial:
             if port[:1] != b"c":
                 continue
             conn = int(port[1:])
-            for record in self._records.setdefault(conn, Records()).push(bytes.fromhex(said.decode())):
+            for record in self._records.setdefault(conn, Records()).push(
+                bytes.fromhex(said.decode())
+            ):
                 self._answered(conn, record.body, is_late)
 
     def _answered(self, conn: int, body: bytes, is_late: bool) -> None:

@@ -16,12 +16,12 @@ from .story import Call, Story
 from .trial import MESSAGE, Seen, Trial
 from .words import counted, millis, pair
 
-LIMIT = 2.0             # seconds of real time for all tries
-SCANS = 16              # scans that a measurement may have
-PATIENCE = 600000       # milliseconds that pass in a try
-ABORTED = 3             # calls whose abort is tried
+LIMIT = 2.0  # seconds of real time for all tries
+SCANS = 16  # scans that a measurement may have
+PATIENCE = 600000  # milliseconds that pass in a try
+ABORTED = 3  # calls whose abort is tried
 TIME = "only time"
-HELD = -1               # the number of a write that shows when a message ends, if no call waits for that
+HELD = -1  # the number of a write that shows when a message ends, if no call waits for that
 Act = Callable[[Trial], None]
 
 
@@ -62,7 +62,7 @@ class Tried:
     """
 
     def __init__(self) -> None:
-        self.ended: dict[str, dict[int, Seen]] = {}     # by kind and call, how the call ended
+        self.ended: dict[str, dict[int, Seen]] = {}  # by kind and call, how the call ended
         self._kinds: dict[str, Kind] = {}
         self.left: list[Kind] = []
         self.logs: dict[str, list[str]] = {}
@@ -87,8 +87,12 @@ class Tried:
 
     def of_held(self) -> list[Outcome]:
         """What was tried for a held unit for which no call waits."""
-        return [Outcome(seen[2], "the message ends", seen[0]) for ended in self.ended.values()
-                for number, seen in ended.items() if number == HELD]
+        return [
+            Outcome(seen[2], "the message ends", seen[0])
+            for ended in self.ended.values()
+            for number, seen in ended.items()
+            if number == HELD
+        ]
 
 
 ALL = ("lock", "input", "response", "dial")
@@ -139,7 +143,7 @@ class _Run(threading.Thread):
             self.kind.act(self.trial)
             self.ended = self.trial.ended
         except (ProgramError, OSError, ValueError):
-            pass                        # it was stopped, it can't be tried, or the program ended: then it isn't said
+            pass  # it was stopped, it can't be tried, or the program ended: then it isn't said
         finally:
             if self.trial is not None:
                 self.trial.program.close()
@@ -175,13 +179,25 @@ def _kinds(story: Story) -> Iterator[Kind]:
     if held and state == "waiting" and source == "ext":
         yield Kind("EXTernal trigger", MESSAGE, _external)
     if held and state == "waiting" and source == "bus":
-        yield Kind("device_trigger", MESSAGE, lambda trial: _by_link(trial, "device_trigger", calls.device_trigger, SCANS))
+        yield Kind(
+            "device_trigger",
+            MESSAGE,
+            lambda trial: _by_link(trial, "device_trigger", calls.device_trigger, SCANS),
+        )
     if held:
-        yield Kind("device_clear", MESSAGE, lambda trial: _by_link(trial, "device_clear", calls.device_clear, 1))
+        yield Kind(
+            "device_clear",
+            MESSAGE,
+            lambda trial: _by_link(trial, "device_clear", calls.device_clear, 1),
+        )
     if "lock" in waits and story.value("lock") != "none":
         holder = int(str(story.value("lock")))
         conn = story.owners[holder]
-        yield Kind(f"device_unlock of link {holder}", ("lock",), lambda trial: trial.send(conn, calls.device_unlock(holder)))
+        yield Kind(
+            f"device_unlock of link {holder}",
+            ("lock",),
+            lambda trial: trial.send(conn, calls.device_unlock(holder)),
+        )
         yield Kind(f"the close of c{conn}", ("lock",), lambda trial: trial.close(conn))
     for call in [one for one in story.waiting() if one.waits[-1].what == "dial"][:1]:
         for how in ("ok", "failed"):
@@ -195,9 +211,13 @@ def _time(trial: Trial) -> None:
     """Time alone: first what the scan under way takes, then up to each timeout."""
     (scan, scans), (place, length) = pair(trial.value("scan")), pair(trial.value("place"))
     if trial.value("state") == "scanning":
-        trial.pass_time(length - place + (length * (scans - scan) if trial.value("source") == "imm" else 0))
+        trial.pass_time(
+            length - place + (length * (scans - scan) if trial.value("source") == "imm" else 0)
+        )
     deadlines = {call.waits[-1].deadline for call in trial.story.waiting()}
-    for deadline in sorted(one for one in deadlines if one is not None and one - trial.clock <= PATIENCE):
+    for deadline in sorted(
+        one for one in deadlines if one is not None and one - trial.clock <= PATIENCE
+    ):
         trial.skip(deadline - 1 - trial.clock)
         trial.pass_time(deadline - trial.clock)
 
@@ -233,6 +253,8 @@ def _dialed(conn: int, how: str) -> Act:
 
 def _abort(link: int) -> Act:
     """device_abort of a link, over an abort channel of its own."""
+
     def act(trial: Trial) -> None:
         trial.send(trial.fresh("abort"), calls.device_abort(link))
+
     return act

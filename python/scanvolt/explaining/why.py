@@ -34,16 +34,29 @@ class Why:
             return self.bit(one.name, one.bit, number)
         if one.name in NAMES:
             value = self._lines.bits(one.name, number)
-            return Node(f"{LABELS[one.name]} is {value}", None,
-                        [self.bit(one.name, bit, number) for bit in range(15, -1, -1) if value >> bit & 1])
+            return Node(
+                f"{LABELS[one.name]} is {value}",
+                None,
+                [self.bit(one.name, bit, number) for bit in range(15, -1, -1) if value >> bit & 1],
+            )
         return self.errors(number) if one.name == "errors" else self.plain(one.name, number)
 
     def _number(self, one: Asked) -> int:
         """The newest step at or before a moment."""
         if one.clock is None and one.line is None:
             return self._story.end
-        return next((step.number for step in reversed(self._lines.steps)
-                     if (step.moment.clock <= one.clock if one.clock is not None else step.moment.line <= (one.line or 0))), -1)
+        return next(
+            (
+                step.number
+                for step in reversed(self._lines.steps)
+                if (
+                    step.moment.clock <= one.clock
+                    if one.clock is not None
+                    else step.moment.line <= (one.line or 0)
+                )
+            ),
+            -1,
+        )
 
     def bit(self, name: str, bit: int, number: int, lacks: bool = True) -> Node:
         """Why a bit is what it is; for a clear one also who had set it, and what it lacks."""
@@ -52,8 +65,13 @@ class Why:
             return node
         before = None if node.step is None else self.model.flip(name, bit, node.step.number - 1, 1)
         if before is not None:
-            node.children.append(Node(f"it had been set at {self._doers.by(before.step)}", before.step,
-                                      self.model.causes(name, bit, 1, before, 1)))
+            node.children.append(
+                Node(
+                    f"it had been set at {self._doers.by(before.step)}",
+                    before.step,
+                    self.model.causes(name, bit, 1, before, 1),
+                )
+            )
         if lacks:
             node.children += self._lacks(name, bit, number)
         return node
@@ -67,16 +85,29 @@ class Why:
             labels = (LABELS[event], LABELS[enable])
         else:
             return []
-        has, wants = (self._lines.bits(one, number) & (~MASTER if bit == RQS else -1) for one in (event, enable))
-        said = "; ".join(f"{label} has {', '.join(bits(one, value)) or 'nothing'}"
-                         for label, one, value in zip(labels, (event, enable), (has, wants)))
+        has, wants = (
+            self._lines.bits(one, number) & (~MASTER if bit == RQS else -1)
+            for one in (event, enable)
+        )
+        said = "; ".join(
+            f"{label} has {', '.join(bits(one, value)) or 'nothing'}"
+            for label, one, value in zip(labels, (event, enable), (has, wants))
+        )
         if bit == RQS and has & wants:
             stayed = ", ".join(bits("stb", has & wants))
-            return [Node(f"{said}: {stayed} stayed set at the poll, and only a bit that is newly set, or newly enabled, requests again")]
+            return [
+                Node(
+                    f"{said}: {stayed} stayed set at the poll, and only a bit that is newly set, or newly enabled, requests again"
+                )
+            ]
         node = Node(f"{said}: no bit is in both")
         if bit == RQS:
-            node.children = [Node(f"to get {self.model.title('poll', one)}: {lack.text}")
-                             for one in range(8) if wants >> one & 1 for lack in self._lacks("poll", one, number)]
+            node.children = [
+                Node(f"to get {self.model.title('poll', one)}: {lack.text}")
+                for one in range(8)
+                if wants >> one & 1
+                for lack in self._lacks("poll", one, number)
+            ]
         return [node]
 
     def errors(self, number: int) -> Node:
@@ -85,16 +116,23 @@ class Why:
         if queue:
             rows = zip(queue, self._origins(number))
             count = "1 error" if len(queue) == 1 else f"{len(queue)} errors"
-            return Node(f"{count} in the queue, the oldest first", None,
-                        [Node(f"{error(one)}: {self._doers.by(step)}", step) for one, step in rows])
+            return Node(
+                f"{count} in the queue, the oldest first",
+                None,
+                [Node(f"{error(one)}: {self._doers.by(step)}", step) for one, step in rows],
+            )
         change = self._lines.last("errors", number)
         if change is None:
             return Node("the error queue is empty, and was so at power on")
         node = Node(f"the error queue is empty since {self._doers.by(change.step)}", change.step)
-        before = self._lines.last("errors", number, lambda one: len(numbers(one.new)) > len(numbers(one.old)))
+        before = self._lines.last(
+            "errors", number, lambda one: len(numbers(one.new)) > len(numbers(one.old))
+        )
         if before is not None:
             last = error(numbers(before.new)[-1])
-            node.children.append(Node(f"the last error was {last}: {self._doers.by(before.step)}", before.step))
+            node.children.append(
+                Node(f"the last error was {last}: {self._doers.by(before.step)}", before.step)
+            )
         return node
 
     def _origins(self, number: int) -> list[Step]:
@@ -104,12 +142,12 @@ class Why:
             old, new = numbers(change.old), numbers(change.new)
             if change.step.number > number:
                 break
-            if new[:len(old)] == old:
+            if new[: len(old)] == old:
                 found += [change.step] * (len(new) - len(old))
-            elif new == old[len(old) - len(new):]:
-                found = found[len(old) - len(new):]
+            elif new == old[len(old) - len(new) :]:
+                found = found[len(old) - len(new) :]
             else:
-                found = found[:len(new) - 1] + [change.step]
+                found = found[: len(new) - 1] + [change.step]
         return found
 
     def plain(self, name: str, number: int) -> Node:
@@ -138,18 +176,29 @@ class Why:
             return "there is no reading" if value == "none" else reading(value)
         if name in ("range", "upper", "lower"):
             return f"{name} is {volts(as_number(value))}"
-        return {"held": "no unit is held" if value == "none" else "a unit is held", "state": f"the scan is {value}",
-                "source": f"the trigger source is {SOURCES.get(str(value), value)}",
-                "list": f"the scan list is {channels(value)}",
-                "response": f"the response has {value} bytes"}.get(name, f"{name} is {shown(value)}")
+        return {
+            "held": "no unit is held" if value == "none" else "a unit is held",
+            "state": f"the scan is {value}",
+            "source": f"the trigger source is {SOURCES.get(str(value), value)}",
+            "list": f"the scan list is {channels(value)}",
+            "response": f"the response has {value} bytes",
+        }.get(name, f"{name} is {shown(value)}")
 
     def _lock(self, value: Value, step: Step, number: int) -> list[Node]:
         """Who waits for the lock, or who held it before."""
         if value != "none":
-            waiting = [one for one in self._story.calls if any(wait.what == "lock" and wait.is_on(number) for wait in one.waits)]
-            return [Node(f"for it waits {call_words(one)}, since {millis(one.waits[0].begin.moment.clock)}",
-                         one.waits[0].begin)
-                    for one in waiting]
+            waiting = [
+                one
+                for one in self._story.calls
+                if any(wait.what == "lock" and wait.is_on(number) for wait in one.waits)
+            ]
+            return [
+                Node(
+                    f"for it waits {call_words(one)}, since {millis(one.waits[0].begin.moment.clock)}",
+                    one.waits[0].begin,
+                )
+                for one in waiting
+            ]
         before = self._lines.last("lock", step.number - 1)
         if before is None or before.new == "none":
             return []
@@ -167,15 +216,28 @@ class Why:
             parent.children.append(Node(reason))
             parent = parent.children[-1]
         if over and wait.end is not None:
-            node.children.append(Node(f"it ended at {self._doers.by(wait.end)}: {call.reply.words}", wait.end))
+            node.children.append(
+                Node(f"it ended at {self._doers.by(wait.end)}: {call.reply.words}", wait.end)
+            )
         elif self._tried is not None and wait.end is None:
-            node.children.append(Node("would end it", None, [Node(str(one)) for one in self._tried.of(call) if one.is_end]))
+            node.children.append(
+                Node(
+                    "would end it",
+                    None,
+                    [Node(str(one)) for one in self._tried.of(call) if one.is_end],
+                )
+            )
         return node
 
     def _newest(self, port: str, number: int) -> tuple[Call, Wait]:
         """The newest call of a connection that waited, and its wait."""
-        found = [(one, wait) for one in self._story.calls if f"c{one.conn}" == port for wait in one.waits
-                 if wait.begin.number <= number]
+        found = [
+            (one, wait)
+            for one in self._story.calls
+            if f"c{one.conn}" == port
+            for wait in one.waits
+            if wait.begin.number <= number
+        ]
         if not found:
             raise Unknown(f"no call of {port} waited")
         return max(found, key=lambda pair: pair[1].begin.number)

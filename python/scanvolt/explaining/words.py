@@ -5,25 +5,50 @@ from __future__ import annotations
 from .lines import REGISTERS, Value, as_number
 from .tables import BITS, ERRORS
 
-PARTS = (("cond", "condition"), ("event", "event"), ("enable", "enable"), ("ptr", "PTR"), ("ntr", "NTR"))
+PARTS = (
+    ("cond", "condition"),
+    ("event", "event"),
+    ("enable", "enable"),
+    ("ptr", "PTR"),
+    ("ntr", "NTR"),
+)
 SOURCES = {"imm": "IMMediate", "bus": "BUS", "ext": "EXTernal"}
-MICRO = 10 ** 6
-TEXT_MOST, UNIT_MOST = 72, 48       # characters of a message and of a unit that are shown
-DAY, HOUR = 86400000, 3600000       # milliseconds
+MICRO = 10**6
+TEXT_MOST, UNIT_MOST = 72, 48  # characters of a message and of a unit that are shown
+DAY, HOUR = 86400000, 3600000  # milliseconds
 
 # The bits of each value that has some, by name.
 NAMES: dict[str, dict[int, str]] = {
     value: {bit: name for bit, (name, _) in BITS[register].items()}
-    for value, register in (("poll", "poll"), ("stb", "poll"), ("sre", "poll"), ("esr", "esr"), ("ese", "esr"))
+    for value, register in (
+        ("poll", "poll"),
+        ("stb", "poll"),
+        ("sre", "poll"),
+        ("esr", "esr"),
+        ("ese", "esr"),
+    )
 }
-NAMES.update((f"{register}.{part}", {bit: name for bit, (name, _) in BITS[register].items()})
-             for register in REGISTERS for part, _ in PARTS)
+NAMES.update(
+    (f"{register}.{part}", {bit: name for bit, (name, _) in BITS[register].items()})
+    for register in REGISTERS
+    for part, _ in PARTS
+)
 NAMES["stb"] = {**NAMES["stb"], 6: "MSS"}
 NAMES["sre"] = {bit: name for bit, name in NAMES["sre"].items() if bit != 6}
 
 # What people call a value.
-LABELS: dict[str, str] = {"poll": "STB", "stb": "STB (MSS)", "sre": "SRE", "esr": "ESR", "ese": "ESE"}
-LABELS.update((f"{register}.{part}", f"{register.upper()} {word}") for register in REGISTERS for part, word in PARTS)
+LABELS: dict[str, str] = {
+    "poll": "STB",
+    "stb": "STB (MSS)",
+    "sre": "SRE",
+    "esr": "ESR",
+    "ese": "ESE",
+}
+LABELS.update(
+    (f"{register}.{part}", f"{register.upper()} {word}")
+    for register in REGISTERS
+    for part, word in PARTS
+)
 
 
 def stands(name: str, bit: int) -> str:
@@ -54,7 +79,10 @@ def known(name: str, value: int) -> int:
 
 def moved(name: str, old: int, new: int) -> str:
     """Bits that rose and fell: `+RQS -MAV`."""
-    return " ".join(["+" + one for one in bits(name, new & ~old)] + ["-" + one for one in bits(name, old & ~new)])
+    return " ".join(
+        ["+" + one for one in bits(name, new & ~old)]
+        + ["-" + one for one in bits(name, old & ~new)]
+    )
 
 
 def shown_bits(name: str, value: int) -> str:
@@ -76,14 +104,14 @@ def quoted(data: bytes, most: int = TEXT_MOST) -> str:
     """Bytes in quotes; of many, the first and the last."""
     found = escaped(data).replace('"', '\\"')
     if len(found) > most:
-        found = found[:most // 2] + ".." + found[-most // 2 + 2:]
+        found = found[: most // 2] + ".." + found[-most // 2 + 2 :]
     return f'"{found}"'
 
 
 def unit(data: bytes, most: int = UNIT_MOST) -> str:
     """A program unit, or a line; of a long one, its start."""
     found = escaped(data)
-    return found if len(found) <= most else found[:most - 2] + ".."
+    return found if len(found) <= most else found[: most - 2] + ".."
 
 
 def counted(count: int, one: str) -> str:
@@ -139,5 +167,7 @@ def channels(value: Value) -> str:
             runs[-1].append(one)
         else:
             runs.append([one])
-    told = ",".join(f"{run[0]}:{run[-1]}" if len(run) > 2 else ",".join(map(str, run)) for run in runs)
+    told = ",".join(
+        f"{run[0]}:{run[-1]}" if len(run) > 2 else ",".join(map(str, run)) for run in runs
+    )
     return f"(@{told})"

@@ -18,9 +18,9 @@ if TYPE_CHECKING:
     from ..connection import Connection, Pending
     from ..virtual import Meter
 
-__tracebackhide__ = True        # pytest shows the line that calls the package, and not these frames
+__tracebackhide__ = True  # pytest shows the line that calls the package, and not these frames
 CALLS = sorted({name for program in (CORE, ABORT) for name in NAMES[program].values()})
-MARK = len(mark(0))             # bytes of a reply that come before its record
+MARK = len(mark(0))  # bytes of a reply that come before its record
 HOW = "on order of meter.faults"
 
 
@@ -52,28 +52,39 @@ class Faults:
 
     def __init__(self, meter: Meter) -> None:
         self._meter = meter
-        self.ordered: list[Order] = []      # faults that haven't come
-        self.told: list[Told] = []          # faults that came
+        self.ordered: list[Order] = []  # faults that haven't come
+        self.told: list[Told] = []  # faults that came
         # replies that come at a time
         self._late: list[tuple[int, Connection, Pending[object], bytes]] = []
-        self._cut: list[tuple[Connection, ConnectionError]] = []                   # connections to be closed
+        self._cut: list[tuple[Connection, ConnectionError]] = []  # connections to be closed
 
     def __repr__(self) -> str:
         return f"<Faults: {len(self.ordered)} ordered, {len(self.told)} came>"
 
     def next(self, call: str, error: int = 17, connection: Connection | None = None) -> None:
         """The next such call is answered with this VXI-11 error, 1 to 4,294,967,295. The instrument isn't asked."""
-        self._order("next", call, connection, whole(error, 1, WORD, "a fault wants the number of an error"))
+        self._order(
+            "next", call, connection, whole(error, 1, WORD, "a fault wants the number of an error")
+        )
 
-    def drop_after(self, bytes: int, call: str | None = None, connection: Connection | None = None) -> None:
+    def drop_after(
+        self, bytes: int, call: str | None = None, connection: Connection | None = None
+    ) -> None:
         """The connection ends after this many bytes of the next reply. The instrument has executed the call.
 
         A reply begins with the 4 bytes that mark its record. If it has no more than `bytes` bytes, it comes whole, and
         then the connection ends.
         """
-        self._order("drop_after", call, connection, whole(bytes, 0, WORD, "drop_after wants a number of bytes"))
+        self._order(
+            "drop_after",
+            call,
+            connection,
+            whole(bytes, 0, WORD, "drop_after wants a number of bytes"),
+        )
 
-    def delay(self, milliseconds: int, call: str | None = None, connection: Connection | None = None) -> None:
+    def delay(
+        self, milliseconds: int, call: str | None = None, connection: Connection | None = None
+    ) -> None:
         """The next reply comes this many milliseconds late, and replies behind it no earlier."""
         self._order("delay", call, connection, checked(milliseconds, "delay"))
 
@@ -98,7 +109,9 @@ class Faults:
 
     def _taken(self, connection: Connection, call: str, *kinds: str) -> Order | None:
         """Takes the first order of these kinds that fits."""
-        found = next((one for one in self.ordered if one.kind in kinds and one.fits(connection, call)), None)
+        found = next(
+            (one for one in self.ordered if one.kind in kinds and one.fits(connection, call)), None
+        )
         if found is not None:
             self.ordered.remove(found)
         return found
@@ -108,7 +121,7 @@ class Faults:
         replay = self._meter._replay
         try:
             line = len(replay.script())
-        except ProgramError:            # the session became too long to be told
+        except ProgramError:  # the session became too long to be told
             line = 0
         self.told.append(Told(line, self._meter.clock, who, said))
         return said
@@ -120,11 +133,16 @@ class Faults:
         if order is None:
             return None
         if order.kind == "close":
-            told = self._tell(who(pending), f"the connection ended before {call.name} came to the instrument")
+            told = self._tell(
+                who(pending), f"the connection ended before {call.name} came to the instrument"
+            )
             return ConnectionError(f"{told}: {HOW}")
         named = f"{order.much}, {ERRORS.get(order.much, 'reserved error')}"
         pending._made = encode_reply(pending.xid, words(order.much))[MARK:]
-        told = self._tell(who(pending), f"{call.name} was answered with error {named}; the instrument wasn't asked")
+        told = self._tell(
+            who(pending),
+            f"{call.name} was answered with error {named}; the instrument wasn't asked",
+        )
         pending._note = f"{told}: {HOW}"
         return None
 
@@ -135,7 +153,9 @@ class Faults:
         if order is not None and order.kind == "drop_after":
             size = min(order.much, MARK + len(body))
             told = self._tell(
-                who(pending), f"the connection ended after {size} of {MARK + len(body)} bytes of the reply to {name}")
+                who(pending),
+                f"the connection ended after {size} of {MARK + len(body)} bytes of the reply to {name}",
+            )
             fault = ConnectionError(f"{told}: {HOW}")
             self._cut.append((connection, fault))
             if size < MARK + len(body):
@@ -158,7 +178,10 @@ class Faults:
         """Whether a service request of the instrument is lost."""
         order = self._taken(connection, "", "lose_request") if self.ordered else None
         if order is not None:
-            self._tell(f"c{connection.number}", f"the service request {request.xid}, handle {request.handle!r}, was lost")
+            self._tell(
+                f"c{connection.number}",
+                f"the service request {request.xid}, handle {request.handle!r}, was lost",
+            )
         return order is not None
 
     def _at_most(self, most: int) -> int:

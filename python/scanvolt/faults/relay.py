@@ -13,10 +13,10 @@ from typing import TypeVar
 from ..vxi11.timeouts import milliseconds as checked
 from ..vxi11.whole import WORD, whole
 
-__tracebackhide__ = True        # pytest shows the line that calls the package, and not these frames
+__tracebackhide__ = True  # pytest shows the line that calls the package, and not these frames
 Itself = TypeVar("Itself", bound="Relay")
-CLIENT, SERVER = "client", "server"     # towards whom bytes go
-TURN = 0.1              # seconds after which a relay looks whether it is closed
+CLIENT, SERVER = "client", "server"  # towards whom bytes go
+TURN = 0.1  # seconds after which a relay looks whether it is closed
 # those that there are, in their order
 RELAYS: weakref.WeakValueDictionary[int, Relay] = weakref.WeakValueDictionary()
 _numbers = itertools.count()
@@ -35,10 +35,14 @@ class _Order:
 class _Way:
     """One direction of a connection: the bytes from a socket to another, in a thread."""
 
-    def __init__(self, relay: Relay, source: socket.socket, target: socket.socket, towards: str, number: int) -> None:
+    def __init__(
+        self, relay: Relay, source: socket.socket, target: socket.socket, towards: str, number: int
+    ) -> None:
         self._relay, self._source, self._target = relay, source, target
         self.towards, self.number = towards, number
-        self.thread = threading.Thread(target=self._run, daemon=True, name=f"relay towards the {towards}")
+        self.thread = threading.Thread(
+            target=self._run, daemon=True, name=f"relay towards the {towards}"
+        )
 
     def _run(self) -> None:
         """Passes bytes on until one side ends."""
@@ -49,7 +53,7 @@ class _Way:
                     break
                 while data:
                     data = self._step(data)
-        except OSError:         # one of them is closed
+        except OSError:  # one of them is closed
             pass
         for one in self._source, self._target:
             shut(one)
@@ -58,8 +62,8 @@ class _Way:
         """Passes on the bytes before the next fault, or does the fault. Returns those that are left."""
         order, count = self._relay._due(self.towards, len(data))
         if order is None or count:
-            self._send(data[:count or len(data)])
-            return data[count or len(data):]
+            self._send(data[: count or len(data)])
+            return data[count or len(data) :]
         if order.kind == "drop":
             size = min(order.much, len(data))
             self._relay._tell(self, f"drops {size} bytes: {data[:size].hex()}")
@@ -70,7 +74,9 @@ class _Way:
             self._relay._tell(self, f"waits {order.much} ms")
             self._relay._closed.wait(order.much / 1000)
             return data
-        self._relay._tell(self, f"ends the connection; {len(data)} bytes that came aren't passed on")
+        self._relay._tell(
+            self, f"ends the connection; {len(data)} bytes that came aren't passed on"
+        )
         raise ConnectionAbortedError
 
     def _send(self, data: bytes) -> None:
@@ -80,8 +86,8 @@ class _Way:
             return
         self._relay._tell(self, f"splits {len(data)} bytes into pieces of {size}")
         for start in range(0, len(data), size):
-            self._target.sendall(data[start:start + size])
-            time.sleep(0.001)           # else the system joins the pieces
+            self._target.sendall(data[start : start + size])
+            time.sleep(0.001)  # else the system joins the pieces
 
 
 class Relay:
@@ -157,7 +163,9 @@ class Relay:
 
     def _order(self, kind: str, towards: str, after: int, much: int) -> None:
         self._towards(towards)
-        order = _Order(kind, towards, whole(after, 0, WORD, f"{kind} wants a number of bytes before it"), much)
+        order = _Order(
+            kind, towards, whole(after, 0, WORD, f"{kind} wants a number of bytes before it"), much
+        )
         with self._guard:
             self._orders.append(order)
 
@@ -181,7 +189,9 @@ class Relay:
     def _tell(self, way: _Way, words: str) -> None:
         """Notes a fault for the traces."""
         passed = time.monotonic() - self._began
-        told = f"{passed:.3f} s, connection {way.number}, towards the {way.towards}: the relay {words}"
+        told = (
+            f"{passed:.3f} s, connection {way.number}, towards the {way.towards}: the relay {words}"
+        )
         with self._guard:
             self.told.append(told)
 
@@ -197,7 +207,7 @@ class Relay:
                 self._sockets.append(client)
                 try:
                     server = socket.create_connection(self._peer)
-                except OSError:                 # the client sees a connection that ends
+                except OSError:  # the client sees a connection that ends
                     shut(client)
                     continue
                 self._begin(client, server)
@@ -208,7 +218,10 @@ class Relay:
         number = len(self._ways) // 2
         for one in client, server:
             one.setsockopt(socket.IPPROTO_TCP, socket.TCP_NODELAY, 1)
-        self._ways += [_Way(self, client, server, SERVER, number), _Way(self, server, client, CLIENT, number)]
+        self._ways += [
+            _Way(self, client, server, SERVER, number),
+            _Way(self, server, client, CLIENT, number),
+        ]
         for way in self._ways[-2:]:
             way.thread.start()
 

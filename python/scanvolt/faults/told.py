@@ -5,7 +5,7 @@ from __future__ import annotations
 from collections.abc import Sequence
 from dataclasses import dataclass
 
-SHOWN = 5       # faults that the end of a trace lists; of more, the last
+SHOWN = 5  # faults that the end of a trace lists; of more, the last
 
 
 @dataclass(frozen=True)

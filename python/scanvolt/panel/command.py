@@ -32,10 +32,17 @@ NAME = "scanvolt-panel"
 
 def words(given: list[str] | None, name: str) -> argparse.Namespace:
     """The arguments of the command line."""
-    parser = argparse.ArgumentParser(prog=name, description=__doc__, formatter_class=argparse.RawDescriptionHelpFormatter)
+    parser = argparse.ArgumentParser(
+        prog=name, description=__doc__, formatter_class=argparse.RawDescriptionHelpFormatter
+    )
     parser.add_argument("--port", default="0", help="the port of the page; a free one if not named")
     add_instrument(parser)
-    parser.add_argument("--" + CONTROL, default="0", metavar="PORT", help="the port that sets inputs; a free one if not named")
+    parser.add_argument(
+        "--" + CONTROL,
+        default="0",
+        metavar="PORT",
+        help="the port that sets inputs; a free one if not named",
+    )
     return parser.parse_args(given)
 
 
@@ -61,8 +68,10 @@ def _serve(given: argparse.Namespace) -> None:
             watch.start()
             threading.Thread(target=panel.serve_forever, daemon=True).start()
             server = watch.server
-            print(f"panel {panel.address}\nready {server.core} {server.abort} {server.port_mapper} {server.control}",
-                  flush=True)
+            print(
+                f"panel {panel.address}\nready {server.core} {server.abort} {server.port_mapper} {server.control}",
+                flush=True,
+            )
             over.wait()
             panel.shutdown()
     finally:

@@ -10,7 +10,7 @@ from dataclasses import dataclass, field
 
 from ..explaining.lines import REGISTERS, Value, as_number, start_of, value_of
 
-LOG = 60                # things that happened which are kept
+LOG = 60  # things that happened which are kept
 # where a call has its procedure, and that of device_write, in hexadecimal digits
 WRITE = slice(40, 48), "0000000b"
 LAMPS = ("poll", "esr", *(f"{name}.{part}" for name in REGISTERS for part in ("cond", "event")))
@@ -58,17 +58,17 @@ class Front:
     channels: dict[int, Channel] = field(default_factory=dict)
     ports: dict[int, Port] = field(default_factory=dict)
     log: collections.deque[Happened] = field(default_factory=lambda: collections.deque(maxlen=LOG))
-    rises: dict[tuple[str, int], int] = field(default_factory=dict)     # how often each lamp was lit
-    happened: int = 0           # calls that were answered, and inputs that were set
-    unit: str = ""              # the newest program unit, in hexadecimal digits
-    held: str = ""              # the unit that waits until the scan is idle
-    writer: int | None = None    # the connection that wrote the message under way
+    rises: dict[tuple[str, int], int] = field(default_factory=dict)  # how often each lamp was lit
+    happened: int = 0  # calls that were answered, and inputs that were set
+    unit: str = ""  # the newest program unit, in hexadecimal digits
+    held: str = ""  # the unit that waits until the scan is idle
+    writer: int | None = None  # the connection that wrote the message under way
     held_by: int | None = None
     held_at: int = 0
     lock_at: int = 0
     _words: list[str] = field(default_factory=list)
     _poll: int = 0
-    _writes: int | None = None   # the connection whose write was taken last
+    _writes: int | None = None  # the connection whose write was taken last
 
     def value(self, name: str) -> Value:
         """A value now."""
@@ -194,4 +194,6 @@ class Front:
 
     def is_due(self) -> bool:
         """Whether something comes as time passes: a reading, or a timeout."""
-        return self.value("state") == "scanning" or any(not port.wait.endswith(("none", "never")) for port in self.ports.values())
+        return self.value("state") == "scanning" or any(
+            not port.wait.endswith(("none", "never")) for port in self.ports.values()
+        )

@@ -14,21 +14,48 @@ from ..program import Server
 HERE = pathlib.Path(__file__).resolve().parent
 SCRIPT, STYLE = "text/javascript; charset=utf-8", "text/css; charset=utf-8"
 # The files of the page, and those that it has in common with the page of `scanvolt.explaining`.
-FILES = {"/panel.js": SCRIPT, "/follow.js": SCRIPT, "/panel.css": STYLE, "/icon.svg": "image/svg+xml",
-         "/axis.js": SCRIPT, "/drawing.js": SCRIPT, "/looking.js": SCRIPT, "/page.css": STYLE}
+FILES = {
+    "/panel.js": SCRIPT,
+    "/follow.js": SCRIPT,
+    "/panel.css": STYLE,
+    "/icon.svg": "image/svg+xml",
+    "/axis.js": SCRIPT,
+    "/drawing.js": SCRIPT,
+    "/looking.js": SCRIPT,
+    "/page.css": STYLE,
+}
 COMMON = ("/axis.js", "/drawing.js", "/looking.js", "/page.css")
-ICON = ('<svg xmlns="http://www.w3.org/2000/svg" viewBox="0 0 16 16"><rect width="16" height="16" rx="3" fill="#10202a"/>'
-        '<path d="M2 9h3l2-5 3 8 1.6-3H14" fill="none" stroke="#5ff0d8" stroke-width="1.6"/></svg>')
+ICON = (
+    '<svg xmlns="http://www.w3.org/2000/svg" viewBox="0 0 16 16"><rect width="16" height="16" rx="3" fill="#10202a"/>'
+    '<path d="M2 9h3l2-5 3 8 1.6-3H14" fill="none" stroke="#5ff0d8" stroke-width="1.6"/></svg>'
+)
 # Lamps: a title, what it is, the bits, and for each column its head, and where the state has it.
 GROUPS = (
     ("STB", "status byte", "poll", (("now", "STB"), ("SRE", "SRE"))),
     ("ESR", "standard events", "esr", (("now", "ESR"), ("ESE", "ESE"))),
-    ("OPER", "operation", "oper", (("now", "OPER.condition"), ("event", "OPER.event"), ("enable", "OPER.enable"))),
-    ("QUES", "questionable", "ques", (("now", "QUES.condition"), ("event", "QUES.event"), ("enable", "QUES.enable"))),
-    ("LIM", "limits", "lim", (("now", "LIM.condition"), ("event", "LIM.event"), ("enable", "LIM.enable"))),
+    (
+        "OPER",
+        "operation",
+        "oper",
+        (("now", "OPER.condition"), ("event", "OPER.event"), ("enable", "OPER.enable")),
+    ),
+    (
+        "QUES",
+        "questionable",
+        "ques",
+        (("now", "QUES.condition"), ("event", "QUES.event"), ("enable", "QUES.enable")),
+    ),
+    (
+        "LIM",
+        "limits",
+        "lim",
+        (("now", "LIM.condition"), ("event", "LIM.event"), ("enable", "LIM.enable")),
+    ),
 )
-TABLE = ('<table class="lamps" id="lamps-%s"><caption><b>%s</b> %s</caption><thead><tr><td></td><td></td>%s</tr></thead>'
-         "<tbody>%s</tbody><tfoot><tr><td></td><td></td>%s</tr></tfoot></table>")
+TABLE = (
+    '<table class="lamps" id="lamps-%s"><caption><b>%s</b> %s</caption><thead><tr><td></td><td></td>%s</tr></thead>'
+    "<tbody>%s</tbody><tfoot><tr><td></td><td></td>%s</tr></tfoot></table>"
+)
 BAD = ("QYE", "DDE", "EXE", "CME", "EAV", "VOLT", "BELOW", "ABOVE", "MONITORED", "LIM", "QUES")
 
 
@@ -44,8 +71,15 @@ def page(server: Server) -> bytes:
     """The page of a server."""
     text = (HERE / "panel.html").read_text(encoding="utf-8")
     ports = f"core {server.core} · abort {server.abort} · port mapper {server.port_mapper}"
-    return filled(text, {"LAMPS": "".join(map(_group, GROUPS)), "PORTS": html.escape(ports), "VERSION": html.escape(__version__),
-                         "PROGRAM": html.escape(os.path.basename(server.program))}).encode()
+    return filled(
+        text,
+        {
+            "LAMPS": "".join(map(_group, GROUPS)),
+            "PORTS": html.escape(ports),
+            "VERSION": html.escape(__version__),
+            "PROGRAM": html.escape(os.path.basename(server.program)),
+        },
+    ).encode()
 
 
 def _group(group: tuple[str, str, str, tuple[tuple[str, str], ...]]) -> str:
@@ -61,7 +95,9 @@ def _bits(register: str, columns: tuple[tuple[str, str], ...]) -> list[str]:
     found = []
     for bit, (name, what) in sorted(BITS[register].items(), reverse=True):
         lamps = "".join(_lamp(name, where, place) for place, (_, where) in enumerate(columns))
-        found.append(f'<tr title="bit {bit}: {html.escape(what)}"><th scope="row">{name}</th><td class="what">{html.escape(what)}</td>{lamps}</tr>')
+        found.append(
+            f'<tr title="bit {bit}: {html.escape(what)}"><th scope="row">{name}</th><td class="what">{html.escape(what)}</td>{lamps}</tr>'
+        )
     return found
 
 

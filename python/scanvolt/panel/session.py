@@ -14,12 +14,14 @@ from ..explaining.table import ending, table
 from ..replay import ticks
 from .watch import Watch
 
-LONGEST = 4 * 10 ** 6       # bytes of a record that is shown
-FOLLOWABLE = 75 * 10 ** 4   # bytes of a record that is followed: more takes seconds each time
+LONGEST = 4 * 10**6  # bytes of a record that is shown
+FOLLOWABLE = 75 * 10**4  # bytes of a record that is followed: more takes seconds each time
 LONG = "the session is too long to be followed: stop that, and it is shown whole"
-FOLLOWED = 300              # calls that are shown while it is followed, the last ones
-TOO_LONG = ("the record has %.1f million bytes, and only %.1f million are explained here; keep it (GET /record, or --record "
-            "FILE), and use `scanvolt-explain FILE --core %d --abort %d`")
+FOLLOWED = 300  # calls that are shown while it is followed, the last ones
+TOO_LONG = (
+    "the record has %.1f million bytes, and only %.1f million are explained here; keep it (GET /record, or --record "
+    "FILE), and use `scanvolt-explain FILE --core %d --abort %d`"
+)
 
 
 class TooLong(Exception):
@@ -37,7 +39,10 @@ class Sessions:
         """The record, and the time that is known to have passed after it. Raises TooLong."""
         watch = self._watch
         if watch.spool.size > LONGEST:
-            raise TooLong(TOO_LONG % (watch.spool.size / 1e6, LONGEST / 1e6, watch.server.core, watch.server.abort))
+            raise TooLong(
+                TOO_LONG
+                % (watch.spool.size / 1e6, LONGEST / 1e6, watch.server.core, watch.server.abort)
+            )
         place, ahead = watch.explained()
         return (watch.spool.read(0, place) + ticks(ahead)).decode("latin-1").splitlines()
 
@@ -56,8 +61,12 @@ class Sessions:
             found = self._explained()
             slots = Slots(found.story) if is_whole else Slots(found.story, FOLLOWED, FOLLOWED)
             end = found.end_lines() if is_whole else Ending(found.reasons).text()
-            rest = {"facts": facts(found, slots), "wide": wide(found), "table": table(Blocks(found.reasons), slots),
-                    "end": ending(end)}
+            rest = {
+                "facts": facts(found, slots),
+                "wide": wide(found),
+                "table": table(Blocks(found.reasons), slots),
+                "end": ending(end),
+            }
             return (f'{{"data":{data(found, slots)},{json.dumps(rest)[1:]}').encode()
 
     def page(self) -> bytes:

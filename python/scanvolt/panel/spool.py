@@ -5,7 +5,7 @@ from __future__ import annotations
 import os
 import tempfile
 
-MOST = 2 ** 30          # bytes of a record without a name
+MOST = 2**30  # bytes of a record without a name
 KEPT = f"the record has more than {MOST} bytes, and isn't followed any further"
 
 
@@ -16,7 +16,7 @@ class Spool:
 
     def __init__(self, path: str | None = None, most: int = MOST) -> None:
         self.path, self.most = path, most
-        self.size = 0           # bytes that it has
+        self.size = 0  # bytes that it has
         self.fault = ""
         if path is None:
             with tempfile.TemporaryFile() as file:
@@ -45,7 +45,7 @@ class Spool:
     def lines(self) -> list[str]:
         """The whole lines."""
         text = self.read(0, self.size)
-        return text[:text.rfind(b"\n") + 1].decode("latin-1").splitlines()
+        return text[: text.rfind(b"\n") + 1].decode("latin-1").splitlines()
 
     def close(self) -> None:
         """Closes the file. One without a name is gone then."""

@@ -16,17 +16,30 @@ from .front import LAMPS, Channel, Front, Happened, Port
 
 State = dict[str, Any]
 BYTES = (("STB", "poll"), ("SRE", "sre"), ("ESR", "esr"), ("ESE", "ese"))
-MICRO = 10 ** 6
+MICRO = 10**6
 OVER = ("+over", "-over")
-SHOWN = 24              # things that happened
+SHOWN = 24  # things that happened
 
 
 def state_of(front: Front) -> State:
     """The state of an instrument."""
-    return {"channels": _channels(front), "scan": _scan(front), "registers": _registers(front), "message": _message_state(front),
-            "errors": [{"number": one, "text": ERRORS.get(one, "unknown")} for one in numbers(front.value("errors"))],
-            "lost": front.number("lost"), "lock": _lock(front), "links": _links(front), "connections": _connections(front),
-            "waits": _waits(front), "log": _log(front), "happened": front.happened}
+    return {
+        "channels": _channels(front),
+        "scan": _scan(front),
+        "registers": _registers(front),
+        "message": _message_state(front),
+        "errors": [
+            {"number": one, "text": ERRORS.get(one, "unknown")}
+            for one in numbers(front.value("errors"))
+        ],
+        "lost": front.number("lost"),
+        "lock": _lock(front),
+        "links": _links(front),
+        "connections": _connections(front),
+        "waits": _waits(front),
+        "log": _log(front),
+        "happened": front.happened,
+    }
 
 
 def _volts(micro: int) -> float:
@@ -47,12 +60,22 @@ def _channels(front: Front) -> list[State]:
     """The channels that have an input or a reading, or are in the scan list or monitored."""
     listed = set(_scan_list(front))
     numbered = sorted(listed | set(front.channels) | {front.number("monitor")})
-    return [_channel(front, number, front.channels.get(number, Channel()), number in listed) for number in numbered]
+    return [
+        _channel(front, number, front.channels.get(number, Channel()), number in listed)
+        for number in numbered
+    ]
 
 
 def _channel(front: Front, number: int, one: Channel, is_listed: bool) -> State:
-    return {"channel": number, "input": _volts(one.microvolts), "reading": _read(one.reading), "number": one.number,
-            "clock": one.clock, "listed": is_listed, "is": _stands(front, one)}
+    return {
+        "channel": number,
+        "input": _volts(one.microvolts),
+        "reading": _read(one.reading),
+        "number": one.number,
+        "clock": one.clock,
+        "listed": is_listed,
+        "is": _stands(front, one),
+    }
 
 
 def _stands(front: Front, one: Channel) -> str:
@@ -74,13 +97,25 @@ def _scan(front: Front) -> State:
     """The measurement, and its settings."""
     scan, place = pair(front.value("scan")), pair(front.value("place"))
     return {
-        "state": front.value("state"), "source": SOURCES[str(front.value("source"))], "count": front.number("count"),
-        "scan": scan[0], "scans": scan[1], "place": place[0], "length": place[1], "readings": front.number("readings"),
+        "state": front.value("state"),
+        "source": SOURCES[str(front.value("source"))],
+        "count": front.number("count"),
+        "scan": scan[0],
+        "scans": scan[1],
+        "place": place[0],
+        "length": place[1],
+        "readings": front.number("readings"),
         "newest": _newest(front),
-        "list": channels(front.value("list")), "range": _volts(front.number("range")), "monitor": front.number("monitor"),
-        "limits": {"on": bool(front.number("limits")), "upper": _volts(front.number("upper")),
-                   "lower": _volts(front.number("lower"))},
-        "now": _now(front)}
+        "list": channels(front.value("list")),
+        "range": _volts(front.number("range")),
+        "monitor": front.number("monitor"),
+        "limits": {
+            "on": bool(front.number("limits")),
+            "upper": _volts(front.number("upper")),
+            "lower": _volts(front.number("lower")),
+        },
+        "now": _now(front),
+    }
 
 
 def _newest(front: Front) -> State | None:
@@ -106,7 +141,11 @@ def _register(front: Front, name: str) -> State:
     value = front.number(name)
     found: State = {"value": value, "bits": bits(name, known(name, value))}
     if name in LAMPS:
-        found["rises"] = {bits(name, 1 << bit)[0]: count for (lamp, bit), count in sorted(front.rises.items()) if lamp == name}
+        found["rises"] = {
+            bits(name, 1 << bit)[0]: count
+            for (lamp, bit), count in sorted(front.rises.items())
+            if lamp == name
+        }
     return found
 
 
@@ -114,14 +153,19 @@ def _registers(front: Front) -> State:
     """The status byte as a poll returns it, the standard events, and the three registers."""
     found: State = {label: _register(front, name) for label, name in BYTES}
     for register in REGISTERS:
-        found[register.upper()] = {word.lower(): _register(front, f"{register}.{part}") for part, word in PARTS}
+        found[register.upper()] = {
+            word.lower(): _register(front, f"{register}.{part}") for part, word in PARTS
+        }
     return found
 
 
 def _message_state(front: Front) -> State:
     """The message under way."""
-    return {"held": _unit(front.held) if front.held else None, "response": front.number("response"),
-            "text": front.value("text")}
+    return {
+        "held": _unit(front.held) if front.held else None,
+        "response": front.number("response"),
+        "text": front.value("text"),
+    }
 
 
 def _unit(digits: str) -> str:
@@ -142,13 +186,22 @@ def _owner(front: Front, link: Value) -> int | None:
 
 def _links(front: Front) -> list[State]:
     found = sorted(int(name[5:]) for name in front.values if name.startswith("link."))
-    return [{"link": one, "connection": _owner(front, one), "requests": front.value(f"srq.{one}") == "on",
-             "lock": front.value("lock") == one} for one in found]
+    return [
+        {
+            "link": one,
+            "connection": _owner(front, one),
+            "requests": front.value(f"srq.{one}") == "on",
+            "lock": front.value("lock") == one,
+        }
+        for one in found
+    ]
 
 
 def _connections(front: Front) -> list[State]:
-    return [{"connection": conn, "role": port.role, "interrupt": bool(front.number(f"i{conn}.open"))}
-            for conn, port in sorted(front.ports.items())]
+    return [
+        {"connection": conn, "role": port.role, "interrupt": bool(front.number(f"i{conn}.open"))}
+        for conn, port in sorted(front.ports.items())
+    ]
 
 
 def _call(digits: str) -> tuple[str, int | None]:
@@ -168,15 +221,24 @@ def _reply(happened: Happened) -> Answer:
 
 def _waits(front: Front) -> list[State]:
     """The calls that wait, the first one first: for what, since when, until when, and why."""
-    waiting = sorted((port.waited, conn) for conn, port in front.ports.items() if port.wait != "none")
+    waiting = sorted(
+        (port.waited, conn) for conn, port in front.ports.items() if port.wait != "none"
+    )
     return [_wait(front, conn, front.ports[conn]) for _, conn in waiting]
 
 
 def _wait(front: Front, conn: int, port: Port) -> State:
     what, link, until = port.wait.split()
     words = _call(port.call)[0] if port.call else "a call"
-    return {"connection": conn, "link": None if link == "none" else int(link), "call": words, "for": AWAITED[what],
-            "since": port.waited, "until": None if until == "never" else int(until), "because": _because(front, what)}
+    return {
+        "connection": conn,
+        "link": None if link == "none" else int(link),
+        "call": words,
+        "for": AWAITED[what],
+        "since": port.waited,
+        "until": None if until == "never" else int(until),
+        "because": _because(front, what),
+    }
 
 
 def _because(front: Front, what: str) -> list[str]:
@@ -190,8 +252,10 @@ def _because(front: Front, what: str) -> list[str]:
     if not front.held:
         return []
     by = "" if front.held_by is None else f" of c{front.held_by}"
-    return [f"unit `{_unit(front.held)}`{by} waits until the scan is idle, since {millis(front.held_at)}",
-            f"the scan {_now(front)}"]
+    return [
+        f"unit `{_unit(front.held)}`{by} waits until the scan is idle, since {millis(front.held_at)}",
+        f"the scan {_now(front)}",
+    ]
 
 
 def _log(front: Front) -> list[State]:
@@ -199,7 +263,11 @@ def _log(front: Front) -> list[State]:
     found: list[State] = []
     for one in reversed(front.log):
         row = _row(one)
-        if found and all(found[-1][key] == row[key] for key in ("who", "what", "reply")) and "rows" not in row:
+        if (
+            found
+            and all(found[-1][key] == row[key] for key in ("who", "what", "reply"))
+            and "rows" not in row
+        ):
             found[-1]["times"] += 1
             continue
         if len(found) == SHOWN:
@@ -215,9 +283,22 @@ def _row(one: Happened) -> State:
             said = f"input {event[1]} = {volts(int(event[2]))}"
         else:
             said = "EXTernal trigger"
-        return {"clock": one.clock, "who": "input", "what": said, "reply": "", "fault": False, "times": 1}
+        return {
+            "clock": one.clock,
+            "who": "input",
+            "what": said,
+            "reply": "",
+            "fault": False,
+            "times": 1,
+        }
     words, link = _call(one.what)
     reply = _reply(one)
     waited = "" if one.clock == one.since else f", after {millis(one.clock - one.since)}"
-    return {"clock": one.clock, "who": f"c{one.conn}" + (f" link {link}" if link else ""), "what": words,
-            "reply": reply.words + waited, "fault": reply.is_fault, "times": 1}
+    return {
+        "clock": one.clock,
+        "who": f"c{one.conn}" + (f" link {link}" if link else ""),
+        "what": words,
+        "reply": reply.words + waited,
+        "fault": reply.is_fault,
+        "times": 1,
+    }

@@ -25,22 +25,22 @@ from .front import Front
 from .spool import Spool
 from .state import State, state_of
 
-__tracebackhide__ = True        # pytest shows the line that calls the package, and not these frames
-PIPE = 1 << 20          # bytes that the pipe holds
-PIECE = 1 << 15         # bytes that are read at once
+__tracebackhide__ = True  # pytest shows the line that calls the package, and not these frames
+PIPE = 1 << 20  # bytes that the pipe holds
+PIECE = 1 << 15  # bytes that are read at once
 # bytes of the record that are explained at once: at least a line, which has up to 65,537
 LONGEST = 1 << 17
-SWEEPS = 4294967295     # the most that there are
-DUE, IDLE = 0.04, 0.5   # seconds between two questions, while something is due and else
-MARGIN = 3              # milliseconds that the server's clock may be behind when it answers
+SWEEPS = 4294967295  # the most that there are
+DUE, IDLE = 0.04, 0.5  # seconds between two questions, while something is due and else
+MARGIN = 3  # milliseconds that the server's clock may be behind when it answers
 # seconds without a sign of the server after which it is not known how much time passed for it
 PAUSE = 0.9
-MOST_PASSED = 1000      # milliseconds that pass at most for the server after a pause
-SILENT = 1.0            # seconds without an answer after which the server is said not to answer
-LATE = 0.01             # seconds that the record may be read late
-SOON = 1.0              # seconds that a state may take while events follow each other
-SAID = 200              # bytes of what a server said at its end that are shown
-ENDS = 2.0              # seconds that a server may take to end once its record has ended
+MOST_PASSED = 1000  # milliseconds that pass at most for the server after a pause
+SILENT = 1.0  # seconds without an answer after which the server is said not to answer
+LATE = 0.01  # seconds that the record may be read late
+SOON = 1.0  # seconds that a state may take while events follow each other
+SAID = 200  # bytes of what a server said at its end that are shown
+ENDS = 2.0  # seconds that a server may take to end once its record has ended
 DIFFERS = "the record isn't what the server answered; start the panel anew"
 
 
@@ -71,8 +71,13 @@ class Watch(threading.Thread):
     file if `record` names one. Raises what Server raises, and OSError if the record can't be made.
     """
 
-    def __init__(self, scenario: Name | None = None, program: Name | None = None, record: str | None = None,
-                 ports: list[int] | None = None) -> None:
+    def __init__(
+        self,
+        scenario: Name | None = None,
+        program: Name | None = None,
+        record: str | None = None,
+        ports: list[int] | None = None,
+    ) -> None:
         super().__init__(name="scanvolt-panel", daemon=True)
         self.server, self._record = _served(scenario, program, ports)
         try:
@@ -82,11 +87,11 @@ class Watch(threading.Thread):
             os.close(self._record)
             raise
         self._began = time.time()
-        self.front, self.version = Front(), 0       # what the panel shows, and how often that changed
+        self.front, self.version = Front(), 0  # what the panel shows, and how often that changed
         self.changed = threading.Condition()
-        self.ended = ""             # how the server ended
-        self.fault = ""             # why it isn't followed any further
-        self._silent = False         # whether the server doesn't answer
+        self.ended = ""  # how the server ended
+        self.fault = ""  # why it isn't followed any further
+        self._silent = False  # whether the server doesn't answer
         self.clock = _Clock()
         self._shot: State = state_of(self.front)
         self._shot_of, self._is_wanted, self._is_over, self._is_last = 0, False, False, False
@@ -106,19 +111,21 @@ class Watch(threading.Thread):
             self._selector.register(self._waker, selectors.EVENT_READ, None)
             while not self._turn():
                 pass
-        except Exception as fault:      # whatever it is, the page says it, and the pipe is read on
+        except Exception as fault:  # whatever it is, the page says it, and the pipe is read on
             self._lost(f"the panel failed: {type(fault).__name__}: {fault}")
             while not self._only_drain():
                 pass
 
     def _turn(self) -> bool:
         """Waits, and does what there is to do. Returns whether it is to end."""
-        for key, _ in self._selector.select(max(0.0, self._next - time.monotonic()) if not self.ended else None):
+        for key, _ in self._selector.select(
+            max(0.0, self._next - time.monotonic()) if not self.ended else None
+        ):
             if key.data is not None:
                 key.data()
             elif self._is_over:
                 return True
-            else:               # somebody waits for what has happened until now
+            else:  # somebody waits for what has happened until now
                 os.read(self._waker, PIECE)
                 self._next = min(self._next, self._due_since)
         if not self.ended and time.monotonic() >= self._next:
@@ -136,7 +143,7 @@ class Watch(threading.Thread):
                 self._drain()
             elif key.data is None:
                 os.read(self._waker, PIECE)
-            elif key.fd in self._selector.get_map():        # which the end of the record may have closed
+            elif key.fd in self._selector.get_map():  # which the end of the record may have closed
                 self._selector.unregister(key.fd)
         return False
 
@@ -173,7 +180,10 @@ class Watch(threading.Thread):
             elif self._flight:
                 self._is_wanted = True
                 self.changed.wait_for(lambda: not self._is_wanted or not self.is_alive(), SOON)
-            clock = max(self.front.clock, self.clock.least(None if self._silent or self.ended else time.monotonic()))
+            clock = max(
+                self.front.clock,
+                self.clock.least(None if self._silent or self.ended else time.monotonic()),
+            )
             return {"version": self._shot_of, "clock": clock, "server": self._about(), **self._shot}
 
     def explained(self) -> tuple[int, int]:
@@ -193,10 +203,24 @@ class Watch(threading.Thread):
     def _about(self) -> State:
         """How server and panel do."""
         server = self.server
-        ports = {"core": server.core, "abort": server.abort, "port_mapper": server.port_mapper, "control": server.control}
-        return {"program": server.program, "process": server.process.pid, "started": self._began, "ended": self.ended,
-                "silent": self._silent, "fault": self.fault, "record": self.spool.path, "bytes": self.spool.size,
-                "behind": self.spool.size - self.place, "ports": ports}
+        ports = {
+            "core": server.core,
+            "abort": server.abort,
+            "port_mapper": server.port_mapper,
+            "control": server.control,
+        }
+        return {
+            "program": server.program,
+            "process": server.process.pid,
+            "started": self._began,
+            "ended": self.ended,
+            "silent": self._silent,
+            "fault": self.fault,
+            "record": self.spool.path,
+            "bytes": self.spool.size,
+            "behind": self.spool.size - self.place,
+            "ports": ports,
+        }
 
     def _lost(self, fault: str) -> None:
         if not self.fault:
@@ -255,7 +279,7 @@ class Watch(threading.Thread):
 
     def _answered(self) -> None:
         """The server gave a sign of life. What happened before is in the pipe."""
-        if self._control is None:       # the end of the record came with it
+        if self._control is None:  # the end of the record came with it
             return
         try:
             answer = self._control.recv(100)
@@ -287,7 +311,9 @@ class Watch(threading.Thread):
     # explaining
     def _begin(self) -> None:
         """Starts the program that explains, from the start of the record."""
-        self._tied = Tied(command(self.server.program, (self.server.core, self.server.abort)), subprocess.PIPE, 0)
+        self._tied = Tied(
+            command(self.server.program, (self.server.core, self.server.abort)), subprocess.PIPE, 0
+        )
         process = self._tied.process
         assert process.stdin is not None and process.stdout is not None
         self._input, self._output = process.stdin.fileno(), process.stdout.fileno()
@@ -312,10 +338,10 @@ class Watch(threading.Thread):
             return
         if self.place < self.spool.size:
             piece = self.spool.read(self.place, LONGEST)
-            piece = piece[:piece.rfind(b"\n") + 1]
+            piece = piece[: piece.rfind(b"\n") + 1]
             if piece:
                 self._give(piece)
-            if piece or not self.ended:     # a server that was killed may leave half a line
+            if piece or not self.ended:  # a server that was killed may leave half a line
                 return
         passed = min(self.clock.least() - self.front.clock, LONGEST_TICK)
         if passed > 0 and self.front.is_due() and not self.ended:
@@ -348,7 +374,9 @@ class Watch(threading.Thread):
 
     def _send(self, lines: list[bytes]) -> None:
         self._base = self._fed
-        self._flight = [line.decode("latin-1").rstrip("\n").split(" ") for line in lines] + [PROBE.decode().split()]
+        self._flight = [line.decode("latin-1").rstrip("\n").split(" ") for line in lines] + [
+            PROBE.decode().split()
+        ]
         self._fed += len(self._flight)
         self._left = b"".join(lines) + PROBE
         self._write()
@@ -356,7 +384,7 @@ class Watch(threading.Thread):
     def _write(self) -> None:
         """Writes as much as the program takes now."""
         try:
-            self._left = self._left[os.write(self._input, self._left):]
+            self._left = self._left[os.write(self._input, self._left) :]
         except BlockingIOError:
             pass
         except OSError:
@@ -424,7 +452,9 @@ def _how(status: int, process: subprocess.Popen[bytes]) -> str:
     return f"the server ended with status {status}{why}"
 
 
-def _served(scenario: Name | None, program: Name | None, ports: list[int] | None) -> tuple[Server, int]:
+def _served(
+    scenario: Name | None, program: Name | None, ports: list[int] | None
+) -> tuple[Server, int]:
     """A server that writes its record to a pipe, and the end of the pipe that is read."""
     with tempfile.TemporaryDirectory(prefix="scanvolt-") as folder:
         path = os.path.join(folder, "record")
@@ -432,7 +462,7 @@ def _served(scenario: Name | None, program: Name | None, ports: list[int] | None
         source = os.open(path, os.O_RDONLY | os.O_NONBLOCK | os.O_CLOEXEC)
         try:
             fcntl.fcntl(source, getattr(fcntl, "F_SETPIPE_SZ", 1031), PIPE)
-        except OSError:         # what a user may have is less
+        except OSError:  # what a user may have is less
             pass
         try:
             return _Lasting(scenario, program, record=path, control=True, ports=ports), source

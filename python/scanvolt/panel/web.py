@@ -26,16 +26,23 @@ from .pages import FILES, page, static
 from .session import Sessions, TooLong
 from .watch import Watch
 
-POLICY = ("default-src 'none'; script-src 'self'; style-src 'self' 'unsafe-inline'; connect-src 'self'; img-src 'self'; "
-          "base-uri 'none'; form-action 'none'; frame-ancestors 'none'")
-HEADERS = {"Content-Security-Policy": POLICY, "X-Content-Type-Options": "nosniff", "Referrer-Policy": "no-referrer",
-           "Cross-Origin-Resource-Policy": "same-origin", "Cross-Origin-Opener-Policy": "same-origin",
-           "Cache-Control": "no-store"}
-BODY_MOST = 64          # bytes of a voltage
-STREAMS = 16            # streams at a time
-QUICKEST = 0.05         # seconds between two states of a stream
-ALIVE = 5.0             # seconds after which a stream repeats its state
-PATIENCE = 20.0         # seconds that a browser may take to read or to write something
+POLICY = (
+    "default-src 'none'; script-src 'self'; style-src 'self' 'unsafe-inline'; connect-src 'self'; img-src 'self'; "
+    "base-uri 'none'; form-action 'none'; frame-ancestors 'none'"
+)
+HEADERS = {
+    "Content-Security-Policy": POLICY,
+    "X-Content-Type-Options": "nosniff",
+    "Referrer-Policy": "no-referrer",
+    "Cross-Origin-Resource-Policy": "same-origin",
+    "Cross-Origin-Opener-Policy": "same-origin",
+    "Cache-Control": "no-store",
+}
+BODY_MOST = 64  # bytes of a voltage
+STREAMS = 16  # streams at a time
+QUICKEST = 0.05  # seconds between two states of a stream
+ALIVE = 5.0  # seconds after which a stream repeats its state
+PATIENCE = 20.0  # seconds that a browser may take to read or to write something
 PIECE = 1 << 16
 KEPT = 'attachment; filename="session.%s"'
 NO_VOLTAGE = "a voltage is a number of volts, -1000 to 1000, in whole microvolts, and not `%s`"
@@ -116,13 +123,22 @@ class _Handler(http.server.BaseHTTPRequestHandler):
     server_version, sys_version = "scanvolt-panel", ""
     timeout = PATIENCE
 
-    def log_message(self, format: str, *args: object) -> None:     # pylint: disable=redefined-builtin
+    def log_message(self, format: str, *args: object) -> None:  # pylint: disable=redefined-builtin
         """Prints nothing: the token is in addresses."""
 
     def do_GET(self) -> None:
         """Shows something."""
-        self._do({"/": self._page, "/state": self._state, "/events": self._events, "/record": self._record,
-                  "/session": self._session, "/session.html": self._session_page, **{name: self._static for name in FILES}})
+        self._do(
+            {
+                "/": self._page,
+                "/state": self._state,
+                "/events": self._events,
+                "/record": self._record,
+                "/session": self._session,
+                "/session.html": self._session_page,
+                **{name: self._static for name in FILES},
+            }
+        )
 
     def do_POST(self) -> None:
         """Changes something."""
@@ -136,7 +152,9 @@ class _Handler(http.server.BaseHTTPRequestHandler):
             self._check_host()
             how = known.get("/inputs" if self.path.startswith("/inputs/") else self.path)
             if how is None:
-                raise _Refused(HTTPStatus.NOT_FOUND, f"there is nothing at {self.path[:80]} for {self.command}")
+                raise _Refused(
+                    HTTPStatus.NOT_FOUND, f"there is nothing at {self.path[:80]} for {self.command}"
+                )
             how()
         except _Refused as fault:
             self._refuse(fault.status, str(fault))
@@ -146,7 +164,7 @@ class _Handler(http.server.BaseHTTPRequestHandler):
             self._refuse(HTTPStatus.REQUEST_ENTITY_TOO_LARGE, str(fault))
 
     def _refuse(self, status: HTTPStatus, why: str) -> None:
-        self.close_connection = True        # what it sent besides isn't read
+        self.close_connection = True  # what it sent besides isn't read
         self._send(json.dumps({"error": why}).encode(), JSON, status)
 
     def _check_host(self) -> None:
@@ -156,14 +174,25 @@ class _Handler(http.server.BaseHTTPRequestHandler):
         origin = self.headers.get("Origin")
         if origin is not None and origin not in ["http://" + one for one in self.server._hosts]:
             raise _Refused(HTTPStatus.FORBIDDEN, "a page of another origin asks")
-        if self.path != "/" and self.headers.get("Sec-Fetch-Site", "none") not in ("none", "same-origin"):
+        if self.path != "/" and self.headers.get("Sec-Fetch-Site", "none") not in (
+            "none",
+            "same-origin",
+        ):
             raise _Refused(HTTPStatus.FORBIDDEN, "a page of another site asks")
 
     def _check_token(self) -> None:
-        if not hmac.compare_digest(self._asked.get("token", "").encode(), self.server.token.encode()):
+        if not hmac.compare_digest(
+            self._asked.get("token", "").encode(), self.server.token.encode()
+        ):
             raise _Refused(HTTPStatus.FORBIDDEN, "the token in the address is missing or wrong")
 
-    def _send(self, data: bytes, kind: str, status: HTTPStatus = HTTPStatus.OK, more: dict[str, str] | None = None) -> None:
+    def _send(
+        self,
+        data: bytes,
+        kind: str,
+        status: HTTPStatus = HTTPStatus.OK,
+        more: dict[str, str] | None = None,
+    ) -> None:
         self._head(kind, status, {"Content-Length": str(len(data)), **(more or {})})
         self.wfile.write(data)
 
@@ -203,7 +232,11 @@ class _Handler(http.server.BaseHTTPRequestHandler):
         rest = ticks(ahead)
         if watch.spool.fault:
             raise _Refused(HTTPStatus.GONE, watch.spool.fault)
-        self._head(TEXT, HTTPStatus.OK, {"Content-Length": str(size + len(rest)), "Content-Disposition": KEPT % "replay"})
+        self._head(
+            TEXT,
+            HTTPStatus.OK,
+            {"Content-Length": str(size + len(rest)), "Content-Disposition": KEPT % "replay"},
+        )
         while place < size:
             piece = watch.spool.read(place, min(PIECE, size - place))
             self.wfile.write(piece)
@@ -218,7 +251,7 @@ class _Handler(http.server.BaseHTTPRequestHandler):
             self.close_connection = True
             self._head("text/event-stream", HTTPStatus.OK, {})
             self._stream()
-        except OSError:                 # the browser is gone, or reads nothing
+        except OSError:  # the browser is gone, or reads nothing
             pass
         finally:
             self.server._streams.release()
@@ -230,7 +263,9 @@ class _Handler(http.server.BaseHTTPRequestHandler):
             self.wfile.write(b"data: %s\n\n" % self.server._state())
             time.sleep(QUICKEST)
             with watch.changed:
-                watch.changed.wait_for(lambda: watch.version != seen or self.server._is_closing, ALIVE)
+                watch.changed.wait_for(
+                    lambda: watch.version != seen or self.server._is_closing, ALIVE
+                )
 
     # what is changed
     def _body(self) -> str:
@@ -238,20 +273,27 @@ class _Handler(http.server.BaseHTTPRequestHandler):
         if not said.isdigit() or self.headers.get("Transfer-Encoding"):
             raise _Refused(HTTPStatus.LENGTH_REQUIRED, "the length of the body is missing")
         if len(said) > 9 or int(said) > BODY_MOST:
-            raise _Refused(HTTPStatus.REQUEST_ENTITY_TOO_LARGE, f"a voltage has at most {BODY_MOST} bytes")
+            raise _Refused(
+                HTTPStatus.REQUEST_ENTITY_TOO_LARGE, f"a voltage has at most {BODY_MOST} bytes"
+            )
         return self.rfile.read(int(said)).decode("latin-1").strip()
 
     def _input(self) -> None:
         self._check_token()
-        number, said = self.path[len("/inputs/"):], self._body()
+        number, said = self.path[len("/inputs/") :], self._body()
         if not re.fullmatch("[1-9][0-9]{0,2}", number) or int(number) > CHANNELS:
-            raise _Refused(HTTPStatus.NOT_FOUND, f"a channel is a whole number, 1 to {CHANNELS}, and not `{number[:40]}`")
+            raise _Refused(
+                HTTPStatus.NOT_FOUND,
+                f"a channel is a whole number, 1 to {CHANNELS}, and not `{number[:40]}`",
+            )
         try:
             micro = microvolts(said if VOLTS.fullmatch(said) else "none")
         except ValueError:
             raise _Refused(HTTPStatus.BAD_REQUEST, NO_VOLTAGE % said) from None
         self.server._control.set_input(int(number), said)
-        self._send(json.dumps({"channel": int(number), "input": micro / 10 ** 6}).encode() + b"\n", JSON)
+        self._send(
+            json.dumps({"channel": int(number), "input": micro / 10**6}).encode() + b"\n", JSON
+        )
 
     def _external(self) -> None:
         self._check_token()

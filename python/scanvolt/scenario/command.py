@@ -36,7 +36,7 @@ from .shapes import Pair, Wrong, changes, channels_of, milliseconds, number, who
 from .table import table
 
 NAME = "scanvolt-scenario"
-MOST = 10 ** 7          # values of a channel
+MOST = 10**7  # values of a channel
 OPTIONS = ("seconds=", "every=", "trigger=", "csv=", "of=", "check=", "picture", "help")
 Plan = dict[int, list[Pair]]
 
@@ -105,7 +105,9 @@ def words_of(arguments: list[str]) -> tuple[dict[str, str], dict[int, tuple[str,
     return given, shapes
 
 
-def existing(given: dict[str, str], shapes: dict[int, tuple[str, int]]) -> tuple[Plan, list[int], int]:
+def existing(
+    given: dict[str, str], shapes: dict[int, tuple[str, int]]
+) -> tuple[Plan, list[int], int]:
     """The voltages, the triggers and the length of an existing scenario."""
     if shapes or "--csv" in given or "--trigger" in given:
         raise Wrong("--of takes a scenario as it is, without shapes, --csv and --trigger")
@@ -119,11 +121,13 @@ def made(given: dict[str, str], shapes: dict[int, tuple[str, int]]) -> tuple[Pla
     if "--of" in given:
         return existing(given, shapes)
     length = milliseconds(number(given["--seconds"], "--seconds", Decimal("0.001")))
-    every = whole(given["--every"], "--every", 1, 10 ** 9)
-    period = whole(given["--trigger"], "--trigger", 1, 10 ** 9) if "--trigger" in given else every
+    every = whole(given["--every"], "--every", 1, 10**9)
+    period = whole(given["--trigger"], "--trigger", 1, 10**9) if "--trigger" in given else every
     if length // min(every, period) > MOST:
         raise Wrong(f"there would be more than {MOST} values of a channel, or triggers")
-    plan = {channel: changes(shape, every, length, place) for channel, (shape, place) in shapes.items()}
+    plan = {
+        channel: changes(shape, every, length, place) for channel, (shape, place) in shapes.items()
+    }
     for channel, pairs in (table(given["--csv"]) if "--csv" in given else {}).items():
         if channel in plan:
             raise Wrong(f"channel {channel} has a shape and a column")
@@ -149,5 +153,9 @@ def main(arguments: list[str] | None = None) -> int:
     except Wrong as error:
         print(f"{NAME}: {error}", file=sys.stderr)
         return 2
-    print("\n".join(picture(plan, triggers, length) if "--picture" in given else lines(plan, triggers)))
+    print(
+        "\n".join(
+            picture(plan, triggers, length) if "--picture" in given else lines(plan, triggers)
+        )
+    )
     return 0

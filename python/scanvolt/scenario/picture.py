@@ -4,8 +4,8 @@ from __future__ import annotations
 
 from .shapes import Pair
 
-WIDTH, HEIGHT = 72, 5               # the columns of a picture, and the lines of a channel in it
-LABEL, COLUMNS = 14, WIDTH - 14     # the columns of the labels, and of the plotted values
+WIDTH, HEIGHT = 72, 5  # the columns of a picture, and the lines of a channel in it
+LABEL, COLUMNS = 14, WIDTH - 14  # the columns of the labels, and of the plotted values
 Span = tuple[int, int]
 
 
@@ -30,12 +30,15 @@ def plot(channel: int, pairs: list[Pair], length: int) -> list[str]:
     height = 1 if low == high else HEIGHT
     rows = [[" "] * COLUMNS for _ in range(height)]
     for column, span in enumerate(found):
-        top, bottom = (round((high - value) * (height - 1) / ((high - low) or 1)) for value in reversed(span))
+        top, bottom = (
+            round((high - value) * (height - 1) / ((high - low) or 1)) for value in reversed(span)
+        )
         for row in range(top, bottom + 1):
             rows[row][column] = "*"
     labels = [f"{high / 1e6:+.6f}"] + [""] * (height - 2) + [f"{low / 1e6:+.6f}"] * (height > 1)
-    return [f"channel {channel}, volts"] + [(f"{label:>{LABEL - 2}} |{''.join(line)}").rstrip()
-                                              for label, line in zip(labels, rows)]
+    return [f"channel {channel}, volts"] + [
+        (f"{label:>{LABEL - 2}} |{''.join(line)}").rstrip() for label, line in zip(labels, rows)
+    ]
 
 
 def trigger_row(triggers: list[int], length: int) -> list[str]:

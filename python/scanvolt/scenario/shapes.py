@@ -10,7 +10,7 @@ from decimal import ROUND_HALF_UP, Decimal, InvalidOperation
 
 from ..stimulus import CHANNELS, MOST_MICROVOLTS
 
-LIMIT = MOST_MICROVOLTS // 10 ** 6      # volts
+LIMIT = MOST_MICROVOLTS // 10**6  # volts
 Pair = tuple[int, int]
 
 
@@ -24,7 +24,7 @@ def number(text: str, what: str, least: Decimal | None = None) -> Decimal:
         value = Decimal(text)
     except InvalidOperation:
         value = Decimal("NaN")
-    if not value.is_finite() or abs(value) > 10 ** 12:
+    if not value.is_finite() or abs(value) > 10**12:
         raise Wrong(f"{what} is no number, or too large a one: {text}")
     if least is not None and value < least:
         raise Wrong(f"{what} is below {least}: {text}")
@@ -74,14 +74,16 @@ def volts(text: str) -> float:
     return float(number(text, "a voltage"))
 
 
-def function_of(kind: str, words: list[str], shape: str, length: int, place: int) -> Callable[[int], float]:
+def function_of(
+    kind: str, words: list[str], shape: str, length: int, place: int
+) -> Callable[[int], float]:
     """The function from a tick to the voltage, for a ramp, sine or noise. `place` is the place of the channel in
     its range.
     """
     words = fields(words, 2 if kind == "ramp" else 3, 3, shape)
     first, second = volts(words[0]), volts(words[1])
     if kind == "noise":
-        source = random.Random(whole(words[2], "a seed", 0, 10 ** 18) + place)
+        source = random.Random(whole(words[2], "a seed", 0, 10**18) + place)
         return lambda tick: first + second * (2 * source.random() - 1)
     period = milliseconds(number(words[2], "a time", Decimal("0.001"))) if words[2:] else length
     if kind == "sine":

@@ -24,8 +24,11 @@ def table_line(row: list[str], names: list[int], last: int) -> tuple[int, list[P
     tick = milliseconds(number(row[0].strip(), "a time", Decimal(0)))
     if tick < last:
         raise Wrong("the time is earlier than that of the line before: " + row[0])
-    return tick, [(channel, microvolts(number(text.strip(), "a voltage")))
-                  for channel, text in zip(names, row[1:]) if text.strip()]
+    return tick, [
+        (channel, microvolts(number(text.strip(), "a voltage")))
+        for channel, text in zip(names, row[1:])
+        if text.strip()
+    ]
 
 
 def table_head(row: list[str]) -> list[int]:

@@ -24,14 +24,19 @@ def parent() -> int | None:
     number = os.getppid()
     try:
         file = os.pidfd_open(number)
-    except (AttributeError, OSError):       # an old kernel, or a parent in another namespace
+    except (AttributeError, OSError):  # an old kernel, or a parent in another namespace
         return None
-    if os.getppid() != number:              # it ended before, and another process has its number
+    if os.getppid() != number:  # it ended before, and another process has its number
         os.kill(os.getpid(), signal.SIGTERM)
     return file
 
 
-def become(command: Sequence[str], say: Say, ending: int | None = None, ready: Callable[[], object] = lambda: None) -> None:
+def become(
+    command: Sequence[str],
+    say: Say,
+    ending: int | None = None,
+    ready: Callable[[], object] = lambda: None,
+) -> None:
     """Becomes the program; this doesn't return. `say` prints a line about it, and `ready` is called in the child when it
     listens, or has ended. The program ends when the file `ending` can be read, if one is given.
     """
@@ -53,7 +58,9 @@ def become(command: Sequence[str], say: Say, ending: int | None = None, ready: C
     os.execv(command[0], list(command))
 
 
-def _pass_on(sources: tuple[int, int], say: Say, ends: tuple[int, int | None], ready: Callable[[], object]) -> None:
+def _pass_on(
+    sources: tuple[int, int], say: Say, ends: tuple[int, int | None], ready: Callable[[], object]
+) -> None:
     """Passes on what the program prints, and writes to standard error. Before the first line, says the time; if the program
     refuses its words, says what helps. `ends` has the program, and the file that can be read when it has to end.
     """
@@ -74,7 +81,7 @@ def _pass_on(sources: tuple[int, int], say: Say, ends: tuple[int, int | None], r
             if source == printed and not told[printed]:
                 ready()
                 say(READY % time.time())
-            told[source] = (told[source] + piece)[-len(BAD_WORDS):]
+            told[source] = (told[source] + piece)[-len(BAD_WORDS) :]
             os.write(targets[source], piece)
     if not told[printed]:
         ready()

@@ -32,7 +32,7 @@ from .ports import CONTROL, ROLES, Taken, free, port
 from .words import Inputs, add_instrument
 
 NAME = "scanvolt-serve"
-SWEEPS = 2 ** 32 - 1
+SWEEPS = 2**32 - 1
 TOLD = """ports %d (core), %d (abort) and %d (port mapper) of 127.0.0.1
 vxi11: scanvolt.vxi11.Client(port=%d)
 PyVISA-py: pyvisa_py.protocols.rpc.PMAP_PORT = %d, then open TCPIP::127.0.0.1::inst0::INSTR"""
@@ -48,11 +48,21 @@ def say(text: str) -> None:
 
 def words(given: list[str] | None) -> argparse.Namespace:
     """The arguments of the command line."""
-    parser = argparse.ArgumentParser(prog=NAME, description=__doc__, formatter_class=argparse.RawDescriptionHelpFormatter)
+    parser = argparse.ArgumentParser(
+        prog=NAME, description=__doc__, formatter_class=argparse.RawDescriptionHelpFormatter
+    )
     add_instrument(parser)
-    parser.add_argument("--" + CONTROL, metavar="PORT", help="a port that sets inputs, 0 for a free one; none if not named")
-    parser.add_argument("--sweeps", default=str(SWEEPS), help="after how many sweeps it ends (man scanvolt)")
-    parser.add_argument("--stay", action="store_true", help="goes on when the process has ended that started it")
+    parser.add_argument(
+        "--" + CONTROL,
+        metavar="PORT",
+        help="a port that sets inputs, 0 for a free one; none if not named",
+    )
+    parser.add_argument(
+        "--sweeps", default=str(SWEEPS), help="after how many sweeps it ends (man scanvolt)"
+    )
+    parser.add_argument(
+        "--stay", action="store_true", help="goes on when the process has ended that started it"
+    )
     return parser.parse_args(given)
 
 
@@ -75,7 +85,14 @@ def serve(given: argparse.Namespace) -> None:
     if record.path is not None:
         say(RECORDED % (shlex.quote(record.path), *ports[:2]))
     path = inputs.path or os.devnull
-    become(serve_command(os.path.abspath(program), path, given.sweeps, dict(zip(roles, ports)), record.path), say, ending, inputs.drop)
+    become(
+        serve_command(
+            os.path.abspath(program), path, given.sweeps, dict(zip(roles, ports)), record.path
+        ),
+        say,
+        ending,
+        inputs.drop,
+    )
 
 
 def main(given_words: list[str] | None = None) -> int:

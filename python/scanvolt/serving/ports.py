@@ -9,8 +9,8 @@ import pathlib
 import socket
 from collections.abc import Sequence
 
-ROLES = ("core", "abort", "portmap")     # of the ports that each server has
-CONTROL = "control"     # the role of the one that it may have besides
+ROLES = ("core", "abort", "portmap")  # of the ports that each server has
+CONTROL = "control"  # the role of the one that it may have besides
 HIGHEST = 65535
 
 

@@ -15,13 +15,20 @@ from .ports import ROLES
 
 def add_instrument(parser: argparse.ArgumentParser) -> None:
     """Adds the arguments that say what is served, and where."""
-    parser.add_argument("shapes", metavar="CHANNELS=SHAPE", nargs="*", help="voltages: 1=1.25, 2:4=sine:0:5:10, ..")
+    parser.add_argument(
+        "shapes", metavar="CHANNELS=SHAPE", nargs="*", help="voltages: 1=1.25, 2:4=sine:0:5:10, .."
+    )
     for role in ROLES:
-        parser.add_argument("--" + role, default="0", metavar="PORT", help="a free port if not named")
+        parser.add_argument(
+            "--" + role, default="0", metavar="PORT", help="a free port if not named"
+        )
     parser.add_argument("--scenario", metavar="FILE", help="voltages and external triggers")
     parser.add_argument("--seconds", help="how long the shapes last; 60 seconds if not said")
     parser.add_argument("--record", metavar="FILE", help="keeps the session as a script")
-    parser.add_argument("--program", help="the scanvolt that serves; if not named, the one that `python3 -m scanvolt` prints")
+    parser.add_argument(
+        "--program",
+        help="the scanvolt that serves; if not named, the one that `python3 -m scanvolt` prints",
+    )
 
 
 class Inputs:
@@ -38,9 +45,13 @@ class Inputs:
             return
         if given.scenario:
             raise Wrong("voltages come from --scenario or from shapes, and not from both")
-        options, shapes = scenario.words_of(given.shapes + (["--seconds", given.seconds] if given.seconds else []))
+        options, shapes = scenario.words_of(
+            given.shapes + (["--seconds", given.seconds] if given.seconds else [])
+        )
         plan, triggers, _ = scenario.made(options, shapes)
-        with tempfile.NamedTemporaryFile("w", prefix="scanvolt-", suffix=".scenario", delete=False) as file:
+        with tempfile.NamedTemporaryFile(
+            "w", prefix="scanvolt-", suffix=".scenario", delete=False
+        ) as file:
             file.write("".join(line + "\n" for line in scenario.lines(plan, triggers)))
         self.path, self.drop = file.name, self._gone
 

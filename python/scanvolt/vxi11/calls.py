@@ -16,7 +16,7 @@ from .timeouts import milliseconds
 from .whole import WORD, whole
 from .xdr import Reader, XdrError, opaque, words
 
-__tracebackhide__ = True        # pytest shows the line that calls the package, and not these frames
+__tracebackhide__ = True  # pytest shows the line that calls the package, and not these frames
 CORE, ABORT, INTERRUPT, PORT_MAPPER = 0x0607AF, 0x0607B0, 0x0607B1, 100000
 CHANNELS = {CORE: "the core channel", ABORT: "the abort channel", PORT_MAPPER: "the port mapper"}
 VERSIONS = {CORE: 1, ABORT: 1, INTERRUPT: 1, PORT_MAPPER: 2}
@@ -36,24 +36,34 @@ NULL = 0
 
 NAMES = {
     CORE: {
-        CREATE_LINK: "create_link", DEVICE_WRITE: "device_write", DEVICE_READ: "device_read",
-        DEVICE_READSTB: "device_readstb", DEVICE_TRIGGER: "device_trigger", DEVICE_CLEAR: "device_clear",
-        DEVICE_REMOTE: "device_remote", DEVICE_LOCAL: "device_local", DEVICE_LOCK: "device_lock",
-        DEVICE_UNLOCK: "device_unlock", DEVICE_ENABLE_SRQ: "device_enable_srq", DEVICE_DOCMD: "device_docmd",
-        DESTROY_LINK: "destroy_link", CREATE_INTR_CHAN: "create_intr_chan",
-        DESTROY_INTR_CHAN: "destroy_intr_chan"},
+        CREATE_LINK: "create_link",
+        DEVICE_WRITE: "device_write",
+        DEVICE_READ: "device_read",
+        DEVICE_READSTB: "device_readstb",
+        DEVICE_TRIGGER: "device_trigger",
+        DEVICE_CLEAR: "device_clear",
+        DEVICE_REMOTE: "device_remote",
+        DEVICE_LOCAL: "device_local",
+        DEVICE_LOCK: "device_lock",
+        DEVICE_UNLOCK: "device_unlock",
+        DEVICE_ENABLE_SRQ: "device_enable_srq",
+        DEVICE_DOCMD: "device_docmd",
+        DESTROY_LINK: "destroy_link",
+        CREATE_INTR_CHAN: "create_intr_chan",
+        DESTROY_INTR_CHAN: "destroy_intr_chan",
+    },
     ABORT: {DEVICE_ABORT: "device_abort"},
     INTERRUPT: {DEVICE_INTR_SRQ: "device_intr_srq"},
     PORT_MAPPER: {SET: "SET", UNSET: "UNSET", GETPORT: "GETPORT"},
 }
 
-WAITLOCK, END, TERMCHRSET = 1, 8, 128               # flags of a call
-REQUEST_COUNT, TERMINATOR, ENDED = 1, 2, 4          # reasons why a read ended; a result has their sum
-TCP, UDP = 6, 17                                    # protocols of the port mapper
-PORT = 111                                          # the port of the port mapper
-LOOPBACK = 0x7F000001                               # 127.0.0.1
-BY_TCP, BY_UDP = 0, 1                               # address families of an interrupt channel
-SRQ_MOST = 40                                       # bytes that a handle may have
+WAITLOCK, END, TERMCHRSET = 1, 8, 128  # flags of a call
+REQUEST_COUNT, TERMINATOR, ENDED = 1, 2, 4  # reasons why a read ended; a result has their sum
+TCP, UDP = 6, 17  # protocols of the port mapper
+PORT = 111  # the port of the port mapper
+LOOPBACK = 0x7F000001  # 127.0.0.1
+BY_TCP, BY_UDP = 0, 1  # address families of an interrupt channel
+SRQ_MOST = 40  # bytes that a handle may have
 
 Value = TypeVar("Value", covariant=True)
 
@@ -97,7 +107,9 @@ class Call(Generic[Value]):
             result = read_reply(body, xid)
         except ProgramUnavailable as fault:
             whose = CHANNELS.get(self.program, "another program")
-            raise ProgramUnavailable(f"{self.name}: {fault} at this port. Is it that of {whose}?") from None
+            raise ProgramUnavailable(
+                f"{self.name}: {fault} at this port. Is it that of {whose}?"
+            ) from None
         try:
             return self.read(result)
         except XdrError as fault:
@@ -218,8 +230,9 @@ def null(program: int = CORE) -> Call[None]:
     return Call(program, NULL, b"", _nothing)
 
 
-def create_link(device: str = "inst0", lock: bool = False, lock_timeout: int = 0,
-                client: int = 0) -> Call[Made]:
+def create_link(
+    device: str = "inst0", lock: bool = False, lock_timeout: int = 0, client: int = 0
+) -> Call[Made]:
     """Makes a link. With `lock` the link has the lock, for which the call waits up to lock_timeout."""
     lock_timeout = milliseconds(lock_timeout, "lock_timeout")
     if not isinstance(device, str):
@@ -228,17 +241,28 @@ def create_link(device: str = "inst0", lock: bool = False, lock_timeout: int = 0
     return Call(CORE, CREATE_LINK, arguments, _made, lock_timeout if lock else 0)
 
 
-def device_write(link: int, data: bytes, io_timeout: int, lock_timeout: int = 0,
-                 end: bool = True) -> Call[int]:
+def device_write(
+    link: int, data: bytes, io_timeout: int, lock_timeout: int = 0, end: bool = True
+) -> Call[int]:
     """Writes bytes, with or without END. The result is how many were taken."""
     io_timeout, lock_timeout = _checked_timeouts(io_timeout, lock_timeout)
     flags = _flags(lock_timeout) | (END if end else 0)
     arguments = words(link, io_timeout, lock_timeout, flags) + opaque(data)
-    return LinkCall(CORE, DEVICE_WRITE, arguments, _size, io_timeout + lock_timeout, link, io_timeout, lock_timeout)
+    return LinkCall(
+        CORE,
+        DEVICE_WRITE,
+        arguments,
+        _size,
+        io_timeout + lock_timeout,
+        link,
+        io_timeout,
+        lock_timeout,
+    )
 
 
-def device_read(link: int, size: int, io_timeout: int, lock_timeout: int = 0,
-                termination: int | None = None) -> Call[Piece]:
+def device_read(
+    link: int, size: int, io_timeout: int, lock_timeout: int = 0, termination: int | None = None
+) -> Call[Piece]:
     """Reads at most `size` bytes, up to END, or up to a termination character (0 to 255) if one is given."""
     io_timeout, lock_timeout = _checked_timeouts(io_timeout, lock_timeout)
     size = whole(size, 0, WORD, "a read wants a number of bytes")
@@ -246,14 +270,26 @@ def device_read(link: int, size: int, io_timeout: int, lock_timeout: int = 0,
         termination = whole(termination, 0, 255, "a read wants a termination character")
     flags = _flags(lock_timeout) | (0 if termination is None else TERMCHRSET)
     arguments = words(link, size, io_timeout, lock_timeout, flags, termination or 0)
-    return LinkCall(CORE, DEVICE_READ, arguments, _piece, io_timeout + lock_timeout, link, io_timeout, lock_timeout)
+    return LinkCall(
+        CORE,
+        DEVICE_READ,
+        arguments,
+        _piece,
+        io_timeout + lock_timeout,
+        link,
+        io_timeout,
+        lock_timeout,
+    )
 
 
-def _generic(procedure: int, read: Callable[[bytes], Value], link: int, io_timeout: int,
-             lock_timeout: int) -> Call[Value]:
+def _generic(
+    procedure: int, read: Callable[[bytes], Value], link: int, io_timeout: int, lock_timeout: int
+) -> Call[Value]:
     io_timeout, lock_timeout = _checked_timeouts(io_timeout, lock_timeout)
     arguments = words(link, _flags(lock_timeout), lock_timeout, io_timeout)
-    return LinkCall(CORE, procedure, arguments, read, io_timeout + lock_timeout, link, io_timeout, lock_timeout)
+    return LinkCall(
+        CORE, procedure, arguments, read, io_timeout + lock_timeout, link, io_timeout, lock_timeout
+    )
 
 
 def device_readstb(link: int, io_timeout: int, lock_timeout: int = 0) -> Call[int]:
@@ -303,13 +339,30 @@ def device_enable_srq(link: int, handle: bytes | None) -> Call[None]:
     return LinkCall(CORE, DEVICE_ENABLE_SRQ, arguments, _error, 0, link)
 
 
-def device_docmd(link: int, command: int, data: bytes, io_timeout: int, lock_timeout: int = 0,
-                 item_size: int = 1, network_order: bool = True) -> Call[bytes]:
+def device_docmd(
+    link: int,
+    command: int,
+    data: bytes,
+    io_timeout: int,
+    lock_timeout: int = 0,
+    item_size: int = 1,
+    network_order: bool = True,
+) -> Call[bytes]:
     """Executes a command that the standard leaves to the device. The result is the data that it returns."""
     io_timeout, lock_timeout = _checked_timeouts(io_timeout, lock_timeout)
-    arguments = words(link, _flags(lock_timeout), io_timeout, lock_timeout, command, network_order, item_size)
-    return LinkCall(CORE, DEVICE_DOCMD, arguments + opaque(data), _data, io_timeout + lock_timeout, link, io_timeout,
-                    lock_timeout)
+    arguments = words(
+        link, _flags(lock_timeout), io_timeout, lock_timeout, command, network_order, item_size
+    )
+    return LinkCall(
+        CORE,
+        DEVICE_DOCMD,
+        arguments + opaque(data),
+        _data,
+        io_timeout + lock_timeout,
+        link,
+        io_timeout,
+        lock_timeout,
+    )
 
 
 def destroy_link(link: int) -> Call[None]:
@@ -317,11 +370,19 @@ def destroy_link(link: int) -> Call[None]:
     return LinkCall(CORE, DESTROY_LINK, words(link), _error, 0, link)
 
 
-def create_intr_chan(address: int, port: int, program: int = INTERRUPT, version: int = 1,
-                     family: int = BY_TCP, wait: int = 0) -> Call[None]:
+def create_intr_chan(
+    address: int,
+    port: int,
+    program: int = INTERRUPT,
+    version: int = 1,
+    family: int = BY_TCP,
+    wait: int = 0,
+) -> Call[None]:
     """Has the instrument connect to this address and port. `wait` is how long that may take, in milliseconds."""
     wait = milliseconds(wait, "wait")
-    return Call(CORE, CREATE_INTR_CHAN, words(address, port, program, version, family), _error, wait)
+    return Call(
+        CORE, CREATE_INTR_CHAN, words(address, port, program, version, family), _error, wait
+    )
 
 
 def destroy_intr_chan() -> Call[None]:

@@ -19,12 +19,14 @@ from .rpc import Records
 from .timeouts import milliseconds as checked
 from .whole import whole
 
-__tracebackhide__ = True        # pytest shows the line that calls the package, and not these frames
+__tracebackhide__ = True  # pytest shows the line that calls the package, and not these frames
 Value = TypeVar("Value")
 Itself = TypeVar("Itself", bound="Channel")
-PATIENCE = 10.0         # seconds that a reply may take, beyond the timeouts of its call
-ELSEWHERE = ("no port mapper is there. If it has another port, give that: Client(port_mapper=4111), say. Or give the "
-             "core channel's port: Client(port=4096), say")
+PATIENCE = 10.0  # seconds that a reply may take, beyond the timeouts of its call
+ELSEWHERE = (
+    "no port mapper is there. If it has another port, give that: Client(port_mapper=4111), say. Or give the "
+    "core channel's port: Client(port=4096), say"
+)
 
 
 class Channel:
@@ -35,8 +37,13 @@ class Channel:
     for the reply to the next call. `connected` is a connected socket, if the caller already has one.
     """
 
-    def __init__(self, host: str, port: int, patience: float = PATIENCE,
-                 connected: socket.socket | None = None) -> None:
+    def __init__(
+        self,
+        host: str,
+        port: int,
+        patience: float = PATIENCE,
+        connected: socket.socket | None = None,
+    ) -> None:
         self.host = host
         self.patience = patience
         self.socket = _connected(host, port, patience) if connected is None else connected
@@ -74,7 +81,7 @@ class Channel:
         """Makes a call, and waits for its result."""
         with self._turn:
             self.check_open()
-            self._xid = (self._xid + 1) % 2 ** 32
+            self._xid = (self._xid + 1) % 2**32
             began = monotonic()
             body = self._reply(call)
             try:
@@ -92,7 +99,9 @@ class Channel:
             return self._record(call)
         except socket.timeout:
             self.close()
-            raise ConnectionError(f"no reply to {call.name} within {patience:g} s: {self.name}") from None
+            raise ConnectionError(
+                f"no reply to {call.name} within {patience:g} s: {self.name}"
+            ) from None
         except OSError as fault:
             self.close()
             raise _named(fault, f"{fault.strerror} within {call.name}: {self.name}") from None
@@ -129,7 +138,9 @@ def _connected(host: str, port: int, patience: float) -> socket.socket:
     return connected
 
 
-def port_of(host: str, program: int, version: int, port: int = 111, patience: float = PATIENCE) -> int:
+def port_of(
+    host: str, program: int, version: int, port: int = 111, patience: float = PATIENCE
+) -> int:
     """Asks the port mapper of a host for the TCP port of a program. Raises ConnectionError if none is
     registered.
     """
@@ -140,7 +151,9 @@ def port_of(host: str, program: int, version: int, port: int = 111, patience: fl
     with mapper:
         found = mapper.do(calls.getport(program, version))
     if found == 0:
-        raise ConnectionError(f"the port mapper knows no port of program {program:#x}: {host}:{port}")
+        raise ConnectionError(
+            f"the port mapper knows no port of program {program:#x}: {host}:{port}"
+        )
     return found
 
 
@@ -151,8 +164,13 @@ class Client(Channel, Core):
     ends the link and the connection.
     """
 
-    def __init__(self, host: str = "127.0.0.1", port: int | None = None, patience: float = PATIENCE,
-                 port_mapper: int = 111) -> None:
+    def __init__(
+        self,
+        host: str = "127.0.0.1",
+        port: int | None = None,
+        patience: float = PATIENCE,
+        port_mapper: int = 111,
+    ) -> None:
         if port is None:
             port = port_of(host, calls.CORE, 1, port_mapper, patience)
         super().__init__(host, port, patience)

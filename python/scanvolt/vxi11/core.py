@@ -9,7 +9,7 @@ from .calls import Call
 from .link import IO_TIMEOUT, Link
 from .timeouts import milliseconds
 
-__tracebackhide__ = True        # pytest shows the line that calls the package, and not these frames
+__tracebackhide__ = True  # pytest shows the line that calls the package, and not these frames
 Value = TypeVar("Value")
 
 
@@ -28,15 +28,26 @@ class Core:
         """Aborts the call that waits on a link, over an abort channel of its own. It may be a link of any connection."""
         raise NotImplementedError
 
-    def create_link(self, device: str = "inst0", lock: bool = False, lock_timeout: int = 0,
-                    io_timeout: int = IO_TIMEOUT) -> Link:
+    def create_link(
+        self,
+        device: str = "inst0",
+        lock: bool = False,
+        lock_timeout: int = 0,
+        io_timeout: int = IO_TIMEOUT,
+    ) -> Link:
         """Makes a link; with `lock` the link has the lock. The link keeps these timeouts, in milliseconds."""
         io_timeout = milliseconds(io_timeout, "io_timeout")
         made = self.do(calls.create_link(device, lock, lock_timeout))
         return Link(self, made, io_timeout, lock_timeout)
 
-    def create_intr_chan(self, address: int, port: int, program: int = calls.INTERRUPT, version: int = 1,
-                         family: int = calls.BY_TCP) -> None:
+    def create_intr_chan(
+        self,
+        address: int,
+        port: int,
+        program: int = calls.INTERRUPT,
+        version: int = 1,
+        family: int = calls.BY_TCP,
+    ) -> None:
         """Has the instrument connect to a port of an address, which is given as a number."""
         self.do(calls.create_intr_chan(address, port, program, version, family))
 

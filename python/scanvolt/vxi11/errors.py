@@ -4,12 +4,22 @@ from __future__ import annotations
 
 from collections.abc import Callable
 
-__tracebackhide__ = True        # pytest shows the line that calls the package, and not these frames
+__tracebackhide__ = True  # pytest shows the line that calls the package, and not these frames
 NAMES = {
-    1: "syntax error", 3: "device not accessible", 4: "invalid link identifier", 5: "parameter error",
-    6: "channel not established", 8: "operation not supported", 9: "out of resources",
-    11: "device locked by another link", 12: "no lock held by this link", 15: "I/O timeout", 17: "I/O error",
-    21: "invalid address", 23: "abort", 29: "channel already established",
+    1: "syntax error",
+    3: "device not accessible",
+    4: "invalid link identifier",
+    5: "parameter error",
+    6: "channel not established",
+    8: "operation not supported",
+    9: "out of resources",
+    11: "device locked by another link",
+    12: "no lock held by this link",
+    15: "I/O timeout",
+    17: "I/O error",
+    21: "invalid address",
+    23: "abort",
+    29: "channel already established",
 }
 
 SYNTAX_ERROR = 1
@@ -26,7 +36,7 @@ IO_ERROR = 17
 INVALID_ADDRESS = 21
 ABORTED = 23
 ALREADY_ESTABLISHED = 29
-EARLY = 5       # milliseconds by which a timeout may seem to be early, by this machine's clock
+EARLY = 5  # milliseconds by which a timeout may seem to be early, by this machine's clock
 
 
 class DeviceError(Exception):

@@ -12,11 +12,11 @@ from .rpc import BadReply
 from .timeouts import Milliseconds
 from .whole import WORD, whole
 
-__tracebackhide__ = True        # pytest shows the line that calls the package, and not these frames
+__tracebackhide__ = True  # pytest shows the line that calls the package, and not these frames
 Value = TypeVar("Value")
 Itself = TypeVar("Itself", bound="Link")
-IO_TIMEOUT = 10000      # milliseconds
-READ_SIZE = 65536       # bytes that one device_read asks for
+IO_TIMEOUT = 10000  # milliseconds
+READ_SIZE = 65536  # bytes that one device_read asks for
 
 
 class Carrier(Protocol):
@@ -110,12 +110,13 @@ class Link:
     io_timeout = Milliseconds()
     lock_timeout = Milliseconds()
 
-    def __init__(self, carrier: Carrier, made: Made, io_timeout: int = IO_TIMEOUT,
-                 lock_timeout: int = 0) -> None:
+    def __init__(
+        self, carrier: Carrier, made: Made, io_timeout: int = IO_TIMEOUT, lock_timeout: int = 0
+    ) -> None:
         self.carrier = carrier
         self.number = made.link
-        self.abort_port = made.abort_port   # the port of the abort channel
-        self.most = made.most               # bytes that one device_write may have
+        self.abort_port = made.abort_port  # the port of the abort channel
+        self.most = made.most  # bytes that one device_write may have
         self.io_timeout = io_timeout
         self.lock_timeout = lock_timeout
         self._is_destroyed = False
@@ -130,9 +131,9 @@ class Link:
 
     def __exit__(self, kind: type[BaseException] | None, *_: object) -> None:
         try:
-            if self.carrier.is_open:                    # else the link ended with the connection
+            if self.carrier.is_open:  # else the link ended with the connection
                 self.destroy()
-        except Exception as fault:                      # it doesn't hide what was raised in the block
+        except Exception as fault:  # it doesn't hide what was raised in the block
             ended = isinstance(fault, DeviceError) and fault.number == INVALID_LINK
             if kind is None and self.carrier.is_open and not ended:
                 raise
@@ -149,8 +150,10 @@ class Link:
         data = message_bytes(message)
         place = 0
         while True:
-            piece = data[place:place + self.most]
-            taken = self.carrier.do(self.calls.write(piece, end and place + len(piece) == len(data)))
+            piece = data[place : place + self.most]
+            taken = self.carrier.do(
+                self.calls.write(piece, end and place + len(piece) == len(data))
+            )
             place += taken
             if place >= len(data):
                 return place

@@ -9,7 +9,7 @@ from .calls import DEVICE_INTR_SRQ, read_service_request
 from .rpc import CallMessage, Records, read_call
 from .xdr import XdrError
 
-__tracebackhide__ = True        # pytest shows the line that calls the package, and not these frames
+__tracebackhide__ = True  # pytest shows the line that calls the package, and not these frames
 
 
 @dataclass(frozen=True)

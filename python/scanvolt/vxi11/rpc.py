@@ -6,16 +6,16 @@ from dataclasses import dataclass
 
 from .xdr import Reader, XdrError, words
 
-__tracebackhide__ = True        # pytest shows the line that calls the package, and not these frames
-CALL, REPLY = 0, 1              # types of a message
-ACCEPTED, DENIED = 0, 1         # states of a reply: whether its call was accepted
-SUCCESS = 0                     # states of an accepted call: it was executed
-LAST = 0x80000000               # in the mark of a fragment: it is the last of its record
-AUTH_MOST = 400                 # bytes that a credential or a verifier may have
+__tracebackhide__ = True  # pytest shows the line that calls the package, and not these frames
+CALL, REPLY = 0, 1  # types of a message
+ACCEPTED, DENIED = 0, 1  # states of a reply: whether its call was accepted
+SUCCESS = 0  # states of an accepted call: it was executed
+LAST = 0x80000000  # in the mark of a fragment: it is the last of its record
+AUTH_MOST = 400  # bytes that a credential or a verifier may have
 RPC_VERSION = 2
 # why the call of an accepted reply wasn't executed
 PROG_UNAVAIL, PROG_MISMATCH, PROC_UNAVAIL, GARBAGE_ARGS, SYSTEM_ERR = 1, 2, 3, 4, 5
-RPC_MISMATCH, AUTH_ERROR = 0, 1 # why a call was denied
+RPC_MISMATCH, AUTH_ERROR = 0, 1  # why a call was denied
 
 
 class RpcError(Exception):
@@ -89,12 +89,12 @@ class Records:
     """The records of a stream whose bytes come in pieces."""
 
     def __init__(self) -> None:
-        self.count = 0                          # bytes that came
-        self.start = 0                          # where the unfinished record begins
-        self._mark = b""                         # the bytes of a fragment's mark that have come
-        self.left: int | None = None         # bytes of the fragment that are still to come; None in a mark
+        self.count = 0  # bytes that came
+        self.start = 0  # where the unfinished record begins
+        self._mark = b""  # the bytes of a fragment's mark that have come
+        self.left: int | None = None  # bytes of the fragment that are still to come; None in a mark
         self._last = False
-        self.body = bytearray()                 # of the unfinished record, so far
+        self.body = bytearray()  # of the unfinished record, so far
 
     def push(self, data: bytes) -> list[Record]:
         """Takes a piece. Returns the records that are complete now."""
@@ -128,9 +128,13 @@ class Records:
         return 4 + len(self.body) + len(self._mark)
 
 
-def encode_call(xid: int, program: int, version: int, procedure: int, arguments: bytes = b"") -> bytes:
+def encode_call(
+    xid: int, program: int, version: int, procedure: int, arguments: bytes = b""
+) -> bytes:
     """A call as a record, without credential and verifier (section 9)."""
-    return record(words(xid, CALL, RPC_VERSION, program, version, procedure, 0, 0, 0, 0) + arguments)
+    return record(
+        words(xid, CALL, RPC_VERSION, program, version, procedure, 0, 0, 0, 0) + arguments
+    )
 
 
 def encode_reply(xid: int, result: bytes = b"") -> bytes:
@@ -170,7 +174,7 @@ def read_call(body: bytes) -> CallMessage:
     if (reader.word(), reader.word()) != (CALL, RPC_VERSION):
         raise XdrError("no call of RPC version 2")
     program, version, procedure = reader.word(), reader.word(), reader.word()
-    for _ in range(2):          # the credential and the verifier
+    for _ in range(2):  # the credential and the verifier
         reader.word()
         reader.opaque(AUTH_MOST)
     return CallMessage(xid, program, version, procedure, reader.rest())
@@ -202,7 +206,7 @@ def _refusal(reader: Reader) -> RpcError | None:
         return AuthenticationRefused(reader.word())
     if status != ACCEPTED:
         return BadReply(f"a reply neither accepted nor denied: {status}")
-    reader.word()               # the verifier
+    reader.word()  # the verifier
     reader.opaque(AUTH_MOST)
     return _accepted(reader.word(), reader)
 
@@ -213,8 +217,10 @@ def _accepted(status: int, reader: Reader) -> RpcError | None:
         return None
     if status == PROG_MISMATCH:
         return ProgramMismatch(reader.word(), reader.word())
-    refusals = {PROG_UNAVAIL: ProgramUnavailable("there is no such program"),
-                PROC_UNAVAIL: ProcedureUnavailable("there is no such procedure"),
-                GARBAGE_ARGS: GarbageArguments("the arguments can't be read"),
-                SYSTEM_ERR: SystemFault("the other side failed")}
+    refusals = {
+        PROG_UNAVAIL: ProgramUnavailable("there is no such program"),
+        PROC_UNAVAIL: ProcedureUnavailable("there is no such procedure"),
+        GARBAGE_ARGS: GarbageArguments("the arguments can't be read"),
+        SYSTEM_ERR: SystemFault("the other side failed"),
+    }
     return refusals.get(status, BadReply(f"an accepted reply of status {status}"))

@@ -4,8 +4,8 @@ from __future__ import annotations
 
 from .whole import WORD, whole
 
-__tracebackhide__ = True        # pytest shows the line that calls the package, and not these frames
-LONGEST = WORD      # a timeout is a word of four bytes
+__tracebackhide__ = True  # pytest shows the line that calls the package, and not these frames
+LONGEST = WORD  # a timeout is a word of four bytes
 
 
 def milliseconds(count: int, name: str) -> int:

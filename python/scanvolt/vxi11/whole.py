@@ -4,8 +4,8 @@ from __future__ import annotations
 
 import operator
 
-__tracebackhide__ = True        # pytest shows the line that calls the package, and not these frames
-WORD = 2 ** 32 - 1      # the greatest number of four bytes
+__tracebackhide__ = True  # pytest shows the line that calls the package, and not these frames
+WORD = 2**32 - 1  # the greatest number of four bytes
 
 
 def whole(number: int, least: int, most: int, wants: str) -> int:

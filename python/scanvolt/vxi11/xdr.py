@@ -4,7 +4,7 @@ from __future__ import annotations
 
 import struct
 
-__tracebackhide__ = True        # pytest shows the line that calls the package, and not these frames
+__tracebackhide__ = True  # pytest shows the line that calls the package, and not these frames
 
 
 class XdrError(ValueError):
@@ -25,12 +25,12 @@ class Reader:
     """Reads one value after the other. Each method raises XdrError if bytes are missing or wrong."""
 
     def __init__(self, data: bytes) -> None:
-        self.data = data    # all bytes
-        self.place = 0      # how many of them were read
+        self.data = data  # all bytes
+        self.place = 0  # how many of them were read
 
     def take(self, count: int) -> bytes:
         """The next bytes, as they are."""
-        piece = self.data[self.place:self.place + count]
+        piece = self.data[self.place : self.place + count]
         if len(piece) < count:
             raise XdrError(f"{count} bytes are wanted at byte {self.place} of {len(self.data)}")
         self.place += count

@@ -46,7 +46,10 @@ def commands(result: pytest.RunResult) -> int:
 def test_the_numbers(pytester: pytest.Pytester) -> None:
     """They change when a test is left out."""
     assert commands(pytester.runpytest_subprocess(*PLUGIN, "--scanvolt-coverage")) == 4
-    assert commands(pytester.runpytest_subprocess(*PLUGIN, "--scanvolt-coverage", "-k", "not reset")) == 3
+    assert (
+        commands(pytester.runpytest_subprocess(*PLUGIN, "--scanvolt-coverage", "-k", "not reset"))
+        == 3
+    )
 
 
 @pytest.mark.skipif(find_spec("xdist") is None, reason="Debian's python3-pytest-xdist isn't there")
@@ -56,7 +59,9 @@ def test_workers(pytester: pytest.Pytester) -> None:
 
 def test_the_threshold(pytester: pytest.Pytester) -> None:
     assert pytester.runpytest_subprocess(*PLUGIN, "--scanvolt-coverage-least=1").ret == 0
-    result = pytester.runpytest_subprocess(*PLUGIN, "--scanvolt-coverage-least=99", "--scanvolt-coverage-all")
+    result = pytester.runpytest_subprocess(
+        *PLUGIN, "--scanvolt-coverage-least=99", "--scanvolt-coverage-all"
+    )
     assert result.ret == 1
     result.stdout.fnmatch_lines(["       1  [*]RST", "coverage of the instrument: * is below 99 %"])
 

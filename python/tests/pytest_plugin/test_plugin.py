@@ -71,17 +71,23 @@ def test_the_head(pytester: pytest.Pytester, monkeypatch: pytest.MonkeyPatch) ->
     pytester.makepyfile("def test_one(): pass")
     result = pytester.runpytest_subprocess(*PLUGIN)
     result.assert_outcomes(passed=1)
-    result.stdout.fnmatch_lines([f"scanvolt: {__version__}, program {find_program()} (found by SCANVOLT, version *, kind *)"])
+    result.stdout.fnmatch_lines(
+        [
+            f"scanvolt: {__version__}, program {find_program()} (found by SCANVOLT, version *, kind *)"
+        ]
+    )
     monkeypatch.setenv("SCANVOLT", "/nonexistent/scanvolt")
     result = pytester.runpytest_subprocess(*PLUGIN)
     result.assert_outcomes(passed=1)
-    result.stdout.fnmatch_lines([
-        f"scanvolt: {__version__}, no program: SCANVOLT names no program: /nonexistent/scanvolt"])
+    result.stdout.fnmatch_lines(
+        [f"scanvolt: {__version__}, no program: SCANVOLT names no program: /nonexistent/scanvolt"]
+    )
 
 
 def test_what_a_failure_shows(pytester: pytest.Pytester) -> None:
     """The last line shown is the test's, with the error, and no frame of the package."""
-    pytester.makepyfile("""
+    pytester.makepyfile(
+        """
         from scanvolt.vxi11 import Client
 
         def test_timeout(meter):
@@ -108,16 +114,26 @@ def test_what_a_failure_shows(pytester: pytest.Pytester) -> None:
         def test_died(meter):
             meter._replay.program.process.kill()
             meter.advance(1)
-    """)
+    """
+    )
     result = pytester.runpytest_subprocess(*PLUGIN)
     result.assert_outcomes(failed=6)
-    result.stdout.fnmatch_lines([
-        ">       link.query(*", "E       *DeviceError: device_read on link 1: I/O timeout (15), after 2000 ms, at 2000 *",
-        ">       meter.connect().create_link().io_timeout = 0.5", "E       TypeError: io_timeout wants milliseconds*",
-        ">       meter.set_input*", "E       ValueError: no voltage: 'volts'",
-        ">       client.create_link()", "E       ConnectionError: the connection is closed: 127.0.0.1:*",
-        ">               time.monotonic()*", "E               scanvolt.keeping_time.NeverEnds: *",
-        ">       meter.advance(1)", "E       scanvolt.program.ProgramError: the program ended by signal 9"])
+    result.stdout.fnmatch_lines(
+        [
+            ">       link.query(*",
+            "E       *DeviceError: device_read on link 1: I/O timeout (15), after 2000 ms, at 2000 *",
+            ">       meter.connect().create_link().io_timeout = 0.5",
+            "E       TypeError: io_timeout wants milliseconds*",
+            ">       meter.set_input*",
+            "E       ValueError: no voltage: 'volts'",
+            ">       client.create_link()",
+            "E       ConnectionError: the connection is closed: 127.0.0.1:*",
+            ">               time.monotonic()*",
+            "E               scanvolt.keeping_time.NeverEnds: *",
+            ">       meter.advance(1)",
+            "E       scanvolt.program.ProgramError: the program ended by signal 9",
+        ]
+    )
     places = [line.partition(":")[0] for line in result.outlines if re.match(r"\S+\.py:\d+:", line)]
     assert places == ["test_what_a_failure_shows.py"] * 6
     result.stdout.no_fnmatch_line("*During handling*")
@@ -129,20 +145,24 @@ def test_no_program(pytester: pytest.Pytester, monkeypatch: pytest.MonkeyPatch) 
     pytester.makepyfile("def test_one(meter): pass\ndef test_two(scanvolt_server): pass")
     result = pytester.runpytest_subprocess(*PLUGIN)
     result.assert_outcomes(errors=2)
-    result.stdout.fnmatch_lines(["*ERROR at setup of test_one*",
-                                 "SCANVOLT names no program: /nonexistent/scanvolt"])
+    result.stdout.fnmatch_lines(
+        ["*ERROR at setup of test_one*", "SCANVOLT names no program: /nonexistent/scanvolt"]
+    )
     result.stdout.no_fnmatch_line("*Traceback*")
     result.stdout.no_fnmatch_line("*plugin.py:*")
     result.stdout.no_fnmatch_line("*During handling of the above exception*")
     assert result.outlines.count("SCANVOLT names no program: /nonexistent/scanvolt") == 2
 
 
-def test_no_program_for_a_test_s_own_meter(pytester: pytest.Pytester, monkeypatch: pytest.MonkeyPatch) -> None:
+def test_no_program_for_a_test_s_own_meter(
+    pytester: pytest.Pytester, monkeypatch: pytest.MonkeyPatch
+) -> None:
     """Only the test's line is shown, with what is missing or wrong."""
     monkeypatch.setenv("SCANVOLT", "/nonexistent/scanvolt")
     pytester.makefile("", bad="0 trigger\n")
     pytester.makefile("", empty="").chmod(0o755)
-    pytester.makepyfile("""
+    pytester.makepyfile(
+        """
         from scanvolt.program import Server
         from scanvolt.virtual import Meter
 
@@ -153,16 +173,28 @@ def test_no_program_for_a_test_s_own_meter(pytester: pytest.Pytester, monkeypatc
         def test_no_file(): Meter(program="/nonexistent")
         def test_no_program(): Meter(program="./empty")
         def test_scenario(): Meter(scenario="bad")
-    """)
+    """
+    )
     result = pytester.runpytest_subprocess(*PLUGIN)
     result.assert_outcomes(failed=7)
-    result.stdout.fnmatch_lines([
-        ">*Meter()", "E*ProgramError: SCANVOLT names no program: /nonexistent/scanvolt", ">*Server()",
-        "E*ProgramError: SCANVOLT names no program: /nonexistent/scanvolt", ">*Meter(program=*",
-        "E*ProgramError: /bin/true isn't scanvolt *", ">*Server(program=*", "E*ProgramError: /bin/true isn't scanvolt *",
-        ">*Meter(program=*", "E*ProgramError: the program can't be run: /nonexistent: No such file or directory",
-        ">*Meter(program=*", "E*ProgramError: the program can't be run: ./empty: Exec format error", ">*Meter(scenario=*",
-        "E*ValueError: bad line 1 of the scenario bad: *"])
+    result.stdout.fnmatch_lines(
+        [
+            ">*Meter()",
+            "E*ProgramError: SCANVOLT names no program: /nonexistent/scanvolt",
+            ">*Server()",
+            "E*ProgramError: SCANVOLT names no program: /nonexistent/scanvolt",
+            ">*Meter(program=*",
+            "E*ProgramError: /bin/true isn't scanvolt *",
+            ">*Server(program=*",
+            "E*ProgramError: /bin/true isn't scanvolt *",
+            ">*Meter(program=*",
+            "E*ProgramError: the program can't be run: /nonexistent: No such file or directory",
+            ">*Meter(program=*",
+            "E*ProgramError: the program can't be run: ./empty: Exec format error",
+            ">*Meter(scenario=*",
+            "E*ValueError: bad line 1 of the scenario bad: *",
+        ]
+    )
     places = [line.partition(":")[0] for line in result.outlines if re.match(r"\S+\.py:\d+:", line)]
     assert places == ["test_no_program_for_a_test_s_own_meter.py"] * 7
     result.stdout.no_fnmatch_line("*During handling*")
@@ -170,7 +202,8 @@ def test_no_program_for_a_test_s_own_meter(pytester: pytest.Pytester, monkeypatc
 
 def test_options_of_a_meter(pytester: pytest.Pytester) -> None:
     """The marker's patience and call_time are those of Meter."""
-    pytester.makepyfile("""
+    pytester.makepyfile(
+        """
         import pytest
 
         @pytest.mark.scanvolt(patience=1234, call_time=2)
@@ -186,17 +219,23 @@ def test_options_of_a_meter(pytester: pytest.Pytester) -> None:
 
         @pytest.mark.scanvolt(patience=-1)
         def test_negative(meter): pass
-    """)
+    """
+    )
     result = pytester.runpytest_subprocess(*PLUGIN)
     result.assert_outcomes(passed=2, errors=2)
-    result.stdout.fnmatch_lines(["call_time wants milliseconds, a whole number * and not 0.5",
-                                 "patience wants milliseconds, a whole number * and not -1"])
+    result.stdout.fnmatch_lines(
+        [
+            "call_time wants milliseconds, a whole number * and not 0.5",
+            "patience wants milliseconds, a whole number * and not -1",
+        ]
+    )
     result.stdout.no_fnmatch_line("*.py:[0-9]*")
 
 
 def test_bad_options(pytester: pytest.Pytester) -> None:
     pytester.makefile("", bad="0 trigger\n")
-    pytester.makepyfile("""
+    pytester.makepyfile(
+        """
         import pytest
 
         @pytest.mark.scanvolt(scenario="bad")
@@ -216,25 +255,34 @@ def test_bad_options(pytester: pytest.Pytester) -> None:
 
         @pytest.mark.scanvolt(scenario="none")
         def test_none_served(scanvolt_server): pass
-    """)
+    """
+    )
     result = pytester.runpytest_subprocess(*PLUGIN)
     result.assert_outcomes(errors=6)
-    result.stdout.fnmatch_lines([
-        "bad line 1 of the scenario /*/bad: after the time comes *", "*No such file or directory: '/*/none'",
-        "the marker scanvolt has no option voltages, but scenario, patience, call_time, names, backend",
-        "the marker scanvolt has no option without a name, but scenario, patience, call_time, names, backend",
-        "*ERROR at setup of test_served*", "bad line 1 of the scenario /*/bad: after the time comes *",
-        "*ERROR at setup of test_none_served*", "*No such file or directory: '/*/none'"])
+    result.stdout.fnmatch_lines(
+        [
+            "bad line 1 of the scenario /*/bad: after the time comes *",
+            "*No such file or directory: '/*/none'",
+            "the marker scanvolt has no option voltages, but scenario, patience, call_time, names, backend",
+            "the marker scanvolt has no option without a name, but scenario, patience, call_time, names, backend",
+            "*ERROR at setup of test_served*",
+            "bad line 1 of the scenario /*/bad: after the time comes *",
+            "*ERROR at setup of test_none_served*",
+            "*No such file or directory: '/*/none'",
+        ]
+    )
     assert sum("after the time comes" in line for line in result.outlines) == 2
 
 
 def test_a_test_that_is_interrupted(pytester: pytest.Pytester) -> None:
     """No process remains."""
-    pytester.makepyfile("""
+    pytester.makepyfile(
+        """
         def test_one(meter):
             print("process", meter._replay.program.process.pid)
             raise KeyboardInterrupt
-    """)
+    """
+    )
     result = pytester.runpytest_subprocess(*PLUGIN, "-s")
     number = [line.split()[-1] for line in result.outlines if "process" in line][0]
     assert not pathlib.Path("/proc", number).exists()
@@ -269,21 +317,32 @@ def test_what_the_instrument_saw(pytester: pytest.Pytester) -> None:
     result = pytester.runpytest_subprocess(*PLUGIN, "-rP")
     result.assert_outcomes(passed=1, failed=5)
     assert result.stdout.str().count("- what the instrument saw -") == 4
-    result.stdout.fnmatch_lines([
-        "*- what the instrument saw -*", "* lines before",
-        '* c0 link 1  device_read .. waits for a response, until 130 ms at most',
-        "*<c0 link 1  device_read -> error 15, I/O timeout   after 100 ms", "at the end, 130 ms:", "  no call waits",
-        "  held      unit `[*]OPC[?]` since 30 ms: every device_write and device_read will wait",
-        "            would end it: 1 EXTernal trigger, at 133 ms; or device_clear of any link, at 130 ms",
-        "(--scanvolt-trace=DIR keeps all of it, as a script, a text and a page)"])
-    result.stdout.fnmatch_lines(["E*device_read on link 1: I/O timeout (15)*",
-                                 "E*c0 link 1: device_read waited since 30 ms for a response",
-                                 "E*because unit `[*]OPC[?]` waits until the scan is idle: the scan waits for *"])
+    result.stdout.fnmatch_lines(
+        [
+            "*- what the instrument saw -*",
+            "* lines before",
+            "* c0 link 1  device_read .. waits for a response, until 130 ms at most",
+            "*<c0 link 1  device_read -> error 15, I/O timeout   after 100 ms",
+            "at the end, 130 ms:",
+            "  no call waits",
+            "  held      unit `[*]OPC[?]` since 30 ms: every device_write and device_read will wait",
+            "            would end it: 1 EXTernal trigger, at 133 ms; or device_clear of any link, at 130 ms",
+            "(--scanvolt-trace=DIR keeps all of it, as a script, a text and a page)",
+        ]
+    )
+    result.stdout.fnmatch_lines(
+        [
+            "E*device_read on link 1: I/O timeout (15)*",
+            "E*c0 link 1: device_read waited since 30 ms for a response",
+            "E*because unit `[*]OPC[?]` waits until the scan is idle: the scan waits for *",
+        ]
+    )
 
 
 def test_any_meter(pytester: pytest.Pytester) -> None:
     """Also a meter that the test makes by itself, or that another fixture keeps; but not one that the test doesn't use."""
-    pytester.makepyfile("""
+    pytester.makepyfile(
+        """
         import pytest
         from scanvolt.virtual import Meter
 
@@ -304,7 +363,8 @@ def test_any_meter(pytester: pytest.Pytester) -> None:
                 meter.advance(2)
                 kept.advance(3)
                 assert False
-    """)
+    """
+    )
     result = pytester.runpytest_subprocess(*PLUGIN)
     result.assert_outcomes(failed=3)
     told = [line for line in result.stdout.lines if line.startswith("at the end")]
@@ -319,11 +379,20 @@ def test_what_is_kept(pytester: pytest.Pytester) -> None:
     result.assert_outcomes(passed=1, failed=5)
     assert result.stdout.str().count("- what the instrument saw -") == 4
     names = sorted(path.name for path in pytester.path.joinpath("trace").iterdir())
-    assert names == [f"test_what_is_kept.py_test_fails_{number}_{ending}" for number in range(4)
-                     for ending in (".html", ".replay", ".txt")]
-    result.stdout.fnmatch_lines(["kept: trace/test_what_is_kept.py_test_fails_0_.replay, .txt, .html"])
+    assert names == [
+        f"test_what_is_kept.py_test_fails_{number}_{ending}"
+        for number in range(4)
+        for ending in (".html", ".replay", ".txt")
+    ]
+    result.stdout.fnmatch_lines(
+        ["kept: trace/test_what_is_kept.py_test_fails_0_.replay, .txt, .html"]
+    )
     text = pytester.path.joinpath("trace", "test_what_is_kept.py_test_fails_0_.txt").read_text()
-    script = pytester.path.joinpath("trace", "test_what_is_kept.py_test_fails_0_.replay").read_text().splitlines()
+    script = (
+        pytester.path.joinpath("trace", "test_what_is_kept.py_test_fails_0_.replay")
+        .read_text()
+        .splitlines()
+    )
     assert Explanation(script, find_program()).text() + "\n" == text
 
 
@@ -344,9 +413,17 @@ def test_over_sockets(pytester: pytest.Pytester) -> None:
     """The section is told from the record of the server. A capture that can't be read fails no report."""
     pytester.makepyfile(OVER_SOCKETS)
     for more, told in (
-            ("--scanvolt-trace=trace", ['* FOO  * error -113 "Undefined header"*', "at the end, * ms:", "  no call waits",
-                                        "kept: trace/test_over_sockets.py_test_fails_server.replay, .txt, .html"]),
-            ("--scanvolt-capture=none", ["it can't be told: *No such file or directory: 'none'"])):
+        (
+            "--scanvolt-trace=trace",
+            [
+                '* FOO  * error -113 "Undefined header"*',
+                "at the end, * ms:",
+                "  no call waits",
+                "kept: trace/test_over_sockets.py_test_fails_server.replay, .txt, .html",
+            ],
+        ),
+        ("--scanvolt-capture=none", ["it can't be told: *No such file or directory: 'none'"]),
+    ):
         result = pytester.runpytest_subprocess(*PLUGIN, more)
         result.assert_outcomes(passed=1, failed=1)
         assert result.stdout.str().count("- what the instrument saw -") == 1
@@ -357,7 +434,8 @@ def test_over_sockets(pytester: pytest.Pytester) -> None:
 
 def test_a_server_whose_inputs_change(pytester: pytest.Pytester) -> None:
     """Voltages and triggers of the fixture. What they did is in the section."""
-    pytester.makepyfile("""
+    pytester.makepyfile(
+        """
     import time
     from scanvolt.vxi11 import Client
 
@@ -369,10 +447,13 @@ def test_a_server_whose_inputs_change(pytester: pytest.Pytester) -> None:
             scanvolt_server.external()
             time.sleep(.02)
             assert link.query("FETC?") == "-2.500000"
-    """)
+    """
+    )
     result = pytester.runpytest_subprocess(*PLUGIN)
     result.assert_outcomes(failed=1)
-    result.stdout.fnmatch_lines(["*- what the instrument saw -*", "*EXTernal trigger*", "at the end, * ms:"])
+    result.stdout.fnmatch_lines(
+        ["*- what the instrument saw -*", "*EXTernal trigger*", "at the end, * ms:"]
+    )
 
 
 @pytest.mark.skipif(shutil.which("tshark") is None, reason="tshark isn't there")
@@ -380,22 +461,34 @@ def test_from_a_capture(pytester: pytest.Pytester) -> None:
     """Of sockets, by tshark, while it is written."""
     pytester.makepyfile(OVER_SOCKETS)
     capture = str(pytester.path / "session.pcapng")
-    with subprocess.Popen(["tshark", "-i", "lo", "-f", "tcp", "-w", capture], stderr=subprocess.PIPE, text=True) as tshark:
+    with subprocess.Popen(
+        ["tshark", "-i", "lo", "-f", "tcp", "-w", capture], stderr=subprocess.PIPE, text=True
+    ) as tshark:
         assert tshark.stderr is not None
         try:
             if not any("Capturing" in line for line in tshark.stderr):
                 pytest.skip("tshark may not capture here")
             while not pathlib.Path(capture).exists():
                 time.sleep(0.1)
-            result = pytester.runpytest_subprocess(*PLUGIN, "--scanvolt-capture=" + capture, "--scanvolt-trace=trace")
+            result = pytester.runpytest_subprocess(
+                *PLUGIN, "--scanvolt-capture=" + capture, "--scanvolt-trace=trace"
+            )
         finally:
             tshark.terminate()
             tshark.communicate()
-    result.stdout.fnmatch_lines(["*- what the instrument saw -*", '* FOO  * error -113 "Undefined header"*', "at the end, * ms:",
-                                 "kept: trace/test_from_a_capture.py_test_fails_server.replay, .txt, .html"])
+    result.stdout.fnmatch_lines(
+        [
+            "*- what the instrument saw -*",
+            '* FOO  * error -113 "Undefined header"*',
+            "at the end, * ms:",
+            "kept: trace/test_from_a_capture.py_test_fails_server.replay, .txt, .html",
+        ]
+    )
 
 
-def test_it_never_fails_a_report(pytester: pytest.Pytester, monkeypatch: pytest.MonkeyPatch) -> None:
+def test_it_never_fails_a_report(
+    pytester: pytest.Pytester, monkeypatch: pytest.MonkeyPatch
+) -> None:
     """With a program that can't explain, the section says that."""
     old = pytester.makefile(".sh", old=OLD % find_program())
     old.chmod(0o755)
@@ -403,14 +496,19 @@ def test_it_never_fails_a_report(pytester: pytest.Pytester, monkeypatch: pytest.
     pytester.makepyfile(FAILING)
     result = pytester.runpytest_subprocess(*PLUGIN, "--scanvolt-trace=trace")
     result.assert_outcomes(passed=1, failed=5)
-    result.stdout.fnmatch_lines(["*- what the instrument saw -*",
-                                 "it can't be told: * has no `explain`: it is an earlier release, or no scanvolt"])
+    result.stdout.fnmatch_lines(
+        [
+            "*- what the instrument saw -*",
+            "it can't be told: * has no `explain`: it is an earlier release, or no scanvolt",
+        ]
+    )
     assert not pytester.path.joinpath("trace").exists()
 
 
 def test_faults_on_order_are_told(pytester: pytest.Pytester) -> None:
     """In the section of what the instrument saw, and in one of the relay, and in no other test's report."""
-    pytester.makepyfile("""
+    pytester.makepyfile(
+        """
         from scanvolt.faults import Relay
         from scanvolt.vxi11 import Client
 
@@ -427,11 +525,17 @@ def test_faults_on_order_are_told(pytester: pytest.Pytester) -> None:
 
         def test_neither():
             assert False
-    """)
+    """
+    )
     result = pytester.runpytest_subprocess(*PLUGIN)
     result.assert_outcomes(failed=3)
-    result.stdout.fnmatch_lines([
-        "*what the instrument saw*", "*c0 link 1  fault on order: device_readstb was answered with error 17*",
-        "  on order  0 ms, c0 link 1: device_readstb was answered with error 17*",
-        "*faults on order of the relay*", "*connection 0, towards the client: the relay ends the connection*"])
+    result.stdout.fnmatch_lines(
+        [
+            "*what the instrument saw*",
+            "*c0 link 1  fault on order: device_readstb was answered with error 17*",
+            "  on order  0 ms, c0 link 1: device_readstb was answered with error 17*",
+            "*faults on order of the relay*",
+            "*connection 0, towards the client: the relay ends the connection*",
+        ]
+    )
     assert result.stdout.str().count("faults on order of the relay") == 1

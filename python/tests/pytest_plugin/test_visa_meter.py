@@ -35,7 +35,8 @@ def path(pytester: pytest.Pytester, monkeypatch: pytest.MonkeyPatch) -> None:
 
 def test_both_ways(pytester: pytest.Pytester) -> None:
     """One test runs in virtual time and on sockets; a driver with a fixed address and a manager of its own runs unchanged."""
-    pytester.makepyfile("""
+    pytester.makepyfile(
+        """
         import pytest
         from driver import Driver
 
@@ -47,14 +48,16 @@ def test_both_ways(pytester: pytest.Pytester) -> None:
                 assert visa_meter.meter.clock == 60
             else:
                 assert visa_meter.server.core > 0
-    """)
+    """
+    )
     result = pytester.runpytest_subprocess(*PLUGIN, "-v")
     result.assert_outcomes(passed=2)
     result.stdout.fnmatch_lines(["*test_driver?virtual? PASSED*", "*test_driver?sockets? PASSED*"])
 
 
 def test_sessions(pytester: pytest.Pytester) -> None:
-    pytester.makepyfile("""
+    pytester.makepyfile(
+        """
         import pytest
         import pyvisa
 
@@ -80,12 +83,14 @@ def test_sessions(pytester: pytest.Pytester) -> None:
             assert visa_meter.open("TCPIP::scanvolt::INSTR").query("*IDN?") == "SCANVOLT,SV32,0,1.0"
             with pytest.raises(AttributeError, match="visa_meter.server"):
                 visa_meter.meter
-    """)
+    """
+    )
     pytester.runpytest_subprocess(*PLUGIN).assert_outcomes(passed=4)
 
 
 def test_what_is_wrong_with_a_marker(pytester: pytest.Pytester) -> None:
-    pytester.makepyfile("""
+    pytester.makepyfile(
+        """
         import pytest
 
         @pytest.mark.scanvolt(backend="real")
@@ -99,16 +104,22 @@ def test_what_is_wrong_with_a_marker(pytester: pytest.Pytester) -> None:
         @pytest.mark.scanvolt(names={"GPIB0::8::INSTR": "scanvolt", "GPIB0::9::INSTR": "scanvolt2"}, backend="sockets")
         def test_two_instruments(visa_meter):
             pass
-    """)
+    """
+    )
     result = pytester.runpytest_subprocess(*PLUGIN)
     result.assert_outcomes(errors=3)
-    result.stdout.fnmatch_lines(["*the marker scanvolt wants as backend virtual or sockets, and not 'real'",
-                                 "*no resource name of an instrument: 'bench'",
-                                 "*on sockets there is one instrument, and the names are of several: scanvolt, scanvolt2"])
+    result.stdout.fnmatch_lines(
+        [
+            "*the marker scanvolt wants as backend virtual or sockets, and not 'real'",
+            "*no resource name of an instrument: 'bench'",
+            "*on sockets there is one instrument, and the names are of several: scanvolt, scanvolt2",
+        ]
+    )
 
 
 def test_a_failure_shows_what_the_instrument_saw(pytester: pytest.Pytester) -> None:
-    pytester.makepyfile("""
+    pytester.makepyfile(
+        """
         import pytest
 
         def test_that_fails(visa_meter):
@@ -119,8 +130,17 @@ def test_a_failure_shows_what_the_instrument_saw(pytester: pytest.Pytester) -> N
         def test_on_sockets(visa_meter):
             visa_meter.server.set_input(1, 2.5)
             assert visa_meter.resource.query("MEAS:VOLT? (@1)") == ""
-    """)
+    """
+    )
     result = pytester.runpytest_subprocess(*PLUGIN)
     result.assert_outcomes(failed=2)
-    result.stdout.fnmatch_lines(["*VI_ERROR_IO*", "*what the instrument saw*", "*fault on order: device_read was answered*",
-                                 "*what the instrument saw*", "*input 1 = 2.5 V*", '*device_read up to * -> "+2.500000*'])
+    result.stdout.fnmatch_lines(
+        [
+            "*VI_ERROR_IO*",
+            "*what the instrument saw*",
+            "*fault on order: device_read was answered*",
+            "*what the instrument saw*",
+            "*input 1 = 2.5 V*",
+            '*device_read up to * -> "+2.500000*',
+        ]
+    )

@@ -47,7 +47,9 @@ class WithResource(unittest.TestCase):
         self.resource.write("*CLS")
 
     def open(self, name: str = "TCPIP::scanvolt::INSTR", **named: Any) -> Any:
-        return self.manager.open_resource(name, read_termination="\n", write_termination="\n", **named)
+        return self.manager.open_resource(
+            name, read_termination="\n", write_termination="\n", **named
+        )
 
     def meter_of(self, resource: object) -> Meter:
         library: Any = self.manager.visalib
@@ -70,16 +72,20 @@ class Names(WithResource):
     def test_list(self) -> None:
         self.assertEqual(self.manager.list_resources(), ("TCPIP0::scanvolt::inst0::INSTR",))
         self.open("TCPIP::scanvolt2")
-        self.assertEqual(self.manager.list_resources("TCPIP?*"),
-                         ("TCPIP0::scanvolt2::inst0::INSTR", "TCPIP0::scanvolt::inst0::INSTR"))
+        self.assertEqual(
+            self.manager.list_resources("TCPIP?*"),
+            ("TCPIP0::scanvolt2::inst0::INSTR", "TCPIP0::scanvolt::inst0::INSTR"),
+        )
         self.assertEqual(self.manager.list_resources("GPIB?*"), ())
 
     def test_instruments_of_their_own(self) -> None:
         other = self.open("TCPIP0::scanvolt-left::inst0::INSTR")
         self.meter_of(other).set_input(1, 2)
         self.meter_of("TCPIP::Scanvolt-Left").advance(5)
-        self.assertEqual((other.query("MEAS:VOLT? (@1)"), self.resource.query("MEAS:VOLT? (@1)")),
-                         ("+2.000000", "+1.250000"))
+        self.assertEqual(
+            (other.query("MEAS:VOLT? (@1)"), self.resource.query("MEAS:VOLT? (@1)")),
+            ("+2.000000", "+1.250000"),
+        )
         self.assertEqual((self.meter_of(other).clock, self.meter.clock), (6, 1))
 
     def test_two_sessions_to_one(self) -> None:
@@ -99,13 +105,15 @@ class Names(WithResource):
                 meter_of(wrong)
 
     def test_other_names(self) -> None:
-        for name, status in (("TCPIP::192.168.0.1::INSTR", StatusCode.error_resource_not_found),
-                             ("GPIB::1::INSTR", StatusCode.error_resource_not_found),
-                             ("TCPIP::scanvolt::5025::SOCKET", StatusCode.error_resource_not_found),
-                             ("TCPIP::scanvolt::inst1::INSTR", StatusCode.error_resource_not_found),
-                             ("TCPIP::scanvolt::hislip0::INSTR", StatusCode.error_resource_not_found),
-                             ("TCPIP1::scanvolt::INSTR", StatusCode.error_interface_number_not_configured),
-                             ("scanvolt", StatusCode.error_invalid_resource_name)):
+        for name, status in (
+            ("TCPIP::192.168.0.1::INSTR", StatusCode.error_resource_not_found),
+            ("GPIB::1::INSTR", StatusCode.error_resource_not_found),
+            ("TCPIP::scanvolt::5025::SOCKET", StatusCode.error_resource_not_found),
+            ("TCPIP::scanvolt::inst1::INSTR", StatusCode.error_resource_not_found),
+            ("TCPIP::scanvolt::hislip0::INSTR", StatusCode.error_resource_not_found),
+            ("TCPIP1::scanvolt::INSTR", StatusCode.error_interface_number_not_configured),
+            ("scanvolt", StatusCode.error_invalid_resource_name),
+        ):
             with self.subTest(name):
                 self.error(status, lambda: self.manager.open_resource(name))
 
@@ -153,7 +161,7 @@ class Messages(WithResource):
         for count in (1, 8, 15, 16):
             self.resource.write(f"CONF:VOLT (@1:128);:TRIG:COUN {count}")
             self.resource.write("READ?")
-            for chunk in (20480, 4096, 10240, 8192, 10 ** 5):
+            for chunk in (20480, 4096, 10240, 8192, 10**5):
                 with self.subTest(count=count, chunk=chunk):
                     self.resource.chunk_size = chunk
                     self.assertEqual(len(self.resource.read_raw()), 1280 * count)
@@ -169,10 +177,13 @@ class Messages(WithResource):
             warnings.simplefilter("ignore")
             self.assertEqual(library.read(session, 3), (b"SCA", StatusCode.success_max_count_read))
             self.resource.set_visa_attribute(ResourceAttribute.termchar_enabled, True)
-            self.assertEqual(library.read(session, 99),
-                             (b"NVOLT,", StatusCode.success_termination_character_read))
-            self.assertEqual(library.read(session, 5),
-                             (b"SV32,", StatusCode.success_termination_character_read))
+            self.assertEqual(
+                library.read(session, 99),
+                (b"NVOLT,", StatusCode.success_termination_character_read),
+            )
+            self.assertEqual(
+                library.read(session, 5), (b"SV32,", StatusCode.success_termination_character_read)
+            )
             self.resource.set_visa_attribute(ResourceAttribute.termchar, 10)
             self.assertEqual(library.read(session, 6), (b"0,1.0\n", StatusCode.success))
 
@@ -217,8 +228,12 @@ class Messages(WithResource):
         with self.assertRaises(pyvisa.VisaIOError) as caught:
             self.resource.read_stb()
         self.assertEqual(caught.exception.error_code, StatusCode.error_connection_lost)
-        self.assertEqual(getattr(caught.exception, "__notes__"), [
-            "the connection ended after 3 of 36 bytes of the reply to device_readstb: on order of meter.faults"])
+        self.assertEqual(
+            getattr(caught.exception, "__notes__"),
+            [
+                "the connection ended after 3 of 36 bytes of the reply to device_readstb: on order of meter.faults"
+            ],
+        )
 
     def test_clear(self) -> None:
         self.resource.write("*IDN?")
@@ -240,11 +255,18 @@ class Locks(WithResource):
         self.resource.lock_excl()
         self.error(StatusCode.error_timeout, other.lock_excl, 700)
         self.error(StatusCode.error_resource_locked, lambda: other.lock_excl(0))
-        for call in (other.read, other.read_stb, other.clear, other.assert_trigger,
-                     lambda: other.write("*CLS")):
+        for call in (
+            other.read,
+            other.read_stb,
+            other.clear,
+            other.assert_trigger,
+            lambda: other.write("*CLS"),
+        ):
             self.error(StatusCode.error_resource_locked, call)
-        self.assertEqual((other.lock_state, self.resource.lock_state),
-                         (AccessModes.exclusive_lock, AccessModes.exclusive_lock))
+        self.assertEqual(
+            (other.lock_state, self.resource.lock_state),
+            (AccessModes.exclusive_lock, AccessModes.exclusive_lock),
+        )
         self.resource.unlock()
         self.assertEqual(other.lock_state, AccessModes.no_lock)
         with other.lock_context():
@@ -255,7 +277,9 @@ class Locks(WithResource):
         library, session = self.manager.visalib, self.resource.session
         other = self.open()
         self.assertEqual(library.lock(session, Lock.exclusive, 0)[1], StatusCode.success)
-        self.assertEqual(library.lock(session, Lock.exclusive, 0)[1], StatusCode.success_nested_exclusive)
+        self.assertEqual(
+            library.lock(session, Lock.exclusive, 0)[1], StatusCode.success_nested_exclusive
+        )
         self.assertEqual(library.unlock(session), StatusCode.success_nested_exclusive)
         self.error(StatusCode.error_resource_locked, other.read_stb)
         self.assertEqual(library.unlock(session), StatusCode.success)
@@ -265,8 +289,11 @@ class Locks(WithResource):
     def test_a_session_that_locks_as_it_opens(self) -> None:
         first = self.open(access_mode=AccessModes.exclusive_lock)
         self.error(StatusCode.error_resource_locked, self.resource.read_stb)
-        self.error(StatusCode.error_resource_locked, lambda: self.open(
-            access_mode=AccessModes.exclusive_lock, open_timeout=30), 30)
+        self.error(
+            StatusCode.error_resource_locked,
+            lambda: self.open(access_mode=AccessModes.exclusive_lock, open_timeout=30),
+            30,
+        )
         first.close()
         self.assertEqual(self.resource.read_stb(), 0)
 
@@ -274,8 +301,10 @@ class Locks(WithResource):
         library: Any = self.manager.visalib
         session = self.resource.session
         self.error(StatusCode.error_invalid_lock_type, lambda: library.lock(session, 3, 0))
-        self.error(StatusCode.error_invalid_access_mode, lambda: self.open(
-            access_mode=AccessModes.shared_lock))
+        self.error(
+            StatusCode.error_invalid_access_mode,
+            lambda: self.open(access_mode=AccessModes.shared_lock),
+        )
 
 
 class Events(WithResource):
@@ -289,7 +318,9 @@ class Events(WithResource):
         self.resource.enable_event(SRQ, QUEUE)
         self.resource.write("INIT")
         response = self.resource.wait_on_event(SRQ, 100)
-        self.assertEqual((response.event.event_type, response.timed_out, self.meter.clock), (SRQ, False, 3))
+        self.assertEqual(
+            (response.event.event_type, response.timed_out, self.meter.clock), (SRQ, False, 3)
+        )
         self.assertEqual(self.resource.read_stb(), 72)
         self.error(StatusCode.error_timeout, lambda: self.resource.wait_on_event(SRQ, 250), 250)
         self.assertTrue(self.resource.wait_on_event(SRQ, 250, capture_timeout=True).timed_out)
@@ -300,14 +331,18 @@ class Events(WithResource):
         library, session = self.manager.visalib, self.resource.session
         self.error(StatusCode.error_not_enabled, lambda: self.resource.wait_on_event(SRQ, 0))
         self.assertEqual(library.enable_event(session, SRQ, QUEUE), StatusCode.success)
-        self.assertEqual(library.enable_event(session, SRQ, QUEUE), StatusCode.success_event_already_enabled)
+        self.assertEqual(
+            library.enable_event(session, SRQ, QUEUE), StatusCode.success_event_already_enabled
+        )
         self.resource.write("INIT")
         self.meter.advance(10)
         self.assertEqual(library.disable_event(session, SRQ, QUEUE), StatusCode.success)
         status = library.disable_event(session, SRQ, QUEUE)
         self.assertEqual(status, StatusCode.success_event_already_disabled)
         self.assertEqual(library.discard_events(session, SRQ, QUEUE), StatusCode.success)
-        self.assertEqual(library.discard_events(session, SRQ, QUEUE), StatusCode.success_queue_already_empty)
+        self.assertEqual(
+            library.discard_events(session, SRQ, QUEUE), StatusCode.success_queue_already_empty
+        )
         self.resource.read_stb()
         self.resource.write("*CLS;:INIT")
         self.meter.advance(10)
@@ -329,7 +364,9 @@ class Events(WithResource):
         self.assertEqual(found, [(3, 72, SRQ, "the user's")])
         self.resource.disable_event(SRQ, HANDLER)
         self.resource.uninstall_handler(SRQ, wrapped, handle_of_user)
-        self.assertRaises(pyvisa.errors.UnknownHandler, self.resource.uninstall_handler, SRQ, wrapped)
+        self.assertRaises(
+            pyvisa.errors.UnknownHandler, self.resource.uninstall_handler, SRQ, wrapped
+        )
 
     def test_a_handler_that_is_suspended(self) -> None:
         found: list[int] = []
@@ -355,9 +392,13 @@ class Events(WithResource):
         self.error(StatusCode.error_invalid_event, lambda: enable(EventType.io_completion, QUEUE))
         self.error(StatusCode.error_handler_not_installed, lambda: enable(SRQ, HANDLER))
         self.error(StatusCode.error_invalid_mechanism, lambda: enable(SRQ, EventMechanism.all))
-        self.error(StatusCode.error_invalid_event, lambda: self.resource.install_handler(
-            EventType.clear, print))
-        self.error(StatusCode.error_invalid_event, lambda: self.resource.wait_on_event(EventType.clear, 1))
+        self.error(
+            StatusCode.error_invalid_event,
+            lambda: self.resource.install_handler(EventType.clear, print),
+        )
+        self.error(
+            StatusCode.error_invalid_event, lambda: self.resource.wait_on_event(EventType.clear, 1)
+        )
 
 
 class Others(WithResource):
@@ -365,40 +406,59 @@ class Others(WithResource):
 
     def test_attributes(self) -> None:
         resource = self.resource
-        self.assertEqual((resource.timeout, resource.resource_name, resource.resource_class),
-                         (2000, "TCPIP0::scanvolt::inst0::INSTR", "INSTR"))
-        self.assertEqual((resource.interface_type, resource.interface_number, resource.spec_version),
-                         (pyvisa.constants.InterfaceType.tcpip, 0, 0x500800))
-        for attribute, state in ((ResourceAttribute.tcpip_hostname, "scanvolt"),
-                                 (ResourceAttribute.tcpip_device_name, "inst0"),
-                                 (ResourceAttribute.interface_instrument_name, "TCPIP0 (scanvolt)"),
-                                 (ResourceAttribute.tcpip_is_hislip, False)):
+        self.assertEqual(
+            (resource.timeout, resource.resource_name, resource.resource_class),
+            (2000, "TCPIP0::scanvolt::inst0::INSTR", "INSTR"),
+        )
+        self.assertEqual(
+            (resource.interface_type, resource.interface_number, resource.spec_version),
+            (pyvisa.constants.InterfaceType.tcpip, 0, 0x500800),
+        )
+        for attribute, state in (
+            (ResourceAttribute.tcpip_hostname, "scanvolt"),
+            (ResourceAttribute.tcpip_device_name, "inst0"),
+            (ResourceAttribute.interface_instrument_name, "TCPIP0 (scanvolt)"),
+            (ResourceAttribute.tcpip_is_hislip, False),
+        ):
             self.assertEqual(resource.get_visa_attribute(attribute), state)
 
     def test_attributes_that_are_refused(self) -> None:
         put, get = self.resource.set_visa_attribute, self.resource.get_visa_attribute
         serial = ResourceAttribute(pyvisa.constants.VI_ATTR_ASRL_BAUD)
-        self.error(StatusCode.error_attribute_read_only, lambda: put(
-            ResourceAttribute.tcpip_hostname, "other"))
-        self.error(StatusCode.error_nonsupported_attribute_state, lambda: put(
-            ResourceAttribute.termchar, 256))
-        self.error(StatusCode.error_nonsupported_attribute_state, lambda: put(
-            ResourceAttribute.suppress_end_enabled, True))
+        self.error(
+            StatusCode.error_attribute_read_only,
+            lambda: put(ResourceAttribute.tcpip_hostname, "other"),
+        )
+        self.error(
+            StatusCode.error_nonsupported_attribute_state,
+            lambda: put(ResourceAttribute.termchar, 256),
+        )
+        self.error(
+            StatusCode.error_nonsupported_attribute_state,
+            lambda: put(ResourceAttribute.suppress_end_enabled, True),
+        )
         self.error(StatusCode.error_nonsupported_attribute, lambda: put(serial, 9600))
         self.error(StatusCode.error_nonsupported_attribute, lambda: get(serial))
 
     def test_operations_that_are_not_there(self) -> None:
         for name in UNSUPPORTED:
             with self.subTest(name):
-                self.error(StatusCode.error_nonsupported_operation, lambda: getattr(
-                    self.manager.visalib, name)(self.resource.session))
+                self.error(
+                    StatusCode.error_nonsupported_operation,
+                    lambda: getattr(self.manager.visalib, name)(self.resource.session),
+                )
 
     def test_all_of_the_library(self) -> None:
         """The backend has every operation that PyVISA may call."""
         library: Any = type(self.manager.visalib)
-        left = [name for name in dir(pyvisa.highlevel.VisaLibraryBase) if not name.startswith("_")
-                and "raise NotImplementedError" in source(getattr(pyvisa.highlevel.VisaLibraryBase, name))
-                and getattr(library, name) is getattr(pyvisa.highlevel.VisaLibraryBase, name)]
+        left = [
+            name
+            for name in dir(pyvisa.highlevel.VisaLibraryBase)
+            if not name.startswith("_")
+            and "raise NotImplementedError"
+            in source(getattr(pyvisa.highlevel.VisaLibraryBase, name))
+            and getattr(library, name) is getattr(pyvisa.highlevel.VisaLibraryBase, name)
+        ]
         self.assertEqual(left, [])
 
     def test_the_end(self) -> None:

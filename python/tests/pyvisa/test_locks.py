@@ -46,17 +46,27 @@ class Shared(WithResource):
         self.error(StatusCode.error_invalid_access_key, lambda: self.other.lock(0, 256 * "k"))
         self.error(StatusCode.error_invalid_access_key, lambda: self.resource.lock(0, "bench 8"))
         self.assertEqual(self.other.lock(0, "bench 7"), "bench 7")
-        self.assertNotEqual(self.open("TCPIP::scanvolt2").lock(), self.open("TCPIP::scanvolt3").lock())
+        self.assertNotEqual(
+            self.open("TCPIP::scanvolt2").lock(), self.open("TCPIP::scanvolt3").lock()
+        )
 
     def test_nested(self) -> None:
         library, session = self.manager.visalib, self.resource.session
         self.assertEqual(self.status(self.resource), StatusCode.success)
         self.assertEqual(self.status(self.resource), StatusCode.success_nested_shared)
         self.assertEqual(self.status(self.resource, Lock.exclusive), StatusCode.success)
-        self.assertEqual(self.status(self.resource, Lock.exclusive), StatusCode.success_nested_exclusive)
-        self.assertEqual([library.unlock(session) for _ in range(4)], [
-            StatusCode.success_nested_exclusive, StatusCode.success_nested_shared, StatusCode.success_nested_shared,
-            StatusCode.success])
+        self.assertEqual(
+            self.status(self.resource, Lock.exclusive), StatusCode.success_nested_exclusive
+        )
+        self.assertEqual(
+            [library.unlock(session) for _ in range(4)],
+            [
+                StatusCode.success_nested_exclusive,
+                StatusCode.success_nested_shared,
+                StatusCode.success_nested_shared,
+                StatusCode.success,
+            ],
+        )
         self.error(StatusCode.error_session_not_locked, self.resource.unlock)
         self.other.lock_excl(0)
 
@@ -118,7 +128,11 @@ class Shared(WithResource):
         self.other.lock_excl()
         self.resource.timeout = self.third.timeout = None
         for take in self.third.lock_excl, self.third.lock, self.resource.lock_excl:
-            self.assertRaisesRegex(NoAnswer, "no lock within 600000 ms of virtual time: other sessions share the lock", take)
+            self.assertRaisesRegex(
+                NoAnswer,
+                "no lock within 600000 ms of virtual time: other sessions share the lock",
+                take,
+            )
 
     def test_over_an_exclusive_lock(self) -> None:
         """A session that has the exclusive lock may share it, and others come in when it ends."""
@@ -134,7 +148,9 @@ class Shared(WithResource):
         """A link that isn't of VISA has the instrument's lock: viLock's statuses are the same."""
         self.meter.connect().create_link(lock=True)
         for kind in Lock.shared, Lock.exclusive:
-            take: Callable[[int], object] = lambda timeout: self.manager.visalib.lock(self.resource.session, kind, timeout)
+            take: Callable[[int], object] = lambda timeout: self.manager.visalib.lock(
+                self.resource.session, kind, timeout
+            )
             self.error(StatusCode.error_resource_locked, lambda: take(0))
             self.error(StatusCode.error_timeout, lambda: take(40), 40)
         self.assertEqual(self.resource.lock_state, AccessModes.no_lock)

@@ -43,18 +43,27 @@ class Names(unittest.TestCase):
         manager = self.manager(SETTINGS)
         one: Any = manager.open_resource("GPIB0::8::INSTR", read_termination="\n")
         other: Any = manager.open_resource("TCPIP::192.168.1.7::INSTR", read_termination="\n")
-        third: Any = manager.open_resource("USB0::0x1234::0x5678::0042::INSTR", read_termination="\n")
-        self.assertEqual([type(one).__name__ for one in (one, other, third)], ["GPIBInstrument", "TCPIPInstrument",
-                                                                              "USBInstrument"])
+        third: Any = manager.open_resource(
+            "USB0::0x1234::0x5678::0042::INSTR", read_termination="\n"
+        )
+        self.assertEqual(
+            [type(one).__name__ for one in (one, other, third)],
+            ["GPIBInstrument", "TCPIPInstrument", "USBInstrument"],
+        )
         self.assertEqual(one.query("MEAS:VOLT? (@1)"), "+1.250000")
         self.assertIs(meter_of(one), meter_of(third))
         self.assertIsNot(meter_of(one), meter_of(other))
-        self.assertEqual((meter_of(other).clock, meter_of(other).call_time, meter_of(other).patience), (1, 1, 700))
+        self.assertEqual(
+            (meter_of(other).clock, meter_of(other).call_time, meter_of(other).patience),
+            (1, 1, 700),
+        )
 
     def test_attributes(self) -> None:
         one: Any = self.manager(SETTINGS).open_resource("GPIB0::8::INSTR")
-        self.assertEqual((one.primary_address, one.secondary_address, one.interface_type, one.interface_number),
-                         (8, 0xFFFF, InterfaceType.gpib, 0))
+        self.assertEqual(
+            (one.primary_address, one.secondary_address, one.interface_type, one.interface_number),
+            (8, 0xFFFF, InterfaceType.gpib, 0),
+        )
         with self.assertRaises(pyvisa.VisaIOError) as caught:
             one.get_visa_attribute(ResourceAttribute.tcpip_hostname)
         self.assertEqual(caught.exception.error_code, StatusCode.error_nonsupported_attribute)
@@ -72,10 +81,15 @@ class Names(unittest.TestCase):
         self.assertRaises(pyvisa.VisaIOError, manager.open_resource, "GPIB0::9::INSTR")
 
     def test_what_cannot_be_read(self) -> None:
-        for line, told in (("GPIB0::8::INSTR", "not KEY = VALUE: GPIB0::8::INSTR"), ("bench = scanvolt", "no resource name "
-                           "of an instrument: 'bench'"), ("TCPIP::host::5025::SOCKET = scanvolt", "no resource name"),
-                           ("patience = long", "patience wants milliseconds, and not long")):
-            with self.subTest(line), self.assertRaisesRegex(ValueError, "settings, line 2: " + told):
+        for line, told in (
+            ("GPIB0::8::INSTR", "not KEY = VALUE: GPIB0::8::INSTR"),
+            ("bench = scanvolt", "no resource name " "of an instrument: 'bench'"),
+            ("TCPIP::host::5025::SOCKET = scanvolt", "no resource name"),
+            ("patience = long", "patience wants milliseconds, and not long"),
+        ):
+            with self.subTest(line), self.assertRaisesRegex(
+                ValueError, "settings, line 2: " + told
+            ):
                 self.manager(f"call_time = 1\n{line}\n")
 
 

@@ -32,21 +32,31 @@ class Scripts(unittest.TestCase):
         with tempfile.TemporaryDirectory() as folder:
             path = pathlib.Path(folder, "script.py")
             path.write_text(f"import sys\nsys.path.insert(0, {str(TOP)!r})\n" + text)
-            done = subprocess.run([sys.executable, "-W", "error", str(path)], stdin=subprocess.DEVNULL,
-                                  capture_output=True, text=True, timeout=60)
+            done = subprocess.run(
+                [sys.executable, "-W", "error", str(path)],
+                stdin=subprocess.DEVNULL,
+                capture_output=True,
+                text=True,
+                timeout=60,
+            )
         self.assertEqual((done.stdout, done.stderr, done.returncode), (expected, "", 0))
 
     def test_the_readme(self) -> None:
         """The piece with PyVISA in README.md, as it stands there."""
-        piece, = (piece for piece in PIECES if "import pyvisa\n" in piece)
+        (piece,) = (piece for piece in PIECES if "import pyvisa\n" in piece)
         self.prints(piece, "+1.250000\n")
 
     def test_nothing_is_closed(self) -> None:
         self.prints(OPENED + "print(resource.query('*IDN?'))", "SCANVOLT,SV32,0,1.0\n")
 
     def test_a_program_that_was_killed(self) -> None:
-        for closings in ("", "resource.close()", "manager.close()", "resource.close(); manager.close()",
-                         "resource.disable_event(EventType.service_request, EventMechanism.queue)"):
+        for closings in (
+            "",
+            "resource.close()",
+            "manager.close()",
+            "resource.close(); manager.close()",
+            "resource.disable_event(EventType.service_request, EventMechanism.queue)",
+        ):
             with self.subTest(closings):
                 self.prints(KILLED + closings, "")
 

@@ -20,8 +20,10 @@ class Threads(unittest.TestCase):
     def setUp(self) -> None:
         manager = pyvisa.ResourceManager("@scanvolt")
         self.addCleanup(manager.close)
-        self.one, self.other = (manager.open_resource(
-            "TCPIP::scanvolt::INSTR", read_termination="\n", timeout=5000) for _ in range(2))
+        self.one, self.other = (
+            manager.open_resource("TCPIP::scanvolt::INSTR", read_termination="\n", timeout=5000)
+            for _ in range(2)
+        )
         self.meter = meter_of(self.one)
         self.told: list[Any] = []
 
