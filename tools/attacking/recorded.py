@@ -12,6 +12,7 @@ from pathlib import Path
 from typing import Dict, Iterator, List, Sequence, Tuple
 
 from attacking.calls import Lost
+from scanvolt.vxi11 import Records
 
 HEAD = struct.Struct("=4i")
 KINDS = b"aoprsx"
@@ -114,12 +115,13 @@ def is_some_of(taken: bytes, sent: bytes) -> bool:
 
 
 def records(data: bytes) -> Iterator[bytes]:
-    """The records of a stream (RFC 5531, section 11), each of one fragment; at last perhaps a part of one."""
-    place = 0
-    while place < len(data):
-        length = 4 + (int.from_bytes(data[place:place + 4], "big") & 0x7FFFFFFF)
-        yield bytes(data[place:place + length])
-        place += length
+    """The records of a stream, with their marks; at last perhaps a part of one."""
+    end = 0
+    for record in Records().push(data):
+        yield data[record.start:record.end]
+        end = record.end
+    if end < len(data):
+        yield data[end:]
 
 
 def fault(tap: Stream, record: Stream) -> str:

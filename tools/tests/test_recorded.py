@@ -12,13 +12,15 @@ sys.path[:0] = [str(TOOLS), str(TOOLS.parent / "python")]
 
 from attacking.calls import Lost            # noqa: E402
 from attacking.recorded import HEAD, compare    # noqa: E402
+from scanvolt.vxi11 import record           # noqa: E402
 
 PORTS = 4096, 4097, 111
 Entry = Tuple[str, int, int, bytes]
 
 # A connection gets two bytes, and is sent four; its channel is sent two calls. Then another connection has its number.
 RECORD = "open 0 core\nbytes 0 0102\nturn 0\ndialed 0 ok\ntick 5\nclose c0\nopen 0 core\n"
-PRINTED = "refused 8\nc0 0a0b\nc0 0c0d\nrefused 8\ni0 800000011180000001228000000133\nrefused 8\nc0 0e\n"
+SENT = b"".join(map(record, (b"\x11", b"\x22", b"\x33")))
+PRINTED = "refused 8\nc0 0a0b\nc0 0c0d\nrefused 8\ni0 %s\nrefused 8\nc0 0e\n" % SENT.hex()
 FIRST: List[Entry] = [("a", 7, 4096, b""), ("o", 7, 0, b""), ("r", 7, 0, b"\1\2"), ("s", 7, 4, b"\x0a\x0b\x0c\x0d"), ("o", 9, 0, b""),
                       ("p", 9, 0, b"")]
 CALLS: List[Entry] = [("s", 9, 10, b"\x80\0\0\1\x11\x80\0\0\1\x22"), ("s", 9, 5, b"\x80\0\0\1\x33")]
