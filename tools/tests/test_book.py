@@ -1,17 +1,13 @@
 """Tests of tools/book: what it reads about functions and their contracts, the counts that it compares, the table of figures."""
-import contextlib
-import importlib.machinery
-import importlib.util
-import io
-import os
-import sys
-import tempfile
 import unittest
 from unittest import mock
 
-sys.dont_write_bytecode = True
-TOOLS = os.path.dirname(os.path.dirname(os.path.abspath(__file__)))
-sys.path.insert(0, TOOLS)
+from folders import Folders, ran
+
+from scanvolt_tools.check import book
+from scanvolt_tools.check.rattle import Crates
+from scanvolt_tools.repository import Repository
+
 SOURCE = """
 /// What can go on.
 pub trait Goes {
@@ -88,104 +84,134 @@ FILES = {
 }
 
 
-def loaded():
-    loader = importlib.machinery.SourceFileLoader("book", TOOLS + "/book")
-    module = importlib.util.module_from_spec(importlib.util.spec_from_loader("book", loader))
-    loader.exec_module(module)
-    return module
-
-
-class Books(unittest.TestCase):
-
-    def setUp(self):
-        temporary = tempfile.TemporaryDirectory(prefix="book-")
-        self.addCleanup(temporary.cleanup)
-        self.addCleanup(os.chdir, os.getcwd())
-        os.chdir(temporary.name)
+class Books(Folders):
+    def setUp(self) -> None:
+        super().setUp()
         for name, text in FILES.items():
             self.write(name, text)
-        self.book = loaded()
 
-    def write(self, name, text):
-        os.makedirs(os.path.dirname(name), exist_ok=True)
-        with open(name, "w", encoding="utf-8") as file:
-            file.write(text)
+    @property
+    def crates(self) -> Crates:
+        return Crates(Repository(self.folder))
 
-    def test_functions_and_what_is_said_of_them(self):
-        told = {name: (said, clauses) for name, said, clauses, _, _ in self.book.functions("one")}
-        self.assertEqual(told, {
-            "laws::law": ("It holds", [("", "")]),
-            "Goes::go": ("Goes on", [("within", "")]),
-            "Some::take": ("Takes some. Then fewer are left. Errors: Where there are none",
-                           [("stands", "Nothing more is said"), ("", "")]),
-        })
+    def test_functions_and_what_is_said_of_them(self) -> None:
+        crate = self.crates["one"]
+        told = {
+            name: (said, clauses)
+            for name, said, clauses, _ in book.functions(crate.repository, crate)
+        }
+        self.assertEqual(
+            told,
+            {
+                "laws::law": ("It holds", [("", "")]),
+                "Goes::go": ("Goes on", [("within", "")]),
+                "Some::take": (
+                    "Takes some. Then fewer are left. Errors: Where there are none",
+                    [("stands", "Nothing more is said"), ("", "")],
+                ),
+            },
+        )
 
-    def test_all_that_other_crates_may_call(self):
-        self.assertEqual({name for *_, name in self.book.exported("one", self.book.found_in)},
-                         {"laws::law", "Goes::go", "Goes::rest", "Some::new", "Some::take"})
+    def test_all_that_other_crates_may_call(self) -> None:
+        crate = self.crates["one"]
+        self.assertEqual(
+            [book.shown(crate, one) for one in book.exported(crate)],
+            ["laws::law", "Some::new", "Some::take", "Goes::go", "Goes::rest"],
+        )
 
-    def test_conditions(self):
-        contract = next(found.group("contract") for _, _, found, name in self.book.exported("one", self.book.found_in)
-                        if name == "Some::take")
-        self.assertEqual(list(self.book.conditions(contract)), ["count < 8", "(λ n. { n }) count ≤ 7"])
+    def test_conditions(self) -> None:
+        found = {
+            one.shown: [" ".join(clause.text.split()) for clause in one.required()]
+            for one in book.exported(self.crates["one"])
+        }
+        self.assertEqual(found["Some::take"], ["count < 8", "(λ n. { n }) count ≤ 7"])
 
-    def test_errors_that_tell_of_memory(self):
-        self.assertEqual(self.book.memory_faults(), {"Refused", "Lacks"})
+    def test_errors_that_tell_of_memory(self) -> None:
+        faults = book.memory_faults(Repository(self.folder))
+        self.assertEqual(faults, {"Refused", "Lacks"})
+        lack = [
+            one.shown for one in book.exported(self.crates["one"]) if book.may_lack(one, faults)
+        ]
+        self.assertEqual(lack, ["Some::new", "Some::take"])
 
-    def told(self):
-        definitions = mock.Mock(lines={})
-        return list(self.book.miscounted(definitions, ((), ())))
+    def told(self) -> list[str]:
+        return list(book.miscounted(Repository(self.folder), self.crates, 0))
 
-    def test_counts(self):
+    def test_counts(self) -> None:
         self.assertEqual(self.told(), [])
         self.write("docs/EVIDENCE.md", EVIDENCE.replace("3 rows", "4 rows"))
-        self.write("docs/THEOREMS.md", "Of the driver's definitions only these are believed, 10 lines.\n")
-        self.assertEqual(self.told(), [
-            "docs/EVIDENCE.md:1: rows has 3 rows",
-            "docs/THEOREMS.md: the laws rest on 0 lines of the driver's definitions",
-        ])
+        self.write(
+            "docs/THEOREMS.md", "Of the driver's definitions only these are believed, 10 lines.\n"
+        )
+        self.assertEqual(
+            self.told(),
+            [
+                "docs/EVIDENCE.md:1: rows has 3 rows",
+                "docs/THEOREMS.md: the laws rest on 0 lines of the driver's definitions",
+            ],
+        )
 
-    def test_the_table_of_figures_shows_the_newest_run_that_has_some(self):
-        self.assertEqual(self.book.with_figures(EVIDENCE), EVIDENCE.replace("old", """\
+    def test_the_table_of_figures_shows_the_newest_run_that_has_some(self) -> None:
+        self.assertEqual(
+            book.with_figures(Repository(self.folder)),
+            EVIDENCE.replace(
+                "old",
+                """\
 | Bench | Measure | Found | Unit | Aim | Program |
 |---|---|---|---|---|---|
-| [serve](../bench/results/serve.csv) | idn on 1, over the peer | 1.30 (1.25 to 1.50) | ratio | at least 1.35 | bbbbbbb, 2026-01-02 |"""))
-        self.assertIsNone(self.book.with_figures("no place\n"))
+| [serve](../bench/results/serve.csv) | idn on 1, over the peer | 1.30 (1.25 to 1.50) | ratio | at least 1.35 | bbbbbbb, 2026-01-02 |""",
+            ),
+        )
+        self.write("docs/EVIDENCE.md", "no place\n")
+        self.assertIsNone(book.with_figures(Repository(self.folder)))
 
-    def ran(self, *words):
-        """The status of the tool, and what it prints."""
-        told = io.StringIO()
-        with mock.patch.object(sys, "argv", ["book", *words, os.getcwd()]), mock.patch.object(self.book, "PAGES", {}), \
-                mock.patch.object(self.book, "Definitions", lambda: mock.Mock(lines={})), \
-                mock.patch.object(self.book, "believed", lambda _: ((), ())), \
-                mock.patch.object(self.book, "unsaid", lambda: []), \
-                contextlib.redirect_stdout(told), self.assertRaises(SystemExit) as ended:
-            self.book.main()
-        return ended.exception.code, told.getvalue()
+    def ran(self, *words: str) -> tuple[int, str]:
+        """The status of the tool, and what it prints, if it writes no pages."""
+        with mock.patch.multiple(
+            book, PAGES={}, believed=lambda *_: (set(), set(), set()), unsaid=lambda _: []
+        ), mock.patch.object(book, "crates", lambda _: {}):
+            return ran(book.main, *words, self.folder)
 
-    def test_a_table_that_is_stale_is_told_and_written(self):
-        self.assertEqual(self.ran("--check"), (1, "docs/EVIDENCE.md: it differs from what tools/book writes\n"))
+    def test_a_table_that_is_stale_is_told_and_written(self) -> None:
+        stale = "docs/EVIDENCE.md: it differs from what tools/book writes\n"
+        self.assertEqual(self.ran("--check"), (1, stale))
         self.assertEqual(self.ran(), (0, ""))
         self.assertEqual(self.ran("--check"), (0, ""))
         self.write("bench/results/serve.csv", RESULTS.replace("1.3,3", "1.6,3"))
-        self.assertEqual(self.ran("--check"), (1, "docs/EVIDENCE.md: it differs from what tools/book writes\n"))
+        self.assertEqual(self.ran("--check"), (1, stale))
 
-    def test_results_that_are_none_are_told(self):
-        for old, new, said in (("idn on 1, over", "idn on 2, over", "2: serve has no measure `idn on 2, over the peer`"),
-                               ("ratio,1.5", "ms,1.5", "3: the bench or the unit isn't that of the measure (ratio)"),
-                               (",1.5,1", ",much,1", "3: no line of results: value"),
-                               (",1.5,1", ",1.5,one", "3: no line of results: round"),
-                               (",1.5,1", ",1.5,1,", "3: no line of results: 9 columns"),
-                               ("2026-01-02,bbbbbbb", "2026-01-02,unknown", "3: no line of results: commit"),
-                               ("date,commit", "commit,date", "1: its columns aren't date,commit,")):
+    def test_results_that_are_none_are_told(self) -> None:
+        for old, new, said in (
+            (
+                "idn on 1, over",
+                "idn on 2, over",
+                "2: serve has no measure `idn on 2, over the peer`",
+            ),
+            ("ratio,1.5", "ms,1.5", "3: the bench or the unit isn't that of the measure (ratio)"),
+            (",1.5,1", ",much,1", "3: no line of results: value"),
+            (",1.5,1", ",1.5,one", "3: no line of results: round"),
+            (",1.5,1", ",1.5,1,", "3: no line of results: 9 columns"),
+            ("2026-01-02,bbbbbbb", "2026-01-02,unknown", "3: no line of results: commit"),
+            ("date,commit", "commit,date", "1: its columns aren't date,commit,"),
+        ):
             self.write("bench/results/serve.csv", RESULTS.replace(old, new, 1))
-            for words in (), ("--check",):
+            for words in ((), ("--check",)):
                 status, told = self.ran(*words)
                 self.assertEqual(status, 1)
                 self.assertTrue(told.startswith("bench/results/serve.csv:" + said), told)
         self.write("bench/results/serve.csv", RESULTS)
         self.write("bench/results/soak.csv", RESULTS)
-        self.assertIn("bench/results/soak.csv:2: the bench or the unit isn't that of the measure", self.ran("--check")[1])
+        told = "bench/results/soak.csv:2: the bench or the unit isn't that of the measure"
+        self.assertIn(told, self.ran("--check")[1])
+
+    def test_what_no_source_says(self) -> None:
+        self.write(
+            "docs/THEOREMS.md",
+            "```\nensures   stands { Stands self.new }\n\nensures { Stands }\n```\n",
+        )
+        self.assertEqual(
+            list(book.unsaid(Repository(self.folder))), ["docs/THEOREMS.md:4: no source says this"]
+        )
 
 
 if __name__ == "__main__":

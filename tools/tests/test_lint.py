@@ -38,6 +38,7 @@ class Linting(unittest.TestCase):
             self.write(name, text)
         for name in ("lint", "clauses"):
             shutil.copy(os.path.join(TOOLS, name), os.path.join(self.top, "tools"))
+        os.symlink(TOOLS + "/scanvolt_tools", self.top + "/tools/scanvolt_tools")
 
     def write(self, name, text):
         path = os.path.join(self.top, name)

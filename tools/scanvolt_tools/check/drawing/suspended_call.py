@@ -1,33 +1,42 @@
 """The life of a suspended call: what it waits for, and how that ends."""
 import re
+from collections.abc import Iterable, Mapping, Sequence
 
-from drawing.canvas import Canvas, Fault, wrapped
-from drawing.sources import agree
+from .canvas import Canvas, Fault, wrapped
+from .sources import Sources, agree, part
 
 PAGE = "docs/INSTRUMENT.md"
 COLUMNS = ("Waits for", "Call", "Resumes when", "At most", "Timed out", "device_abort")
-WAITS, ADMISSION, RESUMING = "crates/sv_links/src/waiting.rt", "sv_history/Admission", "sv_history/Resuming"
+WAITS, ADMISSION, RESUMING = (
+    "crates/sv_links/src/waiting.rt",
+    "sv_history/Admission",
+    "sv_history/Resuming",
+)
 # What is waited for, if the page has another word for it than the code.
 WORDS = {"Lock": "the lock", "Dial": "dialing"}
 WIDE = 1040
 TOP, LEFT, BOX, STEP = 112, 196, (390, 80), 98
-LANES = (("it resumes", "green", 640), ("it times out", "amber", 746), ("device_abort", "red", 852),
-         ("connection closes", "soft", 958))
+LANES = (
+    ("it resumes", "green", 640),
+    ("it times out", "amber", 746),
+    ("device_abort", "red", 852),
+    ("connection closes", "soft", 958),
+)
 ENDS = 96
 
 
-def word(wait):
+def word(wait: str) -> str:
     """What is waited for, in the words of the page."""
     return WORDS.get(wait, wait.lower())
 
 
-def numbers(sources):
+def numbers(sources: Sources) -> dict[str, str]:
     """The numbers of the errors, by name."""
     lines = sources.equations("sv_vxi/ErrorCode", "error_number")
     return {left.split()[1]: right for left, right in lines.items()}
 
 
-def late(sources, waits):
+def late(sources: Sources, waits: Iterable[str]) -> dict[str, str]:
     """For each wait that has a deadline, the number of the error of a call that waited too long."""
     rules, codes = sources.equations(RESUMING, "late"), numbers(sources)
     text = sources.text("crates/sv_history/specs/Resuming.antt")
@@ -40,30 +49,41 @@ def late(sources, waits):
     return found
 
 
-def callers(sources):
+def callers(sources: Sources) -> dict[str, str]:
     """The calls that wait for the device and for dialing, by wait, with their names in VXI-11."""
     found = {}
     for left, right in sources.equations(ADMISSION, "device_wait").items():
         wait = re.search(r"Some \((\w+), timeout\)", right)
         if wait:
-            found[wait.group(1)] = re.search(r"\((\w+) ", left).group(1)
-    found[re.search(r"Awaits (\w+) None", sources.definition(ADMISSION, "channel_stop")).group(1)] = "CreateIntrChan"
+            found[wait.group(1)] = part(r"\((\w+) ", left)
+    found[
+        part(r"Awaits (\w+) None", sources.definition(ADMISSION, "channel_stop"))
+    ] = "CreateIntrChan"
     return {wait: re.sub(r"(?<!^)(?=[A-Z])", "_", name).lower() for wait, name in found.items()}
 
 
-def anew(sources):
+def anew(sources: Sources) -> tuple[str, list[str]]:
     """Which wait may lead to a further wait, and to which."""
     rules = sources.equations(RESUMING, "next_wait")
-    found = [re.match(r"next_wait (\w+) ", left).group(1) for left, right in rules.items() if right.startswith("device_wait")]
+    found = [
+        part(r"^next_wait (\w+) ", left)
+        for left, right in rules.items()
+        if right.startswith("device_wait")
+    ]
     if len(found) != 1:
-        raise Fault("crates/sv_history/specs/Resuming.antt: next_wait: not one wait leads to another")
+        raise Fault(
+            "crates/sv_history/specs/Resuming.antt: next_wait: not one wait leads to another"
+        )
     return found[0], [wait for wait in callers(sources) if wait != "Dial"]
 
 
-def aborted(sources, waits):
+def aborted(sources: Sources, waits: Iterable[str]) -> dict[str, str]:
     """For each wait, the error that device_abort gives to its call. It ends the calls that name the link."""
-    named = {re.match(r"link \(?(\w+)", left).group(1) for left, right in sources.equations("sv_vxi/Arguments", "link").items()
-             if right.startswith("Some")}
+    named = {
+        part(r"^link \(?(\w+)", left)
+        for left, right in sources.equations("sv_vxi/Arguments", "link").items()
+        if right.startswith("Some")
+    }
     whole = numbers(sources)["Abort"]
     found = dict.fromkeys(waits, whole)
     if "CreateIntrChan" not in named:
@@ -73,7 +93,7 @@ def aborted(sources, waits):
     return found
 
 
-def rows(sources):
+def rows(sources: Sources) -> tuple[dict[str, str], dict[str, list[str]]]:
     """The row of the page for each wait. Checks that it agrees with the definitions."""
     waits = sources.variants(WAITS, "Wait")
     page = {row[0]: row[1:] for row in sources.table(PAGE, *COLUMNS)}
@@ -88,18 +108,35 @@ def rows(sources):
     for wait, call in calls.items():
         if call not in re.findall(r"\w+", found[wait][0]):
             raise Fault("%s: %s: %s waits for it" % (PAGE, word(wait), call))
-    closing = sources.equations("sv_history/History", "own_acts").get("own_acts config polled (Close (Conn c)) log", "")
+    closing = sources.equations("sv_history/History", "own_acts").get(
+        "own_acts config polled (Close (Conn c)) log", ""
+    )
     if "Waited (Left c)" not in closing:
-        raise Fault("crates/sv_history/specs/History.antt: own_acts: a connection that closes doesn't end its call's wait")
+        raise Fault(
+            "crates/sv_history/specs/History.antt: own_acts: a connection that closes doesn't end its call's wait"
+        )
     return waits, found
 
 
-def lanes(canvas, bottom):
+def lanes(canvas: Canvas, bottom: float) -> None:
     """Draws how a wait ends, from the top down to what the call then returns."""
-    said = ("it is done, and answered", "an error; nothing changes", "an error; nothing changes", "no reply")
+    said = (
+        "it is done, and answered",
+        "an error; nothing changes",
+        "an error; nothing changes",
+        "no reply",
+    )
     for (name, ink, x), answer in zip(LANES, said):
         lines = wrapped(name, ENDS, 13, "bold")
-        canvas.lines(x, TOP - 1 - 17 * len(lines), lines, "%s bold" % ("ink" if ink == "soft" else ink), 13, "middle", ENDS + 4)
+        canvas.lines(
+            x,
+            TOP - 1 - 17 * len(lines),
+            lines,
+            "%s bold" % ("ink" if ink == "soft" else ink),
+            13,
+            "middle",
+            ENDS + 4,
+        )
         canvas.way([(x, TOP - 8), (x, bottom)], ink)
         look = "plain" if ink == "soft" else ink
         canvas.box(x - ENDS / 2, bottom, ENDS, 60, look)
@@ -107,7 +144,7 @@ def lanes(canvas, bottom):
         canvas.lines(x, bottom + 34 - 8 * (len(lines) - 1), lines, "ink", 12, "middle", ENDS - 6)
 
 
-def wait_row(canvas, y, name, row):
+def wait_row(canvas: Canvas, y: float, name: str, row: Sequence[str]) -> None:
     """Draws a wait: which calls have it, when they resume and how long it takes; and which lanes end it, with their results."""
     call, resumes, most, error, abort = row
     canvas.box(LEFT, y, *BOX, "blue")
@@ -126,7 +163,7 @@ def wait_row(canvas, y, name, row):
     canvas.lines(LANES[2][2] + 10, middle + 16, wrapped(but, 84, 11), "soft", 11)
 
 
-def ways(canvas, places, start, others):
+def ways(canvas: Canvas, places: Mapping[str, float], start: str, others: Iterable[str]) -> None:
     """Draws how a call comes to wait, and to wait again."""
     trunk, rail, middle = LEFT - 44, LEFT - 22, BOX[1] / 2
     ends = sorted(places.values())
@@ -139,15 +176,26 @@ def ways(canvas, places, start, others):
     canvas.lines(76, TOP + 170, said, "soft", 12, "middle", 110)
     canvas.way([(132, TOP + 186), (trunk, TOP + 186)], "blue", "")
     for other in others:
-        canvas.way([(LEFT, places[start] + BOX[1] - 14), (rail, places[start] + BOX[1] - 14), (rail, places[other] + 16),
-                    (LEFT, places[other] + 16)], "green")
+        canvas.way(
+            [
+                (LEFT, places[start] + BOX[1] - 14),
+                (rail, places[start] + BOX[1] - 14),
+                (rail, places[other] + 16),
+                (LEFT, places[other] + 16),
+            ],
+            "green",
+        )
 
 
-def draw(sources):
+def draw(sources: Sources) -> str:
     waits, found = rows(sources)
     start, others = anew(sources)
-    canvas = Canvas(WIDE, "A suspended call", "A call waits for the lock, for input, for a response or for dialing; it"
-                    " resumes, times out, is aborted, or its connection closes.")
+    canvas = Canvas(
+        WIDE,
+        "A suspended call",
+        "A call waits for the lock, for input, for a response or for dialing; it"
+        " resumes, times out, is aborted, or its connection closes.",
+    )
     canvas.heading("VXI-11, B.4.4 and B.6")
     places = {wait: TOP + STEP * place for place, wait in enumerate(waits)}
     lanes(canvas, TOP + STEP * len(waits) - 4)
@@ -156,5 +204,7 @@ def draw(sources):
     ways(canvas, places, start, others)
     y = TOP + STEP * len(waits) + 26
     canvas.way([(LEFT - 22, y), (LEFT + 8, y)], "green")
-    canvas.words(LEFT + 16, y + 4, "after the lock it may wait again, at its place in the order", "soft", 12)
+    canvas.words(
+        LEFT + 16, y + 4, "after the lock it may wait again, at its place in the order", "soft", 12
+    )
     return canvas.svg()

@@ -3,6 +3,7 @@
 It can be read on a light and on a dark page, and has a background of its own, since a page may be dark on a machine set to
 light. It brings no fonts. Room is computed for a wide font, so that words fit in other fonts too. Words without room are a fault.
 """
+from collections.abc import Iterable, Iterator, Sequence
 from xml.sax.saxutils import escape, quoteattr
 
 FONTS = "'Segoe UI','Helvetica Neue',Helvetica,Arial,'Liberation Sans','DejaVu Sans',sans-serif"
@@ -27,17 +28,23 @@ GROUNDS = {
     "red": ("#ffebe9", "#cf222e", "#361a1c", "#f85149"),
 }
 # The widths of characters, as parts of the font's size; then that of all others.
-WIDTHS = ((".,:;'|!ijlIJ ", 0.33), ("frt()[]/-\"*`", 0.42), ("mwMW@%", 0.97), ("ABCDEFGHKLNOPQRSTUVXYZ&+=<>#", 0.73))
+WIDTHS = (
+    (".,:;'|!ijlIJ ", 0.33),
+    ('frt()[]/-"*`', 0.42),
+    ("mwMW@%", 0.97),
+    ("ABCDEFGHKLNOPQRSTUVXYZ&+=<>#", 0.73),
+)
 OTHERS, FIXED_WIDTH, BOLD = 0.63, 0.61, 1.1
 # The free space below.
 MARGIN = 24
+Point = tuple[float, float]
 
 
 class Fault(Exception):
     """Why the picture can't be drawn, in one line."""
 
 
-def width(words, size=13, look=""):
+def width(words: str, size: float = 13, look: str = "") -> float:
     """How wide words are at most."""
     if "fixed" in look:
         return FIXED_WIDTH * size * len(words)
@@ -45,9 +52,9 @@ def width(words, size=13, look=""):
     return whole * size * (BOLD if "bold" in look else 1)
 
 
-def wrapped(text, room, size=12, look=""):
+def wrapped(text: str, room: float, size: float = 12, look: str = "") -> list[str]:
     """A text as lines that fit in this room."""
-    lines = []
+    lines: list[str] = []
     for word in text.split():
         longer = lines[-1] + " " + word if lines else word
         if lines and width(longer, size, look) <= room:
@@ -57,33 +64,46 @@ def wrapped(text, room, size=12, look=""):
     return lines
 
 
-def style(dark):
+def style(dark: bool) -> Iterator[str]:
     """The style rules for light, or for dark."""
     for name, inks in INKS.items():
         yield ".%s{fill:%s}.line-%s{stroke:%s}" % (name, inks[dark], name, inks[dark])
     for name, grounds in GROUNDS.items():
-        yield ".on-%s{fill:%s;stroke:%s}" % ((name,) + grounds[2 * dark:2 * dark + 2])
+        yield ".on-%s{fill:%s;stroke:%s}" % ((name,) + grounds[2 * dark : 2 * dark + 2])
 
 
 class Canvas:
     """A picture that is being drawn. It becomes as high as needed."""
 
-    def __init__(self, wide, title, told):
+    def __init__(self, wide: float, title: str, told: str) -> None:
         self.wide = wide
-        self.lowest = 0
+        self.lowest: float = 0
         self.title = title
         self.told = told
-        self.parts = []
+        self.parts: list[str] = []
 
-    def box(self, x, y, wide, high, look="plain", corner=6):
+    def box(
+        self, x: float, y: float, wide: float, high: float, look: str = "plain", corner: float = 6
+    ) -> None:
         if x < 0 or x + wide > self.wide:
             raise Fault("%s: a box leaves the picture" % self.title)
         self.lowest = max(self.lowest, y + high)
         dashes = ' stroke-dasharray="5 4"' if look == "room" else ""
-        self.parts.append('<rect x="%g" y="%g" width="%g" height="%g" rx="%g" class="on-%s"%s/>'
-                          % (x, y, wide, high, corner, look, dashes))
+        self.parts.append(
+            '<rect x="%g" y="%g" width="%g" height="%g" rx="%g" class="on-%s"%s/>'
+            % (x, y, wide, high, corner, look, dashes)
+        )
 
-    def words(self, x, y, text, look="ink", size=13, anchor="start", room=None):
+    def words(
+        self,
+        x: float,
+        y: float,
+        text: str,
+        look: str = "ink",
+        size: float = 13,
+        anchor: str = "start",
+        room: float | None = None,
+    ) -> None:
         """Writes words on a line with baseline y. `look` is an ink, with `bold` or `fixed` if they apply."""
         wide = width(text, size, look)
         left = {"start": x, "middle": x - wide / 2, "end": x - wide}[anchor]
@@ -91,16 +111,30 @@ class Canvas:
             raise Fault("%s: there is no room for '%s'" % (self.title, text))
         self.lowest = max(self.lowest, y)
         where = "" if anchor == "start" else ' text-anchor="%s"' % anchor
-        self.parts.append('<text x="%g" y="%g" font-size="%g" class="%s"%s>%s</text>' % (x, y, size, look, where, escape(text)))
+        self.parts.append(
+            '<text x="%g" y="%g" font-size="%g" class="%s"%s>%s</text>'
+            % (x, y, size, look, where, escape(text))
+        )
 
-    def lines(self, x, y, lines, look="ink", size=12, anchor="start", room=None):
+    def lines(
+        self,
+        x: float,
+        y: float,
+        lines: Iterable[str],
+        look: str = "ink",
+        size: float = 12,
+        anchor: str = "start",
+        room: float | None = None,
+    ) -> float:
         """Writes lines below each other. Returns where the next one would be."""
         for line in lines:
             self.words(x, y, line, look, size, anchor, room)
             y += round(size * 1.3)
         return y
 
-    def way(self, points, ink="soft", heads="end", dashed=False):
+    def way(
+        self, points: Sequence[Point], ink: str = "soft", heads: str = "end", dashed: bool = False
+    ) -> None:
         """Draws a line through these points, with an arrowhead at its end, at both ends, or at none."""
         path = "M" + "L".join("%g %g" % point for point in points)
         dashes = ' stroke-dasharray="5 4"' if dashed else ""
@@ -110,32 +144,55 @@ class Canvas:
         if heads == "both":
             self.head(points[1], points[0], ink)
 
-    def head(self, before, at, ink):
+    def head(self, before: Point, at: Point, ink: str) -> None:
         """Draws an arrowhead, along the axis on which the line comes."""
         (x, y), across = at, before[1] == at[1]
         back = -8 if (at[0] > before[0] if across else at[1] > before[1]) else 8
-        sides = ((x + back, y - 4), (x + back, y + 4)) if across else ((x - 4, y + back), (x + 4, y + back))
-        self.parts.append('<path d="M%g %gL%g %gL%g %gZ" class="%s"/>' % (at + sides[0] + sides[1] + (ink,)))
+        sides = (
+            ((x + back, y - 4), (x + back, y + 4))
+            if across
+            else ((x - 4, y + back), (x + 4, y + back))
+        )
+        self.parts.append(
+            '<path d="M%g %gL%g %gL%g %gZ" class="%s"/>' % (at + sides[0] + sides[1] + (ink,))
+        )
 
-    def dot(self, x, y, ink="soft", radius=5):
+    def dot(self, x: float, y: float, ink: str = "soft", radius: float = 5) -> None:
         self.parts.append('<circle cx="%g" cy="%g" r="%g" class="%s"/>' % (x, y, radius, ink))
 
-    def heading(self, further):
+    def heading(self, further: str) -> None:
         """Writes the title, and further words after it."""
         self.words(24, 36, self.title, "ink bold", 18)
         self.words(24 + width(self.title, 18, "bold") + 12, 36, further, "soft", 13)
 
-    def svg(self):
+    def svg(self) -> str:
         """The text of the SVG file."""
         wide, high = self.wide, self.lowest + MARGIN
-        rules = "".join(style(0)) + "@media (prefers-color-scheme:dark){" + "".join(style(1)) + "}"
+        rules = (
+            "".join(style(False))
+            + "@media (prefers-color-scheme:dark){"
+            + "".join(style(True))
+            + "}"
+        )
         fonts = "text{font-family:%s}.fixed{font-family:%s}.bold{font-weight:bold}" % (FONTS, FIXED)
         fixed = fonts + ".way{fill:none;stroke-width:1.5}"
-        head = '<svg xmlns="http://www.w3.org/2000/svg" viewBox="0 0 %g %g" width="%g" height="%g" role="img" aria-label=%s>' % (
-            wide, high, wide, high, quoteattr(self.title))
-        return "\n".join((
-            head, "<!-- Written by tools/pictures from the sources and documents; change those and run it. -->",
-            "<title>%s</title>" % escape(self.title), "<desc>%s</desc>" % escape(self.told),
-            "<style>%s</style>" % (fixed + rules),
-            '<rect x="0.5" y="0.5" width="%g" height="%g" rx="10" class="on-page"/>' % (wide - 1, high - 1),
-            *self.parts, "</svg>")) + "\n"
+        head = (
+            '<svg xmlns="http://www.w3.org/2000/svg" viewBox="0 0 %g %g" width="%g" height="%g" role="img" aria-label=%s>'
+            % (wide, high, wide, high, quoteattr(self.title))
+        )
+        return (
+            "\n".join(
+                (
+                    head,
+                    "<!-- Written by tools/pictures from the sources and documents; change those and run it. -->",
+                    "<title>%s</title>" % escape(self.title),
+                    "<desc>%s</desc>" % escape(self.told),
+                    "<style>%s</style>" % (fixed + rules),
+                    '<rect x="0.5" y="0.5" width="%g" height="%g" rx="10" class="on-page"/>'
+                    % (wide - 1, high - 1),
+                    *self.parts,
+                    "</svg>",
+                )
+            )
+            + "\n"
+        )
