@@ -8,124 +8,183 @@ import re
 import shutil
 import socket
 import subprocess
-import sys
 import tempfile
 import threading
 import unittest
+from typing import Any
 from unittest import mock
 
-sys.dont_write_bytecode = True
-TOP = os.path.dirname(os.path.dirname(os.path.dirname(os.path.abspath(__file__))))
-sys.path[:0] = [TOP + "/bench", TOP + "/python", TOP + "/tools"]
+import folders
+from folders import TOP
 
-import measures                                                 # noqa: E402
-import rounds                                                   # noqa: E402
-from scanvolt.vxi11 import Reader, Records, encode_reply, words     # noqa: E402
+import measures
+import rounds
+from scanvolt.vxi11 import Reader, Records, encode_reply, words
+from scanvolt_tools.attack import hostile, soak
 
 PRINTS = "#!/bin/sh\nexec cat\n"
 
 
-def loaded(path):
+def loaded(path: str) -> Any:
     """A command as a module."""
-    loader = importlib.machinery.SourceFileLoader(os.path.basename(path) + "_command", "%s/%s" % (TOP, path))
-    module = importlib.util.module_from_spec(importlib.util.spec_from_loader(loader.name, loader))
+    loader = importlib.machinery.SourceFileLoader(
+        os.path.basename(path) + "_command", "%s/%s" % (TOP, path)
+    )
+    spec = importlib.util.spec_from_loader(loader.name, loader)
+    assert spec is not None
+    module = importlib.util.module_from_spec(spec)
     loader.exec_module(module)
     return module
 
 
-class Folders(unittest.TestCase):
-    """Tests that have a temporary folder."""
+class Folders(folders.Folders):
+    """Tests that write scripts."""
 
-    def setUp(self):
-        temporary = tempfile.TemporaryDirectory(prefix="bench-")
-        self.addCleanup(temporary.cleanup)
-        self.folder = temporary.name
-
-    def write(self, name, text):
-        path = os.path.join(self.folder, name)
-        with open(path, "w", encoding="ascii") as file:
-            file.write(text)
-        os.chmod(path, 0o755)
-        return path
+    def script(self, name: str, text: str) -> str:
+        """Writes a script, or what one reads. Returns its path."""
+        return self.write(name, text, 0o755)
 
 
 class Rounds(unittest.TestCase):
-
-    def test_the_median_and_its_confidence_are_values(self):
+    def test_the_median_and_its_confidence_are_values(self) -> None:
         self.assertEqual(rounds.median([3, 1, 2]), 2)
         self.assertEqual(rounds.median([4, 3, 1, 2]), 2)
-        for count, places in (1, (1, 1)), (2, (1, 2)), (5, (1, 5)), (6, (1, 6)), (9, (2, 8)), (15, (4, 12)), (31, (10, 22)):
+        for count, places in (
+            (1, (1, 1)),
+            (2, (1, 2)),
+            (5, (1, 5)),
+            (6, (1, 6)),
+            (9, (2, 8)),
+            (15, (4, 12)),
+            (31, (10, 22)),
+        ):
             self.assertEqual(rounds.interval(list(range(count, 0, -1))), places)
 
-    def test_each_comes_first_in_every_other_round(self):
-        order = []
-        found = rounds.in_turn(3, lambda: order.append("A") or 2, lambda: order.append("B") or 3)
+    def test_each_comes_first_in_every_other_round(self) -> None:
+        order: list[str] = []
+
+        def first() -> int:
+            order.append("A")
+            return 2
+
+        def second() -> int:
+            order.append("B")
+            return 3
+
+        found = rounds.in_turn(3, first, second)
         self.assertEqual(("".join(order), found), ("ABBAAB", ([2, 2, 2], [3, 3, 3])))
         self.assertEqual(rounds.ratios(*found), [1.5] * 3)
 
 
 class Measures(unittest.TestCase):
-
-    def test_a_name_is_that_of_one_measure(self):
+    def test_a_name_is_that_of_one_measure(self) -> None:
         self.assertEqual(measures.find("gate", "proof of sv_text").measure, "proof of {crate}")
-        for bench, name in ("gate", "proof of sv text"), ("gate", "proof of "), ("serve", "whole run"), ("none", "whole run"):
+        for bench, name in (
+            ("gate", "proof of sv text"),
+            ("gate", "proof of "),
+            ("serve", "whole run"),
+            ("none", "whole run"),
+        ):
             with self.assertRaises(measures.Unknown):
                 measures.find(bench, name)
         names = [(one.bench, one.measure) for one in measures.known()]
         self.assertEqual(len(names), len(set(names)))
 
-    def test_an_aim_is_missed_by_a_value_beyond_it(self):
-        for name, aim, values in (("idn on 1, over the peer", "at least 1.35", ((1.34, True), (1.35, False), (1.36, False))),
-                                  ("idn on 1, the peer", "", ((0, False),))):
+    def test_an_aim_is_missed_by_a_value_beyond_it(self) -> None:
+        for name, aim, values in (
+            (
+                "idn on 1, over the peer",
+                "at least 1.35",
+                ((1.34, True), (1.35, False), (1.36, False)),
+            ),
+            ("idn on 1, the peer", "", ((0, False),)),
+        ):
             measure = measures.find("serve", name)
             self.assertEqual(measure.aim, aim)
-            self.assertEqual([(value, measure.is_missed(value)) for value, _ in values], list(values))
+            self.assertEqual(
+                [(value, measure.is_missed(value)) for value, _ in values], list(values)
+            )
         self.assertTrue(measures.find("hostile", "share of a core while idle").is_missed(2.01))
         for measure in measures.known():
-            self.assertTrue(measure.aim in ("", "1: no fall", "1: no growth") or measures.AIM.fullmatch(measure.aim), measure)
+            self.assertTrue(
+                measure.aim in ("", "1: no fall", "1: no growth")
+                or measures.AIM.fullmatch(measure.aim),
+                measure,
+            )
 
-    def test_what_the_benches_measure_is_listed(self):
+    def test_what_the_benches_measure_is_listed(self) -> None:
         run, serve = loaded("bench/run"), loaded("bench/serve")
         names = set()
         for name in rounds.SCRIPTS:
             for kind in [name] + [name + ", peak memory"] * (name not in run.WITHOUT_PEAKS):
                 names |= {("replay", kind + ending) for ending in ("", run.TEN, run.OVER)}
-            names |= {("replay", name + ending) for ending in (", explained", ", explained over replayed")
-                      if name in run.EXPLAINS}
+            names |= {
+                ("replay", name + ending)
+                for ending in (", explained", ", explained over replayed")
+                if name in run.EXPLAINS
+            }
             names |= {("turn", "%s %s" % (word, name)) for word in ("replay", "explain")}
-        names |= {("turn", "serve %s on %d%s" % (*load, part)) for load in loaded("bench/turn").LOADS
-                  for part in ("", ", on one core")}
+        names |= {
+            ("turn", "serve %s on %d%s" % (*load, part))
+            for load in loaded("bench/turn").LOADS
+            for part in ("", ", on one core")
+        }
         for part, loads in ("", serve.ANY_CORE), (", on one core", serve.ONE_CORE):
             for other, (kind, count) in [("peer", one) for one in loads] + [("echo", ("idn", 1))]:
-                names |= {("serve", "%s on %d%s, %s" % (kind, count, part, ending))
-                          for ending in ("over the " + other, "beside the " + other, "the " + other)}
-        names |= {("hostile", name + ending) for name, _ in loaded("tools/hostile").STAGES
-                  for ending in (": connections", ": replies beside")}
-        names |= {("soak", "long run: attacks, " + action.__name__) for action in loaded("tools/soak").ACTIONS}
+                names |= {
+                    ("serve", "%s on %d%s, %s" % (kind, count, part, ending))
+                    for ending in ("over the " + other, "beside the " + other, "the " + other)
+                }
+        names |= {
+            ("hostile", name + ending)
+            for name, _ in hostile.STAGES
+            for ending in (": connections", ": replies beside")
+        }
+        names |= {("soak", "long run: attacks, " + action.__name__) for action in soak.ACTIONS}
         for bench, name in names:
             measures.find(bench, name)
-        self.assertEqual({name for bench, name in names if bench == "replay"},
-                         {one.measure for one in measures.known() if one.bench == "replay"})
+        self.assertEqual(
+            {name for bench, name in names if bench == "replay"},
+            {one.measure for one in measures.known() if one.bench == "replay"},
+        )
 
-    def test_values_are_printed_and_kept(self):
+    def test_values_are_printed_and_kept(self) -> None:
         found, told = measures.Found("serve"), io.StringIO()
         with contextlib.redirect_stdout(told):
             found.each("idn on 1, over the peer", [1.5, 1.0, 1.25])
             found.row("idn on 1, the peer", 45000, "of 3")
-        self.assertEqual([re.split("  +", line) for line in told.getvalue().splitlines()],
-                         [["idn on 1, over the peer", "1.25 ratio", "at least 1.35"], ["idn on 1, the peer", "45,000 queries/s"]])
-        self.assertEqual(found.rows, [("idn on 1, over the peer", 1.5, 1), ("idn on 1, over the peer", 1.0, 2),
-                                      ("idn on 1, over the peer", 1.25, 3), ("idn on 1, the peer", 45000, "of 3")])
+        self.assertEqual(
+            [re.split("  +", line) for line in told.getvalue().splitlines()],
+            [
+                ["idn on 1, over the peer", "1.25 ratio", "at least 1.35"],
+                ["idn on 1, the peer", "45,000 queries/s"],
+            ],
+        )
+        self.assertEqual(
+            found.rows,
+            [
+                ("idn on 1, over the peer", 1.5, 1),
+                ("idn on 1, over the peer", 1.0, 2),
+                ("idn on 1, over the peer", 1.25, 3),
+                ("idn on 1, the peer", 45000, "of 3"),
+            ],
+        )
         self.assertEqual(found.missed, ["idn on 1, over the peer: 1.25, and not at least 1.35"])
         with self.assertRaises(measures.Unknown):
             found.row("idn on 1", 1)
 
-    def test_values_are_kept_as_numbers(self):
+    def test_values_are_kept_as_numbers(self) -> None:
         for bench, name, value, kept in (
-                ("replay", "ticks", 17123456.789, "17123456.79"), ("serve", "idn on 1, the peer", 45000.0, "45000"),
-                ("serve", "idn on 1, over the peer", 1 / 3, "0.3333"), ("soak", "long run: minutes", 0.5, "0.500"),
-                ("turn", "replay ticks", 1.0, "1"), ("hostile", "memory afterwards, more than before", -4, "-4")):
-            with mock.patch.object(measures.subprocess, "run", return_value=mock.Mock(returncode=0)) as run:
+            ("replay", "ticks", 17123456.789, "17123456.79"),
+            ("serve", "idn on 1, the peer", 45000.0, "45000"),
+            ("serve", "idn on 1, over the peer", 1 / 3, "0.3333"),
+            ("soak", "long run: minutes", 0.5, "0.500"),
+            ("turn", "replay ticks", 1.0, "1"),
+            ("hostile", "memory afterwards, more than before", -4, "-4"),
+        ):
+            with mock.patch.object(
+                measures.subprocess, "run", return_value=mock.Mock(returncode=0)
+            ) as run:
                 found = measures.Found(bench)
                 found.take(name, value, "of 3")
                 self.assertTrue(found.keep())
@@ -136,21 +195,25 @@ class Measures(unittest.TestCase):
 class Run(Folders):
     """The parts of bench/run, with programs that print what they read, or something else."""
 
-    def bench(self, text):
+    def bench(self, text: str) -> Any:
         for ending in "script", "expected":
-            self.write("short." + ending, "c0 00\nrefused 4\n")
-        return loaded("bench/run").Bench(self.write("program", "#!/bin/sh\n" + text), self.folder)
+            self.script("short." + ending, "c0 00\nrefused 4\n")
+        return loaded("bench/run").Bench(self.script("program", "#!/bin/sh\n" + text), self.folder)
 
-    def test_replays_are_compared(self):
+    def test_replays_are_compared(self) -> None:
         self.assertGreater(self.bench("exec cat\n").fastest("short", "replay", 2), 0)
         explains = self.bench("echo '- call c0'; echo '= a 1'; echo '@ 1 0'; exec cat\n")
         self.assertGreater(explains.fastest("short", "explain", 2), 0)
-        with self.assertRaisesRegex(rounds.Failure, "other lines than expected: 1 of them, where 2 are"):
+        with self.assertRaisesRegex(
+            rounds.Failure, "other lines than expected: 1 of them, where 2 are"
+        ):
             self.bench("echo other\n").fastest("short", "replay", 1)
-        with self.assertRaisesRegex(rounds.Failure, "on the script short `.*program replay` failed: 3"):
+        with self.assertRaisesRegex(
+            rounds.Failure, "on the script short `.*program replay` failed: 3"
+        ):
             self.bench("exit 3\n").fastest("short", "replay", 1)
 
-    def test_memory_is_read_while_the_program_runs(self):
+    def test_memory_is_read_while_the_program_runs(self) -> None:
         self.assertGreater(self.bench("exec cat\n").peak("short"), 0)
         with self.assertRaisesRegex(rounds.Failure, "the program stopped"):
             self.bench("exit 3\n").peak("short")
@@ -161,33 +224,51 @@ class Run(Folders):
 
 
 class Turn(Folders):
-
-    def setUp(self):
+    def setUp(self) -> None:
         super().setUp()
-        self.script = self.write("a.replay", "open 0 core\ntick 9\n")
+        self.replayed = self.script("a.replay", "open 0 core\ntick 9\n")
 
-    def turn(self, first, second):
+    def turn(self, first: str, second: str) -> tuple[int, str]:
         """The status and what is printed."""
-        done = subprocess.run([TOP + "/bench/turn", "--rounds", "1", "--script", self.script, "--only", "replay " + self.script,
-                               first, second], capture_output=True, text=True, check=False)
+        done = subprocess.run(
+            [
+                TOP + "/bench/turn",
+                "--rounds",
+                "1",
+                "--script",
+                self.replayed,
+                "--only",
+                "replay " + self.replayed,
+                first,
+                second,
+            ],
+            capture_output=True,
+            text=True,
+            check=False,
+        )
         return done.returncode, done.stdout + done.stderr
 
-    def test_two_programs_are_compared(self):
-        first, second = self.write("first", PRINTS), self.write("second", PRINTS)
+    def test_two_programs_are_compared(self) -> None:
+        first, second = self.script("first", PRINTS), self.script("second", PRINTS)
         status, told = self.turn(first, second)
         self.assertEqual(status, 0, told)
         lines = told.splitlines()
         self.assertEqual(lines[:2], ["A: " + first, "B: " + second])
-        self.assertRegex(lines[3], r"^replay %s: events a second +[\d,]+ +[\d,]+ +(\d\.\d{3})  \1 to \1$" % self.script)
+        self.assertRegex(
+            lines[3],
+            r"^replay %s: events a second +[\d,]+ +[\d,]+ +(\d\.\d{3})  \1 to \1$" % self.replayed,
+        )
 
-    def test_other_lines_are_told(self):
-        status, told = self.turn(self.write("first", PRINTS), self.write("second", "#!/bin/sh\necho other\n"))
+    def test_other_lines_are_told(self) -> None:
+        status, told = self.turn(
+            self.script("first", PRINTS), self.script("second", "#!/bin/sh\necho other\n")
+        )
         self.assertEqual(status, 1)
-        self.assertIn("replay %s: A and B print different lines\n" % self.script, told)
+        self.assertIn("replay %s: A and B print different lines\n" % self.replayed, told)
 
-    def test_a_program_that_fails_is_told(self):
-        second = self.write("second", "#!/bin/sh\nexit 7\n")
-        status, told = self.turn(self.write("first", PRINTS), second)
+    def test_a_program_that_fails_is_told(self) -> None:
+        second = self.script("second", "#!/bin/sh\nexit 7\n")
+        status, told = self.turn(self.script("first", PRINTS), second)
         self.assertEqual(status, 2)
         self.assertIn("turn: on the script a `%s replay` failed: 7" % second, told)
         status, told = self.turn(second, self.folder)
@@ -195,11 +276,12 @@ class Turn(Folders):
         self.assertIn("is a folder", told)
 
 
-def answer(listener, connections, good):
+def answer(listener: socket.socket, connections: int, good: int) -> None:
     """Answers the calls of each connection: the first, create_link, and `good` device_readstb. Then it answers nothing more
     on the first connection, something else on the second, and ends the third.
     """
-    def serve(peer, kind):
+
+    def serve(peer: socket.socket, kind: int) -> None:
         records, count = Records(), 0
         with peer:
             for data in iter(lambda: peer.recv(4096), b""):
@@ -212,26 +294,36 @@ def answer(listener, connections, good):
                         peer.sendall(encode_reply(xid, words(0 if count <= good + 1 else 4, 0)))
                     elif kind == 2:
                         return
+
     for kind in range(connections):
         threading.Thread(target=serve, args=(listener.accept()[0], kind), daemon=True).start()
 
 
 @unittest.skipUnless(shutil.which("cc"), "it needs a C compiler")
 class Load(unittest.TestCase):
-
-    def test_lost_replies_are_counted_and_the_others_go_on(self):
-        with tempfile.TemporaryDirectory(prefix="bench-") as folder, socket.create_server(("127.0.0.1", 0)) as listener:
+    def test_lost_replies_are_counted_and_the_others_go_on(self) -> None:
+        with tempfile.TemporaryDirectory(prefix="bench-") as folder, socket.create_server(
+            ("127.0.0.1", 0)
+        ) as listener:
             source = os.path.join(folder, "load.c")
-            with open(TOP + "/bench/load.c", encoding="ascii") as file, open(source, "w", encoding="ascii") as changed:
+            with open(TOP + "/bench/load.c", encoding="ascii") as file, open(
+                source, "w", encoding="ascii"
+            ) as changed:
                 changed.write(file.read().replace("TIMEOUT = 10000", "TIMEOUT = 300"))
             built = rounds.compiled(folder, "load", [source])
             server = threading.Thread(target=answer, args=(listener, 3, 5), daemon=True)
             server.start()
-            told = subprocess.run([built, "stb", str(listener.getsockname()[1]), "3", "0.1"], capture_output=True, text=True,
-                                  check=False)
+            told = subprocess.run(
+                [built, "stb", str(listener.getsockname()[1]), "3", "0.1"],
+                capture_output=True,
+                text=True,
+                check=False,
+            )
         self.assertEqual((told.returncode, told.stdout), (1, "0 15 3\n"))
-        self.assertEqual(sorted(told.stderr.splitlines()),
-                         ["load: a reply differs", "load: no reply came", "load: the connection ended"])
+        self.assertEqual(
+            sorted(told.stderr.splitlines()),
+            ["load: a reply differs", "load: no reply came", "load: the connection ended"],
+        )
 
 
 if __name__ == "__main__":

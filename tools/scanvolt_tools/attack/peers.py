@@ -1,23 +1,27 @@
 """The hostile peers, one function each. A connection may well be refused, dropped or reset: it may be the
 seventeenth, or its bytes weren't a call.
 """
+import random
 import socket
 import time
 
-from attacking.calls import TIMEOUT, Dropped, Lost, Peer, reset
 from scanvolt.vxi11 import calls, encode_call, encode_reply, mark, record, words
+from scanvolt.vxi11.calls import Call
 from scanvolt.vxi11.errors import LOCKED, NOT_ESTABLISHED
 
+from .calls import TIMEOUT, Dropped, Lost, Peer, reset
+from .served import Server
+
 PLACES = 16
-LONGEST = 0xFFFFFFFF    # the longest timeout, in milliseconds
+LONGEST = 0xFFFFFFFF  # the longest timeout, in milliseconds
 ASK_PORT = calls.getport(calls.CORE, 1)
 # Bytes after a waiting call that leave the connection no room: further calls, or a record that is too long.
 FURTHER, TOO_LONG = calls.null().encode(1) * 1000, mark(8193)
 
 
-def visit(server, chance):
+def visit(server: Server, chance: random.Random) -> None:
     """Drops a connection at a random byte of its calls."""
-    door = chance.choices(("core", "abort", "portmap"), (8, 1, 1))[0]
+    door = chance.choices(("core", "abort", "port_mapper"), (8, 1, 1))[0]
     peer = None
     try:
         peer = Peer(getattr(server, door), chance.randrange(1, 420 if door == "core" else 60))
@@ -35,7 +39,7 @@ def visit(server, chance):
             peer.drop(chance)
 
 
-def noise(chance):
+def noise(chance: random.Random) -> bytes:
     """Makes 10,000 random bytes: bare, in records, or as the arguments of calls."""
     kind = chance.randrange(3)
     data = b""
@@ -46,11 +50,13 @@ def noise(chance):
         elif kind == 1:
             data += record(rest)
         else:
-            data += encode_call(len(data), calls.CORE, 1, chance.randrange(calls.DESTROY_INTR_CHAN + 2), rest)
+            data += encode_call(
+                len(data), calls.CORE, 1, chance.randrange(calls.DESTROY_INTR_CHAN + 2), rest
+            )
     return data[:10000]
 
 
-def send_noise(server, chance):
+def send_noise(server: Server, chance: random.Random) -> None:
     """Sends random bytes, and waits a little for what the server does with them."""
     with Peer(chance.choice(server.ports)) as peer:
         peer.socket.settimeout(0.5)
@@ -61,7 +67,7 @@ def send_noise(server, chance):
             pass
 
 
-def reset_early(server, chance):
+def reset_early(server: Server, chance: random.Random) -> None:
     """Resets a connection while replies are on their way."""
     try:
         peer = Peer(server.core)
@@ -72,12 +78,12 @@ def reset_early(server, chance):
         pass
 
 
-def half_close(server, chance):
+def half_close(server: Server, chance: random.Random) -> None:
     """Shuts down its sending direction after some calls, or within one. The server has to close the connection."""
     with Peer(server.core) as peer:
         data = calls.null().encode(1) * 3
         try:
-            peer.send(data[:chance.randrange(1, len(data) + 1)])
+            peer.send(data[: chance.randrange(1, len(data) + 1)])
             peer.socket.shutdown(socket.SHUT_WR)
             while peer.socket.recv(65536):
                 pass
@@ -87,12 +93,12 @@ def half_close(server, chance):
             raise Lost("a connection that its peer has half closed stays open") from None
 
 
-def remote(listener):
+def remote(listener: socket.socket) -> Call[None]:
     """A create_intr_chan to the port of this listener."""
     return calls.create_intr_chan(calls.LOOPBACK, listener.getsockname()[1])
 
 
-def raise_once(peer):
+def raise_once(peer: Peer) -> None:
     """Causes a service request, while it holds the lock, and clears the request."""
     peer.lock()
     peer.write(b"*CLS;*SRE 4;UNKNOWN\n")
@@ -100,7 +106,7 @@ def raise_once(peer):
     peer.unlock()
 
 
-def interrupt_channel(server, chance):
+def interrupt_channel(server: Server, chance: random.Random) -> None:
     """Has the instrument connect to a port that refuses it, resets it before its service request, or never
     accepts it; or leaves while the instrument dials."""
     kind = chance.choice(("refuse", "reset", "ignore", "leave"))
@@ -125,7 +131,7 @@ def interrupt_channel(server, chance):
                 raise Lost("an interrupt channel that was reset still exists: %s" % found.hex())
 
 
-def take_the_lock(server, chance):
+def take_the_lock(server: Server, chance: random.Random) -> None:
     """Takes the lock, or waits for it, and leaves."""
     with Peer(server.core) as peer:
         peer.make_link()
@@ -138,7 +144,7 @@ def take_the_lock(server, chance):
         peer.drop(chance)
 
 
-def fill_channel(server, chance):
+def fill_channel(server: Server, chance: random.Random) -> None:
     """Causes 33 service requests by one message: its channel has room for 32 of them."""
     with Peer(server.core) as peer, socket.create_server(("127.0.0.1", 0)) as listener:
         peer.make_link()
@@ -162,7 +168,7 @@ def fill_channel(server, chance):
                     raise Lost("a channel gets fewer calls than it has room for")
 
 
-def never_read(server, chance):
+def never_read(server: Server, chance: random.Random) -> None:
     """Sends calls and reads no reply, until the server reads no more calls. Then stays for a while."""
     with Peer(server.core, narrow=True) as peer:
         rest = nothing = calls.null().encode(1) * 500
@@ -170,13 +176,13 @@ def never_read(server, chance):
         end = time.monotonic() + chance.uniform(0.5, 3)
         while time.monotonic() < end:
             try:
-                rest = rest[peer.socket.send(rest):] or nothing
+                rest = rest[peer.socket.send(rest) :] or nothing
             except BlockingIOError:
                 time.sleep(0.02)
         peer.drop(chance)
 
 
-def all_gone(server, behind):
+def all_gone(server: Server, behind: bytes) -> float:
     """Takes all places with peers, each of which has a call that waits, and these bytes after it. Then resets
     all at once. Returns how many milliseconds later a new client was served.
     """
@@ -188,10 +194,10 @@ def all_gone(server, behind):
     peers[0].write(b"*RST;*CLS;:TRIG:SOUR EXT;:INIT;*OPC?\n")
     for place, peer in enumerate(peers):
         if place == 0:
-            waiting = calls.device_read(peer.link, 1024, LONGEST)
+            waiting = calls.device_read(peer.link, 1024, LONGEST).encode(9)
         else:
-            waiting = calls.device_lock(peer.link, LONGEST)
-        peer.send(waiting.encode(9) + behind)
+            waiting = calls.device_lock(peer.link, LONGEST).encode(9)
+        peer.send(waiting + behind)
     time.sleep(0.2)
     for peer in peers:
         peer.socket.setblocking(False)
@@ -199,7 +205,9 @@ def all_gone(server, behind):
             answer = peer.socket.recv(1)
         except BlockingIOError:
             continue
-        raise Lost("a call that should wait was answered, or its connection closed: %s" % answer.hex())
+        raise Lost(
+            "a call that should wait was answered, or its connection closed: %s" % answer.hex()
+        )
     for peer in peers:
         reset(peer.socket)
     time.sleep(0.2)
@@ -213,7 +221,7 @@ def all_gone(server, behind):
     return 1000 * (time.monotonic() - begun)
 
 
-def half_closed(server):
+def half_closed(server: Server) -> None:
     """Shuts down its sending direction while its call waits and the server reads no more. It must get the reply."""
     with Peer(server.core) as holder, Peer(server.core) as peer:
         holder.make_link()
@@ -225,12 +233,16 @@ def half_closed(server):
         try:
             found = peer.take(len(wanted))
         except OSError as fault:
-            raise Lost("a call that waits isn't answered where its peer sends no more: %s" % fault) from None
+            raise Lost(
+                "a call that waits isn't answered where its peer sends no more: %s" % fault
+            ) from None
         if found != wanted:
-            raise Lost("where its peer sends no more, a call returns something else: %s" % found.hex())
+            raise Lost(
+                "where its peer sends no more, a call returns something else: %s" % found.hex()
+            )
 
 
-def urgent(server, chance):
+def urgent(server: Server, chance: random.Random) -> None:
     """Sends a byte of urgent data between two calls. It must get both replies."""
     with Peer(server.core) as peer:
         peer.make_link()
@@ -250,12 +262,12 @@ def urgent(server, chance):
             raise Lost("calls around a byte of urgent data return something else: %s" % found.hex())
 
 
-def all_places(server, taken=1):
+def all_places(server: Server, taken: int = 1) -> None:
     """Checks, three times, that the port mapper serves again, and all places except `taken` of them."""
     try:
         for _ in range(3):
             time.sleep(0.2)
-            with Peer(server.portmap) as peer:
+            with Peer(server.port_mapper) as peer:
                 if peer.result(ASK_PORT) != words(server.core):
                     raise Lost("the port mapper returns something else")
             time.sleep(0.2)

@@ -1,14 +1,17 @@
 """A client that makes calls of VXI-11, and may break off within one."""
+import random
 import socket
 import struct
+from typing import Any
 
 from scanvolt.vxi11 import DeviceError, Records, XdrError, calls, encode_reply, opaque, words
+from scanvolt.vxi11.calls import Call
 from scanvolt.vxi11.errors import OUT_OF_RESOURCES
 from scanvolt.vxi11.rpc import RESULT_AT
 
 NAME = b"SCANVOLT,SV32,0,1.0\n"
-PATIENCE = 20           # seconds within which a reply has to come
-TIMEOUT = 15000         # the timeout of calls, in milliseconds
+PATIENCE = 20  # seconds within which a reply has to come
+TIMEOUT = 15000  # the timeout of calls, in milliseconds
 
 
 class Lost(Exception):
@@ -23,7 +26,7 @@ class Dropped(Exception):
     """A peer has sent as many bytes as it should, and broke off."""
 
 
-def reset(connection):
+def reset(connection: socket.socket) -> None:
     """Closes a connection so that the other side sees a reset."""
     connection.setsockopt(socket.SOL_SOCKET, socket.SO_LINGER, struct.pack("ii", 1, 0))
     connection.close()
@@ -34,7 +37,7 @@ class Peer:
     it has little room for bytes from the server.
     """
 
-    def __init__(self, port, limit=None, narrow=False):
+    def __init__(self, port: int, limit: int | None = None, narrow: bool = False) -> None:
         self.socket = socket.socket()
         self.socket.settimeout(PATIENCE)
         if narrow:
@@ -46,27 +49,27 @@ class Peer:
         self.xid = 0
         self.link = 0
 
-    def __enter__(self):
+    def __enter__(self) -> "Peer":
         return self
 
-    def __exit__(self, *_):
+    def __exit__(self, *_: object) -> None:
         self.socket.close()
 
-    def drop(self, chance):
+    def drop(self, chance: random.Random) -> None:
         """Closes the connection so that the other side sees an end or a reset, by chance."""
         if chance.random() < 0.5:
             reset(self.socket)
         self.socket.close()
 
-    def send(self, data):
+    def send(self, data: bytes) -> None:
         if self.limit is not None:
             if len(data) > self.limit:
-                self.socket.sendall(data[:self.limit])
+                self.socket.sendall(data[: self.limit])
                 raise Dropped
             self.limit -= len(data)
         self.socket.sendall(data)
 
-    def take(self, count):
+    def take(self, count: int) -> bytes:
         data = b""
         while len(data) < count:
             piece = self.socket.recv(count - len(data))
@@ -75,15 +78,15 @@ class Peer:
             data += piece
         return data
 
-    def reply(self):
+    def reply(self) -> bytes:
         """The bytes of the next record, with the marks of its fragments."""
         records, data = Records(), b""
         while True:
             data += self.take(1 if records.left is None else records.left)
-            if records.push(data[records.count:]):
+            if records.push(data[records.count :]):
                 return data
 
-    def result(self, call):
+    def result(self, call: Call[Any]) -> bytes:
         """Makes a call. Returns the bytes of its result."""
         self.xid += 1
         self.send(call.encode(self.xid))
@@ -92,13 +95,13 @@ class Peer:
             raise Lost("call %d has another reply: %s" % (self.xid, reply.hex()))
         return reply[RESULT_AT:]
 
-    def do(self, call, expected=b""):
+    def do(self, call: Call[Any], expected: bytes = b"") -> None:
         """Makes a call of the core channel. Checks that its result is error 0 and then these bytes."""
         found = self.result(call)
         if found != words(0) + expected:
             raise Lost("%s returns something else: %s" % (call.name, found.hex()))
 
-    def make_link(self):
+    def make_link(self) -> None:
         call = calls.create_link(client=1)
         found = self.result(call)
         if found == words(OUT_OF_RESOURCES, 0, 0, 0):
@@ -109,17 +112,17 @@ class Peer:
             raise Lost("no link: %s" % fault) from None
         self.link = made.link
 
-    def write(self, text):
+    def write(self, text: bytes) -> None:
         self.do(calls.device_write(self.link, text, TIMEOUT), words(len(text)))
 
-    def lock(self):
+    def lock(self) -> None:
         """Takes the lock, and waits for it."""
         self.do(calls.device_lock(self.link, TIMEOUT))
 
-    def unlock(self):
+    def unlock(self) -> None:
         self.do(calls.device_unlock(self.link))
 
-    def session(self):
+    def session(self) -> int:
         """Takes the lock, clears the device, asks for its name, polls, and frees the lock. Returns the number of replies."""
         self.lock()
         self.do(calls.device_clear(self.link, TIMEOUT, TIMEOUT))
@@ -129,7 +132,7 @@ class Peer:
         self.unlock()
         return 6
 
-    def poll(self):
+    def poll(self) -> int:
         """Reads the status byte."""
         call = calls.device_readstb(self.link, TIMEOUT, TIMEOUT)
         found = self.result(call)

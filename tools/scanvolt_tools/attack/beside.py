@@ -3,8 +3,9 @@ import socket
 import threading
 import time
 
-from attacking.calls import PATIENCE, Lost, Peer
 from scanvolt.vxi11 import calls
+
+from .calls import PATIENCE, Lost, Peer
 
 # The service requests that come. The xid of each is one more than that of the request before.
 HANDLE = b"beside"
@@ -15,18 +16,18 @@ SIZE = len(REQUEST.encode(0))
 class Beside(threading.Thread):
     """The client that must lose no reply."""
 
-    def __init__(self, port):
+    def __init__(self, port: int) -> None:
         super().__init__(daemon=True)
         self.peer = Peer(port)
         self.peer.make_link()
         self.replies = 1
         self.slowest = 0.0
-        self.fault = None
+        self.fault: str | None = None
         self.going = True
         # While somebody holds this lock, the client is silent.
         self.turn = threading.Lock()
 
-    def run(self):
+    def run(self) -> None:
         try:
             while self.going:
                 with self.turn:
@@ -41,7 +42,7 @@ class Beside(threading.Thread):
 class Requests(threading.Thread):
     """A client that makes the server request service again and again, and must get each request."""
 
-    def __init__(self, port):
+    def __init__(self, port: int) -> None:
         super().__init__(daemon=True)
         self.peer = Peer(port)
         self.peer.make_link()
@@ -50,14 +51,14 @@ class Requests(threading.Thread):
             self.peer.do(calls.create_intr_chan(calls.LOOPBACK, listener.getsockname()[1]))
             self.channel = listener.accept()[0]
         self.peer.do(calls.device_enable_srq(self.peer.link, HANDLE))
-        self.count = 0          # service requests that came; other clients may have caused some
-        self.asked = 0          # service requests that this client caused
+        self.count = 0  # service requests that came; other clients may have caused some
+        self.asked = 0  # service requests that this client caused
         self.data = b""
-        self.fault = None
+        self.fault: str | None = None
         self.going = True
         self.turn = threading.Lock()
 
-    def take(self, patience):
+    def take(self, patience: float) -> bool:
         """Reads service requests that came, or waits up to `patience` seconds for one. Checks their xids."""
         self.channel.settimeout(patience)
         try:
@@ -74,7 +75,7 @@ class Requests(threading.Thread):
             self.data = self.data[SIZE:]
         return True
 
-    def ask(self):
+    def ask(self) -> None:
         """Causes one service request, while it holds the lock, so that no other client causes one."""
         self.peer.lock()
         self.peer.write(b"*CLS;*SRE 4\n")
@@ -92,7 +93,7 @@ class Requests(threading.Thread):
         self.asked += 1
         self.peer.unlock()
 
-    def run(self):
+    def run(self) -> None:
         try:
             while self.going:
                 with self.turn:

@@ -1,18 +1,21 @@
 """Clients that make calls without a pause, and how late a deadline comes meanwhile."""
 import multiprocessing
 import time
+from multiprocessing.synchronize import Event, Semaphore
 
-from attacking.calls import PATIENCE, Lost, Peer
 from scanvolt.vxi11 import calls, encode_reply, words
 from scanvolt.vxi11.errors import LOCKED
 
-PROCESSES, EACH = 3, 4      # how many processes make calls, and on how many connections each
+from .calls import PATIENCE, Lost, Peer
+from .served import Server
+
+PROCESSES, EACH = 3, 4  # how many processes make calls, and on how many connections each
 DEADLINES = 20
-WAIT = 100                  # milliseconds until a deadline
-LATEST = 1000               # a deadline that comes this many milliseconds late counts as lost
+WAIT = 100  # milliseconds until a deadline
+LATEST = 1000  # a deadline that comes this many milliseconds late counts as lost
 
 
-def ask(port, begun, ended):
+def ask(port: int, begun: Semaphore, ended: Event) -> None:
     """On each of its connections makes a call that does nothing, and the next one as soon as its reply comes."""
     peers = [Peer(port) for _ in range(EACH)]
     nothing = calls.null().encode(1)
@@ -25,7 +28,7 @@ def ask(port, begun, ended):
             peer.send(nothing)
 
 
-def lateness(peer, first, second):
+def lateness(peer: Peer, first: int, second: int) -> float:
     """By how many milliseconds a call that waits in vain for the lock returns late."""
     peer.do(calls.device_lock(first))
     begun = time.monotonic()
@@ -36,11 +39,13 @@ def lateness(peer, first, second):
     return late
 
 
-def latest(server):
+def latest(server: Server) -> float:
     """The greatest lateness of DEADLINES calls, while other clients make calls without a pause."""
     begun, ended = multiprocessing.Semaphore(0), multiprocessing.Event()
-    crowd = [multiprocessing.Process(target=ask, args=(server.core, begun, ended), daemon=True)
-             for _ in range(PROCESSES)]
+    crowd = [
+        multiprocessing.Process(target=ask, args=(server.core, begun, ended), daemon=True)
+        for _ in range(PROCESSES)
+    ]
     for asking in crowd:
         asking.start()
     try:

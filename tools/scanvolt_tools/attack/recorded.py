@@ -7,12 +7,14 @@ from __future__ import annotations
 
 import struct
 import subprocess
+from collections.abc import Iterator, Sequence
 from dataclasses import dataclass, field
 from pathlib import Path
-from typing import Dict, Iterator, List, Sequence, Tuple
 
-from attacking.calls import Lost
 from scanvolt.vxi11 import Records
+
+from .calls import Lost
+
 
 HEAD = struct.Struct("=4i")
 KINDS = b"aoprsx"
@@ -28,12 +30,12 @@ class Stream:
     role: str
     came: bytearray = field(default_factory=bytearray)
     sent: bytearray = field(default_factory=bytearray)
-    is_kept: bool = False       # it has a place in the server
-    is_stuck: bool = False      # the socket once took less than it was given
-    is_left: bool = False       # the peer left
+    is_kept: bool = False  # it has a place in the server
+    is_stuck: bool = False  # the socket once took less than it was given
+    is_left: bool = False  # the peer left
 
 
-def entries(path: Path) -> Iterator[Tuple[int, int, int, bytes]]:
+def entries(path: Path) -> Iterator[tuple[int, int, int, bytes]]:
     """The entries of the tap: kind, descriptor, number and bytes. The last may be cut."""
     with path.open("rb") as file:
         while len(head := file.read(HEAD.size)) == HEAD.size:
@@ -45,16 +47,21 @@ def entries(path: Path) -> Iterator[Tuple[int, int, int, bytes]]:
                 yield kind, descriptor, number, data
 
 
-def tapped(path: Path, ports: Sequence[int]) -> List[Stream]:
+def tapped(path: Path, ports: Sequence[int]) -> list[Stream]:
     """The connections to these ports that found a place, and the channels that were connected, in their order."""
-    found: List[Stream] = []
-    now: Dict[int, Stream] = {}     # by descriptor
+    found: list[Stream] = []
+    now: dict[int, Stream] = {}  # by descriptor
     for kind, descriptor, number, data in entries(path):
         stream = now.setdefault(descriptor, Stream("interrupt"))
         if kind == ord("a"):
             role = ROLES[ports.index(number)] if number in ports else "control"
             now[descriptor] = Stream(role)
-        elif kind == ord("o") and stream.role in ROLES or kind == ord("p") and stream.role == "interrupt":
+        elif (
+            kind == ord("o")
+            and stream.role in ROLES
+            or kind == ord("p")
+            and stream.role == "interrupt"
+        ):
             if not stream.is_kept:
                 stream.is_kept = True
                 found.append(stream)
@@ -70,12 +77,14 @@ def tapped(path: Path, ports: Sequence[int]) -> List[Stream]:
     return found
 
 
-def replayed(program: str, record: Path, ports: Sequence[int]) -> List[Stream]:
+def replayed(program: str, record: Path, ports: Sequence[int]) -> list[Stream]:
     """The connections and channels of a record in the order in which they opened, with what a replay of it sends."""
     marked, printed = record.with_suffix(".marked"), record.with_suffix(".printed")
-    found: List[Stream] = []
-    begun: List[Tuple[str, Stream]] = []    # those that open, with their names; a mark is in front of each
-    now: Dict[str, Stream] = {}
+    found: list[Stream] = []
+    begun: list[
+        tuple[str, Stream]
+    ] = []  # those that open, with their names; a mark is in front of each
+    now: dict[str, Stream] = {}
     with record.open() as lines, marked.open("w") as script:
         for line in lines:
             words = line.split()
@@ -90,7 +99,9 @@ def replayed(program: str, record: Path, ports: Sequence[int]) -> List[Stream]:
             script.write(line)
     command = [program, "replay", "--core", str(ports[0]), "--abort", str(ports[1])]
     with marked.open("rb") as script, printed.open("wb") as output:
-        ended = subprocess.run(command, stdin=script, stdout=output, stderr=subprocess.PIPE, check=False)
+        ended = subprocess.run(
+            command, stdin=script, stdout=output, stderr=subprocess.PIPE, check=False
+        )
     if ended.returncode != 0:
         raise Lost("the record isn't replayed: %s" % ended.stderr.decode(errors="replace").strip())
     now = {}
@@ -118,7 +129,7 @@ def records(data: bytes) -> Iterator[bytes]:
     """The records of a stream, with their marks; at last perhaps a part of one."""
     end = 0
     for record in Records().push(data):
-        yield data[record.start:record.end]
+        yield data[record.start : record.end]
         end = record.end
     if end < len(data):
         yield data[end:]
@@ -134,10 +145,15 @@ def fault(tap: Stream, record: Stream) -> str:
         return ""
     if tap.role == "interrupt" and tap.is_stuck and is_some_of(bytes(tap.sent), bytes(record.sent)):
         return ""
-    place = next((at for at, (one, other) in enumerate(zip(tap.sent, record.sent)) if one != other),
-                 min(len(tap.sent), len(record.sent)))
+    place = next(
+        (at for at, (one, other) in enumerate(zip(tap.sent, record.sent)) if one != other),
+        min(len(tap.sent), len(record.sent)),
+    )
     return "the socket took %d bytes, the replay sends %d; they differ from byte %d on" % (
-        len(tap.sent), len(record.sent), place)
+        len(tap.sent),
+        len(record.sent),
+        place,
+    )
 
 
 def compare(program: str, folder: Path, ports: Sequence[int]) -> str:
@@ -149,14 +165,21 @@ def compare(program: str, folder: Path, ports: Sequence[int]) -> str:
     found, streams = tapped(folder / "tap", ports), replayed(program, folder / "record", ports)
     whole = count = 0
     for role in (*ROLES, "interrupt"):
-        taken, sent = [one for one in found if one.role == role], [one for one in streams if one.role == role]
+        taken, sent = [one for one in found if one.role == role], [
+            one for one in streams if one.role == role
+        ]
         if len(taken) != len(sent):
-            raise Lost("%d streams of the kind %s were opened, the record has %d" % (len(taken), role, len(sent)))
+            raise Lost(
+                "%d streams of the kind %s were opened, the record has %d"
+                % (len(taken), role, len(sent))
+            )
         for number, (tap, record) in enumerate(zip(taken, sent)):
             told = fault(tap, record)
             if told:
                 raise Lost("the record, stream %d of the kind %s: %s" % (number, role, told))
             count += len(tap.sent)
             whole += tap.sent == record.sent
-    return "the record's replay sends what the sockets took: %d streams, %d of them whole, %d bytes" % (
-        len(found), whole, count)
+    return (
+        "the record's replay sends what the sockets took: %d streams, %d of them whole, %d bytes"
+        % (len(found), whole, count)
+    )

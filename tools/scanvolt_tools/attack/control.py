@@ -1,19 +1,30 @@
 """Hostile clients of the control port, and one that must be served beside them. A client may be closed at once: it
 may be the fifth.
 """
+import random
 import socket
 import time
 
-from attacking.calls import PATIENCE, Lost
-
-LINES = (b"input 1 1000000\n", b"input 128 -5\r\n", b"external\n", b"input 0 1\n", b"\n", b"input 1", b"x" * 300)
-
-
-def client(server):
-    return socket.create_connection(("127.0.0.1", server.control), PATIENCE)
+from .calls import PATIENCE, Lost
+from .served import Server
 
 
-def control_lines(server, chance):
+LINES = (
+    b"input 1 1000000\n",
+    b"input 128 -5\r\n",
+    b"external\n",
+    b"input 0 1\n",
+    b"\n",
+    b"input 1",
+    b"x" * 300,
+)
+
+
+def client(server: Server) -> socket.socket:
+    return socket.create_connection(("127.0.0.1", server.control_port), PATIENCE)
+
+
+def control_lines(server: Server, chance: random.Random) -> None:
     """Sends good, bad, half and long lines, reads some of the answers, and leaves."""
     with client(server) as peer:
         try:
@@ -24,7 +35,7 @@ def control_lines(server, chance):
             pass
 
 
-def control_noise(server, chance):
+def control_noise(server: Server, chance: random.Random) -> None:
     """Sends random bytes, and leaves."""
     with client(server) as peer:
         try:
@@ -33,7 +44,7 @@ def control_noise(server, chance):
             pass
 
 
-def control_flood(server, _):
+def control_flood(server: Server, _: random.Random) -> None:
     """Sends lines without a pause, and never reads. Leaves once the server takes no more of them."""
     with client(server) as peer:
         peer.setblocking(False)
@@ -47,7 +58,7 @@ def control_flood(server, _):
                 break
 
 
-def control_half_close(server, chance):
+def control_half_close(server: Server, chance: random.Random) -> None:
     """Sends lines and shuts down its sending direction. Each line must be answered, and then the stream has to end."""
     with client(server) as peer:
         peer.settimeout(PATIENCE)
@@ -69,7 +80,7 @@ def control_half_close(server, chance):
 ATTACKS = (control_lines, control_noise, control_flood, control_half_close)
 
 
-def served(server):
+def served(server: Server) -> float:
     """Waits until a new client is served, and returns after how many milliseconds it was."""
     begun = time.monotonic()
     while time.monotonic() < begun + PATIENCE:
