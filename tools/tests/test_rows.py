@@ -9,12 +9,12 @@ sys.dont_write_bytecode = True
 TOP = os.path.dirname(os.path.dirname(os.path.dirname(os.path.abspath(__file__))))
 sys.path[:0] = [TOP + "/tools", TOP + "/python"]
 
-from row_text import messages                                               # noqa: E402
-from row_text.dialects import Driver, Explained, Parts, Scripts, Sockets    # noqa: E402
-from row_text.files import rows_of, streams                                 # noqa: E402
-from row_text.lines import Telling, hex_of                                  # noqa: E402
-from row_text.singly import DONE                                            # noqa: E402
-from row_text.values import TextError, bytes_of, text_of                    # noqa: E402
+from scanvolt_tools.rows import messages                                               # noqa: E402
+from scanvolt_tools.rows.dialects import Driver, Explained, Parts, Scripts, Sockets    # noqa: E402
+from scanvolt_tools.rows.files import rows_of, streams                                 # noqa: E402
+from scanvolt_tools.rows.lines import Telling, hex_of                                  # noqa: E402
+from scanvolt_tools.rows.singly import DONE                                            # noqa: E402
+from scanvolt_tools.rows.values import TextError, bytes_of, text_of                    # noqa: E402
 from scanvolt.vxi11 import DeviceError, ProgramMismatch, Records, RpcMismatch, calls, encode_reply, words   # noqa: E402
 
 # Calls, each with its name and the words for its fields.

@@ -12,8 +12,8 @@ import os
 import sys
 
 from ..repository import TOP
-from row_text.difference import differences
-from row_text.files import rows_in
+from .difference import differences
+from .files import rows_in
 
 MOST = 10  # rows that are shown
 

@@ -11,8 +11,8 @@ from collections.abc import Iterable, Iterator
 
 from ..check.writing import printed
 from ..repository import TOP
-from row_text.files import Row, rows_in, streams
-from row_text.values import TextError
+from .files import Row, rows_in, streams
+from .values import TextError
 
 MOST = 500  # lines of a file
 
