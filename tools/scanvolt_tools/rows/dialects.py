@@ -1,7 +1,8 @@
 """The lines that each kind of row has besides calls, replies and requests for service."""
 import re
+from collections.abc import Sequence
 
-from .lines import Reading, unquoted
+from .lines import Read, Reading, unquoted
 from .short import answered, lines_of
 from .values import TextError, bytes_of
 
@@ -13,31 +14,43 @@ class Scripts(Reading):
     `prints`. `given` means the next line that is asked, as a row of the kind `line by line` prints it.
     """
 
-    WANTED = ("reply", "request", "refused", "given", "prints")
+    WANTED: tuple[str, ...] = ("reply", "request", "refused", "given", "prints")
     BYTES = "bytes %s %s"
     PRINTS = {"reply": "c%s %s", "request": "i%s %s"}
-    AS_IT_IS = re.compile(r"input \d+ -?\d+|external|tick( \d+)?|clock \d+|times \d+|memory (\d+|\?)|used")
+    AS_IT_IS = re.compile(
+        r"input \d+ -?\d+|external|tick( \d+)?|clock \d+|times \d+|memory (\d+|\?)|used"
+    )
     # A verb, which comes after a connection, and the line of the replay.
-    VERBS = {"open core": "open %s core", "open abort": "open %s abort", "open portmap": "open %s portmap",
-             "turn": "turn %s", "refuse": "refuse %s", "close": "close c%s", "close channel": "close i%s",
-             "dialed ok": "dialed %s ok", "dialed failed": "dialed %s failed",
-             "ask": "ask %s", "show": "show c%s", "show channel": "show i%s"}
+    VERBS = {
+        "open core": "open %s core",
+        "open abort": "open %s abort",
+        "open portmap": "open %s portmap",
+        "turn": "turn %s",
+        "refuse": "refuse %s",
+        "close": "close c%s",
+        "close channel": "close i%s",
+        "dialed ok": "dialed %s ok",
+        "dialed failed": "dialed %s failed",
+        "ask": "ask %s",
+        "show": "show c%s",
+        "show channel": "show i%s",
+    }
     TOOK = re.compile(r"(\d+) took (\d+)( channel)?")
 
-    def __init__(self, joined=False):
+    def __init__(self, joined: bool = False) -> None:
         super().__init__(joined)
-        self.given = []         # lines that were asked and that no `given` has taken yet
+        self.given: list[str] = []  # lines that were asked and that no `given` has taken yet
 
-    def meant(self, line):
+    def meant(self, line: str) -> list[str]:
         return lines_of(line, self.numbering)
 
-    def asked(self, line, more=()):
+    def asked(self, line: str, more: Sequence[str] = ()) -> list[str]:
         """The lines that are asked."""
         made = self.lines(line, more)
         self.given += made
         return made
 
-    def lines(self, line, more):
+    def lines(self, line: str, more: Sequence[str]) -> list[str]:
         connection, _, verb = line.partition(" ")
         took = self.TOOK.fullmatch(line)
         if connection.isdigit() and verb not in self.VERBS and not took:
@@ -53,7 +66,7 @@ class Scripts(Reading):
             raise TextError("neither asked nor wanted: " + line)
         return [plain]
 
-    def wanted(self, line, more=()):
+    def wanted(self, line: str, more: Sequence[str] = ()) -> str:
         """The line that is wanted."""
         kind, _, rest = line.partition(" ")
         if kind in ("reply", "request"):
@@ -73,16 +86,18 @@ class Explained(Scripts):
     WANTED = Scripts.WANTED + ("@", "-", "=")
     UNIT = re.compile(r"(- (?:unit|interrupt) \d+) (\".*)")
 
-    def __init__(self, joined=False):
+    def __init__(self, joined: bool = False) -> None:
         super().__init__(joined)
-        self.last = {}          # for each connection, the last call that was sent, after the words that tell it
+        self.last: dict[
+            str, str
+        ] = {}  # for each connection, the last call that was sent, after the words that tell it
 
-    def called(self, connection, line):
+    def called(self, connection: str, line: str) -> tuple[bytes, dict[str, str]]:
         record, beside = super().called(connection, line)
         self.last["- call c" + connection] = "- call c%s %s" % (connection, record[4:].hex())
         return record, beside
 
-    def wanted(self, line, more=()):
+    def wanted(self, line: str, more: Sequence[str] = ()) -> str:
         """The line that is wanted."""
         if line[0] not in "@-=":
             return super().wanted(line, more)
@@ -104,17 +119,17 @@ class Driver(Reading):
     JOINED = True
     CALL = re.compile(r"(peer )?(\d+) ((?!input |external).*)")
 
-    def asked(self, line, more=()):
+    def asked(self, line: str, more: Sequence[str] = ()) -> list[str]:
         """The lines that are asked."""
         found = self.CALL.fullmatch(line)
         if not found:
             return [self.alone(line, more)]
         return self.sent(found[2], [found[3], *more], "%.0s%s" if found[1] else None)
 
-    def wanted(self, line, more=()):
+    def wanted(self, line: str, more: Sequence[str] = ()) -> str:
         """The line that is wanted."""
         kind, _, rest = line.partition(" ")
-        if kind == "gets":      # a peer gets it on its connection
+        if kind == "gets":  # a peer gets it on its connection
             return super().wanted(rest, more).replace("write ", "", 1)
         return unquoted(self.alone(rest, more)) if kind == ">" else super().wanted(line, more)
 
@@ -134,22 +149,26 @@ class Sockets(Reading):
     SAYS = re.compile(r"([a-z]) says (.*)")
     POURS = re.compile(r"([a-z] pours \d+) (.*)")
 
-    def meant(self, line):
+    def meant(self, line: str) -> list[str]:
         peer = self.PEER.fullmatch(line)
-        return answered(peer[1], line[2:], self.numbering) if peer and peer[2] not in self.VERBS else []
+        return (
+            answered(peer[1], line[2:], self.numbering)
+            if peer and peer[2] not in self.VERBS
+            else []
+        )
 
-    def read_one(self, line, more=()):
+    def read_one(self, line: str, more: Sequence[str] = ()) -> Read:
         if line.split(" ", 1)[0] in ("reply", "request"):
             wanted = super().wanted(line, more)
-            name, data = wanted.split(" ")
-            return ["%s > %d" % (name, len(data) // 2)], [wanted]
+            name, sent = wanted.split(" ")
+            return ["%s > %d" % (name, len(sent) // 2)], [wanted]
         if line.startswith("answer "):
             _, name, text = self.alone(line, more).split(" ", 2)
             data = bytes_of(text)
             return ["%s > %d" % (name, len(data))], ["%s %s" % (name, data.hex())]
         return super().read_one(line, more)
 
-    def asked(self, line, more=()):
+    def asked(self, line: str, more: Sequence[str] = ()) -> list[str]:
         """The lines that are asked."""
         says = self.SAYS.fullmatch(line)
         if says:
@@ -161,7 +180,7 @@ class Sockets(Reading):
             return self.sent(peer[1], [line[2:], *more])
         return [self.alone(line, more)]
 
-    def wanted(self, line, more=()):
+    def wanted(self, line: str, more: Sequence[str] = ()) -> str:
         """The line that is wanted."""
         return unquoted(self.alone(line[2:], more))
 
@@ -169,7 +188,7 @@ class Sockets(Reading):
 class Parts(Reading):
     """The kind `parts`: `QUESTION -> ANSWER`, a line each; or `QUESTION ->` if nothing is answered."""
 
-    def read_one(self, line, more=()):
+    def read_one(self, line: str, more: Sequence[str] = ()) -> Read:
         question, arrow, answer = self.alone(line, more).partition(" ->")
         if not arrow:
             raise TextError("a question without ` ->` and its answer: " + line)
@@ -177,4 +196,11 @@ class Parts(Reading):
 
 
 # The lines of a row by the first word of its kind.
-KINDS = {"explain": Explained, "sweeps": Driver, "peers": Driver, "pace": Driver, "sockets": Sockets, "parts": Parts}
+KINDS: dict[str, type[Reading]] = {
+    "explain": Explained,
+    "sweeps": Driver,
+    "peers": Driver,
+    "pace": Driver,
+    "sockets": Sockets,
+    "parts": Parts,
+}

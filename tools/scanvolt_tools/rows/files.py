@@ -9,9 +9,9 @@ replies, `dialects` the other lines of each kind.
 import dataclasses
 import glob
 import os
-from typing import List
 
 from .dialects import KINDS, Scripts
+from .lines import Reading
 from .singly import PREFIX, cut
 from .values import TextError
 
@@ -25,16 +25,16 @@ class Row:
     title: str
     place: str = ""
     kind: str = ""
-    marks: List[str] = dataclasses.field(default_factory=list)
-    lines: List[tuple] = dataclasses.field(default_factory=list)
-    asked: List[str] = dataclasses.field(default_factory=list)
-    wanted: List[str] = dataclasses.field(default_factory=list)
+    marks: list[str] = dataclasses.field(default_factory=list)
+    lines: list[tuple[int, list[str]]] = dataclasses.field(default_factory=list)
+    asked: list[str] = dataclasses.field(default_factory=list)
+    wanted: list[str] = dataclasses.field(default_factory=list)
 
-    def reading(self):
+    def reading(self) -> Reading:
         """A reader for the lines of this row."""
         return KINDS.get(self.kind.partition(" ")[0], Scripts)("joined" in self.marks)
 
-    def read(self):
+    def read(self) -> "Row":
         """Reads the lines of the text."""
         reading = self.reading()
         self.asked = ["! " + self.kind] if self.kind else []
@@ -42,7 +42,9 @@ class Row:
             try:
                 asked, wanted = reading.read(first, more)
             except ValueError as fault:
-                raise TextError("%s:%d: %s" % (self.place.rpartition(":")[0], number, fault)) from None
+                raise TextError(
+                    "%s:%d: %s" % (self.place.rpartition(":")[0], number, fault)
+                ) from None
             self.asked += asked
             self.wanted += wanted
         if "unended" not in self.marks:
@@ -50,9 +52,9 @@ class Row:
         return self
 
 
-def rows_of(path):
+def rows_of(path: str) -> list[Row]:
     """The rows of a file."""
-    rows = []
+    rows: list[Row] = []
     with open(path, encoding="utf-8") as file:
         for number, line in enumerate(file.read().split("\n"), 1):
             if line and not line.startswith("#"):
@@ -60,7 +62,7 @@ def rows_of(path):
     return [row.read() for row in rows]
 
 
-def _take(rows, line, path, number):
+def _take(rows: list[Row], line: str, path: str, number: int) -> None:
     """Adds a line to the last row, or begins a row with it."""
     word, _, rest = line.partition(" ")
     place = "%s:%d" % (path, number)
@@ -78,7 +80,7 @@ def _take(rows, line, path, number):
         rows[-1].lines.append((number, [line]))
 
 
-def rows_in(folder):
+def rows_in(folder: str) -> list[Row]:
     """The rows of a folder's files, in the order of their names, and the rows that are made from these."""
     paths = sorted(glob.glob(os.path.join(glob.escape(folder), "*.rows")))
     if not paths:
@@ -88,12 +90,12 @@ def rows_in(folder):
     return rows + [_cut(row) for row in again]
 
 
-def _cut(row):
+def _cut(row: Row) -> Row:
     asked, wanted = cut(row.asked, row.wanted)
     return Row(PREFIX + row.title, row.place, asked=asked, wanted=wanted)
 
 
-def streams(rows):
+def streams(rows: list[Row]) -> tuple[str, str]:
     """What is asked and what is wanted, as the crate's program reads and prints it."""
     asked = "\n".join("\n".join(["= " + row.title] + row.asked) for row in rows)
     wanted = "".join(line + "\n" for row in rows for line in ["= " + row.title] + row.wanted)

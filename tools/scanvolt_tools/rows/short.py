@@ -11,15 +11,18 @@ and `query` use the link that was made last on the connection, or the one that `
 more fields, such as `io_timeout=10`. A row that is about a write or a read itself has the long lines. In a row over sockets,
 `a CALL -> RESULT` is what peer a sends and what it waits for; the other forms aren't there.
 """
+from collections.abc import Callable, Sequence
+
 from . import fields
 from .messages import ACCEPTED, DENIED
+from .numbering import Numbering
 from .values import TextError, bytes_of, number_of, split, text_of
 
 ARROW = "->"
-LONGEST, MOST = 4096, 256   # bytes that a write takes; that a read returns
+LONGEST, MOST = 4096, 256  # bytes that a write takes; that a read returns
 
 
-def lines_of(line, numbering):
+def lines_of(line: str, numbering: Numbering) -> list[str]:
     """The lines that a short form means; none if the line is no short form. `numbering` knows the links of the row so far."""
     connection, _, rest = line.partition(" ")
     if not connection.isdigit():
@@ -31,7 +34,9 @@ def lines_of(line, numbering):
     return form(connection, split(rest), numbering)
 
 
-def answered(connection, rest, numbering, between=()):
+def answered(
+    connection: str, rest: str, numbering: Numbering, between: Sequence[str] = ()
+) -> list[str]:
     """The lines of a call and its result, with these between them; none if there is no arrow."""
     words = split(rest) if " " + ARROW in rest else []
     if ARROW not in words:
@@ -42,75 +47,110 @@ def answered(connection, rest, numbering, between=()):
         result = []
     if not (result and (result[0] in ACCEPTED or result[0] in DENIED)):
         result = [call[0] if call and call[0] in fields.NAMES else "null", *result]
-    return ["%s %s" % (connection, " ".join(call)), *between, "reply %s %s" % (connection, " ".join(result))]
+    return [
+        "%s %s" % (connection, " ".join(call)),
+        *between,
+        "reply %s %s" % (connection, " ".join(result)),
+    ]
 
 
-def _check(connection, numbering):
+def _check(connection: str, numbering: Numbering) -> None:
     if numbering.open.get(connection):
-        raise TextError("a call waits on connection %s: write this call, its turn and the replies line by line" % connection)
+        raise TextError(
+            "a call waits on connection %s: write this call, its turn and the replies line by line"
+            % connection
+        )
 
 
-def _turned(connection, call, reply):
+def _turned(connection: str, call: Sequence[str], reply: Sequence[str]) -> list[str]:
     """The lines of a call that a turn answers."""
-    return ["%s %s" % (connection, " ".join(call)), connection + " turn", "reply %s %s" % (connection, " ".join(reply))]
+    return [
+        "%s %s" % (connection, " ".join(call)),
+        connection + " turn",
+        "reply %s %s" % (connection, " ".join(reply)),
+    ]
 
 
-def _halves(words):
+def _halves(words: list[str]) -> tuple[list[str], list[str]]:
     """The words before and after the arrow."""
     if words.count(ARROW) != 1 or words[-1] == ARROW:
         raise TextError("no answer after one ` -> `: " + " ".join(words))
     at = words.index(ARROW)
-    return words[:at], words[at + 1:]
+    return words[:at], words[at + 1 :]
 
 
-def _parts(connection, words, numbering):
+def _parts(
+    connection: str, words: list[str], numbering: Numbering
+) -> tuple[list[str], list[str], list[str]]:
     """The words of some fields: the link, the texts in quotes, and the rest."""
     texts = [word for word in words if word[-1] == '"' and "=" not in word.partition('"')[0]]
     links = [word for word in words if word.startswith("lid=")]
     if not links and connection not in numbering.links:
         raise TextError("no link was made on connection %s; say which, by `lid=`" % connection)
-    return (links or ["lid=%d" % numbering.links[connection]], texts,
-            [word for word in words if word not in links and word not in texts])
+    return (
+        links or ["lid=%d" % numbering.links[connection]],
+        texts,
+        [word for word in words if word not in links and word not in texts],
+    )
 
 
-def _link(connection, words, numbering):
+def _link(connection: str, words: list[str], numbering: Numbering) -> list[str]:
     lid = numbering.last_link + 1
     for word in words[1:]:
         if not word.startswith("lid="):
             raise TextError("a link can have `lid=`, and not %s" % word)
         lid = number_of(word[4:])
-    return [connection + " open core"] + _turned(connection, ["create_link", 'device="inst0"'],
-                                                 ["create_link", "lid=%d" % lid, "abortPort=4097", "maxRecvSize=4096"])
+    return [connection + " open core"] + _turned(
+        connection,
+        ["create_link", 'device="inst0"'],
+        ["create_link", "lid=%d" % lid, "abortPort=4097", "maxRecvSize=4096"],
+    )
 
 
-def _write(connection, words, numbering):
+def _write(connection: str, words: list[str], numbering: Numbering) -> list[str]:
     link, texts, more = _parts(connection, words[1:], numbering)
     if len(texts) != 1 or ARROW in more:
         raise TextError("a write has one text in quotes, and no answer: " + " ".join(words))
     size = len(bytes_of(texts[0]))
     if size > LONGEST:
         raise TextError("a write of %d bytes, where %d are taken" % (size, LONGEST))
-    return _turned(connection, ["device_write", *link, *more, "end", *texts], ["device_write", "size=%d" % size])
+    return _turned(
+        connection,
+        ["device_write", *link, *more, "end", *texts],
+        ["device_write", "size=%d" % size],
+    )
 
 
-def _read(connection, words, numbering):
+def _read(connection: str, words: list[str], numbering: Numbering) -> list[str]:
     asked, answer = _halves(words[1:])
     link, texts, more = _parts(connection, asked, numbering)
     if texts or len(answer) != 1 or answer[0][-1] != '"':
         raise TextError("a read has one text in quotes, its answer: " + " ".join(words))
     data = bytes_of(answer[0]) + b"\n"
     if len(data) > MOST:
-        raise TextError("an answer of %d bytes with its new line, where %d are read" % (len(data), MOST))
-    return _turned(connection, ["device_read", *link, "requestSize=%d" % MOST, *more],
-                   ["device_read", "reason=end", text_of(data)])
+        raise TextError(
+            "an answer of %d bytes with its new line, where %d are read" % (len(data), MOST)
+        )
+    return _turned(
+        connection,
+        ["device_read", *link, "requestSize=%d" % MOST, *more],
+        ["device_read", "reason=end", text_of(data)],
+    )
 
 
-def _query(connection, words, numbering):
+def _query(connection: str, words: list[str], numbering: Numbering) -> list[str]:
     asked, answer = _halves(words[1:])
     link, texts, more = _parts(connection, asked, numbering)
     if len(texts) != 1 or more:
         raise TextError("a query has one text in quotes before ` -> `: " + " ".join(words))
-    return _write(connection, ["write", *link, *texts], numbering) + _read(connection, ["read", *link, ARROW, *answer], numbering)
+    return _write(connection, ["write", *link, *texts], numbering) + _read(
+        connection, ["read", *link, ARROW, *answer], numbering
+    )
 
 
-FORMS = {"link": _link, "write": _write, "read": _read, "query": _query}
+FORMS: dict[str, Callable[[str, list[str], Numbering], list[str]]] = {
+    "link": _link,
+    "write": _write,
+    "read": _read,
+    "query": _query,
+}

@@ -4,21 +4,22 @@ Bytes are pieces joined by `+`: `"text"` with the escapes of Python, or `hex"80 
 it.
 """
 import re
+from collections.abc import Mapping
 
 PIECE = re.compile(r'(?:(\d+)\*)?(hex)?"((?:\\.|[^"\\])*)"')
 WORD = re.compile(r'(?:[^\s"]|"(?:\\.|[^"\\])*")+')
 ESCAPES = {"n": "\n", "r": "\r", "t": "\t"}
 NAMED = {character: "\\" + letter for letter, character in ESCAPES.items()}
-SHORTEST = 64           # bytes that a repetition has at least
+SHORTEST = 64  # bytes that a repetition has at least
 LONGEST_PERIOD = 64
-SEPARATORS = b"\n;, "   # a repeated text ends with the first of these that it has
+SEPARATORS = b"\n;, "  # a repeated text ends with the first of these that it has
 
 
 class TextError(ValueError):
     """A line that can't be read."""
 
 
-def split(line):
+def split(line: str) -> list[str]:
     """The words of a line. A blank within quotes separates none."""
     left = WORD.sub("", line).strip()
     if left:
@@ -26,14 +27,14 @@ def split(line):
     return WORD.findall(line)
 
 
-def _unescaped(match):
+def _unescaped(match: re.Match[str]) -> str:
     text = match[0]
     if text[1] == "x":
         return chr(int(text[2:], 16))
     return ESCAPES.get(text[1], text[1])
 
 
-def bytes_of(text):
+def bytes_of(text: str) -> bytes:
     """The bytes that a value describes."""
     place, data = 0, b""
     while True:
@@ -42,8 +43,11 @@ def bytes_of(text):
             raise TextError("no bytes in quotes: " + text)
         count, is_hex, inner = found.groups()
         try:
-            piece = (bytes.fromhex(inner) if is_hex else
-                     re.sub(r"\\(?:x[0-9a-f]{2}|.)", _unescaped, inner).encode("latin-1"))
+            piece = (
+                bytes.fromhex(inner)
+                if is_hex
+                else re.sub(r"\\(?:x[0-9a-f]{2}|.)", _unescaped, inner).encode("latin-1")
+            )
         except ValueError:
             raise TextError("no bytes: " + found[0]) from None
         data += piece * int(count or 1)
@@ -55,25 +59,25 @@ def bytes_of(text):
         place += 1
 
 
-def _spelled(byte):
+def _spelled(byte: int) -> str:
     character = chr(byte)
     if character in '"\\':
         return "\\" + character
     return character if 32 <= byte < 127 else NAMED.get(character, "\\x%02x" % byte)
 
 
-def _piece(data):
+def _piece(data: bytes) -> str:
     plain = sum(32 <= byte < 127 or byte in b"\r\n\t" for byte in data)
     if plain * 2 < len(data):
         return 'hex"%s"' % data.hex()
     return '"%s"' % "".join(map(_spelled, data))
 
 
-def _repeated(data, place):
+def _repeated(data: bytes, place: int) -> tuple[int, int]:
     """What repeats at a place: how many bytes, and how often. Of several repetitions, the one that reaches farthest."""
     best = (0, 0)
     for period in range(1, min(LONGEST_PERIOD, (len(data) - place) // 3) + 1):
-        unit, count = data[place:place + period], 1
+        unit, count = data[place : place + period], 1
         while data.startswith(unit, place + period * count):
             count += 1
         if count > 2 and count * period >= max(SHORTEST, best[0] * best[1] + 1):
@@ -81,7 +85,7 @@ def _repeated(data, place):
     return best
 
 
-def _shifted(data, place, period, count):
+def _shifted(data: bytes, place: int, period: int, count: int) -> tuple[int, int]:
     """The same repetition, shifted so that it begins after a separator."""
     for separator in SEPARATORS:
         for shift in range(period):
@@ -90,26 +94,27 @@ def _shifted(data, place, period, count):
     return 0, count
 
 
-def text_of(data):
+def text_of(data: bytes) -> str:
     """The value that describes these bytes."""
-    pieces, plain, place = [], b"", 0
+    pieces: list[str] = []
+    plain, place = b"", 0
     while place < len(data):
         period, count = _repeated(data, place)
         if not count:
-            plain += data[place:place + 1]
+            plain += data[place : place + 1]
             place += 1
             continue
         shift, count = _shifted(data, place, period, count)
-        plain, place = plain + data[place:place + shift], place + shift
+        plain, place = plain + data[place : place + shift], place + shift
         pieces += [_piece(plain)] * bool(plain)
-        pieces.append("%d*%s" % (count, _piece(data[place:place + period])))
+        pieces.append("%d*%s" % (count, _piece(data[place : place + period])))
         plain, place = b"", place + period * count
     if plain or not pieces:
         pieces.append(_piece(plain))
     return "+".join(pieces)
 
 
-def number_of(text, names=None):
+def number_of(text: str, names: Mapping[str, int] | None = None) -> int:
     """A number: decimal, hexadecimal after 0x, or a sum of words for numbers."""
     total = 0
     for word in text.split("+"):
@@ -122,17 +127,21 @@ def number_of(text, names=None):
     return total
 
 
-def word_of(number, names):
+def word_of(number: int, names: Mapping[str, int]) -> str:
     """The name of a number, or the number if it has none."""
     found = [name for name, value in names.items() if value == number]
     return found[0] if found else plain_number(number)
 
 
-def sum_of(number, names):
+def sum_of(number: int, names: Mapping[str, int]) -> str:
     """The names of a number's bits, or the number if a bit has none."""
     words = [name for name, value in names.items() if number & value]
-    return "+".join(words) if words and sum(names[word] for word in words) == number else plain_number(number)
+    return (
+        "+".join(words)
+        if words and sum(names[word] for word in words) == number
+        else plain_number(number)
+    )
 
 
-def plain_number(number):
-    return "%d" % number if number < 2 ** 24 else "0x%x" % number
+def plain_number(number: int) -> str:
+    return "%d" % number if number < 2**24 else "0x%x" % number
