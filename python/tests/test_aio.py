@@ -18,6 +18,8 @@ from scanvolt.vxi11 import DeviceError
 from scanvolt.vxi11.calls import LOOPBACK
 from scanvolt.vxi11.core import Core
 
+from .limits import within
+
 LONG = 2**32 - 1
 
 
@@ -177,7 +179,7 @@ class Virtual(unittest.TestCase):
         """Runs it; an hour of the meter takes no second."""
         began = time.monotonic()
         asyncio.run(session)
-        self.assertLess(time.monotonic() - began, 20)
+        self.assertLess(time.monotonic() - began, within(20))
 
     def test_tasks(self) -> None:
         """A read waits 2,048 ms, a task sleeps 1 s and polls, another one triggers: each at its millisecond."""

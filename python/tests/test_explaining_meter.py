@@ -15,6 +15,7 @@ from scanvolt.program import ProgramError
 from scanvolt.virtual import Meter, NoAnswer
 from scanvolt.vxi11 import DeviceError, Link
 
+from .limits import within
 from .random_sessions import Session
 
 LONG = 4294967295  # milliseconds, the longest timeout
@@ -79,7 +80,7 @@ class AtOnce(WithMeter):
         began = time.monotonic()
         with self.assertRaisesRegex(NoAnswer, told):
             link.read()
-        self.assertLess(time.monotonic() - began, 15)
+        self.assertLess(time.monotonic() - began, within(15))
         self.assertEqual(self.meter.clock, 0)
 
     def test_a_trigger_that_is_missing(self) -> None:

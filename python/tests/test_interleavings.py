@@ -8,6 +8,8 @@ import unittest
 
 from scanvolt.virtual import Meter, NoAnswer, NotInStep, OrderFails
 
+from .limits import within
+
 LONG = 2**32 - 1
 
 
@@ -66,7 +68,7 @@ class Orders(unittest.TestCase):
         began = time.monotonic()
         with self.assertRaises(OrderFails) as caught:
             self.meter.interleavings(locks, forgets)
-        self.assertLess(time.monotonic() - began, 60)
+        self.assertLess(time.monotonic() - began, within(60))
         failed = caught.exception
         self.assertRegex(
             str(failed), f"^in the order '{failed.order}' of their calls, the .* that was tried: "

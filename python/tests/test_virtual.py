@@ -27,6 +27,8 @@ from scanvolt.vxi11 import (
     calls,
 )
 
+from .limits import within
+
 Value = TypeVar("Value")
 REAL_TIME = 0.05  # seconds that a measurement of 2,048 ms may take, by the proved program
 TRIES = 20  # tries of which one has to take less
@@ -219,7 +221,7 @@ class Moments(WithMeter):
             self.assertEqual(len(answer), 20480)
             if "unproved" in find_program():
                 return
-        self.assertLess(min(passed), REAL_TIME)
+        self.assertLess(min(passed), within(REAL_TIME))
 
     def test_without_a_second_program(self) -> None:
         """After too many lines, time is tried millisecond by millisecond."""
