@@ -18,6 +18,8 @@ LINES = (
     b"input 1",
     b"x" * 300,
 )
+# Each line is answered, and one of a hundred sets an input: what sets one is in the record of the session.
+FLOOD = (LINES[0] + b"\n" * 99) * 10
 
 
 def client(server: Server) -> socket.socket:
@@ -51,7 +53,7 @@ def control_flood(server: Server, _: random.Random) -> None:
         end = time.monotonic() + 2
         while time.monotonic() < end:
             try:
-                peer.send(LINES[0] * 1000)
+                peer.send(FLOOD)
             except BlockingIOError:
                 time.sleep(0.01)
             except OSError:

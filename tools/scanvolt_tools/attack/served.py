@@ -19,9 +19,14 @@ from .recorded import compare
 HERE = os.path.dirname(os.path.abspath(__file__))
 PROVED = TOP + "/crates/scanvolt/out/scanvolt"
 # Becomes the program. If that serves, its descriptors may be limited, and libraries are loaded before those of the program.
+# What passes on the control port isn't compared: floods of it would fill a disk.
 BECOMES = """#!/bin/sh
 [ "$1" = serve ] || exec {program} "$@"
 {limit}
+for word; do
+    [ "$before" != --control ] || export TAP_WITHOUT="$word"
+    before=$word
+done
 export TAP={tap} LD_PRELOAD={libraries}
 exec {program} "$@"
 """

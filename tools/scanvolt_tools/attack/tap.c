@@ -1,6 +1,7 @@
 /*
  * Writes what a server does with its sockets to the file that TAP names: what it accepts, reads,
- * sends and closes, and which channels it has connected. It is loaded before the C library.
+ * sends and closes, and which channels it has connected. Connections to the port TAP_WITHOUT are
+ * left out. It is loaded before the C library.
  *
  * An entry has a kind, a descriptor, a number and the length of the bytes that follow:
  *   a  accepted; the number is the port that was listened on
@@ -31,6 +32,8 @@ struct entry {
 static char waiting[65536];
 static size_t count;
 static int file = -1;
+static int without;
+static char left_out[4096];     /* by descriptor */
 
 #define GIVEN(name) static __typeof__(&name) given_##name
 GIVEN(accept4);
@@ -43,7 +46,7 @@ GIVEN(epoll_wait);
 
 __attribute__((constructor)) static void begin(void)
 {
-    const char *path = getenv("TAP");
+    const char *path = getenv("TAP"), *port = getenv("TAP_WITHOUT");
 
 #define FIND(name) given_##name = (__typeof__(&name))dlsym(RTLD_NEXT, #name)
     FIND(accept4);
@@ -53,6 +56,7 @@ __attribute__((constructor)) static void begin(void)
     FIND(send);
     FIND(close);
     FIND(epoll_wait);
+    without = port ? atoi(port) : 0;
     if (path)
         file = open(path, O_WRONLY | O_CREAT | O_TRUNC | O_CLOEXEC, 0600);
 }
@@ -90,6 +94,8 @@ static void note(char kind, int socket, int32_t number, const void *bytes, ssize
     int given = errno;
     struct entry entry = { kind, socket, number, length > 0 ? (int32_t)length : 0 };
 
+    if (socket >= 0 && socket < (int)sizeof left_out && left_out[socket])
+        return;
     add(&entry, sizeof entry);
     add(bytes, (size_t)entry.length);
     errno = given;
@@ -101,8 +107,11 @@ int accept4(int socket, struct sockaddr *address, socklen_t *length, int flags)
     socklen_t size = sizeof own;
     int made = given_accept4(socket, address, length, flags);
 
-    if (made >= 0 && getsockname(socket, (struct sockaddr *)&own, &size) == 0)
+    if (made >= 0 && getsockname(socket, (struct sockaddr *)&own, &size) == 0) {
+        if (made < (int)sizeof left_out)
+            left_out[made] = ntohs(own.sin_port) == without;
         note('a', made, ntohs(own.sin_port), NULL, 0);
+    }
     return made;
 }
 
@@ -145,6 +154,8 @@ int close(int socket)
 
     if (socket != file)
         note('x', socket, poll(&state, 1, 0) > 0 && state.revents & (POLLRDHUP | POLLHUP | POLLERR), NULL, 0);
+    if (socket >= 0 && socket < (int)sizeof left_out)
+        left_out[socket] = 0;
     return given_close(socket);
 }
 
