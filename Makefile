@@ -72,8 +72,8 @@ serve:
 	    'PORT111=$(PORT111)' 'PROVED=$(PROVED)' 'SERVER=$(GIVEN)'
 
 # Proves the program as above, measures its speed and memory, and prints them with their aims. Then compares
-# its server with one made by rpcgen and with a bare echo. Results of the proved program are appended to
-# bench/results; if SERVER names a program, nothing is.
+# its server with one made by rpcgen, with itself without a record or a panel, and with a bare echo. Results
+# of the proved program are appended to bench/results; if SERVER names a program, nothing is.
 bench: $(PROOF) echo
 	@bench/run $(KEPT) '$(SERVER)'
 	@bench/serve $(KEPT) '$(SERVER)' $(ECHO)

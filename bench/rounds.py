@@ -1,22 +1,16 @@
-"""What the commands of bench/ have in common: programs that are measured in turn, their time, their servers, and medians."""
-import contextlib
+"""What the commands of bench/ have in common: programs that are measured in turn, their time, the load of servers, and medians."""
 import os
 import pathlib
-import random
 import resource
 import shutil
 import signal
-import socket
 import statistics
 import subprocess
 import sys
-import threading
 import time
 
 HERE = pathlib.Path(__file__).resolve().parent
 TOP = HERE.parent
-PATIENCE = 10           # seconds that a server may take until it is ready
-SWEEPS = "4294967295"   # the most that a server takes: it serves until it is stopped
 # Scripts: what bench/scripts takes, and the ticks that are counted; without these, all lines are.
 SCRIPTS = {
     "writes and reads": (("pairs", 20000), None),
@@ -121,43 +115,6 @@ def first_core():
 def pinned(core):
     """The words before a command that runs it on this core; none if `core` is None."""
     return [] if core is None else ["taskset", "-c", core]
-
-
-def free_ports(count):
-    """Free ports, below those that the system gives to clients."""
-    with contextlib.ExitStack() as stack:
-        ports = []
-        while len(ports) < count:
-            trial = stack.enter_context(socket.socket())
-            with contextlib.suppress(OSError):
-                trial.bind(("127.0.0.1", random.randrange(15000, 32000)))
-                ports.append(trial.getsockname()[1])
-    return ports
-
-
-def serve_words(program, ports, *words):
-    """The words with which a scanvolt serves on three ports."""
-    core, abort, portmap = map(str, ports)
-    return [program, "serve", "--core", core, "--abort", abort, "--portmap", portmap,
-            "--scenario", "/dev/null", "--sweeps", SWEEPS, *words]
-
-
-@contextlib.contextmanager
-def served(command):
-    """A server that runs within the block. It has to print a line that begins with `ready` first."""
-    process = subprocess.Popen(command, stdout=subprocess.PIPE)
-    try:
-        timer = threading.Timer(PATIENCE, process.kill)
-        timer.start()
-        line = process.stdout.readline()
-        timer.cancel()
-        if not line.startswith(b"ready"):
-            raise Failure("`%s` isn't ready" % " ".join(command))
-        yield process
-    finally:
-        process.terminate()
-        process.wait()
-        process.stdout.close()
 
 
 def load(built, kind, port, connections, seconds, core=None):

@@ -19,6 +19,7 @@ from folders import TOP
 
 import measures
 import rounds
+import servers
 from scanvolt.vxi11 import Reader, Records, encode_reply, words
 from scanvolt_tools.attack import hostile, soak
 
@@ -135,6 +136,12 @@ class Measures(unittest.TestCase):
                     ("serve", "%s on %d%s, %s" % (kind, count, part, ending))
                     for ending in ("over the " + other, "beside the " + other, "the " + other)
                 }
+        names |= {
+            ("serve", "%s on %d, with%s" % (kind, count, ending))
+            for kind, count in serve.ANY_CORE
+            for what in ("record", "panel")
+            for ending in (" a %s over without" % what, " a " + what, "out a " + what)
+        }
         names |= {
             ("hostile", name + ending)
             for name, _ in hostile.STAGES
@@ -274,6 +281,27 @@ class Turn(Folders):
         status, told = self.turn(second, self.folder)
         self.assertEqual(status, 2)
         self.assertIn("is a folder", told)
+
+
+class Servers(Folders):
+    def test_another_server_says_that_it_is_ready(self) -> None:
+        with servers.other(["sh", "-c", "echo ready 7; exec sleep 60"]) as tied:
+            self.assertIsNone(tied.process.poll())
+        for said in "steady 7", "":
+            with self.assertRaisesRegex(rounds.Failure, "isn't ready"):
+                with servers.other(["echo", said]):
+                    pass
+
+    def test_a_server_has_one_core(self) -> None:
+        core = min(os.sched_getaffinity(0))
+        command = ["sh", "-c", "echo ready 7; exec sleep 60"]
+        with servers.other(command, str(core)) as tied:
+            self.assertEqual(os.sched_getaffinity(tied.process.pid), {core})
+
+    def test_a_program_that_does_not_fit_is_told(self) -> None:
+        with self.assertRaisesRegex(rounds.Failure, "doesn't fit this package: it ended with"):
+            with servers.scanvolt(self.script("program", "#!/bin/sh\nexit 3\n")):
+                pass
 
 
 def answer(listener: socket.socket, connections: int, good: int) -> None:

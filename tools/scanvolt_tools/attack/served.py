@@ -59,7 +59,7 @@ class Server(program.Server):
     the program. If `descriptors` is given, it has at most so many.
     """
 
-    sweeps = 2**32 - 1
+    _sweeps = 2**32 - 1
 
     def __init__(
         self,
