@@ -12,6 +12,7 @@ import resource
 import shutil
 import subprocess
 import tempfile
+import time
 import unittest
 from typing import Any
 from unittest import mock
@@ -19,10 +20,13 @@ from unittest import mock
 from scanvolt.explaining import slots
 from scanvolt.virtual import Meter
 
+from .browser import Browser
 from .explained_sessions import explained
 from .limits import within
 
 CHROMIUM = shutil.which("chromium")
+# Until what was laid out is painted.
+PAINTED = "new Promise(done => requestAnimationFrame(() => requestAnimationFrame(done)))"
 # What is done to the page, and what is there then.
 ACTS = r"""
 addEventListener("load", () => setTimeout(() => {
@@ -229,6 +233,18 @@ class Page(unittest.TestCase):
             page = self.polls(20)
             self.assertIn("only the last 20 calls are shown", page)
             self.assertEqual(self.acted(page)["faults"], [])
+
+    def test_many_calls_are_shown_soon(self) -> None:
+        """By the clock, a browser that runs shows 2,000 calls in 3 s."""
+        path = self.folder / "page.html"
+        path.write_text(self.polls(1000), encoding="utf-8")
+        with Browser() as browser:
+            began = time.monotonic()
+            page = browser.page(path.as_uri())
+            page.wait("document.readyState == 'complete' && lanes.length", 60)
+            page.run(PAINTED)
+            self.assertLess(time.monotonic() - began, within(3))
+            self.assertEqual(page.faults(), [])
 
     def polls(self, count: int) -> str:
         """The page of a session of twice as many calls."""

@@ -137,9 +137,9 @@ class Measures(unittest.TestCase):
                     for ending in ("over the " + other, "beside the " + other, "the " + other)
                 }
         names |= {
-            ("serve", "%s on %d, with%s" % (kind, count, ending))
+            ("serve", "%s on %d%s, with%s" % (kind, count, part, ending))
             for kind, count in serve.ANY_CORE
-            for what in ("record", "panel")
+            for what, part in (("record", ", on one core"), ("panel", ""))
             for ending in (" a %s over without" % what, " a " + what, "out a " + what)
         }
         names |= {
