@@ -9,7 +9,6 @@ mod branch;
 mod command;
 pub mod laws;
 mod left;
-mod nodes;
 mod path;
 mod pattern;
 mod resolving;

@@ -10,14 +10,13 @@ use crate::branch::Branch;
 use crate::command::CommandId;
 use crate::path::Path;
 use crate::sent::Sent;
-use crate::table::{COMMON_COMMANDS, MEASURING, NODES, SETTINGS, STATUS_NODES, SYSTEM_NODES};
+use crate::table::{
+    COMMON_COMMANDS, COMMON_NODES, MEASURING, NODES, SETTINGS, STATUS_NODES, SYSTEM_NODES,
+};
 use crate::walk::walk;
 use std::alloc::{AllocError, Allocator, Global};
 use std::marker::Model;
 use sv_errors::Code;
-
-/// How many nodes of the tree belong to common commands. These nodes come first.
-const COMMON_NODES: usize = 11;
 
 /// The table of commands in memory: a tree whose nodes are mnemonics. The nodes on the way from the
 /// root down to a node are the pattern of a header.
@@ -43,11 +42,11 @@ impl<A: Allocator> Table<A> {
     /// If memory is refused.
     pub fn new(alloc: A) -> Result<Table<A>, AllocError> {
         let mut branches = Vec::with_capacity(alloc, NODES)?;
-        branches.extend_from_slice(&COMMON_COMMANDS)?;
-        branches.extend_from_slice(&SYSTEM_NODES)?;
-        branches.extend_from_slice(&STATUS_NODES)?;
-        branches.extend_from_slice(&SETTINGS)?;
-        branches.extend_from_slice(&MEASURING)?;
+        branches.extend_from_slice(COMMON_COMMANDS)?;
+        branches.extend_from_slice(SYSTEM_NODES)?;
+        branches.extend_from_slice(STATUS_NODES)?;
+        branches.extend_from_slice(SETTINGS)?;
+        branches.extend_from_slice(MEASURING)?;
         Ok(Table { branches })
     }
 

@@ -1,154 +1,195 @@
-//! The table of commands: the nodes of the tree in their order, in several arrays.
+//! The table of commands: the nodes of the tree of headers in their order, in several arrays.
 
 use crate::branch::Branch;
 use crate::command::{Action, CommandId, Question, SettingName};
-use crate::nodes::{
-    ABORT, CALCULATE, CLS, CONDITION, CONFIGURE, COUNT, ENABLE, ERROR, ESE, ESR, FETCH, IDN,
-    INITIATE, LIMIT, LOWER, MAYBE_DC, MAYBE_EVENT, MAYBE_IMMEDIATE, MAYBE_NEXT, MAYBE_SENSE,
-    MAYBE_UPPER, MEASURE, MONITOR, NTRANSITION, OPC, OPERATION, PRESET, PTRANSITION, QUESTIONABLE,
-    RANGE, READ, ROUTE, RST, SCAN, SOURCE, SRE, STATE, STATUS, STB, SYSTEM, TRG, TRIGGER, TST,
-    UPPER, VERSION, VOLTAGE, WAI,
-};
+use crate::pattern::Node;
 use sv_status::RegisterName;
 
 /// How many nodes the tree has.
-pub(crate) const NODES: usize = 63;
+pub(crate) const NODES: usize = COMMON_NODES
+    + SYSTEM_NODES.len()
+    + STATUS_NODES.len()
+    + SETTINGS.len()
+    + MEASURING.len();
 
-/// A node at which no header ends, with the number of nodes below it.
-macro_rules! group {
-    ($node:ident, $below:literal) => {
-        ending!($node, $below, None, None)
-    };
-}
+/// How many nodes of the tree belong to common commands. These nodes come first.
+pub(crate) const COMMON_NODES: usize = COMMON_COMMANDS.len();
 
-/// A node, given the number of nodes below it and the commands of the two headers that end at the
-/// node. First comes the command of the header without a question mark, then that of the header
-/// with one.
-macro_rules! ending {
-    ($node:ident, $below:literal, $plain:expr, $query:expr) => {
-        Branch {
-            node: $node,
-            below: $below,
-            plain: $plain,
-            query: $query,
+/// A mnemonic in its short and its long form.
+macro_rules! node {
+    ($short:literal, $long:literal) => {
+        Node {
+            short: $short,
+            long: $long,
+            optional: false,
         }
     };
 }
 
-/// A node at which the header of an action ends.
-macro_rules! does {
-    ($node:ident, $action:ident) => {
-        ending!($node, 0, Some(CommandId::Do(Action::$action)), None)
+/// A mnemonic in its short and its long form, which a header can omit.
+macro_rules! maybe {
+    ($short:literal, $long:literal) => {
+        Node {
+            short: $short,
+            long: $long,
+            optional: true,
+        }
     };
 }
 
-/// A node at which the header of a query ends.
-macro_rules! asks {
-    ($node:ident, $question:expr) => {
-        ending!($node, 0, None, Some(CommandId::Ask($question)))
+/// The nodes of a tree, as an array: after each node the nodes below it, which are in braces.
+/// `node` and `maybe` begin a node. What follows says which headers end there: that of an action, of
+/// a query, or of a setting with its query; `ends` names the commands of the header without a
+/// question mark and of the one with it. `register` stands for the nodes of a status register.
+macro_rules! tree {
+    ([$($done:expr,)*]) => {
+        [$($done,)*]
+    };
+    ([$($done:expr,)*] register $name:ident; $($rest:tt)*) => {
+        tree!([$($done,)*]
+            maybe(b"EVEN", b"EVENT") asks Question::Events(RegisterName::$name);
+            node(b"COND", b"CONDITION") asks Question::Condition(RegisterName::$name);
+            node(b"ENAB", b"ENABLE") sets SettingName::Enable(RegisterName::$name);
+            node(b"PTR", b"PTRANSITION") sets SettingName::Rise(RegisterName::$name);
+            node(b"NTR", b"NTRANSITION") sets SettingName::Fall(RegisterName::$name);
+            $($rest)*)
+    };
+    ([$($done:expr,)*] $node:ident $forms:tt { $($below:tt)* } $($rest:tt)*) => {
+        tree!([$($done,)* Branch {
+            node: $node! $forms,
+            below: count!($($below)*),
+            plain: None,
+            query: None,
+        },] $($below)* $($rest)*)
+    };
+    ([$($done:expr,)*] $node:ident $forms:tt does $action:expr; $($rest:tt)*) => {
+        tree!([$($done,)*] $node $forms ends Some(CommandId::Do($action)), None; $($rest)*)
+    };
+    ([$($done:expr,)*] $node:ident $forms:tt asks $question:expr; $($rest:tt)*) => {
+        tree!([$($done,)*] $node $forms ends None, Some(CommandId::Ask($question)); $($rest)*)
+    };
+    ([$($done:expr,)*] $node:ident $forms:tt sets $name:expr; $($rest:tt)*) => {
+        tree!([$($done,)*] $node $forms
+            ends Some(CommandId::Set($name)), Some(CommandId::Ask(Question::Value($name)));
+            $($rest)*)
+    };
+    ([$($done:expr,)*] $node:ident $forms:tt ends $plain:expr, $query:expr; $($rest:tt)*) => {
+        tree!([$($done,)* Branch {
+            node: $node! $forms,
+            below: 0,
+            plain: $plain,
+            query: $query,
+        },] $($rest)*)
     };
 }
 
-/// A node at which the headers of a setting and of its query end.
-macro_rules! sets {
-    ($node:ident, $name:expr) => {
-        ending!(
-            $node,
-            0,
-            Some(CommandId::Set($name)),
-            Some(CommandId::Ask(Question::Value($name)))
-        )
+/// How many nodes a tree has, at any depth.
+macro_rules! count {
+    () => {
+        0
+    };
+    (register $name:ident; $($rest:tt)*) => {
+        5 + count!($($rest)*)
+    };
+    ($node:ident $forms:tt { $($below:tt)* } $($rest:tt)*) => {
+        1 + count!($($below)*) + count!($($rest)*)
+    };
+    ($node:ident $forms:tt $how:ident $first:expr; $($rest:tt)*) => {
+        1 + count!($($rest)*)
+    };
+    ($node:ident $forms:tt ends $plain:expr, $query:expr; $($rest:tt)*) => {
+        1 + count!($($rest)*)
     };
 }
 
 /// The nodes of the common commands (IEEE 488.2, chapter 10).
-pub(crate) static COMMON_COMMANDS: [Branch; 11] = [
-    does!(CLS, ClearStatus),
-    sets!(ESE, SettingName::StandardEnable),
-    asks!(ESR, Question::StandardEvents),
-    asks!(IDN, Question::Identification),
-    ending!(
-        OPC,
-        0,
-        Some(CommandId::Do(Action::TellComplete)),
-        Some(CommandId::Do(Action::WaitAndTell))
-    ),
-    does!(RST, Reset),
-    sets!(SRE, SettingName::ServiceEnable),
-    asks!(STB, Question::StatusByte),
-    does!(TRG, Trigger),
-    asks!(TST, Question::SelfTest),
-    does!(WAI, Wait),
-];
+pub(crate) const COMMON_COMMANDS: &[Branch] = &tree!([]
+    node(b"CLS", b"CLS") does Action::ClearStatus;
+    node(b"ESE", b"ESE") sets SettingName::StandardEnable;
+    node(b"ESR", b"ESR") asks Question::StandardEvents;
+    node(b"IDN", b"IDN") asks Question::Identification;
+    node(b"OPC", b"OPC")
+        ends Some(CommandId::Do(Action::TellComplete)), Some(CommandId::Do(Action::WaitAndTell));
+    node(b"RST", b"RST") does Action::Reset;
+    node(b"SRE", b"SRE") sets SettingName::ServiceEnable;
+    node(b"STB", b"STB") asks Question::StatusByte;
+    node(b"TRG", b"TRG") does Action::Trigger;
+    node(b"TST", b"TST") asks Question::SelfTest;
+    node(b"WAI", b"WAI") does Action::Wait;
+);
 
 /// The nodes of SYSTem (SCPI-1999, volume 2).
-pub(crate) static SYSTEM_NODES: [Branch; 5] = [
-    group!(SYSTEM, 4),
-    group!(ERROR, 2),
-    asks!(MAYBE_NEXT, Question::Error),
-    asks!(COUNT, Question::ErrorCount),
-    asks!(VERSION, Question::Version),
-];
+pub(crate) const SYSTEM_NODES: &[Branch] = &tree!([]
+    node(b"SYST", b"SYSTEM") {
+        node(b"ERR", b"ERROR") {
+            maybe(b"NEXT", b"NEXT") asks Question::Error;
+            node(b"COUN", b"COUNT") asks Question::ErrorCount;
+        }
+        node(b"VERS", b"VERSION") asks Question::Version;
+    }
+);
 
-/// The nodes of STATus (SCPI-1999, volume 2): those of the preset, then those of each register. The
-/// arguments for a register are its node, the number of nodes below this node, and its name.
-macro_rules! status_nodes {
-    ($below:literal, $($register:ident, $count:literal, $name:ident;)*) => {
-        [
-            group!(STATUS, $below),
-            does!(PRESET, Preset),
-            $(
-                group!($register, $count),
-                asks!(MAYBE_EVENT, Question::Events(RegisterName::$name)),
-                asks!(CONDITION, Question::Condition(RegisterName::$name)),
-                sets!(ENABLE, SettingName::Enable(RegisterName::$name)),
-                sets!(PTRANSITION, SettingName::Rise(RegisterName::$name)),
-                sets!(NTRANSITION, SettingName::Fall(RegisterName::$name)),
-            )*
-        ]
-    };
-}
-
-/// The nodes of STATus and its registers. The nodes of a nested register follow those of the
+/// The nodes of STATus and its registers (SCPI-1999, volume 2). A nested register stands below the
 /// register above it.
-pub(crate) static STATUS_NODES: [Branch; 20] = status_nodes!(
-    19,
-    OPERATION, 5, Operation;
-    QUESTIONABLE, 11, Questionable;
-    LIMIT, 5, Limit;
+pub(crate) const STATUS_NODES: &[Branch] = &tree!([]
+    node(b"STAT", b"STATUS") {
+        node(b"PRES", b"PRESET") does Action::Preset;
+        node(b"OPER", b"OPERATION") {
+            register Operation;
+        }
+        node(b"QUES", b"QUESTIONABLE") {
+            register Questionable;
+            node(b"LIM", b"LIMIT") {
+                register Limit;
+            }
+        }
+    }
 );
 
 /// The nodes of the settings that say what is measured, and how (SCPI-1999, volume 2).
-pub(crate) static SETTINGS: [Branch; 16] = [
-    group!(ROUTE, 2),
-    sets!(SCAN, SettingName::ScanList),
-    sets!(MONITOR, SettingName::Monitor),
-    group!(MAYBE_SENSE, 4),
-    group!(VOLTAGE, 3),
-    group!(MAYBE_DC, 2),
-    group!(RANGE, 1),
-    sets!(MAYBE_UPPER, SettingName::Range),
-    group!(CALCULATE, 4),
-    group!(LIMIT, 3),
-    sets!(UPPER, SettingName::UpperLimit),
-    sets!(LOWER, SettingName::LowerLimit),
-    sets!(STATE, SettingName::Limits),
-    group!(TRIGGER, 2),
-    sets!(SOURCE, SettingName::Source),
-    sets!(COUNT, SettingName::Count),
-];
+pub(crate) const SETTINGS: &[Branch] = &tree!([]
+    node(b"ROUT", b"ROUTE") {
+        node(b"SCAN", b"SCAN") sets SettingName::ScanList;
+        node(b"MON", b"MONITOR") sets SettingName::Monitor;
+    }
+    maybe(b"SENS", b"SENSE") {
+        node(b"VOLT", b"VOLTAGE") {
+            maybe(b"DC", b"DC") {
+                node(b"RANG", b"RANGE") {
+                    maybe(b"UPP", b"UPPER") sets SettingName::Range;
+                }
+            }
+        }
+    }
+    node(b"CALC", b"CALCULATE") {
+        node(b"LIM", b"LIMIT") {
+            node(b"UPP", b"UPPER") sets SettingName::UpperLimit;
+            node(b"LOW", b"LOWER") sets SettingName::LowerLimit;
+            node(b"STAT", b"STATE") sets SettingName::Limits;
+        }
+    }
+    node(b"TRIG", b"TRIGGER") {
+        node(b"SOUR", b"SOURCE") sets SettingName::Source;
+        node(b"COUN", b"COUNT") sets SettingName::Count;
+    }
+);
 
 /// The nodes of the commands that measure (SCPI-1999, volume 2).
-pub(crate) static MEASURING: [Branch; 11] = [
-    group!(INITIATE, 1),
-    does!(MAYBE_IMMEDIATE, Initiate),
-    does!(ABORT, Abort),
-    asks!(FETCH, Question::Readings),
-    ending!(READ, 0, None, Some(CommandId::Do(Action::Read))),
-    group!(CONFIGURE, 2),
-    group!(VOLTAGE, 1),
-    ending!(MAYBE_DC, 0, Some(CommandId::Configure), None),
-    group!(MEASURE, 2),
-    group!(VOLTAGE, 1),
-    ending!(MAYBE_DC, 0, None, Some(CommandId::Measure)),
-];
+pub(crate) const MEASURING: &[Branch] = &tree!([]
+    node(b"INIT", b"INITIATE") {
+        maybe(b"IMM", b"IMMEDIATE") does Action::Initiate;
+    }
+    node(b"ABOR", b"ABORT") does Action::Abort;
+    node(b"FETC", b"FETCH") asks Question::Readings;
+    node(b"READ", b"READ") ends None, Some(CommandId::Do(Action::Read));
+    node(b"CONF", b"CONFIGURE") {
+        node(b"VOLT", b"VOLTAGE") {
+            maybe(b"DC", b"DC") ends Some(CommandId::Configure), None;
+        }
+    }
+    node(b"MEAS", b"MEASURE") {
+        node(b"VOLT", b"VOLTAGE") {
+            maybe(b"DC", b"DC") ends None, Some(CommandId::Measure);
+        }
+    }
+);
