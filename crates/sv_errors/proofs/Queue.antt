@@ -1,4 +1,5 @@
--- What is queued after one more act: `queued-reported`, `queued-overflowed` and `queued-taken`.
+-- The error queue after one more act: an error is reported, an error overflows the queue, an entry
+-- is taken.
 use Rattle.std.proofs.Common.{◌≡◌, ℕ, suc, ◌+◌, ◌-◌, ◌<◌, ◌≤◌, Bool, true, false, ◌&&◌, cond, List, [], ◌∷◌, ◌++◌, length, take, drop, refl, sym, ap, subst, ◌∙◌, add-one, arith, ◌⊎◌, inl, inr, length-append, length-drop}
 use Rattle.std.specs.Prelude.{◌==◌, map, min, is_some, slice_get, unwrap_or}
 use Rattle.std.specs.List.{AllByRecursion}

@@ -1,4 +1,4 @@
--- What each act makes of the response.
+-- The response after each act.
 use Rattle.std.proofs.Common.{◌≡◌, ℕ, cond, List, [], ◌∷◌, ◌++◌, drop, refl, sym, ap}
 use Rattle.std.proofs.lemmas.List.{drop-drop}
 use Rattle.sv_logs.specs.Since.{newest, since}

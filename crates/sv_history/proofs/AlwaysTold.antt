@@ -1,4 +1,5 @@
--- Whatever the acts, a poll would give some byte, and interrupt channels are told some list.
+-- For all acts, there is a status byte that a serial poll would return, and a list of acts of the
+-- interrupt channels.
 use Rattle.std.proofs.Common.{◌≡◌, ℕ, Bool, true, false, eqb, List, [], ◌∷◌, refl, ap, ◌⊎◌, inl, inr, bit_and, bit_or, arith}
 use Rattle.std.specs.Prelude.{◌↔◌, ◌&&◌, ◌||◌, not, bit_xor}
 use Rattle.std.specs.Int.{bit_at}

@@ -1,4 +1,4 @@
--- What the header of a call decides, apart from what its procedure asks for.
+-- Which reply the header of a call decides, before its arguments are read.
 use Rattle.std.proofs.Common.{◌≡◌, Bool, true, false, cond, Option, Some, None, refl}
 use Rattle.std.specs.Prelude.{not, ◌==◌, if◌then◌else◌}
 use Rattle.sv_rpc.specs.declared.reply.Reply.{Reply}

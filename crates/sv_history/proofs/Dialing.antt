@@ -1,4 +1,4 @@
--- What a dial comes to, by the peer that was asked for.
+-- The result of connecting an interrupt channel, by the peer that the call names.
 use Rattle.std.proofs.Common.{◌≡◌, ℕ, Bool, true, false, [], ◌∷◌, Option, Some, None, refl}
 use Rattle.sv_vxi.specs.declared.error_code.ErrorCode.TheVariants.{NoError, NotEstablished}
 use Rattle.sv_vxi.specs.Arguments.{Arguments, CreateIntrChan}

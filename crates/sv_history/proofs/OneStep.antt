@@ -1,4 +1,4 @@
--- One step is due at most.
+-- At most one step of the server is due, and it has only one result.
 use Rattle.std.proofs.Common.{◌≡◌, ℕ, ◌+◌, List, ◌++◌, Some, None, sym, ap, ◌∙◌, inl, inr}
 use Rattle.std.specs.Prelude.{map}
 use Rattle.std.proofs.lemmas.List.{append_cancel_right}

@@ -1,4 +1,4 @@
--- The two projections of a log, over acts in front of it.
+-- A log's acts of one connection, and of the device: after further acts.
 use Rattle.std.proofs.Common.{◌≡◌, ◌≢◌, ℕ, List, [], ◌∷◌, ◌++◌, refl, sym, ap, ◌∙◌, append_assoc, eq-eqb}
 use Rattle.std.specs.Prelude.{map}
 use Rattle.std.proofs.lemmas.Bool.{ne_eqb}

@@ -1,4 +1,4 @@
--- An act of a connection, or of an interrupt channel, makes no step due.
+-- An act of a connection or of an interrupt channel makes no step due.
 use Rattle.std.proofs.Common.{◌≡◌, ℕ, ◌+◌, List, ◌∷◌, ◌++◌, Some, refl, sym, subst, inl, inr}
 use Rattle.std.specs.Prelude.{map}
 use Rattle.sv_links.specs.Waiting.{waits, IsOldest, IsExpired}

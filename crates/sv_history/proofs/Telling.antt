@@ -1,4 +1,5 @@
--- What acts tell to interrupt channels: one list, in which a channel is open where it is by the acts alone.
+-- The acts of the interrupt channels, as the device's acts determine them: there is one such list,
+-- and the same channels are open in both.
 use Rattle.std.proofs.Common.{◌≡◌, ℕ, ◌+◌, zero, suc, Bool, true, false, List, [], ◌∷◌, ◌++◌, Option, Some, None, refl, sym, ap, subst, ◌∙◌, arith}
 use Rattle.std.specs.Prelude.{map, ◌↔◌, ◌==◌, is_some, if◌then◌else◌}
 use Rattle.sv_scan.specs.Condition.{bit}

@@ -1,4 +1,4 @@
--- A step that was taken is the one that is due, and less is left to be done behind it.
+-- Each step that the instrument takes is the one that is due, and less work remains after it.
 use Rattle.std.proofs.Common.{◌≡◌, ℕ, ◌+◌, ◌*◌, ◌<◌, ◌≤◌, true, false, List, [], ◌∷◌, length, drop, ap, sym, subst, ◌∙◌, arith}
 use Rattle.std.specs.Prelude.{Option, Some, None}
 use Rattle.sv_errors.specs.declared.code.Code.{Code}

@@ -1,4 +1,4 @@
--- One step is due at most, and it makes one log: units, paths and answers are each the one that they are.
+-- At most one step of the instrument is due, and it has only one result.
 use Rattle.std.proofs.Common.{◌≡◌, ℕ, List, [], ◌∷◌, sym, ap, ◌∙◌}
 use Rattle.std.specs.Prelude.{Option, Some, None, Result, Ok, Err, decimal}
 use Rattle.sv_errors.specs.declared.code.Code.{Code}

@@ -16,7 +16,9 @@ use Rattle.sv_header.specs.declared.command.Question.TheVariants as question
 use Rattle.sv_instrument.specs.declared.command.order.Order.{Order}
 use Rattle.sv_instrument.specs.declared.command.order.Order.TheVariants as order
 use Rattle.sv_layers.specs.declared.change.Awaited.TheVariants as awaited
-use Rattle.sv_layers.specs.Act.{Act, Exchanged, Scanned, Held, Reported, EntryTaken, Cleared, Preset, OpcAsked, StandardRead, StandardEnabled, EventRead, Enabled, RiseSet, FallSet, ServiceEnabled, exchange_acts}
+use Rattle.sv_layers.specs.declared.change.RegisterChange.TheVariants.{ReadEvents}
+use Rattle.sv_layers.specs.declared.change.StatusChange.TheVariants as status
+use Rattle.sv_layers.specs.Act.{Act, Exchanged, Scanned, Held, Reported, EntryTaken, Cleared, Preset, OpcAsked, StatusChanged, exchange_acts}
 use Rattle.sv_layers.specs.Condition.{effective_acts}
 use Rattle.sv_instrument.specs.QueryResponse.{Says}
 
@@ -52,9 +54,9 @@ after_configure list log = set_list list
 -- the log after a query's effect: a query that removes an entry of the error queue or clears a register adds an act; every other query adds
 -- none
 abbrev pub after_query : Question → List Act → List Act
-after_query question.StandardEvents log = StandardRead ∷ log
+after_query question.StandardEvents log = StatusChanged status.ReadStandard ∷ log
 after_query question.Error log = EntryTaken ∷ log
-after_query (question.Events name) log = EventRead name ∷ log
+after_query (question.Events name) log = StatusChanged (status.Register name ReadEvents) ∷ log
 after_query asked log = log
 
 -- the error of a query that can't be answered: -230 if the query fetches the readings, and the measurement isn't complete, was
@@ -87,11 +89,7 @@ after_action action.Read log = unless (read_fault (effective_acts log))
 abbrev pub Performs : Order → List Act → List Act → Type 0
 Performs (order.Do action) log new = new ≡ after_action action log
 Performs (order.Ask asked) log new = Replies (question_fault asked log) asked log new
-Performs (order.EnableStandard mask) log new = new ≡ done (StandardEnabled mask ∷ log)
-Performs (order.EnableService mask) log new = new ≡ done (ServiceEnabled mask ∷ log)
-Performs (order.Enable name mask) log new = new ≡ done (Enabled name mask ∷ log)
-Performs (order.SetRise name mask) log new = new ≡ done (RiseSet name mask ∷ log)
-Performs (order.SetFall name mask) log new = new ≡ done (FallSet name mask ∷ log)
+Performs (order.Apply change) log new = new ≡ done (StatusChanged change ∷ log)
 Performs (order.Set given) log new = new
     ≡ unless (setting_fault (effective_acts log) given) (done (Scanned (scan.Configure given) ∷ log)) log
 Performs (order.Configure list) log new = new ≡ done (after_configure list log)

@@ -34,11 +34,7 @@ pub(crate) fn perform<A: Allocator>(
     let change = match order {
         Order::Do(action) => return act(layers, action),
         Order::Ask(question) => return ask(layers, answer, question),
-        Order::EnableStandard(mask) => Change::EnableStandard(mask),
-        Order::EnableService(mask) => Change::EnableService(mask),
-        Order::Enable(name, mask) => Change::Enable(name, mask),
-        Order::SetRise(name, mask) => Change::SetRise(name, mask),
-        Order::SetFall(name, mask) => Change::SetFall(name, mask),
+        Order::Apply(change) => Change::Status(change),
         Order::Set(setting) => return set(layers, setting),
         Order::Configure(list) => {
             configure(layers, list);

@@ -15,7 +15,7 @@ use std::alloc::Allocator;
 use sv_bytes::append;
 use sv_errors::Code;
 use sv_header::{Question, SettingName};
-use sv_layers::{Awaited, Change, Layers};
+use sv_layers::{Awaited, Change, Layers, RegisterChange, StatusChange};
 use sv_value::printing::{put_channels, put_error, put_source, put_switch, put_voltage, put_whole};
 
 /// Performs the query of the unit that is due: adds the answer to the answers of the message, or
@@ -63,9 +63,12 @@ fn take<A: Allocator>(layers: &mut Layers<A>, question: Question)
     ensures exchange { layers.new.exchange ≡ layers.old.exchange }
 {
     match question {
-        Question::StandardEvents => layers.apply(Change::ReadStandard),
+        Question::StandardEvents => layers.apply(Change::Status(StatusChange::ReadStandard)),
         Question::Error => layers.apply(Change::TakeEntry),
-        Question::Events(name) => layers.apply(Change::ReadEvent(name)),
+        Question::Events(name) => layers.apply(Change::Status(StatusChange::Register(
+            name,
+            RegisterChange::ReadEvents,
+        ))),
         _ => (),
     }
 }

@@ -1,4 +1,5 @@
--- What events bring to a connection and tell to interrupt channels by themselves, as crates above use it.
+-- What an event itself adds to a connection's acts and to those of interrupt channels, for crates
+-- above.
 use Rattle.std.specs.Prelude.{◌≡◌, ℕ, ◌+◌, filter, ◌<◌, ◌==◌, Bool, true, false, List, [], ◌∷◌, ◌++◌, length, Option, Some, None, Result, Ok, Err, ⊤, if◌then◌else◌}
 use Rattle.sv_links.specs.declared.request.Peer.{Peer}
 use Rattle.sv_links.specs.Channels.{ChannelAct, ChannelOpened, ChannelTaken, is_channel_open, bytes_taken, calls}

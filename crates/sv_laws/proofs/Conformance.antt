@@ -14,7 +14,8 @@ use Rattle.sv_scan.specs.declared.acts.ScanAct.{ScanAct}
 use Rattle.sv_scan.specs.declared.acts.ScanAct.TheVariants.{Reset}
 use Rattle.sv_scan.specs.Counted.{effective}
 use Rattle.sv_exchange.specs.Exchange.{ExchangeAct, Answered, UnitDone, response, is_something}
-use Rattle.sv_layers.specs.Act.{Act, Exchanged, Purged, Scanned, EntryTaken, Cleared, Preset, StandardRead, Polled, exchange_acts, queue_acts, scan_acts}
+use Rattle.sv_layers.specs.declared.change.StatusChange.TheVariants.{ReadStandard}
+use Rattle.sv_layers.specs.Act.{Act, Exchanged, Purged, Scanned, EntryTaken, Cleared, Preset, Polled, exchange_acts, queue_acts, scan_acts, StatusChanged}
 use Rattle.sv_layers.specs.Condition.{effective_acts, is_idle, scan_word, word, summary, condition}
 use Rattle.sv_layers.specs.Filter.{rise, fall, enable, has_bit, passes, leaves}
 use Rattle.sv_layers.specs.Event.{EventStands}
@@ -334,13 +335,13 @@ reset_leaves log new is =
 
 -- ---- *ESR?
 
-read_none : (k : ℕ) (log : List Act) → Stands k (done (StandardRead ∷ log)) → ⊥
-read_none k log s = since_ended (Occurs k) NotCleared StandardRead log (λ kept. kept)
-    (((exchanged_same UnitDone (StandardRead ∷ log)).standard k).0 s)
+read_none : (k : ℕ) (log : List Act) → Stands k (done (StatusChanged ReadStandard ∷ log)) → ⊥
+read_none k log s = since_ended (Occurs k) NotCleared (StatusChanged ReadStandard) log (λ kept. kept)
+    (((exchanged_same UnitDone (StatusChanged ReadStandard ∷ log)).standard k).0 s)
 
 pub standard_read_once : StandardReadOnce
 standard_read_once log new (text, says, is) =
-    let read = StandardRead ∷ log in
+    let read = StatusChanged ReadStandard ∷ log in
     let end = exchanged_same UnitDone read in (
       text,
       says,
@@ -351,8 +352,8 @@ standard_read_once log new (text, says, is) =
       (
         ((λ name. (refl, refl, refl)), refl, refl),
         (λ name k. then_same (end.events name k)
-            (events_same name k StandardRead log (condition_same name StandardRead log refl refl refl) refl)),
-        then_same end.waits (waits_same StandardRead log refl (λ asked. asked) refl),
+            (events_same name k (StatusChanged ReadStandard) log (condition_same name (StatusChanged ReadStandard) log refl refl refl) refl)),
+        then_same end.waits (waits_same (StatusChanged ReadStandard) log refl (λ asked. asked) refl),
         refl,
         (refl, refl),
       ),

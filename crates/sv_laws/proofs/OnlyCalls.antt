@@ -1,4 +1,4 @@
--- An event adds to each connection its own act, and behind it acts of calls alone.
+-- To a connection, an event adds its own act; everything that follows it are acts of calls.
 use Rattle.std.proofs.Common.{◌≡◌, ℕ, eqb, true, false, List, [], ◌∷◌, ◌++◌, Option, Some, None, refl, sym, ap, subst, ◌∙◌, inl, inr, append_assoc}
 use Rattle.std.specs.Prelude.{map}
 use Rattle.std.proofs.lemmas.Bool.{cases_Bool}

@@ -1,4 +1,5 @@
--- An event tells to each interrupt channel its own act, and behind it a channel is closed, or calls are added to it.
+-- To an interrupt channel, an event adds its own act; after it the channel is closed, or requests
+-- are queued.
 use Rattle.std.proofs.Common.{◌≡◌, ℕ, Bool, true, false, eqb, cond, List, [], ◌∷◌, ◌++◌, Option, Some, None, refl, sym, ap, subst, ◌∙◌, inl, inr, append_assoc, append-nil, add-zero, ◌+◌}
 use Rattle.std.specs.Prelude.{map, ⊤}
 use Rattle.std.specs.List.{fold, AllByRecursion}

@@ -1,4 +1,4 @@
--- A millisecond is counted while the clock isn't at its end, by how many were.
+-- The clock has advanced by the number of ticks, unless it has reached its last value.
 use Rattle.std.proofs.Common.{◌≡◌, ℕ, ◌+◌, Bool, true, false, cond, eqb, List, [], ◌∷◌, length, filter, Some, refl, sym, ap, ◌∙◌, arith, eq-eqb}
 use Rattle.std.specs.Prelude.{Result, Ok, Err}
 use Rattle.std.proofs.lemmas.Bool.{ne_eqb}

@@ -1,4 +1,4 @@
--- For each log there is one list of acts that the status byte is told.
+-- Each log determines exactly one list of acts of the status byte.
 use Rattle.std.proofs.Common.{◌≡◌, ℕ, Bool, true, eqb, List, [], ◌∷◌, refl, bit_and}
 use Rattle.std.specs.Prelude.{◌↔◌, not}
 use Rattle.sv_status.specs.declared.register.RegisterAct.{RegisterAct}

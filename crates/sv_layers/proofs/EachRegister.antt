@@ -1,4 +1,4 @@
--- What holds of each status register by its name.
+-- Facts about each status register, by case on its name.
 use Rattle.std.proofs.Common.{◌≡◌, ◌+◌, ◌<◌, ◌^◌, Bool, List, [], refl, ap, ◌∙◌, arith}
 use Rattle.sv_status.specs.declared.register_name.RegisterName.{RegisterName}
 use Rattle.sv_status.specs.declared.register_name.RegisterName.TheVariants.{Operation, Questionable, Limit}

@@ -1,4 +1,4 @@
--- What is so exactly if one of two is, and what is the same.
+-- Equivalences of alternatives: replacing one side, and reordering.
 use Rattle.std.proofs.Common.{◌≡◌, Bool, true, ◌∙◌, sym, ◌⊎◌, inl, inr, arith}
 use Rattle.std.specs.Prelude.{◌↔◌}
 

@@ -1,4 +1,5 @@
--- The summary of a nested register, as a test and as it is said of any register.
+-- The limit register's summary, as the search over its bits finds it and as the general definition
+-- of a register states it.
 use Rattle.std.proofs.Common.{◌≡◌, ℕ, ◌<◌, ◌^◌, Bool, true, false, List, [], ◌∷◌, refl, ap, ◌∙◌, sym, arith, inl, inr, get_or}
 use Rattle.std.specs.Prelude.{◌↔◌, ◌&&◌, ◌||◌, Some, None, unwrap_or, if◌then◌else◌}
 use Rattle.std.specs.Int.{bit_at}
@@ -12,7 +13,9 @@ use Rattle.sv_logs.specs.Since.{is_since}
 use Rattle.sv_logs.proofs.Since.{both_true, either_true, is_since_is}
 use Rattle.sv_status.specs.declared.register_name.RegisterName.{RegisterName}
 use Rattle.sv_status.specs.Register.{without_top_bit}
-use Rattle.sv_layers.specs.Act.{Act, Enabled, Preset}
+use Rattle.sv_layers.specs.declared.change.RegisterChange.TheVariants.{Enable}
+use Rattle.sv_layers.specs.declared.change.StatusChange.TheVariants.{Register}
+use Rattle.sv_layers.specs.Act.{Act, Preset, StatusChanged}
 use Rattle.sv_layers.specs.Filter.{is_same, enable, has_bit, passes, leaves}
 use Rattle.sv_layers.specs.Condition.{word, summary, condition}
 use Rattle.sv_layers.specs.Event.{EventStands, Summary}
@@ -39,7 +42,7 @@ small_of false mask word small = small
 
 enable_small : (name : RegisterName) (log : List Act) → enable name log < 2 ^ 16
 enable_small name [] = start_small name
-enable_small name (Enabled other mask ∷ log) = small_of (is_same name other) mask (enable name log) (enable_small name log)
+enable_small name (StatusChanged (Register other (Enable mask)) ∷ log) = small_of (is_same name other) mask (enable name log) (enable_small name log)
 enable_small name (Preset ∷ log) = start_small name
 enable_small name (_ ∷ log) = enable_small name log
 

@@ -1,4 +1,5 @@
--- A poll changes nothing that the status byte sums up, so it gives no reason for service. It ends a request, and raises none.
+-- A serial poll gives no new reason for service: it changes no summary bit, ends a request, and
+-- raises none.
 use Rattle.std.proofs.Common.{◌≡◌, ℕ, Bool, true, List, [], ◌∷◌, ◌⊎◌, inl, inr, arith, refl, ap, sym, ◌∙◌}
 use Rattle.std.specs.Prelude.{◌&&◌, ◌||◌}
 use Rattle.std.specs.List.{range_with_len}

@@ -1,4 +1,4 @@
--- There is one status byte as a poll gives it.
+-- For each log, exactly one byte is the status byte that a serial poll returns.
 use Rattle.std.proofs.Common.{◌≡◌, ℕ, ◌<◌, ◌≤◌, Bool, true, false, List, [], ◌∷◌, arith}
 use Rattle.std.specs.Prelude.{◌↔◌}
 use Rattle.std.specs.Int.{bit_at}

@@ -1,4 +1,4 @@
--- What exchange, error queue and scanner see of the log, and the service request enable that is kept.
+-- The acts of each layer, taken from the instrument's log.
 use Rattle.std.proofs.Common.{◌≡◌, List, [], ◌∷◌, refl, ap}
 use Rattle.sv_errors.specs.declared.error_queue.QueueAct.{QueueAct}
 use Rattle.sv_errors.specs.declared.error_queue.QueueAct.TheVariants as queue
@@ -6,7 +6,8 @@ use Rattle.sv_status.specs.declared.register_name.RegisterName.{RegisterName}
 use Rattle.sv_status.specs.declared.register.RegisterAct.{RegisterAct}
 use Rattle.sv_scan.specs.declared.acts.ScanAct.{ScanAct}
 use Rattle.sv_exchange.specs.Exchange.{ExchangeAct, TextDropped, Interrupted}
-use Rattle.sv_layers.specs.Act.{Act, Exchanged, Purged, Scanned, Reported, EntryTaken, Cleared, ServiceEnabled, exchange_acts, queue_acts, scan_acts}
+use Rattle.sv_layers.specs.declared.change.StatusChange.TheVariants.{EnableService}
+use Rattle.sv_layers.specs.Act.{Act, Exchanged, Purged, Scanned, Reported, EntryTaken, Cleared, exchange_acts, queue_acts, scan_acts, StatusChanged}
 use Rattle.sv_layers.specs.StatusByte.{service}
 use Rattle.sv_layers.specs.Inside.LayerLogs.{LayerLogs, after_begin, register_acts, layer_logs}
 use Rattle.sv_layers.specs.Laws.{OwnActs}
@@ -28,7 +29,7 @@ begins (Scanned act) log at h = ((h.0, h.1, ap (λ (acts : List ScanAct). act �
 begins (Reported code) log at h = ((h.0, ap (λ (acts : List QueueAct). queue.Report code ∷ acts) h.1, h.2, h.3), refl)
 begins EntryTaken log at h = ((h.0, ap (λ (acts : List QueueAct). queue.Take ∷ acts) h.1, h.2, h.3), refl)
 begins Cleared log at h = ((h.0, ap (λ (acts : List QueueAct). queue.Clear ∷ acts) h.1, h.2, h.3), refl)
-begins (ServiceEnabled mask) log at h = ((h.0, h.1, h.2, refl), refl)
+begins (StatusChanged (EnableService mask)) log at h = ((h.0, h.1, h.2, refl), refl)
 begins _ log at h = (h, refl)
 
 pub projected : OwnActs

@@ -1,4 +1,4 @@
--- What a call that may be refused tells of the fault.
+-- A refused call returns exactly the error that the definition states.
 use Rattle.std.proofs.Common.{◌≡◌, refl}
 use Rattle.std.specs.Prelude.{Option, Some, None, Ok, Err}
 use Rattle.sv_errors.specs.declared.code.Code.{Code}

@@ -7,7 +7,9 @@ use Rattle.sv_status.specs.declared.register.RegisterAct.{RegisterAct}
 use Rattle.sv_status.specs.declared.register.RegisterAct.TheVariants as register
 use Rattle.sv_status.specs.Register as stands
 use Rattle.sv_status.proofs.Registers.{event-none, event-condition, event-read, event-cleared, event-filter, event-enable, event-preset}
-use Rattle.sv_layers.specs.Act.{Act, Cleared, Preset, EventRead, Enabled, RiseSet, FallSet}
+use Rattle.sv_layers.specs.declared.change.RegisterChange.TheVariants.{ReadEvents, Enable, SetRise, SetFall}
+use Rattle.sv_layers.specs.declared.change.StatusChange.TheVariants.{Register}
+use Rattle.sv_layers.specs.Act.{Act, Cleared, Preset, StatusChanged}
 use Rattle.sv_layers.specs.Condition.{condition}
 use Rattle.sv_layers.specs.Filter.{is_same, rise, fall}
 use Rattle.sv_layers.specs.Inside.LayerLogs.{own, layer_logs, register_acts}
@@ -48,10 +50,10 @@ own_event : (name : RegisterName) (k : ℕ) (act : Act) (log : List Act) (acts :
     → stands.EventStands k (own name act acts) ↔ (NotCleared name (act ∷ log) × (Passes name k (act ∷ log) ⊎ Q))
 own_event name k Cleared log acts Q h = step_ended (λ kept. absurd cc) (event-cleared k acts)
 own_event name k Preset log acts Q h = step_kept refl (then_same (event-preset k acts) h)
-own_event name k (EventRead other) log acts Q h = where_read (is_same name other) k acts h
-own_event name k (Enabled other mask) log acts Q h = step_kept refl (where_event (is_same name other) k _ acts (event-enable k _ acts) h)
-own_event name k (RiseSet other mask) log acts Q h = step_kept refl (where_event (is_same name other) k _ acts (event-filter k _ _ acts) h)
-own_event name k (FallSet other mask) log acts Q h = step_kept refl (where_event (is_same name other) k _ acts (event-filter k _ _ acts) h)
+own_event name k (StatusChanged (Register other ReadEvents)) log acts Q h = where_read (is_same name other) k acts h
+own_event name k (StatusChanged (Register other (Enable mask))) log acts Q h = step_kept refl (where_event (is_same name other) k _ acts (event-enable k _ acts) h)
+own_event name k (StatusChanged (Register other (SetRise mask))) log acts Q h = step_kept refl (where_event (is_same name other) k _ acts (event-filter k _ _ acts) h)
+own_event name k (StatusChanged (Register other (SetFall mask))) log acts Q h = step_kept refl (where_event (is_same name other) k _ acts (event-filter k _ _ acts) h)
 own_event name k _ log acts Q h = step_kept refl h
 
 event_step : (name : RegisterName) (k : ℕ) (act : Act) (log : List Act) → stands.EventStands k (register_acts name (layer_logs (act ∷ log)))

@@ -11,7 +11,8 @@ use Rattle.sv_status.specs.declared.standard_event.StandardAct.TheVariants as st
 use Rattle.sv_status.specs.StandardEvent as stands
 use Rattle.sv_status.proofs.StandardEvents.{stands-none, stands-occurred, stands-enable, stands-read, stands-cleared}
 use Rattle.sv_scan.specs.Condition.{bit}
-use Rattle.sv_layers.specs.Act.{Act, Reported, Cleared, StandardRead, StandardEnabled}
+use Rattle.sv_layers.specs.declared.change.StatusChange.TheVariants.{ReadStandard, EnableStandard}
+use Rattle.sv_layers.specs.Act.{Act, Reported, Cleared, StatusChanged}
 use Rattle.sv_layers.specs.Standard.{Completes, Occurs, NotCleared, enable}
 use Rattle.sv_layers.specs.Inside.LayerLogs.{report_bits, layer_logs}
 use Rattle.sv_layers.specs.Laws.{SameEnable, SameStandardEvents}
@@ -49,9 +50,9 @@ StandardStep k act log = (stands.Stands k (layer_logs (act ∷ log)).standard
 standard_step : (k : ℕ) (act : Act) (log : List Act) → StandardStep k act log
 standard_step k (Reported code) log = (step_kept tt (reported k code log), λ same. same)
 standard_step k Cleared log = (step_ended (λ kept. kept) (stands-cleared k _), λ same. same)
-standard_step k StandardRead log = (step_ended (λ kept. kept) (stands-read k _), λ same. same)
-standard_step k (StandardEnabled mask) log =
-    (step_kept tt (then_same (stands-enable k mask _) (completed k (StandardEnabled mask) log _)), λ same. refl)
+standard_step k (StatusChanged ReadStandard) log = (step_ended (λ kept. kept) (stands-read k _), λ same. same)
+standard_step k (StatusChanged (EnableStandard mask)) log =
+    (step_kept tt (then_same (stands-enable k mask _) (completed k (StatusChanged (EnableStandard mask)) log _)), λ same. refl)
 standard_step k act log = (step_kept tt (completed k act log _), λ same. same)
 
 pub same_standard_events : SameStandardEvents

@@ -1,4 +1,4 @@
--- The summary bits of the status byte, as they are seen and as the log tells.
+-- The summary bits of the status byte agree with the summaries that the log determines.
 use Rattle.std.proofs.Common.{◌≡◌, ◌+◌, false, List, [], refl, ap, arith}
 use Rattle.std.specs.Prelude.{◌↔◌}
 use Rattle.std.proofs.lemmas.Nat.Bits.{bit_at-zero}

@@ -8,7 +8,9 @@ use Rattle.sv_status.specs.declared.register.RegisterAct.TheVariants.{Condition,
 use Rattle.sv_status.specs.declared.register.RegisterAct.TheVariants as register
 use Rattle.sv_status.specs.Register as register_words
 use Rattle.sv_status.specs.Register.{without_top_bit}
-use Rattle.sv_layers.specs.Act.{Act, Preset, EventRead, Enabled, RiseSet, FallSet}
+use Rattle.sv_layers.specs.declared.change.RegisterChange.TheVariants.{ReadEvents, Enable, SetRise, SetFall}
+use Rattle.sv_layers.specs.declared.change.StatusChange.TheVariants.{Register}
+use Rattle.sv_layers.specs.Act.{Act, Preset, StatusChanged}
 use Rattle.sv_layers.specs.Condition.{condition}
 use Rattle.sv_layers.specs.Filter.{is_same, start, rise, fall, enable}
 use Rattle.sv_layers.specs.Inside.LayerLogs.{own, layer_logs, register_acts}
@@ -63,10 +65,10 @@ own_words : (name : RegisterName) (act : Act) (log : List Act) (acts : List Regi
     → Words (start name) acts (condition name (act ∷ log)) (rise name log) (fall name log) (enable name log)
     → WordsOf name (own name act acts) (act ∷ log)
 own_words name Preset log acts h = (h.0, refl, refl, refl)
-own_words name (EventRead other) log acts h = read_words (start name) (is_same name other) acts _ _ _ _ h
-own_words name (Enabled other mask) log acts h = enabled_words (start name) (is_same name other) mask acts _ _ _ _ h
-own_words name (RiseSet other mask) log acts h = rise_words (start name) (is_same name other) mask acts _ _ _ _ h
-own_words name (FallSet other mask) log acts h = fall_words (start name) (is_same name other) mask acts _ _ _ _ h
+own_words name (StatusChanged (Register other ReadEvents)) log acts h = read_words (start name) (is_same name other) acts _ _ _ _ h
+own_words name (StatusChanged (Register other (Enable mask))) log acts h = enabled_words (start name) (is_same name other) mask acts _ _ _ _ h
+own_words name (StatusChanged (Register other (SetRise mask))) log acts h = rise_words (start name) (is_same name other) mask acts _ _ _ _ h
+own_words name (StatusChanged (Register other (SetFall mask))) log acts h = fall_words (start name) (is_same name other) mask acts _ _ _ _ h
 own_words name _ log acts h = h
 
 pub same_words : SameWords

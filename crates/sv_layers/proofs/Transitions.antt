@@ -1,4 +1,5 @@
--- Whether a bit changes in a direction whose filter is on: as a test, and as it is said of a register. By both an event stands.
+-- A condition bit's transition passes its filter: as the search computes it, and as the definition
+-- of a register states it.
 use Rattle.std.proofs.Common.{◌≡◌, ℕ, Bool, true, false, List, refl, ◌⊎◌, arith, eq-eqb}
 use Rattle.std.specs.Prelude.{◌↔◌, not, ◌&&◌, ◌||◌}
 use Rattle.std.specs.Int.{bit_at}

@@ -5,9 +5,9 @@ use Rattle.std.specs.List.{filter_map}
 use Rattle.sv_errors.specs.declared.code.Code.{Code}
 use Rattle.sv_errors.specs.declared.error_queue.QueueAct.{QueueAct}
 use Rattle.sv_errors.specs.declared.error_queue.QueueAct.TheVariants as queue
-use Rattle.sv_status.specs.declared.register_name.RegisterName.{RegisterName}
 use Rattle.sv_scan.specs.declared.acts.ScanAct.{ScanAct}
 use Rattle.sv_layers.specs.declared.change.Awaited.{Awaited}
+use Rattle.sv_layers.specs.declared.change.StatusChange.{StatusChange}
 use Rattle.sv_exchange.specs.Exchange.{ExchangeAct, TextDropped, Interrupted}
 
 -- an act of the instrument
@@ -26,13 +26,7 @@ pub data Act : Type 0 where
   Cleared : Act
   Preset : Act
   OpcAsked : Act
-  StandardRead : Act
-  StandardEnabled : (mask : ℕ) → Act
-  EventRead : (name : RegisterName) → Act
-  Enabled : (name : RegisterName) (mask : ℕ) → Act
-  RiseSet : (name : RegisterName) (mask : ℕ) → Act
-  FallSet : (name : RegisterName) (mask : ℕ) → Act
-  ServiceEnabled : (mask : ℕ) → Act
+  StatusChanged : (change : StatusChange) → Act
   Polled : Act
 
 -- the acts of message exchange in the instrument's log. A device clear counts as two of these acts: the text is dropped, then the response

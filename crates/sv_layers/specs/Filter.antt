@@ -5,7 +5,9 @@ use Rattle.sv_logs.specs.Since.{last_given}
 use Rattle.sv_status.specs.declared.register_name.RegisterName.{RegisterName}
 use Rattle.sv_status.specs.declared.register_name.RegisterName.TheVariants.{Operation, Questionable, Limit}
 use Rattle.sv_status.specs.Register.{without_top_bit}
-use Rattle.sv_layers.specs.Act.{Act, RiseSet, FallSet, Enabled, Preset, EventRead, Cleared}
+use Rattle.sv_layers.specs.declared.change.RegisterChange.TheVariants.{ReadEvents, Enable, SetRise, SetFall}
+use Rattle.sv_layers.specs.declared.change.StatusChange.TheVariants.{Register}
+use Rattle.sv_layers.specs.Act.{Act, Preset, Cleared, StatusChanged}
 
 -- whether two registers are the same
 abbrev pub is_same : RegisterName → RegisterName → Bool
@@ -26,17 +28,17 @@ mask_for name other mask = if is_same name other then Some (without_top_bit mask
 -- the positive transition filter of a register: the mask that was set last, without bit 15; 32767
 -- at power on and after a preset
 abbrev pub rise : RegisterName → List Act → ℕ
-rise name = last_given (elim [ RiseSet other mask ↦ mask_for name other mask | Preset ↦ Some 32767 | _ ↦ None ]) 32767
+rise name = last_given (elim [ StatusChanged (Register other (SetRise mask)) ↦ mask_for name other mask | Preset ↦ Some 32767 | _ ↦ None ]) 32767
 
 -- the negative transition filter of a register: the mask that was set last, without bit 15; 0 at
 -- power on and after a preset
 abbrev pub fall : RegisterName → List Act → ℕ
-fall name = last_given (elim [ FallSet other mask ↦ mask_for name other mask | Preset ↦ Some 0 | _ ↦ None ]) 0
+fall name = last_given (elim [ StatusChanged (Register other (SetFall mask)) ↦ mask_for name other mask | Preset ↦ Some 0 | _ ↦ None ]) 0
 
 -- the enable mask of a register: the mask that was set last, without bit 15; `start` at power on
 -- and after a preset
 abbrev pub enable : RegisterName → List Act → ℕ
-enable name = last_given (elim [ Enabled other mask ↦ mask_for name other mask | Preset ↦ Some (start name) | _ ↦ None ]) (start name)
+enable name = last_given (elim [ StatusChanged (Register other (Enable mask)) ↦ mask_for name other mask | Preset ↦ Some (start name) | _ ↦ None ]) (start name)
 
 -- whether bit k of this number is set
 abbrev pub has_bit : ℕ → ℕ → Bool
@@ -52,4 +54,4 @@ passes condition name k (act ∷ before) =
 
 -- whether the newest act doesn't clear the event register: it is neither `*CLS` nor a read of this event register
 abbrev pub leaves : RegisterName → List Act → Bool
-leaves name = elim [ EventRead other ∷ log ↦ not (is_same name other) | Cleared ∷ log ↦ false | _ ↦ true ]
+leaves name = elim [ StatusChanged (Register other ReadEvents) ∷ log ↦ not (is_same name other) | Cleared ∷ log ↦ false | _ ↦ true ]

@@ -5,7 +5,8 @@ use Rattle.sv_logs.specs.Since.{Since, last_given}
 use Rattle.sv_errors.specs.Code.{standard_event_of}
 use Rattle.sv_errors.specs.ErrorQueue.{is_full}
 use Rattle.sv_scan.specs.declared.acts.ScanAct.TheVariants.{Reset}
-use Rattle.sv_layers.specs.Act.{Act, Scanned, Purged, Cleared, OpcAsked, Reported, StandardRead, StandardEnabled, queue_acts}
+use Rattle.sv_layers.specs.declared.change.StatusChange.TheVariants.{ReadStandard, EnableStandard}
+use Rattle.sv_layers.specs.Act.{Act, Scanned, Purged, Cleared, OpcAsked, Reported, queue_acts, StatusChanged}
 use Rattle.sv_layers.specs.Condition.{is_idle}
 
 -- The newest act is an `*OPC`.
@@ -41,7 +42,7 @@ Occurs k log = (k ≡ 0) × Completes log
 
 -- The newest act doesn't clear the standard event status register: the act is neither `*CLS` nor `*ESR?`.
 abbrev pub NotCleared : List Act → Type 0
-NotCleared = elim [ StandardRead ∷ log ↦ ⊥ | Cleared ∷ log ↦ ⊥ | _ ↦ ⊤ ]
+NotCleared = elim [ StatusChanged ReadStandard ∷ log ↦ ⊥ | Cleared ∷ log ↦ ⊥ | _ ↦ ⊤ ]
 
 -- A bit of the standard event status register is set: its event occurred after the last clearing.
 abbrev pub Stands : ℕ → List Act → Type 0
@@ -49,7 +50,7 @@ Stands k log = Since (Occurs k) NotCleared log
 
 -- the enable mask of the standard events: the one that was set last; 0 at first
 abbrev pub enable : List Act → ℕ
-enable = last_given (elim [ StandardEnabled mask ↦ Some mask | _ ↦ None ]) 0
+enable = last_given (elim [ StatusChanged (EnableStandard mask) ↦ Some mask | _ ↦ None ]) 0
 
 -- The summary of the standard events is set: some event is set and enabled.
 abbrev pub Summary : List Act → Type 0

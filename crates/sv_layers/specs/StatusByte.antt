@@ -5,7 +5,8 @@ use Rattle.sv_logs.specs.Since.{Since, last_given}
 use Rattle.sv_errors.specs.ErrorQueue.{entries}
 use Rattle.sv_status.specs.declared.register_name.RegisterName.TheVariants.{Operation, Questionable}
 use Rattle.sv_exchange.specs.Exchange.{response, is_something}
-use Rattle.sv_layers.specs.Act.{Act, ServiceEnabled, Polled, exchange_acts, queue_acts}
+use Rattle.sv_layers.specs.declared.change.StatusChange.TheVariants.{EnableService}
+use Rattle.sv_layers.specs.Act.{Act, Polled, exchange_acts, queue_acts, StatusChanged}
 use Rattle.sv_layers.specs.Event.{Summary}
 use Rattle.sv_layers.specs.Standard.{Summary as StandardSummary}
 
@@ -18,7 +19,7 @@ SummaryBit k log = ((k ≡ 7) × Summary Operation log) ⊎ ((k ≡ 5) × Standa
 
 -- the service request enable that was set last; 0 at first. Bit 6 isn't removed here: the order of an `*SRE` has a mask without bit 6.
 abbrev pub service : List Act → ℕ
-service = last_given (elim [ ServiceEnabled mask ↦ Some mask | _ ↦ None ]) 0
+service = last_given (elim [ StatusChanged (EnableService mask) ↦ Some mask | _ ↦ None ]) 0
 
 -- Summary bit k of the status byte is set, and enabled in the service request enable.
 abbrev pub ServiceRequested : ℕ → List Act → Type 0

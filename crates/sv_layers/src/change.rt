@@ -15,6 +15,33 @@ pub enum Awaited {
     Readings,
 }
 
+/// A change that a unit makes to one status register (SCPI-1999, chapter 20).
+#[derive(Clone, Copy)]
+pub enum RegisterChange {
+    /// The events are read, which clears them.
+    ReadEvents,
+    /// The enable is set.
+    Enable(u16),
+    /// The positive transition filter is set.
+    SetRise(u16),
+    /// The negative transition filter is set.
+    SetFall(u16),
+}
+
+/// A change that a unit makes to the standard events, to the service request enable, or to a status
+/// register.
+#[derive(Clone, Copy)]
+pub enum StatusChange {
+    /// The standard events are read, which clears them.
+    ReadStandard,
+    /// The enable of the standard events is set.
+    EnableStandard(u8),
+    /// The service request enable is set.
+    EnableService(u8),
+    /// The register with this name is changed.
+    Register(RegisterName, RegisterChange),
+}
+
 /// A change of the instrument, except changes of program text and of the response.
 #[derive(Drop)]
 pub enum Change {
@@ -33,18 +60,6 @@ pub enum Change {
     Preset,
     /// `*OPC`: the operation complete event is to be set when the measurement ends.
     AskComplete,
-    /// The standard events are read, which clears them.
-    ReadStandard,
-    /// The enable of the standard events is set.
-    EnableStandard(u8),
-    /// An event register is read, which clears it.
-    ReadEvent(RegisterName),
-    /// The enable of a register is set.
-    Enable(RegisterName, u16),
-    /// The positive transition filter of a register is set.
-    SetRise(RegisterName, u16),
-    /// The negative transition filter of a register is set.
-    SetFall(RegisterName, u16),
-    /// The service request enable is set.
-    EnableService(u8),
+    /// The standard events, the service request enable or a status register is changed.
+    Status(StatusChange),
 }

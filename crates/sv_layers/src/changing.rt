@@ -12,7 +12,7 @@ ghost use Rattle.sv_layers.specs.Change.{act_of};
 ghost use Rattle.sv_layers.specs.Inside.LayerLogs.{LayerLogs, after_begin, resets};
 ghost use Rattle.sv_layers.specs.Inside.Representation.{StandsFor, IsApplied, Represents, state_by};
 
-use crate::change::Change;
+use crate::change::{Change, StatusChange};
 use crate::layers::Layers;
 use crate::status::mask_if;
 use std::alloc::Allocator;
@@ -55,15 +55,8 @@ impl<A: Allocator> Layers<A> {
                 self.waits = false;
             }
             Change::AskComplete => self.waits = true,
-            Change::EnableService(mask) => self.service = *mask,
-            Change::Hold(_awaited) => (),
-            Change::Preset => (),
-            Change::ReadStandard => (),
-            Change::EnableStandard(_mask) => (),
-            Change::ReadEvent(_name) => (),
-            Change::Enable(_name, _mask) => (),
-            Change::SetRise(_name, _mask) => (),
-            Change::SetFall(_name, _mask) => (),
+            Change::Status(StatusChange::EnableService(mask)) => self.service = *mask,
+            _ => {}
         }
     }
 
@@ -120,11 +113,6 @@ fn is_reset(act: &ScanAct) -> bool
 {
     match act {
         ScanAct::Reset => true,
-        ScanAct::Input(_channel, _microvolts) => false,
-        ScanAct::Configure(_setting) => false,
-        ScanAct::Init => false,
-        ScanAct::Abort => false,
-        ScanAct::Trigger(_source) => false,
-        ScanAct::Sample => false,
+        _ => false,
     }
 }

@@ -10,10 +10,10 @@ ghost use Rattle.sv_scan.specs.Condition.{bit};
 ghost use Rattle.sv_layers.specs.Act.{Act};
 ghost use Rattle.sv_layers.specs.Change.{act_of};
 ghost use Rattle.sv_layers.specs.Filter.{is_same as same_register};
-ghost use Rattle.sv_layers.specs.Inside.LayerLogs.{LayerLogs, EndsAs, after_begin, after_complete, own, own_standard, layer_logs};
+ghost use Rattle.sv_layers.specs.Inside.LayerLogs.{LayerLogs, EndsAs, after_begin, after_complete, own, register_act, own_standard, layer_logs};
 ghost use Rattle.sv_layers.specs.Inside.Representation.{Represents};
 
-use crate::change::Change;
+use crate::change::{Change, RegisterChange, StatusChange};
 use crate::layers::Layers;
 use crate::status::mask_if;
 use std::alloc::Allocator;
@@ -109,36 +109,33 @@ fn change_register(register: &mut Register, name: RegisterName, change: &Change)
     match change {
         Change::ClearStatus => register.clear(),
         Change::Preset => register.preset(),
-        Change::ReadEvent(other) => {
+        Change::Status(StatusChange::Register(other, own)) => {
             if is_same(name, *other) {
-                register.read_event();
+                change_one(register, *own);
             }
         }
-        Change::Enable(other, mask) => {
-            if is_same(name, *other) {
-                register.set_enable(*mask);
-            }
+        _ => {}
+    }
+}
+
+/// Applies a change to the register that it names.
+fn change_one(register: &mut Register, change: RegisterChange)
+    ensures { (start : ℕ) (acts : List RegisterAct) → Registers start register.old acts
+        → Registers start register.new (register_act change acts ∷ acts) }
+{
+    match change {
+        RegisterChange::ReadEvents => {
+            register.read_event();
         }
-        Change::SetRise(other, mask) => {
-            if is_same(name, *other) {
-                let fall = register.fall();
-                register.set_filter(*mask, fall);
-            }
+        RegisterChange::Enable(mask) => register.set_enable(mask),
+        RegisterChange::SetRise(mask) => {
+            let fall = register.fall();
+            register.set_filter(mask, fall);
         }
-        Change::SetFall(other, mask) => {
-            if is_same(name, *other) {
-                let rise = register.rise();
-                register.set_filter(rise, *mask);
-            }
+        RegisterChange::SetFall(mask) => {
+            let rise = register.rise();
+            register.set_filter(rise, mask);
         }
-        Change::Scan(_act) => (),
-        Change::Hold(_awaited) => (),
-        Change::Report(_code) => (),
-        Change::TakeEntry => (),
-        Change::AskComplete => (),
-        Change::ReadStandard => (),
-        Change::EnableStandard(_mask) => (),
-        Change::EnableService(_mask) => (),
     }
 }
 
@@ -150,21 +147,11 @@ fn change_standard(standard: &mut StandardEvent, change: &Change)
 {
     match change {
         Change::ClearStatus => standard.clear(),
-        Change::ReadStandard => {
+        Change::Status(StatusChange::ReadStandard) => {
             standard.read();
         }
-        Change::EnableStandard(mask) => standard.set_enable(*mask),
-        Change::Scan(_act) => (),
-        Change::Hold(_awaited) => (),
-        Change::Report(_code) => (),
-        Change::TakeEntry => (),
-        Change::Preset => (),
-        Change::AskComplete => (),
-        Change::ReadEvent(_name) => (),
-        Change::Enable(_name, _mask) => (),
-        Change::SetRise(_name, _mask) => (),
-        Change::SetFall(_name, _mask) => (),
-        Change::EnableService(_mask) => (),
+        Change::Status(StatusChange::EnableStandard(mask)) => standard.set_enable(*mask),
+        _ => {}
     }
 }
 

@@ -14,7 +14,7 @@ mod polling;
 mod status;
 mod words;
 
-pub use change::{Awaited, Change};
+pub use change::{Awaited, Change, RegisterChange, StatusChange};
 pub use laws::{
     one_account, own_acts, same_completion, same_enable, same_events, same_raising, same_requests,
     same_standard_events, same_status, same_summaries, same_waiting, same_words,

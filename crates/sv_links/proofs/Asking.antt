@@ -1,4 +1,5 @@
--- The links that ask for service requests, by rising number.
+-- The list of links with service requests enabled, sorted by link number: inserting and removing a
+-- link.
 use Rattle.std.proofs.Common.{◌≡◌, ◌≢◌, ℕ, ◌<◌, ◌≤◌, Bool, eqb, ltb, List, [], ◌∷◌, ◌++◌, length, take, drop, refl, sym, ap, ◌∙◌, arith, inl, inr}
 use Rattle.std.specs.Prelude.{not, filter}
 use Rattle.std.specs.List.{AllByRecursion, insert}

@@ -1,4 +1,4 @@
--- How many create_links wait.
+-- How many suspended create_link calls the queue has, after a call enters or leaves it.
 use Rattle.std.proofs.Common.{◌≡◌, ℕ, ◌+◌, ◌≤◌, Bool, true, false, cond, List, [], ◌∷◌, ◌++◌, length, ◌==◌, refl, arith, inl, inr}
 use Rattle.std.specs.Prelude.{not, filter}
 use Rattle.std.proofs.lemmas.Bool.{cases_Bool}

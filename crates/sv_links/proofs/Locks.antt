@@ -1,4 +1,4 @@
--- The link that holds the lock.
+-- Which link holds the lock after each act: lock, unlock, destroy_link.
 use Rattle.std.proofs.Common.{◌≡◌, ℕ, Bool, true, false, eqb, cond, List, [], ◌∷◌, Option, Some, None, refl, sym, ap, ◌∙◌, inl, inr, eq-eqb, ◌⊎◌}
 use Rattle.std.specs.Prelude.{not, find, ◌&&◌}
 use Rattle.std.specs.Option.{option_eq}

@@ -1,4 +1,4 @@
--- What holds of each act of a list at its own place.
+-- A property that each act of a list has, given the acts before it: joining two lists keeps it.
 use Rattle.std.proofs.Common.{List, [], ◌∷◌, ◌++◌, sym, subst, append_assoc}
 use Rattle.std.specs.Prelude.{⊤}
 

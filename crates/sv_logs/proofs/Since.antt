@@ -1,4 +1,5 @@
--- The laws of the search for the newest find that all places since then keep.
+-- `Since`: the newest act with a property, if every act after it has another. How one more act
+-- changes the answer.
 use Rattle.std.proofs.Common.{◌≡◌, ℕ, zero, suc, ◌≤◌, Bool, true, false, refl, List, [], ◌∷◌, length, drop, sym, subst, arith, ◌⊎◌, inl, inr}
 use Rattle.std.specs.Prelude.{◌↔◌, ◌&&◌, ◌||◌}
 use Rattle.std.proofs.lemmas.List.{drop_all}

@@ -1,4 +1,4 @@
--- What a record is as a call is what reading it gives.
+-- Reading a record gives exactly what the definition of a call says about its bytes.
 use Rattle.std.proofs.Common.{◌≡◌, ◌≢◌, ℕ, ◌≤◌, cond, eqb, List, length, drop, Result, Ok, Err, refl, sym, subst, ◌∙◌, inl, inr}
 use Rattle.std.proofs.lemmas.Bool.{cases_Bool, cond-true, cond-false, eqb-true, eqb-false, ne_eqb}
 use Rattle.sv_xdr.specs.declared.fault.XdrFault.{XdrFault}

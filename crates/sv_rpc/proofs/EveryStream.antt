@@ -1,4 +1,4 @@
--- Every stream of bytes splits as it is read.
+-- Each byte stream splits into records and a rest, as reading it splits it.
 use Rattle.std.proofs.Common.{◌≡◌, ℕ, zero, suc, ◌+◌, ◌-◌, ◌%◌, ◌<◌, ◌≤◌, ◌^◌, Bool, true, false, leb, List, [], ◌∷◌, ◌++◌, length, take, drop, refl, sym, ap, subst, ◌∙◌, inl, inr, append_assoc, arith, lt-ltb, le-ltb}
 use Rattle.std.specs.List.{concat, flat_map}
 use Rattle.std.specs.Int.{w32, from_be_bytes}

@@ -1,4 +1,4 @@
--- Steps for rising numbers, one more and all.
+-- A step for each number up to a bound: adding one more number, and all of them.
 use Rattle.std.proofs.Common.{◌≡◌, ℕ, suc, subst, sym, rules, refl, zero, List, [], ◌∷◌, drop, Some, ◌<◌, ◌≤◌, inl, inr, arith}
 use Rattle.std.proofs.Math.Nat.{eq-or-lt_of_le}
 use Rattle.std.specs.List.{slice_get}

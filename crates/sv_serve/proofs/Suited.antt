@@ -1,4 +1,5 @@
--- Events of the wire suit what the server answers when it is asked, so they are done.
+-- Each event that the driver makes from its wire fits the server's answers, so the server accepts
+-- it.
 use Rattle.std.proofs.Common.{◌≡◌, ℕ, ◌<◌, ◌≤◌, Bool, true, false, List, [], ◌∷◌, length, Option, Some, None, Result, Ok, Err, refl, sym, ap, subst, ◌∙◌, inl, inr, arith, le-ltb}
 use Rattle.std.specs.Prelude.{min, not, is_some, ◌||◌}
 use Rattle.std.proofs.lemmas.Bool.{cases_Bool}

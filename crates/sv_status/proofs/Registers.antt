@@ -1,4 +1,5 @@
--- A register after one more act: what of its events stands (`event-..`), and that what it keeps stands for the acts (`StandsFor-..`).
+-- An event register after one more act: which events are set (`event-..`), and that the stored
+-- words agree with the acts (`StandsFor-..`).
 use Rattle.std.proofs.Common.{◌≡◌, ℕ, List, [], ◌∷◌, refl, subst, sym, ◌⊎◌, inl, inr, bit_and, bit_or, arith}
 use Rattle.std.specs.Prelude.{◌↔◌, bit_xor}
 use Rattle.std.specs.Int.{bit_at}

@@ -1,5 +1,5 @@
--- The standard events after one more act: which of them stand (`stands-..`), and that what is kept stands for the acts
--- (`StandsFor-..`).
+-- The standard events after one more act: which are set (`stands-..`), and that the stored words
+-- agree with the acts (`StandsFor-..`).
 use Rattle.std.proofs.Common.{◌≡◌, ℕ, List, [], ◌∷◌, refl, ap, ◌⊎◌, inl, inr, bit_or, arith}
 use Rattle.std.specs.Prelude.{◌↔◌}
 use Rattle.std.specs.Int.{bit_at}

@@ -1,5 +1,5 @@
--- The status byte after one more act: whether a request stands (`request-..`) and is raised (`raised-..`), and that what is kept
--- stands for the acts (`StandsFor-..`).
+-- The status byte after one more act: whether service is requested (`request-..`) and the request
+-- is new (`raised-..`), and that the stored bits agree with the acts (`StandsFor-..`).
 use Rattle.std.proofs.Common.{◌≡◌, ◌≢◌, ◌⊎◌, ℕ, Bool, true, false, ◌&&◌, ◌||◌, eqb, List, [], ◌∷◌, refl, ap, ◌∙◌, sym, inl, inr, bit_and, bit_or, ◌<◌, arith}
 use Rattle.std.specs.Prelude.{◌↔◌, not, bit_xor}
 use Rattle.std.specs.Int.{bit_at}

@@ -1,4 +1,4 @@
--- The first part of text, and those behind it.
+-- Splitting text at a separator: the first part, and the parts after it.
 use Rattle.std.proofs.Common.{◌≡◌, ℕ, suc, ◌+◌, ◌<◌, ◌≤◌, ◌==◌, Bool, true, false, not, cond, List, [], ◌∷◌, ◌++◌, length, take, drop, refl, ap, ◌∙◌, inl, inr, nat_lt, arith}
 use Rattle.std.specs.List.{position_or_len, onto_first as onto}
 use Rattle.std.proofs.lemmas.Bool.{cases_lt, lt-ltb, le-ltb, eqb-true}

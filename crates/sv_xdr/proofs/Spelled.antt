@@ -1,4 +1,4 @@
--- The spelling of a field spells it, and nothing else does.
+-- Each field has exactly one encoding.
 use Rattle.std.proofs.Common.{◌≡◌, ℕ, zero, suc, ◌%◌, ◌<◌, ◌^◌, ◌/◌, List, [], ◌∷◌, length, take, refl, ap, ◌∙◌, arith, replicate}
 use Rattle.std.specs.Prelude.{ℤ, pos, negsuc}
 use Rattle.std.specs.List.{AllByRecursion}

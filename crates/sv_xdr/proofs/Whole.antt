@@ -1,4 +1,4 @@
--- Pieces that have room together are all written.
+-- If the buffer has room for all parts together, all parts are written.
 use Rattle.std.proofs.Common.{◌≡◌, ℕ, ◌+◌, ◌≤◌, List, ◌∷◌, ◌++◌, length, take, Result, Ok, Err, ap, ◌∙◌, arith}
 use Rattle.std.specs.List.{concat}
 use Rattle.std.proofs.lemmas.List.{length-append, length-take-le}

@@ -11,6 +11,8 @@ use Rattle.sv_header.specs.declared.command.SettingName.{SettingName}
 use Rattle.sv_header.specs.declared.command.SettingName.TheVariants as name
 use Rattle.sv_value.specs.Value.{read_voltage, read_whole, read_boolean, read_source, read_channels}
 use Rattle.sv_scan.specs.declared.setting.Setting.TheVariants as setting
+use Rattle.sv_layers.specs.declared.change.RegisterChange.TheVariants.{Enable, SetRise, SetFall}
+use Rattle.sv_layers.specs.declared.change.StatusChange.TheVariants.{EnableStandard, EnableService, Register}
 use Rattle.sv_instrument.specs.declared.command.order.Order.{Order}
 use Rattle.sv_instrument.specs.declared.command.order.Order.TheVariants as order
 
@@ -40,11 +42,11 @@ only_channel (Err code) = Err code
 -- the order of a command that sets a value, given the kind and the text of its parameter; or the error of the parameter. Bit 6 of the
 -- mask for the service request enable is dropped.
 abbrev pub set_order : SettingName → Kind → List ℕ → Result Order Code
-set_order name.StandardEnable kind text = then_value order.EnableStandard (read_whole 0 255 kind text)
-set_order name.ServiceEnable kind text = then_value (λ mask. order.EnableService (bit_and mask 191)) (read_whole 0 255 kind text)
-set_order (name.Enable register) kind text = then_value (order.Enable register) (read_whole 0 65535 kind text)
-set_order (name.Rise register) kind text = then_value (order.SetRise register) (read_whole 0 65535 kind text)
-set_order (name.Fall register) kind text = then_value (order.SetFall register) (read_whole 0 65535 kind text)
+set_order name.StandardEnable kind text = then_value (λ mask. order.Apply (EnableStandard mask)) (read_whole 0 255 kind text)
+set_order name.ServiceEnable kind text = then_value (λ mask. order.Apply (EnableService (bit_and mask 191))) (read_whole 0 255 kind text)
+set_order (name.Enable register) kind text = then_value (λ mask. order.Apply (Register register (Enable mask))) (read_whole 0 65535 kind text)
+set_order (name.Rise register) kind text = then_value (λ mask. order.Apply (Register register (SetRise mask))) (read_whole 0 65535 kind text)
+set_order (name.Fall register) kind text = then_value (λ mask. order.Apply (Register register (SetFall mask))) (read_whole 0 65535 kind text)
 set_order name.ScanList kind text = then_value (λ list. order.Set (setting.List list)) (read_channels kind text)
 set_order name.Monitor kind text = then_value (λ channel. order.Set (setting.Monitor channel)) (only_channel (read_channels kind text))
 set_order name.Range kind text = then_value (λ volts. order.Set (setting.Range volts)) (read_voltage kind text)

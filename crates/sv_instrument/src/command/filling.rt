@@ -1,15 +1,19 @@
 //! The order of a command, with the value of its parameter.
 
 ghost use Rattle.std.specs.Prelude.{◌≡◌};
+ghost use Rattle.sv_layers.specs.declared.change.StatusChange.TheVariants as status;
+ghost use Rattle.sv_instrument.specs.declared.command.order.Order.TheVariants as order;
 ghost use Rattle.sv_instrument.specs.Command.Order.{parameter_of as given_by, order_of, set_order};
 
 use crate::command::order::Order;
-use crate::command::values::{count, list, list_if_given, mask, monitor};
+use crate::command::values::{count, list, list_if_given, mask, monitor, word};
 use sv_errors::Code;
 use sv_header::{CommandId, SettingName};
+use sv_layers::{RegisterChange, StatusChange};
 use sv_lexer::Token;
 use sv_scan::Setting;
-use sv_value::{boolean, keyword, microvolts, whole};
+use sv_status::RegisterName;
+use sv_value::{boolean, keyword, microvolts};
 
 /// All bits of a mask but bit 6.
 const ALL_BUT_SIX: u8 = 191;
@@ -31,22 +35,32 @@ pub(crate) fn order(command: CommandId, given: Option<Token<'_>>) -> Result<Orde
     }
 }
 
+/// Returns the order that changes a status register.
+fn changing(name: RegisterName, change: RegisterChange) -> Order
+    ensures { result ≡ order.Apply (status.Register name change) }
+{
+    Order::Apply(StatusChange::Register(name, change))
+}
+
 /// Returns the order that sets a setting to the value of a token, or the error of this value.
 fn set(name: SettingName, token: &Token<'_>) -> Result<Order, Code>
     ensures { result ≡ set_order name token.now.kind token.now.text.now }
 {
     let setting = match name {
-        SettingName::StandardEnable => return Ok(Order::EnableStandard(mask(token)?)),
-        SettingName::ServiceEnable => return Ok(Order::EnableService(mask(token)? & ALL_BUT_SIX)),
-        SettingName::Enable(register) => {
-            return Ok(Order::Enable(register, whole(token, 0, u16::MAX)?));
+        SettingName::StandardEnable => {
+            let enable = mask(token)?;
+            return Ok(Order::Apply(StatusChange::EnableStandard(enable)));
         }
-        SettingName::Rise(register) => {
-            return Ok(Order::SetRise(register, whole(token, 0, u16::MAX)?));
+        SettingName::ServiceEnable => {
+            let enable = mask(token)? & ALL_BUT_SIX;
+            return Ok(Order::Apply(StatusChange::EnableService(enable)));
         }
-        SettingName::Fall(register) => {
-            return Ok(Order::SetFall(register, whole(token, 0, u16::MAX)?));
-        }
+        SettingName::Enable(name) => return Ok(changing(
+            name,
+            RegisterChange::Enable(word(token)?),
+        )),
+        SettingName::Rise(name) => return Ok(changing(name, RegisterChange::SetRise(word(token)?))),
+        SettingName::Fall(name) => return Ok(changing(name, RegisterChange::SetFall(word(token)?))),
         SettingName::ScanList => Setting::List(list(token)?),
         SettingName::Monitor => Setting::Monitor(monitor(token)?),
         SettingName::Range => Setting::Range(microvolts(token)?),

@@ -1,8 +1,8 @@
 //! What a unit tells the instrument to do.
 
 use sv_header::{Action, Question};
+use sv_layers::StatusChange;
 use sv_scan::{ScanList, Setting};
-use sv_status::RegisterName;
 
 /// What a unit tells the instrument to do, with the values of its parameters. The mask for a
 /// register can have bit 15 set: the register drops this bit.
@@ -12,16 +12,9 @@ pub enum Order {
     Do(Action),
     /// A query that is answered at once.
     Ask(Question),
-    /// `*ESE`: set the enable of the standard events.
-    EnableStandard(u8),
-    /// `*SRE`: set the service request enable; the mask is without bit 6.
-    EnableService(u8),
-    /// `STATus:..:ENABle`: set the enable of a register.
-    Enable(RegisterName, u16),
-    /// `STATus:..:PTRansition`: set the positive transition filter of a register.
-    SetRise(RegisterName, u16),
-    /// `STATus:..:NTRansition`: set the negative transition filter of a register.
-    SetFall(RegisterName, u16),
+    /// `*ESE`, `*SRE`, `STATus:..:ENABle`, `PTRansition` and `NTRansition`: set an enable or a
+    /// filter. The mask of `*SRE` is without bit 6.
+    Apply(StatusChange),
     /// Change a setting of the scanner. A range can be any voltage up to 1,000 V in magnitude here:
     /// the scanner checks whether it has this range.
     Set(Setting),

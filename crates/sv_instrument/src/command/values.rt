@@ -17,6 +17,13 @@ pub(crate) fn mask(token: &Token<'_>) -> Result<u8, Code>
     Ok(whole(token, 0, 255)? as u8)
 }
 
+/// Reads a mask of sixteen bits.
+pub(crate) fn word(token: &Token<'_>) -> Result<u16, Code>
+    ensures { result ≡ read_whole 0 65535 token.now.kind token.now.text.now }
+{
+    whole(token, 0, u16::MAX)
+}
+
 /// Reads how many scans a measurement has.
 pub(crate) fn count(token: &Token<'_>) -> Result<u8, Code>
     ensures { result ≡ read_whole 1 most_scans token.now.kind token.now.text.now }

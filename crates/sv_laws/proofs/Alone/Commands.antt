@@ -14,7 +14,7 @@ use Rattle.sv_scan.specs.Counted.{setting_fault, init_fault, trigger_fault}
 use Rattle.sv_exchange.specs.Exchange.{ExchangeAct, UnitDone, Finished, units, has_ended, response, due, UnitDue}
 use Rattle.sv_exchange.specs.Limits.{max_message}
 use Rattle.sv_header.specs.declared.command.Action.TheVariants as action
-use Rattle.sv_layers.specs.Act.{Act as InstrumentAct, Exchanged, Scanned, Reported, Cleared, Preset, OpcAsked, StandardEnabled, Enabled, RiseSet, FallSet, ServiceEnabled, exchange_acts}
+use Rattle.sv_layers.specs.Act.{Act as InstrumentAct, Exchanged, Scanned, Reported, Cleared, Preset, OpcAsked, exchange_acts, StatusChanged}
 use Rattle.sv_layers.specs.Condition.{effective_acts}
 use Rattle.sv_instrument.specs.declared.command.order.Order.{Order}
 use Rattle.sv_instrument.specs.declared.command.order.Order.TheVariants as order
@@ -93,11 +93,7 @@ performed (order.Do action.Preset) log is = (Exchanged UnitDone ∷ Preset ∷ [
 performed (order.Do action.Initiate) log is = scans_unless (init_fault (effective_acts log)) scan.Init log (λ code. no_init _ code)
 performed (order.Do action.Abort) log is = (Exchanged UnitDone ∷ Scanned scan.Abort ∷ [], refl, (refl, refl, refl))
 performed (order.Do _) log is = absurd cc
-performed (order.EnableStandard mask) log is = (Exchanged UnitDone ∷ StandardEnabled mask ∷ [], refl, (refl, refl, refl))
-performed (order.EnableService mask) log is = (Exchanged UnitDone ∷ ServiceEnabled mask ∷ [], refl, (refl, refl, refl))
-performed (order.Enable name mask) log is = (Exchanged UnitDone ∷ Enabled name mask ∷ [], refl, (refl, refl, refl))
-performed (order.SetRise name mask) log is = (Exchanged UnitDone ∷ RiseSet name mask ∷ [], refl, (refl, refl, refl))
-performed (order.SetFall name mask) log is = (Exchanged UnitDone ∷ FallSet name mask ∷ [], refl, (refl, refl, refl))
+performed (order.Apply change) log is = (Exchanged UnitDone ∷ StatusChanged change ∷ [], refl, (refl, refl, refl))
 performed (order.Set given) log is =
     scans_unless (setting_fault (effective_acts log) given) (scan.Configure given) log (λ code. no_setting _ _ code)
 performed (order.Configure None) log is = (

@@ -147,11 +147,7 @@ configure_going (Some channels) log g = g
 performs_going : (what : Order) (log new : List InstrumentAct) → Going log → Performs what log new → Going new
 performs_going (order.Do what) log new g is = subst Going (sym is) (action_going what log g)
 performs_going (order.Ask asked) log new g replies = replies_going (question_fault asked log) asked log new g replies
-performs_going (order.EnableStandard mask) log new g is = subst Going (sym is) g
-performs_going (order.EnableService mask) log new g is = subst Going (sym is) g
-performs_going (order.Enable name mask) log new g is = subst Going (sym is) g
-performs_going (order.SetRise name mask) log new g is = subst Going (sym is) g
-performs_going (order.SetFall name mask) log new g is = subst Going (sym is) g
+performs_going (order.Apply change) log new g is = subst Going (sym is) g
 performs_going (order.Set given) log new g is =
     subst Going (sym is) (unless_going (setting_fault (effective_acts log) given) _ log g g)
 performs_going (order.Configure list) log new g is = subst Going (sym is) (configure_going list log g)

@@ -3,7 +3,9 @@ use Rattle.std.proofs.Common.{◌≡◌, ℕ, zero, suc, true, false, List, [], 
 use Rattle.std.specs.Prelude.{map, ◌↔◌, ⊤}
 use Rattle.sv_logs.proofs.Since.{since_empty, since_over, then_same}
 use Rattle.sv_exchange.specs.Exchange.{Finished, due, NothingDue, FinishDue}
-use Rattle.sv_layers.specs.Act.{Act as InstrumentAct, Exchanged, EntryTaken, EventRead, exchange_acts, scan_acts, queue_acts}
+use Rattle.sv_layers.specs.declared.change.RegisterChange.TheVariants.{ReadEvents}
+use Rattle.sv_layers.specs.declared.change.StatusChange.TheVariants.{Register}
+use Rattle.sv_layers.specs.Act.{Act as InstrumentAct, Exchanged, EntryTaken, exchange_acts, scan_acts, queue_acts, StatusChanged}
 use Rattle.sv_layers.specs.Standard as standard
 use Rattle.sv_instrument.specs.HeldUnit.{held_unit}
 use Rattle.sv_instrument.specs.Step.{IsStep}
@@ -23,22 +25,22 @@ use Rattle.sv_laws.proofs.Alone.Texts.{Over, empty_due, finished_empty, over_res
 abbrev pub IsPlain : InstrumentAct → Type 0
 IsPlain (Exchanged act) = ⊤
 IsPlain EntryTaken = ⊤
-IsPlain (EventRead name) = ⊤
+IsPlain (StatusChanged (Register name ReadEvents)) = ⊤
 IsPlain _ = ⊥
 
 pending_over : (act : InstrumentAct) (log : List InstrumentAct) → IsPlain act → standard.Waits log → standard.IsPending (act ∷ log)
 pending_over (Exchanged act) [] plain s = absurd ((since_empty standard.IsAsked standard.IsPending).0 s).0
 pending_over EntryTaken [] plain s = absurd ((since_empty standard.IsAsked standard.IsPending).0 s).0
-pending_over (EventRead name) [] plain s = absurd ((since_empty standard.IsAsked standard.IsPending).0 s).0
+pending_over (StatusChanged (Register name ReadEvents)) [] plain s = absurd ((since_empty standard.IsAsked standard.IsPending).0 s).0
 pending_over (Exchanged act) (older ∷ log) plain s = ((s.kept 0 (omega arith)).0, refl)
 pending_over EntryTaken (older ∷ log) plain s = ((s.kept 0 (omega arith)).0, refl)
-pending_over (EventRead name) (older ∷ log) plain s = ((s.kept 0 (omega arith)).0, refl)
+pending_over (StatusChanged (Register name ReadEvents)) (older ∷ log) plain s = ((s.kept 0 (omega arith)).0, refl)
 pending_over _ log plain s = absurd plain
 
 never_asked : (act : InstrumentAct) (log : List InstrumentAct) → IsPlain act → standard.IsAsked (act ∷ log) → ⊥
 never_asked (Exchanged act) log plain h = h
 never_asked EntryTaken log plain h = h
-never_asked (EventRead name) log plain h = h
+never_asked (StatusChanged (Register name ReadEvents)) log plain h = h
 never_asked _ log plain h = absurd plain
 
 never_completes : (act : InstrumentAct) (log : List InstrumentAct) → IsPlain act → standard.Completes (act ∷ log) → ⊥
@@ -50,13 +52,13 @@ never_completes act log plain h = elim h.1 [
 never_occurs : (k : ℕ) (act : InstrumentAct) (log : List InstrumentAct) → IsPlain act → standard.Occurs k (act ∷ log) → ⊥
 never_occurs k (Exchanged act) log plain h = never_completes (Exchanged act) log plain h.1
 never_occurs k EntryTaken log plain h = never_completes EntryTaken log plain h.1
-never_occurs k (EventRead name) log plain h = never_completes (EventRead name) log plain h.1
+never_occurs k (StatusChanged (Register name ReadEvents)) log plain h = never_completes (StatusChanged (Register name ReadEvents)) log plain h.1
 never_occurs k _ log plain h = absurd plain
 
 kept_over : (act : InstrumentAct) (log : List InstrumentAct) → IsPlain act → standard.NotCleared (act ∷ log)
 kept_over (Exchanged act) log plain = tt
 kept_over EntryTaken log plain = tt
-kept_over (EventRead name) log plain = tt
+kept_over (StatusChanged (Register name ReadEvents)) log plain = tt
 kept_over _ log plain = absurd plain
 
 -- Such an act leaves the standard events.

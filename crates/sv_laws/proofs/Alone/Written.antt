@@ -6,7 +6,9 @@ use Rattle.sv_header.specs.declared.command.Question.{Question}
 use Rattle.sv_header.specs.declared.command.Question.TheVariants as question
 use Rattle.sv_exchange.specs.Exchange.{ExchangeAct, Accepted, UnitDone, Answered, Finished, units, units_done, current, message, answers, fits_response, response, due, UnitDue, FinishDue}
 use Rattle.sv_exchange.specs.Limits.{max_message, max_response}
-use Rattle.sv_layers.specs.Act.{Act as InstrumentAct, Exchanged, EntryTaken, EventRead, exchange_acts, scan_acts, queue_acts}
+use Rattle.sv_layers.specs.declared.change.RegisterChange.TheVariants.{ReadEvents}
+use Rattle.sv_layers.specs.declared.change.StatusChange.TheVariants.{Register}
+use Rattle.sv_layers.specs.Act.{Act as InstrumentAct, Exchanged, EntryTaken, exchange_acts, scan_acts, queue_acts, StatusChanged}
 use Rattle.sv_layers.specs.Standard.{Stands}
 use Rattle.sv_logs.proofs.Since.{then_same}
 use Rattle.sv_instrument.specs.declared.command.order.Order.TheVariants as order
@@ -58,7 +60,7 @@ taken_stands : (asked : Question) (log : List InstrumentAct) → asked ≢ quest
     → Stands k (taken_acts asked ++ log) ↔ Stands k log
 taken_stands question.StandardEvents log other k = absurd (other refl)
 taken_stands question.Error log other k = stands_over k EntryTaken log tt
-taken_stands (question.Events name) log other k = stands_over k (EventRead name) log tt
+taken_stands (question.Events name) log other k = stands_over k (StatusChanged (Register name ReadEvents)) log tt
 taken_stands _ log other k = ((λ h. h), (λ h. h))
 
 -- ---- the unit

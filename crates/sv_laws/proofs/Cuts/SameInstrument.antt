@@ -22,7 +22,9 @@ use Rattle.sv_header.specs.declared.command.SettingName.{SettingName}
 use Rattle.sv_header.specs.declared.command.SettingName.TheVariants as name
 use Rattle.sv_layers.specs.declared.change.Awaited.{Awaited}
 use Rattle.sv_layers.specs.declared.change.Awaited.TheVariants as awaited
-use Rattle.sv_layers.specs.Act.{Act, Exchanged, Purged, Scanned, Held, Reported, EntryTaken, Cleared, Preset, OpcAsked, StandardRead, StandardEnabled, EventRead, Enabled, RiseSet, FallSet, ServiceEnabled, exchange_acts}
+use Rattle.sv_layers.specs.declared.change.RegisterChange.TheVariants.{ReadEvents}
+use Rattle.sv_layers.specs.declared.change.StatusChange.TheVariants.{ReadStandard, Register}
+use Rattle.sv_layers.specs.Act.{Act, Exchanged, Purged, Scanned, Held, Reported, EntryTaken, Cleared, Preset, OpcAsked, exchange_acts, StatusChanged}
 use Rattle.sv_layers.specs.Condition.{effective_acts}
 use Rattle.sv_instrument.specs.HeldUnit.{held_unit}
 use Rattle.sv_instrument.specs.Path.{IsPath}
@@ -142,9 +144,9 @@ question_fault_same question.Readings log other v = rw v.scanned refl
 question_fault_same asked log other v = refl
 
 abbrev pub taken_acts : Question → List Act
-taken_acts question.StandardEvents = StandardRead ∷ []
+taken_acts question.StandardEvents = StatusChanged ReadStandard ∷ []
 taken_acts question.Error = EntryTaken ∷ []
-taken_acts (question.Events name) = EventRead name ∷ []
+taken_acts (question.Events name) = StatusChanged (Register name ReadEvents) ∷ []
 taken_acts asked = []
 
 pub taken_is : (asked : Question) (log : List Act) → after_query asked log ≡ taken_acts asked ++ log
@@ -212,11 +214,7 @@ performs_alike (order.Do what) log other new v is = acts_alike what log other ne
 performs_alike (order.Ask asked) log other new v is =
     subst (λ (f : Option Code). AddsAlike log other new (Replies f asked other)) (question_fault_same asked log other v.status)
     (replies_alike (question_fault asked log) asked log other new v is)
-performs_alike (order.EnableStandard mask) log other new v is = (Exchanged UnitDone ∷ StandardEnabled mask ∷ [], is, refl)
-performs_alike (order.EnableService mask) log other new v is = (Exchanged UnitDone ∷ ServiceEnabled mask ∷ [], is, refl)
-performs_alike (order.Enable register mask) log other new v is = (Exchanged UnitDone ∷ Enabled register mask ∷ [], is, refl)
-performs_alike (order.SetRise register mask) log other new v is = (Exchanged UnitDone ∷ RiseSet register mask ∷ [], is, refl)
-performs_alike (order.SetFall register mask) log other new v is = (Exchanged UnitDone ∷ FallSet register mask ∷ [], is, refl)
+performs_alike (order.Apply change) log other new v is = (Exchanged UnitDone ∷ StatusChanged change ∷ [], is, refl)
 performs_alike (order.Set given) log other new v is =
     unless_alike _ _ (Exchanged UnitDone ∷ Scanned (scan.Configure given) ∷ []) log other new
     (ap (λ (l : List ScanAct). setting_fault l given) (counted_same log other v)) is

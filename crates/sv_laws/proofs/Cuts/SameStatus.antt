@@ -12,7 +12,9 @@ use Rattle.sv_status.specs.declared.register_name.RegisterName.{RegisterName}
 use Rattle.sv_status.specs.declared.register_name.RegisterName.TheVariants.{Operation, Questionable}
 use Rattle.sv_scan.specs.Counted.{effective}
 use Rattle.sv_exchange.specs.Exchange.{Accepted, TextDropped, Interrupted, is_something}
-use Rattle.sv_layers.specs.Act.{Act, Exchanged, Purged, Reported, EntryTaken, Cleared, OpcAsked, StandardRead, EventRead, Polled, exchange_acts, scan_acts, queue_acts}
+use Rattle.sv_layers.specs.declared.change.RegisterChange.TheVariants.{ReadEvents}
+use Rattle.sv_layers.specs.declared.change.StatusChange.TheVariants.{ReadStandard, Register}
+use Rattle.sv_layers.specs.Act.{Act, Exchanged, Purged, Reported, EntryTaken, Cleared, OpcAsked, Polled, exchange_acts, scan_acts, queue_acts, StatusChanged}
 use Rattle.sv_layers.specs.Filter.{rise, fall, enable, has_bit, passes, leaves}
 use Rattle.sv_layers.specs.Condition.{word, summary, condition, effective_acts, is_idle}
 use Rattle.sv_layers.specs.Event.{EventStands}
@@ -122,7 +124,7 @@ passes_act : (name : RegisterName) (k : ℕ) (act : Act) (log other : List Act) 
 passes_act name k act log other now v = rw (now, status_condition name log other v, v.rises name, v.falls name) unchanged
 
 leaves_act : (name : RegisterName) (act : Act) (log other : List Act) → leaves name (act ∷ log) ≡ leaves name (act ∷ other)
-leaves_act name (EventRead which) log other = refl
+leaves_act name (StatusChanged (Register which ReadEvents)) log other = refl
 leaves_act name act log other = refl
 
 stood_act : (name : RegisterName) (k : ℕ) (act : Act) (log other : List Act) → effective_acts (act ∷ log) ≡ effective_acts (act ∷ other)
@@ -152,7 +154,7 @@ occurs_act k (Reported code) log other same v = either_same unchanged unchanged 
 occurs_act k act log other same v = both_same (completes_act act log other same v)
 
 kept_act : (act : Act) (log other : List Act) → standard.NotCleared (act ∷ log) ↔ standard.NotCleared (act ∷ other)
-kept_act StandardRead log other = unchanged
+kept_act (StatusChanged ReadStandard) log other = unchanged
 kept_act _ log other = unchanged
 
 -- ---- all searches behind the same act

@@ -20,7 +20,10 @@ use Rattle.sv_scan.specs.Scan.{state}
 use Rattle.sv_scan.specs.Counted.{effective, is_idle}
 use Rattle.sv_scan.specs.Condition.{bit}
 use Rattle.sv_exchange.specs.Exchange.{ExchangeAct, TextDropped, Interrupted}
-use Rattle.sv_layers.specs.Act.{Act, Exchanged, Purged, Scanned, Reported, EntryTaken, Cleared, Preset, OpcAsked, StandardRead, StandardEnabled, EventRead, Enabled, RiseSet, FallSet, ServiceEnabled}
+use Rattle.sv_layers.specs.declared.change.StatusChange.TheVariants.{ReadStandard, EnableStandard, EnableService, Register}
+use Rattle.sv_layers.specs.Act.{Act, Exchanged, Purged, Scanned, Reported, EntryTaken, Cleared, Preset, OpcAsked, StatusChanged}
+use Rattle.sv_layers.specs.declared.change.RegisterChange.{RegisterChange}
+use Rattle.sv_layers.specs.declared.change.RegisterChange.TheVariants.{ReadEvents, Enable, SetRise, SetFall}
 use Rattle.sv_layers.specs.Filter.{is_same}
 use Rattle.sv_layers.specs.Condition.{condition}
 
@@ -54,7 +57,7 @@ after_begin (Reported code) at = record at {
 after_begin EntryTaken at = record at { errors = queue.Take ∷ at.errors }
 after_begin Cleared at = record at { errors = queue.Clear ∷ at.errors; waits = false }
 after_begin OpcAsked at = record at { waits = true }
-after_begin (ServiceEnabled mask) at = record at { service = mask }
+after_begin (StatusChanged (EnableService mask)) at = record at { service = mask }
 after_begin _ at = at
 
 -- whether no measurement is under way
@@ -73,23 +76,27 @@ after_complete at = record at {
 abbrev pub where_same : RegisterName → RegisterName → RegisterAct → List RegisterAct → List RegisterAct
 where_same name other act acts = if is_same name other then act ∷ acts else acts
 
+-- the act of a register that changes it so, if these are its acts so far
+abbrev pub register_act : RegisterChange → List RegisterAct → RegisterAct
+register_act ReadEvents acts = register.ReadEvent
+register_act (Enable mask) acts = register.SetEnable mask
+register_act (SetRise mask) acts = register.SetFilter mask (fall acts)
+register_act (SetFall mask) acts = register.SetFilter (rise acts) mask
+
 -- the acts of a register, with one more act in front if the instrument's act changes this register directly: it sets, presets, clears or
 -- reads the register. A change of the register's condition isn't direct.
 abbrev pub own : RegisterName → Act → List RegisterAct → List RegisterAct
 own name Cleared acts = register.Clear ∷ acts
 own name Preset acts = register.Preset ∷ acts
-own name (EventRead other) acts = where_same name other register.ReadEvent acts
-own name (Enabled other mask) acts = where_same name other (register.SetEnable mask) acts
-own name (RiseSet other mask) acts = where_same name other (register.SetFilter mask (fall acts)) acts
-own name (FallSet other mask) acts = where_same name other (register.SetFilter (rise acts) mask) acts
+own name (StatusChanged (Register other change)) acts = where_same name other (register_act change acts) acts
 own name _ acts = acts
 
 -- the acts of the standard events, with one more act in front if the instrument's act clears or reads the standard events or sets their
 -- enable
 abbrev pub own_standard : Act → List StandardAct → List StandardAct
 own_standard Cleared acts = standard.Clear ∷ acts
-own_standard StandardRead acts = standard.Read ∷ acts
-own_standard (StandardEnabled mask) acts = standard.SetEnable mask ∷ acts
+own_standard (StatusChanged ReadStandard) acts = standard.Read ∷ acts
+own_standard (StatusChanged (EnableStandard mask)) acts = standard.SetEnable mask ∷ acts
 own_standard _ acts = acts
 
 -- The acts `other` and `act` of the instrument have the same direct effect on each register, and on the standard events.
@@ -125,10 +132,7 @@ layer_logs (act ∷ log) = after_end act log (after_begin act (layer_logs log))
 abbrev pub is_plain : Act → Bool
 is_plain Cleared = false
 is_plain Preset = false
-is_plain StandardRead = false
-is_plain (StandardEnabled mask) = false
-is_plain (EventRead name) = false
-is_plain (Enabled name mask) = false
-is_plain (RiseSet name mask) = false
-is_plain (FallSet name mask) = false
+is_plain (StatusChanged ReadStandard) = false
+is_plain (StatusChanged (EnableStandard mask)) = false
+is_plain (StatusChanged (Register name change)) = false
 is_plain _ = true

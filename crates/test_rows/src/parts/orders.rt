@@ -7,6 +7,7 @@ use std::io;
 use sv_errors::Code;
 use sv_header::{Path, Table};
 use sv_instrument::{Order, read_unit};
+use sv_layers::{RegisterChange, StatusChange};
 use sv_lexer::unit;
 use sv_scan::{ScanList, Setting};
 use sv_status::RegisterName;
@@ -55,11 +56,7 @@ fn put_given(out: &mut String, order: &Order) -> Result<(), AllocError> {
         Order::Set(setting) => put_setting(out, setting),
         Order::Configure(list) => put_list(out, "Configure", list),
         Order::Measure(list) => put_list(out, "Measure", list),
-        Order::EnableStandard(mask) => put_mask(out, "EnableStandard", *mask),
-        Order::EnableService(mask) => put_mask(out, "EnableService", *mask),
-        Order::Enable(name, mask) => put_filter(out, "Enable", *name, *mask),
-        Order::SetRise(name, mask) => put_filter(out, "SetRise", *name, *mask),
-        Order::SetFall(name, mask) => put_filter(out, "SetFall", *name, *mask),
+        Order::Apply(change) => put_change(out, *change),
     }
 }
 
@@ -82,6 +79,30 @@ fn put_list(out: &mut String, word: &str, list: &Option<ScanList>) -> Result<(),
     match list {
         Some(list) => write!(out, " Ok({word}(Some({:?})))", list.channels()),
         None => write!(out, " Ok({word}(None))"),
+    }
+}
+
+/// Prints an order that changes the status.
+fn put_change(out: &mut String, change: StatusChange) -> Result<(), AllocError> {
+    match change {
+        StatusChange::ReadStandard => write!(out, " Ok(ReadStandard)"),
+        StatusChange::EnableStandard(mask) => put_mask(out, "EnableStandard", mask),
+        StatusChange::EnableService(mask) => put_mask(out, "EnableService", mask),
+        StatusChange::Register(name, change) => put_register(out, name, change),
+    }
+}
+
+/// Prints an order that changes a status register.
+fn put_register(
+    out: &mut String,
+    name: RegisterName,
+    change: RegisterChange,
+) -> Result<(), AllocError> {
+    match change {
+        RegisterChange::ReadEvents => write!(out, " Ok(ReadEvents({name:?}))"),
+        RegisterChange::Enable(mask) => put_filter(out, "Enable", name, mask),
+        RegisterChange::SetRise(mask) => put_filter(out, "SetRise", name, mask),
+        RegisterChange::SetFall(mask) => put_filter(out, "SetFall", name, mask),
     }
 }
 

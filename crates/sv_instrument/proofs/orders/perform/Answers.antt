@@ -1,7 +1,7 @@
 use Rattle.std.proofs.Common.{arith, ap}
 use Rattle.sv_exchange.specs.Contents.{exchange_measure}
 use Rattle.sv_instrument.proofs.Units.{behaves_apart, configured_apart}
-use Rattle.sv_instrument.proofs.orders.perform.Goals.{in-EnableStandard, in-EnableService, in-Enable, in-SetRise, in-SetFall}
+use Rattle.sv_instrument.proofs.orders.perform.Goals.{in-Apply}
 use Rattle.sv_instrument.proofs.orders.perform.Goals as goal
 
 pub returns-in-Do-clause-behaves : goal.returns-in-Do-clause-behaves
@@ -57,10 +57,4 @@ returns-in-Configure-clause-advances g c = record {
 pub returns-clause-behaves : goal.returns-clause-behaves
 returns-clause-behaves g c = λ start log h.
     let b = c.carry_out.ensures.behaves start log h in
-    elim c.match-order.branch [
-      | in-EnableStandard w ↦ rw w.in-EnableStandard.is (rw w.change-is at b)
-      | in-EnableService w ↦ rw w.in-EnableService.is (rw w.change-is at b)
-      | in-Enable w ↦ rw w.in-Enable.is (rw w.change-is at b)
-      | in-SetRise w ↦ rw w.in-SetRise.is (rw w.change-is at b)
-      | in-SetFall w ↦ rw w.in-SetFall.is (rw w.change-is at b)
-    ]
+    elim c.match-order.branch [ in-Apply w ↦ rw w.in-Apply.is (rw w.change-is at b) ]
